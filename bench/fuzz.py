@@ -1,0 +1,209 @@
+#!/usr/bin/env python3
+"""Runs the built program on random and mutated byte strings, cut at random, and compares what it prints.
+
+Usage: bench/fuzz.py [COUNT [SEED [PROGRAM]]]. Without words 10,000 strings from seed 1, in about a minute. It needs the
+program (crates/cbrelay/out/cbrelay, as `rt run` leaves it) and python3. Each string goes through `decode` and `serve`;
+what they print and their statuses have to be those of the short reader below, which was written apart from the program.
+"""
+
+import concurrent.futures
+import hashlib
+import os
+import random
+import struct
+import subprocess
+import sys
+
+ROOT = os.path.dirname(os.path.dirname(os.path.abspath(__file__)))
+MAGIC = bytes.fromhex("fabfb5da")
+NAMES = {1: "Memory", 2: "Truncated", 12: "BadMagic", 13: "Oversize", 14: "Trailing"}
+
+
+def envelope(command, payload):
+    checksum = hashlib.sha256(hashlib.sha256(payload).digest()).digest()[:4]
+    return MAGIC + command.ljust(12, b"\0")[:12] + struct.pack("<I", len(payload)) + checksum + payload
+
+
+# ---- the reader to compare with
+
+
+def items_of(stream):
+    """The items of a stream, what is left over, and the number of its fault."""
+    items = []
+    while True:
+        if len(stream) < 24:
+            return items, len(stream), None
+        if stream[:4] != MAGIC:
+            return items, 0, 12
+        length = struct.unpack("<I", stream[16:20])[0]
+        if length > 4_000_000:
+            return items, 0, 13
+        if len(stream) < 24 + length:
+            return items, len(stream), None
+        payload = stream[24 : 24 + length]
+        items.append(item_of(stream[4:16], stream[20:24], payload))
+        stream = stream[24 + length :]
+
+
+def item_of(field, checksum, payload):
+    name = field.rstrip(b"\0")
+    if hashlib.sha256(hashlib.sha256(payload).digest()).digest()[:4] != checksum:
+        return ("damaged",)
+    if not name or any(byte < 0x20 or byte > 0x7E for byte in name):
+        return ("damaged",)
+    name = name.decode("ascii")
+    if name == "verack":
+        return ("bad", name, 14) if payload else ("verack",)
+    if name in ("ping", "pong"):
+        if len(payload) < 8:
+            return ("bad", name, 2)
+        if len(payload) > 8:
+            return ("bad", name, 14)
+        return (name, struct.unpack("<Q", payload)[0])
+    return ("unknown", name, len(payload))
+
+
+def line_of(item):
+    if item[0] == "bad":
+        return f"bad {item[1]} F{item[2]} {NAMES[item[2]]}\n"
+    return " ".join(str(part) for part in item) + "\n"
+
+
+def decoded(lines):
+    """What `decode` prints for lines, and its status."""
+    stream = b""
+    for number, line in enumerate(lines, 1):
+        try:
+            if any(byte not in b"0123456789abcdefABCDEF" for byte in line):
+                raise ValueError
+            stream += bytes.fromhex(line.decode("ascii"))
+        except ValueError:
+            items, _, fault = items_of(stream)
+            return printed(items, fault) + f"line {number} not hex\n", 3
+    items, rest, fault = items_of(stream)
+    bad = fault is not None or any(item[0] == "bad" for item in items)
+    return printed(items, fault) + f"rest {rest}\n", 3 if bad else 0
+
+
+def printed(items, fault):
+    text = "".join(line_of(item) for item in items)
+    return text if fault is None else text + f"broken F{fault} {NAMES[fault]}\n"
+
+
+def served(stream):
+    """What `serve` writes, what it says on standard error, and its status."""
+    items, _, fault = items_of(stream)
+    written = b""
+    for item in items:
+        if item[0] == "bad":
+            return written, "closed BadMessage\n", 3
+        if item[0] == "ping":
+            written += envelope(b"pong", struct.pack("<Q", item[1]))
+    if fault is not None:
+        return written, "closed BadStream\n", 3
+    return written, "closed Bye\n", 0
+
+
+# ---- the strings
+
+
+def random_message(rng):
+    command = rng.choice([b"verack", b"ping", b"pong", b"ping", b"hello", b"a b", b"pingpongping", bytes(rng.randrange(256) for _ in range(rng.randrange(13)))])
+    size = rng.choice([0, 8, 8, 8, 7, 9, rng.randrange(200)])
+    return envelope(command, bytes(rng.randrange(256) for _ in range(size)))
+
+
+def random_stream(rng):
+    if rng.random() < 0.1:
+        return bytes(rng.randrange(256) for _ in range(rng.randrange(100)))
+    stream = bytearray(b"".join(random_message(rng) for _ in range(rng.randrange(1, 6))))
+    for _ in range(rng.choice([0, 0, 1, 1, 2, 5])):
+        place = rng.randrange(len(stream) + 1)
+        change = rng.randrange(4)
+        if change == 0 and place < len(stream):
+            stream[place] ^= 1 << rng.randrange(8)
+        elif change == 1:
+            del stream[place : place + rng.randrange(1, 10)]
+        elif change == 2:
+            stream[place:place] = bytes(rng.randrange(256) for _ in range(rng.randrange(1, 5)))
+        else:
+            other = rng.randrange(len(stream) + 1)
+            stream[place:place] = stream[min(place, other) : max(place, other)]
+        if not stream:
+            break
+    return bytes(stream)
+
+
+def cuts(rng, stream):
+    pieces = []
+    while stream:
+        size = rng.choice([1, rng.randrange(1, 30), len(stream)])
+        pieces.append(stream[:size])
+        stream = stream[size:]
+        if rng.random() < 0.05:
+            pieces.append(b"")
+    return pieces
+
+
+def lines_of(rng, pieces):
+    """Lines of hex, of either case, and now and then a line that isn't hex."""
+    lines = []
+    for piece in pieces:
+        text = piece.hex()
+        lines.append((text.upper() if rng.random() < 0.3 else text).encode())
+    if rng.random() < 0.1:
+        lines.insert(rng.randrange(len(lines) + 1), rng.choice([b"f", b"xy", b" ", b"fa ", b"0x00", b"\xff\xfe", b"+1"]))
+    end = rng.choice([b"\n", b"\r\n"])
+    text = end.join(lines)
+    if lines and (rng.random() < 0.5 or not lines[-1]):
+        text += end
+    return lines, text
+
+
+def one(program, seed):
+    """The differences of one string; none where all is as it should be."""
+    rng = random.Random(seed)
+    stream = random_stream(rng)
+    pieces = cuts(rng, stream)
+    lines, text = lines_of(rng, pieces)
+    found = []
+    ran = subprocess.run([program, "decode"], input=text, capture_output=True, timeout=60)
+    wanted, status = decoded(lines)
+    if (ran.returncode, ran.stdout, ran.stderr) != (status, wanted.encode(), b""):
+        found.append(f"seed {seed}: decode of {text!r}: status {ran.returncode} for {status}, {ran.stdout!r} for {wanted!r}, {ran.stderr!r}")
+    ran = serve(program, pieces)
+    written, closed, status = served(stream)
+    if ran != (status, written, closed.encode()):
+        found.append(f"seed {seed}: serve of {stream.hex()}: {ran!r} for {(status, written, closed)!r}")
+    return found
+
+
+def serve(program, pieces):
+    process = subprocess.Popen([program, "serve"], stdin=subprocess.PIPE, stdout=subprocess.PIPE, stderr=subprocess.PIPE, bufsize=0)
+    try:
+        for piece in pieces:
+            process.stdin.write(piece)
+    except BrokenPipeError:
+        pass
+    written, errors = process.communicate(timeout=60)
+    return process.returncode, written, errors
+
+
+def main():
+    count = int(sys.argv[1]) if len(sys.argv) > 1 else 10_000
+    first = int(sys.argv[2]) if len(sys.argv) > 2 else 1
+    program = os.path.abspath(sys.argv[3]) if len(sys.argv) > 3 else os.path.join(ROOT, "crates/cbrelay/out/cbrelay")
+    if not os.access(program, os.X_OK):
+        sys.exit(f"{program} isn't built: cd crates/cbrelay && rt run < ../../examples/first.hex")
+    differences = []
+    with concurrent.futures.ThreadPoolExecutor(max_workers=os.cpu_count()) as workers:
+        for found in workers.map(lambda seed: one(program, seed), range(first, first + count)):
+            differences += found
+    for line in differences[:20]:
+        print(line)
+    print(f"{count} strings through decode and serve, {len(differences)} differences")
+    sys.exit(1 if differences else 0)
+
+
+if __name__ == "__main__":
+    main()

@@ -1,0 +1,4 @@
+pub mod CompactSize
+pub mod DoubleHash
+pub mod Fault
+pub mod Reading

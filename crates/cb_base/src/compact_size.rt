@@ -1,0 +1,35 @@
+ghost use Rattle.std.specs.Prelude.{◌≡◌, ℕ, ◌^◌, ◌<◌, List, ◌++◌, OnOk, OnErr, IsOkUnless};
+ghost use Rattle.cb_base.specs.CompactSize.{compact_text};
+ghost use Rattle.cb_base.specs.declared.fault.Fault.TheVariants.{Memory};
+
+use crate::fault::Fault;
+
+/// Writes a number at the end, as a CompactSize: in 1, 3, 5 or 9 bytes, as few as it needs.
+///
+/// The only error is `Fault::Memory`, which leaves the vector as it was.
+#[tactic(auto, unfolding(crate::specs::CompactSize::compact_text))]
+pub fn put_compact(out: &mut Vec<u8>, number: u64) -> Result<(), Fault>
+    ensures ok { OnOk result (out.new.items ≡ out.old.items ++ compact_text number) }
+    ensures err { OnErr result (out.new.items ≡ out.old.items) }
+    ensures memory { IsOkUnless result Memory }
+{
+    if number < 253 {
+        out.push(number as u8)?;
+    } else if number < 0x1_0000 {
+        let [low, high] = (number as u16).to_le_bytes();
+        out.extend_from_slice(&[253, low, high])?;
+    } else if number < 0x1_0000_0000 {
+        let [a, b, c, d] = (number as u32).to_le_bytes();
+        out.extend_from_slice(&[254, a, b, c, d])?;
+    } else {
+        let [a, b, c, d, e, f, g, h] = number.to_le_bytes();
+        out.extend_from_slice(&[255, a, b, c, d, e, f, g, h])?;
+    }
+    Ok(())
+}
+
+/// One number has one CompactSize, and none begins another.
+pub fn one_spelling()
+    ensures { (m n : ℕ) (x y : List ℕ) → m < 2 ^ 64 → n < 2 ^ 64 → compact_text m ++ x ≡ compact_text n ++ y
+        → (m ≡ n) × (x ≡ y) }
+{}

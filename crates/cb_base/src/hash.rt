@@ -1,0 +1,46 @@
+ghost use Rattle.std.specs.Prelude.{◌≡◌, reverse, IfOk, IsOkUnless, string_bytes};
+ghost use Rattle.sha2.specs.Sha256.{sha256};
+ghost use Rattle.hex.specs.Hex.{encode_lower};
+ghost use Rattle.cb_base.specs.declared.fault.Fault.TheVariants.{Memory};
+
+use crate::fault::Fault;
+use sha2::{Digest, Sha256};
+use std::alloc::Global;
+
+/// A hash of 32 bytes, in the order in which they are sent: the name of a transaction or of a block.
+#[derive(Clone, Copy, Debug, PartialEq, Eq, PartialOrd, Ord, Hash)]
+pub struct Hash256(pub [u8; 32]);
+
+impl Hash256 {
+    /// The hash as people write it: in lower-case hex, its bytes in reverse.
+    ///
+    /// The only error is `Fault::Memory`.
+    pub fn show(&self, alloc: Global) -> Result<String, Fault>
+        ensures text { IfOk result (λ text. string_bytes text ≡ encode_lower (reverse self.now.0)) }
+        ensures memory { IsOkUnless result Memory }
+    {
+        let mut bytes = self.0;
+        bytes.reverse();
+        match hex::encode(alloc, bytes.as_slice()) {
+            Ok(text) => Ok(text),
+            Err(_) => Err(Fault::Memory),
+        }
+    }
+}
+
+/// SHA-256 (FIPS 180-4).
+pub fn sha(bytes: &[u8]) -> [u8; 32]
+    ensures { result ≡ sha256 bytes.now }
+{
+    Sha256::digest(bytes)
+}
+
+ghost use Rattle.cb_base.specs.DoubleHash.{double_hash};
+
+/// SHA-256 of the SHA-256: the hash that names transactions and blocks, and that checks payloads.
+pub fn dsha(bytes: &[u8]) -> Hash256
+    ensures { result ≡ double_hash bytes.now }
+{
+    let once = sha(bytes);
+    Hash256(sha(once.as_slice()))
+}

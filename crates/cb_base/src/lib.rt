@@ -1,0 +1,15 @@
+//! What every other crate stands on: faults, hashes, and reading and writing of numbers.
+#![tactic(auto)]
+
+mod compact_size;
+mod cursor;
+mod fault;
+mod hash;
+
+pub use compact_size::{one_spelling, put_compact};
+pub use cursor::Cursor;
+pub use fault::{Fault, TxRule};
+pub use hash::{Hash256, dsha, sha};
+
+#[cfg(test)]
+mod tests;

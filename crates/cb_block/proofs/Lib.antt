@@ -1,0 +1,10 @@
+pub mod BlockRules
+pub mod Climbing
+pub mod Beginning
+pub mod Headers
+pub mod Levels
+pub mod Only
+pub mod Raising
+pub mod Target
+pub mod Texts
+pub mod Verdicts

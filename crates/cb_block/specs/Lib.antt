@@ -1,0 +1,7 @@
+pub mod Blocks
+pub mod Genesis
+pub mod MerkleTree
+pub mod Reading
+pub mod Soundness
+pub mod Text
+pub mod Work

@@ -1,0 +1,30 @@
+-- Reading headers and blocks from the left, with the first fault that is met.
+use Rattle.std.specs.Prelude.{ℕ, List, Ok}
+use Rattle.std.specs.Int.{w32}
+use Rattle.cb_base.specs.Reading.{Read, ◌>>=◌, number_at, signed_at}
+use Rattle.cb_tx.specs.Reading.{hash_at, list_at, count_at, tx_at}
+use Rattle.cb_block.specs.declared.header.Header.{Header}
+use Rattle.cb_block.specs.declared.block.Block.{Block}
+
+unfoldable pub header_at : List ℕ → Read Header
+header_at bytes = do
+  version ← signed_at w32 bytes
+  prev ← hash_at version.1
+  root ← hash_at prev.1
+  time ← number_at w32 root.1
+  bits ← number_at w32 time.1
+  nonce ← number_at w32 bits.1
+  Ok (record { version = version.0; prev = prev.0; root = root.0; time = time.0; bits = bits.0; nonce = nonce.0 }, nonce.1)
+
+-- a transaction has 10 bytes or more
+unfoldable pub block_at : List ℕ → Read Block
+block_at bytes = do
+  header ← header_at bytes
+  txs ← list_at 10 tx_at header.1
+  Ok (record { header = header.0; txs = txs.0 }, txs.1)
+
+-- the header and the count of transactions
+unfoldable pub first_count_at : List ℕ → Read ℕ
+first_count_at bytes = do
+  header ← header_at bytes
+  count_at 10 header.1

@@ -1,0 +1,29 @@
+-- The spelling of headers and blocks (Bitcoin's protocol, without BIP 141's witnesses).
+use Rattle.std.specs.Prelude.{◌≡◌, ℕ, ◌<◌, ◌^◌, List, ◌++◌, length, map, All, FitsSigned}
+use Rattle.std.specs.Int.{w32, to_le_bytes, cast_unsigned}
+use Rattle.cb_tx.specs.declared.tx.Tx.{Tx}
+use Rattle.cb_tx.specs.Text.{list_text, tx_text, IsTx}
+use Rattle.cb_block.specs.declared.header.Header.{Header}
+use Rattle.cb_block.specs.declared.block.Block.{Block}
+
+-- a header's 80 bytes
+unfoldable pub header_text : Header → List ℕ
+header_text h = to_le_bytes w32 (cast_unsigned w32 h.version) ++ (h.prev.0 ++ (h.root.0 ++ (to_le_bytes w32 h.time ++ (to_le_bytes w32 h.bits ++ to_le_bytes w32 h.nonce))))
+
+-- a block: its header, and its transactions behind their count
+unfoldable pub block_text : Block → List ℕ
+block_text b = header_text b.header ++ list_text tx_text b.txs
+
+-- The values that a header and a block of the program have: each number is one of its field, each hash has 32 bytes.
+pub record IsHeader (h : Header) : Type 0 where
+  pub version : FitsSigned w32 h.version
+  pub prev : length h.prev.0 ≡ 32
+  pub root : length h.root.0 ≡ 32
+  pub time : h.time < 2 ^ 32
+  pub bits : h.bits < 2 ^ 32
+  pub nonce : h.nonce < 2 ^ 32
+
+pub record IsBlock (b : Block) : Type 0 where
+  pub header : IsHeader b.header
+  pub few : length b.txs < 2 ^ 64
+  pub txs : All IsTx b.txs

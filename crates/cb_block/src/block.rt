@@ -1,0 +1,50 @@
+ghost use Rattle.std.specs.Prelude.{◌≡◌, length};
+
+use crate::header::Header;
+use cb_tx::Tx;
+use std::marker::Model;
+
+/// The transactions of a block. They are seen as their list.
+#[derive(Debug, Drop)]
+pub struct Txs {
+    list: Vec<Tx>,
+}
+
+impl Model for Txs {
+    ghost use Rattle.std.specs.Prelude.{List};
+    ghost use Rattle.cb_tx.specs.declared.tx.Tx.{Tx};
+
+    ghost Value = { List Tx };
+
+    ghost view = { λ txs. txs.list.items };
+}
+
+impl Txs {
+    /// The list as the transactions of a block.
+    pub fn new(list: Vec<Tx>) -> Txs
+        ensures { result ≡ list.items }
+    {
+        Txs { list }
+    }
+
+    /// The transactions in order.
+    pub fn as_slice(&self) -> &[Tx]
+        ensures { result.now ≡ self.now }
+    {
+        self.list.as_slice()
+    }
+
+    /// Their list, given out.
+    pub fn into_vec(self) -> Vec<Tx>
+        ensures { result.items ≡ self }
+    {
+        self.list
+    }
+}
+
+/// A header and transactions. Nothing says yet that they belong together.
+#[derive(Debug, Drop)]
+pub struct Block {
+    pub header: Header,
+    pub txs: Txs,
+}

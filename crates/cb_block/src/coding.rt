@@ -1,0 +1,162 @@
+ghost use Rattle.std.specs.Prelude.{◌≡◌, ℕ, ◌-◌, ◌^◌, ◌<◌, ◌⊎◌, List, ◌++◌, length, min, slice_index, All, IfOk, IsOkUnless, MatchResult, OnOk, OnErr, Ok, Err};
+ghost use Rattle.cb_base.specs.Reading.{ReadsInMemory};
+ghost use Rattle.cb_base.specs.declared.fault.Fault.{Fault};
+ghost use Rattle.cb_base.specs.declared.fault.Fault.TheVariants.{Memory};
+ghost use Rattle.cb_tx.specs.Reading.{GivesInMemory, count_at, items_at, list_at, tx_at};
+ghost use Rattle.cb_tx.specs.Text.{IsTx, list_text, tx_text};
+ghost use Rattle.cb_tx.specs.Writing.{Extends};
+ghost use Rattle.cb_block.specs.Reading.{block_at, first_count_at};
+ghost use Rattle.cb_block.specs.Text.{IsBlock, block_text, header_text};
+ghost use Rattle.cb_block.specs.declared.block.Block.{Block};
+
+use crate::block::{Block, Txs};
+use crate::header::read_header;
+use cb_base::{Cursor, Fault, put_compact};
+use cb_tx::{Tx, compact_size, read_count, read_tx, write_tx};
+use std::alloc::Global;
+
+// So many transactions, one after the other.
+fn txs_of(alloc: Global, cursor: &mut Cursor, count: usize) -> Result<Txs, Fault>
+    ensures { GivesInMemory (items_at tx_at count cursor.old) result cursor.new }
+{
+    let mut txs = Vec::with_capacity(alloc, count)?;
+    for _ in 0..count {
+        txs.push(read_tx(alloc, cursor)?)?;
+    }
+    Ok(Txs::new(txs))
+}
+
+#[tactic(auto, unfolding(cb_tx::specs::Reading::list_at))]
+fn read_txs(alloc: Global, cursor: &mut Cursor) -> Result<Txs, Fault>
+    ensures exact { GivesInMemory (list_at 10 tx_at cursor.old) result cursor.new }
+    ensures unpaid { (fault : Fault) → count_at 10 cursor.old ≡ Err fault → result ≡ Err fault }
+{
+    let count = read_count(cursor, 10)?;
+    txs_of(alloc, cursor, count)
+}
+
+#[tactic(auto, unfolding(crate::specs::Reading::block_at, crate::specs::Reading::first_count_at))]
+fn block_or_fault(alloc: Global, cursor: &mut Cursor) -> Result<Block, Fault>
+    ensures exact { GivesInMemory (block_at cursor.old) result cursor.new }
+    ensures unpaid { (fault : Fault) → first_count_at cursor.old ≡ Err fault → result ≡ Err fault }
+{
+    let header = read_header(cursor)?;
+    let txs = read_txs(alloc, cursor)?;
+    Ok(Block { header, txs })
+}
+
+// The block at the front, and a cursor at the bytes after it.
+fn block_of(alloc: Global, bytes: &[u8]) -> Result<(Block, Cursor<'_>), Fault>
+    ensures exact { MatchResult result (λ read. block_at bytes.now ≡ Ok (read.0, read.1))
+        (λ fault. (fault ≡ Memory) ⊎ (block_at bytes.now ≡ Err fault)) }
+    ensures unpaid { (fault : Fault) → first_count_at bytes.now ≡ Err fault → result ≡ Err fault }
+    ensures bytes { (i : ℕ) → slice_index bytes.now i < 256 }
+{
+    let mut cursor = Cursor::new(bytes);
+    let block = block_or_fault(alloc, &mut cursor)?;
+    Ok((block, cursor))
+}
+
+/// Reads a block: its header, and its transactions behind their count.
+///
+/// It is refused as `read_tx` refuses, by the first field from the left that can't be read. A count of transactions is
+/// `Fault::Truncated` at once where they don't fit in what is left, at 10 bytes each. A refused read leaves the cursor as
+/// it was.
+pub fn read_block<'a>(alloc: Global, cursor: &mut Cursor<'a>) -> Result<Block, Fault>
+    ensures exact { ReadsInMemory (block_at cursor.old) cursor.old result cursor.new }
+    // What is read is spelled so.
+    ensures found { IfOk result (λ block. IsBlock block × (cursor.old ≡ block_text block ++ cursor.new)) }
+    // What is spelled so is read, whatever follows it, unless memory runs out.
+    ensures only { (block : Block) (rest : List ℕ) → IsBlock block → cursor.old ≡ block_text block ++ rest
+        → (result ≡ Err Memory) ⊎ ((result ≡ Ok block) × (cursor.new ≡ rest)) }
+    // Up to the first count no memory is taken.
+    ensures unpaid { (fault : Fault) → first_count_at cursor.old ≡ Err fault → result ≡ Err fault }
+{
+    let left = cursor.left();
+    let bytes = cursor.take(left)?;
+    match block_of(alloc, bytes) {
+        Ok((block, rest)) => {
+            *cursor = rest;
+            Ok(block)
+        }
+        Err(fault) => {
+            *cursor = Cursor::new(bytes);
+            Err(fault)
+        }
+    }
+}
+
+#[tactic(auto, unfolding(cb_tx::specs::Text::list_text), using(cb_tx::proofs::Appends::appends))]
+fn put_txs(out: &mut Vec<u8>, txs: &[Tx]) -> Result<(), Fault>
+    ensures ok { OnOk result (out.new.items ≡ out.old.items ++ list_text tx_text txs.now) }
+    ensures err { OnErr result (Extends out.old.items out.new.items) }
+    ensures memory { IsOkUnless result Memory }
+{
+    put_compact(out, txs.len() as u64)?;
+    for tx in txs {
+        write_tx(out, tx)?;
+    }
+    Ok(())
+}
+
+#[tactic(auto, unfolding(crate::specs::Text::block_text), using(cb_tx::proofs::Appends::appends))]
+fn put_block(out: &mut Vec<u8>, block: &Block) -> Result<(), Fault>
+    ensures ok { OnOk result (out.new.items ≡ out.old.items ++ block_text block.now) }
+    ensures err { OnErr result (Extends out.old.items out.new.items) }
+    ensures memory { IsOkUnless result Memory }
+{
+    out.extend_from_slice(&block.header.text())?;
+    put_txs(out, block.txs.as_slice())
+}
+
+/// Writes the block's text at the end. The only error is `Fault::Memory`, which leaves the vector as it was.
+pub fn write_block(out: &mut Vec<u8>, block: &Block) -> Result<(), Fault>
+    ensures ok { OnOk result (out.new.items ≡ out.old.items ++ block_text block.now) }
+    ensures err { OnErr result (out.new.items ≡ out.old.items) }
+    ensures memory { IsOkUnless result Memory }
+{
+    out.reserve(block.size() as usize)?;
+    let len = out.len();
+    let put = put_block(out, block);
+    if put.is_err() {
+        out.truncate(len);
+    }
+    put
+}
+
+#[tactic(auto, unfolding(cb_tx::specs::Text::list_text))]
+fn txs_size(txs: &[Tx]) -> u64
+    ensures { result ≡ min (length (list_text tx_text txs.now)) (2 ^ 64 - 1) }
+{
+    let mut size = compact_size(txs.len() as u64);
+    for tx in txs {
+        size = size.saturating_add(tx.size());
+    }
+    size
+}
+
+impl Block {
+    /// How many bytes its text has, or 18,446,744,073,709,551,615 where they are more.
+    #[tactic(auto, unfolding(crate::specs::Text::block_text))]
+    pub fn size(&self) -> u64
+        ensures { result ≡ min (length (block_text self.now)) (2 ^ 64 - 1) }
+    {
+        let header = self.header.text().as_slice().len() as u64;
+        txs_size(self.txs.as_slice()).saturating_add(header)
+    }
+
+    /// A block that equals it. The only error is `Fault::Memory`.
+    pub fn copy(&self, alloc: Global) -> Result<Block, Fault>
+        ensures same { IfOk result (λ block. block ≡ self.now) }
+        ensures memory { IsOkUnless result Memory }
+    {
+        let mut txs = Vec::with_capacity(alloc, self.txs.as_slice().len())?;
+        for tx in self.txs.as_slice() {
+            txs.push(tx.copy(alloc)?)?;
+        }
+        Ok(Block {
+            header: self.header,
+            txs: Txs::new(txs),
+        })
+    }
+}

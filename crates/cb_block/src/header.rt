@@ -1,0 +1,142 @@
+ghost use Rattle.std.specs.Prelude.{◌≡◌, ◌↔◌, ◌++◌, ℕ, ◌^◌, ◌*◌, ◌≤◌, ◌<◌, List, length, slice_index, All, IfOk, IsTrue, MatchResult, Ok, Err};
+ghost use Rattle.cb_base.specs.CompactSize.{Gives};
+ghost use Rattle.cb_base.specs.DoubleHash.{double_hash};
+ghost use Rattle.cb_base.specs.Reading.{Reads};
+ghost use Rattle.cb_base.specs.declared.fault.Fault.TheVariants.{BadWork};
+ghost use Rattle.cb_block.specs.Reading.{header_at};
+ghost use Rattle.cb_block.specs.Text.{IsHeader, header_text};
+ghost use Rattle.cb_block.specs.Work.{HasWork, little_endian};
+ghost use Rattle.cb_block.specs.declared.header.Header.{Header};
+
+use cb_base::{Cursor, Fault, Hash256, dsha};
+use cb_tx::read_hash;
+
+/// The bits that every header of the network has.
+pub const BITS: u32 = 0x207f_ffff;
+
+/// The header of a block. Its hash is the block's.
+#[derive(Clone, Copy, Debug, PartialEq, Eq)]
+pub struct Header {
+    pub version: i32,
+    /// The hash of the block before.
+    pub prev: Hash256,
+    /// The Merkle root of the transactions' txids.
+    pub root: Hash256,
+    /// Seconds since the start of 1970.
+    pub time: u32,
+    /// The target, in its short form.
+    pub bits: u32,
+    pub nonce: u32,
+}
+
+impl Header {
+    /// Its 80 bytes.
+    #[tactic(auto, unfolding(crate::specs::Text::header_text))]
+    pub fn text(&self) -> [u8; 80]
+        ensures { result ≡ header_text self.now }
+    {
+        let mut text = [0u8; 80];
+        let (version, rest) = text.split_at_mut(4);
+        version.copy_from_slice(&self.version.to_le_bytes());
+        let (prev, rest) = rest.split_at_mut(32);
+        prev.copy_from_slice(&self.prev.0);
+        let (root, rest) = rest.split_at_mut(32);
+        root.copy_from_slice(&self.root.0);
+        let (time, rest) = rest.split_at_mut(4);
+        time.copy_from_slice(&self.time.to_le_bytes());
+        let (bits, nonce) = rest.split_at_mut(4);
+        bits.copy_from_slice(&self.bits.to_le_bytes());
+        nonce.copy_from_slice(&self.nonce.to_le_bytes());
+        text
+    }
+
+    /// The double hash of its 80 bytes, which is the block's name.
+    pub fn hash(&self) -> Hash256
+        ensures { result ≡ double_hash (header_text self.now) }
+    {
+        dsha(&self.text())
+    }
+}
+
+#[tactic(auto, unfolding(crate::specs::Reading::header_at))]
+fn header_or_fault(cursor: &mut Cursor) -> Result<Header, Fault>
+    ensures { Gives (header_at cursor.old) result cursor.new }
+{
+    let version = cursor.i32()?;
+    let prev = read_hash(cursor)?;
+    let root = read_hash(cursor)?;
+    let time = cursor.u32()?;
+    let bits = cursor.u32()?;
+    let nonce = cursor.u32()?;
+    Ok(Header {
+        version,
+        prev,
+        root,
+        time,
+        bits,
+        nonce,
+    })
+}
+
+// The header at the front, and a cursor at the bytes after it.
+fn header_of(bytes: &[u8]) -> Result<(Header, Cursor<'_>), Fault>
+    ensures exact { MatchResult result (λ read. header_at bytes.now ≡ Ok (read.0, read.1))
+        (λ fault. header_at bytes.now ≡ Err fault) }
+    ensures bytes { (i : ℕ) → slice_index bytes.now i < 256 }
+{
+    let mut cursor = Cursor::new(bytes);
+    let header = header_or_fault(&mut cursor)?;
+    Ok((header, cursor))
+}
+
+/// Reads a header: the next 80 bytes. `Fault::Truncated` where there are fewer; a refused read leaves the cursor as it was.
+pub fn read_header<'a>(cursor: &mut Cursor<'a>) -> Result<Header, Fault>
+    ensures exact { Reads (header_at cursor.old) cursor.old result cursor.new }
+    // What is read is spelled so.
+    ensures found { IfOk result (λ header. IsHeader header × (cursor.old ≡ header_text header ++ cursor.new)) }
+    // What is spelled so is read, whatever follows it.
+    ensures only { (header : Header) (rest : List ℕ) → IsHeader header → cursor.old ≡ header_text header ++ rest
+        → (result ≡ Ok header) × (cursor.new ≡ rest) }
+{
+    let left = cursor.left();
+    let bytes = cursor.take(left)?;
+    match header_of(bytes) {
+        Ok((header, rest)) => {
+            *cursor = rest;
+            Ok(header)
+        }
+        Err(fault) => {
+            *cursor = Cursor::new(bytes);
+            Err(fault)
+        }
+    }
+}
+
+fn are_zero(bytes: &[u8]) -> bool
+    ensures { IsTrue result ↔ All (λ byte. byte ≡ 0) bytes.now }
+{
+    bytes.iter().all(|byte| *byte == 0)
+}
+
+// Whether the hash, as a number with its lowest byte first, is at most 7fffff followed by 29 zero bytes.
+fn meets_target(hash: &[u8]) -> bool
+    requires { length hash.now ≡ 32 }
+    ensures { IsTrue result ↔ (little_endian hash.now ≤ 8388607 * 256 ^ 29) }
+{
+    let (low, top) = hash.split_at(29);
+    let high = u32::from_le_bytes([top[0], top[1], top[2], 0]);
+    if high == 0x7f_ffff {
+        return are_zero(low);
+    }
+    high < 0x7f_ffff
+}
+
+/// Whether the header has the network's bits and a hash that meets their target: else `Fault::BadWork`.
+pub fn check_header(header: &Header) -> Result<(), Fault>
+    ensures { MatchResult result (λ _. HasWork header.now) (λ fault. (fault ≡ BadWork) × (¬ HasWork header.now)) }
+{
+    if header.bits != BITS || !meets_target(header.hash().0.as_slice()) {
+        return Err(Fault::BadWork);
+    }
+    Ok(())
+}

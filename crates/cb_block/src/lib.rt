@@ -1,0 +1,22 @@
+//! Headers, blocks and the trees over them, and blocks whose transactions are the only ones under their header.
+#![tactic(auto)]
+
+mod block;
+mod coding;
+mod first;
+mod header;
+mod law;
+mod rules;
+mod soundness;
+mod tree;
+
+pub use block::{Block, Txs};
+pub use coding::{read_block, write_block};
+pub use header::{BITS, Header, check_header, read_header};
+pub use law::{one_block_text, one_root, one_sound_list};
+pub use rules::check_block;
+pub use soundness::{SoundBlock, genesis, sound};
+pub use tree::{mutated, root};
+
+#[cfg(test)]
+mod tests;

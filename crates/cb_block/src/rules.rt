@@ -1,0 +1,48 @@
+ghost use Rattle.std.specs.Prelude.{◌≡◌, ◌⊎◌, ◌↔◌, All, IsTrue, MatchResult};
+ghost use Rattle.cb_base.specs.declared.fault.Fault.TheVariants.{BadTx, Memory};
+ghost use Rattle.cb_base.specs.declared.fault.TxRule.{TxRule};
+ghost use Rattle.cb_tx.specs.Rules.{MeetsRules};
+ghost use Rattle.cb_block.specs.Blocks.{BreaksFirst, HasOneCoinbase, IsRefused, MeetsBlockRules};
+
+use crate::soundness::SoundBlock;
+use cb_base::Fault;
+use cb_tx::{Tx, check_tx};
+use std::alloc::Global;
+
+fn has_one_coinbase(txs: &[Tx]) -> bool
+    ensures { IsTrue result ↔ HasOneCoinbase txs.now }
+{
+    match txs {
+        [] => false,
+        [first, others @ ..] => first.is_coinbase() && !others.iter().any(|tx| tx.is_coinbase()),
+    }
+}
+
+// Whether each transaction meets its rules: else the first fault of the first that doesn't.
+fn check_txs(alloc: Global, txs: &[Tx]) -> Result<(), Fault>
+    ensures { MatchResult result (λ _. All MeetsRules txs.now)
+        (λ fault. (fault ≡ Memory) ⊎ ((rule : TxRule) × (fault ≡ BadTx rule) × BreaksFirst txs.now rule)) }
+{
+    for tx in txs {
+        check_tx(alloc, tx)?;
+    }
+    Ok(())
+}
+
+/// Whether the block meets the rules that a block meets by itself.
+///
+/// Else the first that it breaks: `Fault::Oversize` above 1,000,000 bytes, `Fault::BadCoinbase` where the first transaction
+/// is no coinbase or another is one, and then the fault of the first transaction that `check_tx` refuses; that call may
+/// also answer `Fault::Memory`.
+pub fn check_block(alloc: Global, block: &SoundBlock) -> Result<(), Fault>
+    ensures { MatchResult result (λ _. MeetsBlockRules block.now) (λ fault. (fault ≡ Memory) ⊎ IsRefused block.now fault) }
+{
+    let block = block.block();
+    if block.size() > 1_000_000 {
+        return Err(Fault::Oversize);
+    }
+    if !has_one_coinbase(block.txs.as_slice()) {
+        return Err(Fault::BadCoinbase);
+    }
+    check_txs(alloc, block.txs.as_slice())
+}

@@ -1,0 +1,5 @@
+pub mod CrewLaws
+pub mod InboxLemmas
+pub mod DesksLaws
+pub mod LineLaws
+pub mod SystemLemmas

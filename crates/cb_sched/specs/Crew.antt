@@ -1,0 +1,102 @@
+-- The crew's core: the inboxes of all peers, the desks, and the acts that lead from one state to the next.
+use Rattle.std.specs.Prelude.{◌≡◌, ℕ, ◌<◌, Bool, true, false, List, [], ◌∷◌, length, replicate, slice_index, slice_index_or, slice_set}
+use Rattle.cb_sched.specs.declared.act.Act.{Act}
+use Rattle.cb_sched.specs.declared.act.Act.TheVariants as act
+use Rattle.cb_sched.specs.declared.act.Mark.{Mark}
+use Rattle.cb_sched.specs.declared.act.Mark.TheVariants as mark
+use Rattle.cb_sched.specs.Line.{Line, empty_line, line_put, line_taken}
+use Rattle.cb_sched.specs.Desks.{Desks, opening_desks, held_by, claimed, given}
+
+-- a state of the crew
+pub record Crew : Type 0 where
+  pub lines : List (Line Mark)  -- one for each peer
+  pub desks : Desks
+
+-- the end mark among the marks
+abbrev pub is_end : Mark → Bool
+is_end (mark.Item x) = false
+is_end mark.End = true
+
+-- nothing is queued, and all desks wait in the ring
+abbrev pub opening_crew : ℕ → ℕ → Crew
+opening_crew peers handlers = record { lines = replicate peers empty_line; desks = opening_desks peers handlers }
+
+-- peer p's line
+abbrev pub line_of : Crew → ℕ → Line Mark
+line_of s p = slice_index_or s.lines p empty_line
+
+-- the desk that handler k holds
+abbrev pub desk_of : Crew → ℕ → ℕ
+desk_of s k = slice_index (held_by s.desks k) 0
+
+-- peer p exists and has not ended, and its inbox holds fewer marks than the capacity
+pub record HasRoom (capacity : ℕ) (s : Crew) (p : ℕ) : Type 0 where
+  pub exists : p < length s.lines
+  pub live : (line_of s p).ended ≡ false
+  pub room : length (line_of s p).inbox < capacity
+
+-- handler k exists and holds no desk, and a desk waits in the ring
+pub record MayClaim (s : Crew) (k : ℕ) : Type 0 where
+  pub exists : k < length s.desks.held
+  pub free : held_by s.desks k ≡ []
+  pub waits : 0 < length s.desks.ring
+
+-- handler k holds a desk
+abbrev pub HoldsDesk : Crew → ℕ → Type 0
+HoldsDesk s k = 0 < length (held_by s.desks k)
+
+-- handler k holds a desk whose inbox isn't empty
+pub record MayTake (s : Crew) (k : ℕ) : Type 0 where
+  pub holds : HoldsDesk s k
+  pub filled : 0 < length (line_of s (desk_of s k)).inbox
+
+-- the act can come in this state
+abbrev pub IsEnabled : ℕ → Crew → Act → Type 0
+IsEnabled capacity s (act.Put p x) = HasRoom capacity s p
+IsEnabled capacity s (act.End p) = HasRoom capacity s p
+IsEnabled capacity s (act.Claim k) = MayClaim s k
+IsEnabled capacity s (act.Take k) = MayTake s k
+IsEnabled capacity s (act.Give k) = HoldsDesk s k
+
+-- the state with another line for peer p
+abbrev pub with_line : Crew → ℕ → Line Mark → Crew
+with_line s p line = record { lines = slice_set s.lines p line; desks = s.desks }
+
+-- the state with the desks at other places
+abbrev pub with_desks : Crew → Desks → Crew
+with_desks s desks = record { lines = s.lines; desks = desks }
+
+-- From s, putting m on peer p's inbox leads to t.
+abbrev pub Puts : ℕ → Crew → ℕ → Mark → Crew → Type 0
+Puts capacity s p m t = HasRoom capacity s p × (t ≡ with_line s p (line_put is_end (line_of s p) m))
+
+-- From s, the act leads to t.
+abbrev pub Step : ℕ → Crew → Act → Crew → Type 0
+Step capacity s (act.Put p x) t = Puts capacity s p (mark.Item x) t
+Step capacity s (act.End p) t = Puts capacity s p mark.End t
+Step capacity s (act.Claim k) t = MayClaim s k × (t ≡ with_desks s (claimed s.desks k))
+Step capacity s (act.Take k) t = MayTake s k × (t ≡ with_line s (desk_of s k) (line_taken (line_of s (desk_of s k))))
+Step capacity s (act.Give k) t = HoldsDesk s k × (t ≡ with_desks s (given s.desks k))
+
+-- From s, these acts, one after another, lead to t.
+abbrev pub Run : ℕ → Crew → List Act → Crew → Type 0
+Run capacity s [] t = t ≡ s
+Run capacity s (a ∷ acts) t = (mid : Crew) × Step capacity s a mid × Run capacity mid acts t
+
+-- some acts lead to this state from the opening one
+pub record IsReached (peers handlers capacity : ℕ) (s : Crew) : Type 0 where
+  pub acts : List Act
+  pub run : Run capacity (opening_crew peers handlers) acts s
+
+-- the acts that take memory: what was queued grows
+abbrev pub TakesMemory : Act → Type 0
+TakesMemory (act.Put p x) = Unit {0}
+TakesMemory (act.End p) = Unit {0}
+TakesMemory (act.Claim k) = ⊥
+TakesMemory (act.Take k) = ⊥
+TakesMemory (act.Give k) = ⊥
+
+-- what a System is seen as: a state, and how many marks an inbox may hold
+pub record Machine : Type 0 where
+  pub capacity : ℕ
+  pub crew : Crew

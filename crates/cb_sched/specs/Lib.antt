@@ -1,0 +1,7 @@
+pub mod Answer
+pub mod Crew
+pub mod Desks
+pub mod Laws
+pub mod Line
+pub mod System
+pub mod Text

@@ -1,0 +1,70 @@
+//! What holds of every list of acts. Each law is the contract of a function that does nothing.
+ghost use Rattle.std.specs.Prelude.{◌≡◌, ℕ, ◌+◌, ◌<◌, ◌≤◌, List, ◌++◌, length};
+ghost use Rattle.std.specs.List.{sum_by, range_with_len, list_any};
+ghost use Rattle.cb_sched.specs.declared.act.Act.{Act};
+ghost use Rattle.cb_sched.specs.declared.act.Mark.{Mark};
+ghost use Rattle.cb_sched.specs.Line.{Line, LineReached};
+ghost use Rattle.cb_sched.specs.Desks.{Desks, DesksReached, held_by};
+ghost use Rattle.cb_sched.specs.Crew.{Crew, IsEnabled, Step, Run, HoldsDesk, line_of, desk_of, is_end};
+ghost use Rattle.cb_sched.specs.Laws.{Reaches, IsBeginning, EndIsLast, EachDeskOnce, CanGoOn, TakesAll, LineRuns, DesksRun};
+
+/// From each state an act leads to one state where it can come, and to none where it can't.
+pub fn one_step_for_each_act()
+    ensures leads { (capacity : ℕ) (s : Crew) (a : Act) → IsEnabled capacity s a → (t : Crew) × Step capacity s a t }
+    ensures only_then { (capacity : ℕ) (s t : Crew) (a : Act) → Step capacity s a t → IsEnabled capacity s a }
+    ensures one { (capacity : ℕ) (s t u : Crew) (a : Act) → Step capacity s a t → Step capacity s a u → t ≡ u }
+{}
+
+/// For each peer, what was queued is what was taken, followed by what lies in the inbox: nothing is lost, doubled, made up
+/// or out of order.
+pub fn queued_is_taken_then_inbox()
+    ensures { (peers handlers capacity : ℕ) (acts : List Act) (s : Crew) → Reaches peers handlers capacity acts s → (p : ℕ) → (line_of s p).queued ≡ (line_of s p).taken ++ (line_of s p).inbox }
+{}
+
+/// Nothing is queued behind an end mark, and a peer has ended just where one was queued.
+pub fn end_is_last()
+    ensures flag { (peers handlers capacity : ℕ) (acts : List Act) (s : Crew) → Reaches peers handlers capacity acts s → (p : ℕ) → (line_of s p).ended ≡ list_any is_end (line_of s p).queued }
+    ensures last { (peers handlers capacity : ℕ) (acts : List Act) (s : Crew) → Reaches peers handlers capacity acts s → (p : ℕ) → EndIsLast is_end (line_of s p).queued }
+{}
+
+/// No inbox holds more marks than the capacity.
+pub fn inboxes_within_capacity()
+    ensures { (peers handlers capacity : ℕ) (acts : List Act) (s : Crew) → Reaches peers handlers capacity acts s → (p : ℕ) → length (line_of s p).inbox ≤ capacity }
+{}
+
+/// Each peer's desk stands once, in the ring or with one handler; there is no other desk, and no handler holds two.
+pub fn each_desk_once()
+    ensures once { (peers handlers capacity : ℕ) (acts : List Act) (s : Crew) → Reaches peers handlers capacity acts s → EachDeskOnce peers s.desks }
+    ensures one_each { (peers handlers capacity : ℕ) (acts : List Act) (s : Crew) → Reaches peers handlers capacity acts s → (k : ℕ) → length (held_by s.desks k) ≤ 1 }
+
+    // Whatever weights the desks are given, those in the ring and in hands weigh what all peers' desks do.
+    ensures weights { (weight : ℕ → ℕ) (peers handlers capacity : ℕ) (acts : List Act) (s : Crew) → Reaches peers handlers capacity acts s → sum_by weight s.desks.ring + sum_by (sum_by weight) s.desks.held ≡ sum_by weight (range_with_len 0 peers) }
+{}
+
+/// From any state on, what was queued and what was taken only grow, at their ends.
+pub fn taken_only_grows()
+    ensures queued { (capacity : ℕ) (acts : List Act) (s t : Crew) → Run capacity s acts t → (p : ℕ) → IsBeginning (line_of s p).queued (line_of t p).queued }
+    ensures taken { (capacity : ℕ) (acts : List Act) (s t : Crew) → Run capacity s acts t → (p : ℕ) → IsBeginning (line_of s p).taken (line_of t p).taken }
+{}
+
+/// Whatever order the acts of any number of peers and handlers come in: the items taken for a peer are a beginning of those
+/// that its reader queued, each once and in order, and further acts only take on from there.
+pub fn items_in_order()
+    ensures now { (peers handlers capacity : ℕ) (acts : List Act) (s : Crew) → Reaches peers handlers capacity acts s → (p : ℕ) → IsBeginning (line_of s p).taken (line_of s p).queued }
+    ensures later { (peers handlers capacity : ℕ) (acts more : List Act) (s t : Crew) → Reaches peers handlers capacity acts s → Run capacity s more t → (p : ℕ) → IsBeginning (line_of s p).taken (line_of t p).taken × IsBeginning (line_of t p).taken (line_of t p).queued }
+{}
+
+/// In each state some handler's act can come, and a desk that is held can be taken from until its inbox is empty. It says
+/// that acts can come and not that they do: nothing is promised of progress or fairness.
+pub fn never_stuck()
+    ensures some { (peers handlers capacity : ℕ) (acts : List Act) (s : Crew) → 0 < peers → 0 < handlers → Reaches peers handlers capacity acts s → (k : ℕ) × CanGoOn capacity s k }
+    ensures takes { (peers handlers capacity : ℕ) (acts : List Act) (s : Crew) → Reaches peers handlers capacity acts s → (k : ℕ) → HoldsDesk s k → TakesAll capacity s k }
+{}
+
+/// Lists of acts and the rules by which one line, or the desks alone, go on agree on what can be reached.
+pub fn reached_as_data()
+    ensures lines { (peers handlers capacity : ℕ) (acts : List Act) (s : Crew) → Reaches peers handlers capacity acts s → (p : ℕ) → LineReached is_end (line_of s p) }
+    ensures desks { (peers handlers capacity : ℕ) (acts : List Act) (s : Crew) → Reaches peers handlers capacity acts s → DesksReached peers handlers s.desks }
+    ensures line_runs { (capacity : ℕ) (l : Line Mark) → LineReached is_end l → length l.queued ≤ capacity → LineRuns capacity l }
+    ensures desks_run { (peers handlers capacity : ℕ) (d : Desks) → DesksReached peers handlers d → DesksRun peers handlers capacity d }
+{}

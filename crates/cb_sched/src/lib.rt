@@ -1,0 +1,17 @@
+//! The core of a crew of handlers: what any order of their steps does to the peers' inboxes and desks.
+#![tactic(auto)]
+
+mod act;
+mod inbox;
+mod laws;
+mod system;
+
+pub use act::{Act, Mark};
+pub use laws::{
+    each_desk_once, end_is_last, inboxes_within_capacity, items_in_order, never_stuck,
+    one_step_for_each_act, queued_is_taken_then_inbox, reached_as_data, taken_only_grows,
+};
+pub use system::System;
+
+#[cfg(test)]
+mod tests;

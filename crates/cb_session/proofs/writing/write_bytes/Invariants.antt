@@ -1,0 +1,14 @@
+use Rattle.std.proofs.Common.{◌≡◌, ◌-◌, ◌≤◌, length, true}
+use Rattle.cb_session.specs.Writing.{SentFront}
+use Rattle.cb_session.proofs.writing.write_bytes.Given as goal
+
+-- what isn't left has been taken
+abbrev pub invariant-loop-rest : goal.invariant-loop-rest
+invariant-loop-rest g l = record {
+  shorter : length l.rest ≤ length l.bytes;
+  front : SentFront (g.W.Sink.contents l.fn.writer) (g.W.Sink.contents l.writer) l.bytes l.rest (length l.bytes - length l.rest);
+  stays : g.W.Sink.has_failed l.fn.writer ≡ true → g.W.Sink.has_failed l.writer ≡ true;
+}
+
+abbrev pub decreases-loop-rest : goal.decreases-loop-rest
+decreases-loop-rest g l = length l.rest

@@ -1,0 +1,353 @@
+use super::*;
+use cb_base::Fault;
+use cb_wire::{BoundedMessage, Item, Message};
+use std::alloc::Global;
+use std::io::{Error, ErrorKind, Read, Result as IoResult, Write};
+use std::test::*;
+
+/// A `verack`, one whose checksum is wrong, and the command `hello`, which isn't known.
+const THREE_MESSAGES: [u8; 77] = [
+    0xfa, 0xbf, 0xb5, 0xda, 0x76, 0x65, 0x72, 0x61, 0x63, 0x6b, 0, 0, 0, 0, 0, 0, 0, 0, 0, 0, 0x5d,
+    0xf6, 0xe0, 0xe2, 0xfa, 0xbf, 0xb5, 0xda, 0x76, 0x65, 0x72, 0x61, 0x63, 0x6b, 0, 0, 0, 0, 0, 0,
+    0, 0, 0, 0, 0, 0, 0, 0, 0xfa, 0xbf, 0xb5, 0xda, 0x68, 0x65, 0x6c, 0x6c, 0x6f, 0, 0, 0, 0, 0, 0,
+    0, 5, 0, 0, 0, 0x95, 0x95, 0xc9, 0xdf, 0x68, 0x65, 0x6c, 0x6c, 0x6f,
+];
+
+/// A `ping` with the nonce 0. Its checksum was computed by another implementation of SHA-256.
+const PING: [u8; 32] = [
+    0xfa, 0xbf, 0xb5, 0xda, 0x70, 0x69, 0x6e, 0x67, 0, 0, 0, 0, 0, 0, 0, 0, 8, 0, 0, 0, 0x7e, 0xf0,
+    0xca, 0x62, 0, 0, 0, 0, 0, 0, 0, 0,
+];
+
+/// The `pong` that answers it.
+const PONG: [u8; 32] = [
+    0xfa, 0xbf, 0xb5, 0xda, 0x70, 0x6f, 0x6e, 0x67, 0, 0, 0, 0, 0, 0, 0, 0, 8, 0, 0, 0, 0x7e, 0xf0,
+    0xca, 0x62, 0, 0, 0, 0, 0, 0, 0, 0,
+];
+
+/// A `ping` with no payload.
+const SHORT_PING: [u8; 24] = [
+    0xfa, 0xbf, 0xb5, 0xda, 0x70, 0x69, 0x6e, 0x67, 0, 0, 0, 0, 0, 0, 0, 0, 0, 0, 0, 0, 0x5d, 0xf6,
+    0xe0, 0xe2,
+];
+
+/// An envelope's 24 bytes with the magic of another network.
+const OTHER_MAGIC: [u8; 24] = [
+    0xf9, 0xbe, 0xb4, 0xd9, 0, 0, 0, 0, 0, 0, 0, 0, 0, 0, 0, 0, 0, 0, 0, 0, 0, 0, 0, 0,
+];
+
+const SETTINGS: Settings = Settings {
+    inbound: true,
+    nonce: 7,
+    time: 0,
+    height: 0,
+    salt: 0,
+};
+
+/// What a reader or a writer does after its last byte.
+#[derive(Clone, Copy, PartialEq, Eq)]
+enum AtEnd {
+    Nothing,
+    Fails,
+}
+
+/// Gives these bytes, at most so many a read.
+#[derive(Drop)]
+struct Pieces {
+    bytes: Vec<u8>,
+    given: usize,
+    most: usize,
+    at_end: AtEnd,
+    interrupts: bool,
+}
+
+impl Read for Pieces {
+    fn read(&mut self, buffer: &mut [u8]) -> IoResult<usize> {
+        if self.interrupts {
+            self.interrupts = false;
+            return Err(Error::from(ErrorKind::Interrupted));
+        }
+        let Some(rest) = self.bytes.get(self.given..) else {
+            return Ok(0);
+        };
+        let count = rest.len().min(self.most).min(buffer.len());
+        if count == 0 && self.at_end == AtEnd::Fails {
+            return Err(Error::from(ErrorKind::ConnectionReset));
+        }
+        buffer[..count].copy_from_slice(&rest[..count]);
+        self.given = self.given.saturating_add(count);
+        Ok(count)
+    }
+}
+
+/// Takes as many bytes as it has room for, at most so many a write.
+#[derive(Drop)]
+struct Room {
+    taken: Vec<u8>,
+    room: usize,
+    most: usize,
+    at_end: AtEnd,
+    interrupts: bool,
+}
+
+impl Write for Room {
+    fn write(&mut self, piece: &[u8]) -> IoResult<usize> {
+        if self.interrupts {
+            self.interrupts = false;
+            return Err(Error::from(ErrorKind::Interrupted));
+        }
+        let count = piece.len().min(self.most).min(self.room);
+        if count == 0 && self.at_end == AtEnd::Fails {
+            return Err(Error::from(ErrorKind::BrokenPipe));
+        }
+        self.taken.extend_from_slice(&piece[..count])?;
+        self.room -= count;
+        Ok(count)
+    }
+
+    fn flush(&mut self) -> IoResult<()> {
+        Ok(())
+    }
+}
+
+/// A reader of all these bytes.
+fn reader_of(alloc: Global, parts: &[&[u8]]) -> Result<Pieces, Fail> {
+    let mut bytes = Vec::new(alloc);
+    for part in parts {
+        bytes.extend_from_slice(part)?;
+    }
+    Ok(Pieces {
+        bytes,
+        given: 0,
+        most: usize::MAX,
+        at_end: AtEnd::Nothing,
+        interrupts: false,
+    })
+}
+
+/// A writer with room for so many bytes.
+fn writer_for(alloc: Global, room: usize) -> Room {
+    Room {
+        taken: Vec::new(alloc),
+        room,
+        most: usize::MAX,
+        at_end: AtEnd::Fails,
+        interrupts: false,
+    }
+}
+
+/// What serving came to.
+#[derive(Drop)]
+struct Outcome {
+    state: State,
+    read: ReadEnd,
+    entries: usize,
+    written: u64,
+    taken: Vec<u8>,
+    calls: usize,
+}
+
+/// Serves a connection with a hall of its own.
+fn serve_once(alloc: Global, pieces: Pieces, room: Room) -> Result<Outcome, Fail> {
+    let (mut hall, mut badges) = Hall::new(alloc, 1)?;
+    let mut badge = badges.pop().ok_or(Fault::Memory)?;
+    let mut reader = In::new(pieces);
+    let mut writer = Out::new(room);
+    let served = serve(
+        alloc,
+        &mut reader,
+        &mut writer,
+        &mut hall,
+        &mut badge,
+        SETTINGS,
+    )?;
+    Ok(Outcome {
+        state: served.trace.state(),
+        read: served.read,
+        entries: served.trace.entries().len(),
+        written: served.written,
+        taken: writer.into_inner().taken,
+        calls: hall.journal().len(),
+    })
+}
+
+/// Serves a connection that brings so many pings.
+fn serve_pings(alloc: Global, count: usize) -> Result<Outcome, Fail> {
+    let mut given = reader_of(alloc, &[])?;
+    given.bytes = PING.repeat(alloc, count)?;
+    serve_once(alloc, given, writer_for(alloc, usize::MAX))
+}
+
+#[test]
+fn row_21(rt: HostRuntime) -> Result<(), Fail> {
+    let alloc = rt.alloc();
+    let ping = reader_of(alloc, &[PING.as_slice()])?;
+    let outcome = serve_once(alloc, ping, writer_for(alloc, usize::MAX))?;
+    assert_eq!(rt; outcome.taken.as_slice(), PONG.as_slice());
+    assert_eq!(rt; outcome.state, State::Closed(CloseReason::Bye));
+    let verack = reader_of(alloc, &[&THREE_MESSAGES[..24]])?;
+    let outcome = serve_once(alloc, verack, writer_for(alloc, usize::MAX))?;
+    assert_eq!(rt; outcome.taken.len(), 0);
+    assert_eq!(rt; outcome.state, State::Closed(CloseReason::Bye));
+    Ok(())
+}
+
+#[test]
+fn row_a_a_ping_without_payload_is_a_bad_message(rt: HostRuntime) -> Result<(), Fail> {
+    let alloc = rt.alloc();
+    let ping = reader_of(alloc, &[SHORT_PING.as_slice()])?;
+    let outcome = serve_once(alloc, ping, writer_for(alloc, usize::MAX))?;
+    assert_eq!(rt; outcome.taken.len(), 0);
+    assert_eq!(rt; outcome.written, 0);
+    assert_eq!(rt; outcome.state, State::Closed(CloseReason::BadMessage));
+    assert_eq!(rt; outcome.read, ReadEnd::Stopped);
+    Ok(())
+}
+
+#[test]
+fn row_b_all_but_the_ping_is_passed_over(rt: HostRuntime) -> Result<(), Fail> {
+    let alloc = rt.alloc();
+    for most in [1usize, 7, 1_000] {
+        let mut given = reader_of(alloc, &[THREE_MESSAGES.as_slice(), PING.as_slice()])?;
+        given.most = most;
+        let outcome = serve_once(alloc, given, writer_for(alloc, usize::MAX))?;
+        assert_eq!(rt;
+            outcome.taken.as_slice(),
+            PONG.as_slice(),
+            "in pieces of {most}"
+        );
+        assert_eq!(rt; outcome.written, 32);
+        assert_eq!(rt; outcome.state, State::Closed(CloseReason::Bye));
+        assert_eq!(rt; outcome.read, ReadEnd::Eof);
+        assert_eq!(rt; outcome.entries, 9);
+        assert_eq!(rt; outcome.calls, 4);
+    }
+    Ok(())
+}
+
+#[test]
+fn row_c_a_trace_has_65_536_entries_at_most(rt: HostRuntime) -> Result<(), Fail> {
+    let pongs = PONG.repeat(rt.alloc(), 32_767)?;
+    let outcome = serve_pings(rt.alloc(), 32_767)?;
+    assert!(rt; outcome.taken.as_slice() == pongs.as_slice());
+    assert_eq!(rt; outcome.state, State::Closed(CloseReason::Bye));
+    assert_eq!(rt; outcome.entries, 65_535);
+    let outcome = serve_pings(rt.alloc(), 32_768)?;
+    assert!(rt; outcome.taken.as_slice() == pongs.as_slice());
+    assert_eq!(rt; outcome.state, State::Closed(CloseReason::TraceFull));
+    assert_eq!(rt; outcome.entries, 65_536);
+    Ok(())
+}
+
+#[test]
+fn other_magic_is_a_bad_stream(rt: HostRuntime) -> Result<(), Fail> {
+    let alloc = rt.alloc();
+    let given = reader_of(
+        alloc,
+        &[PING.as_slice(), OTHER_MAGIC.as_slice(), PING.as_slice()],
+    )?;
+    let outcome = serve_once(alloc, given, writer_for(alloc, usize::MAX))?;
+    assert_eq!(rt; outcome.taken.as_slice(), PONG.as_slice());
+    assert_eq!(rt; outcome.state, State::Closed(CloseReason::BadStream));
+    assert_eq!(rt; outcome.read, ReadEnd::Stopped);
+    Ok(())
+}
+
+#[test]
+fn a_reader_that_fails_ends_the_stream(rt: HostRuntime) -> Result<(), Fail> {
+    let alloc = rt.alloc();
+    let mut given = reader_of(alloc, &[PING.as_slice()])?;
+    given.at_end = AtEnd::Fails;
+    let outcome = serve_once(alloc, given, writer_for(alloc, usize::MAX))?;
+    assert_eq!(rt; outcome.taken.as_slice(), PONG.as_slice());
+    assert_eq!(rt; outcome.state, State::Closed(CloseReason::Bye));
+    assert_eq!(rt; outcome.read, ReadEnd::Fault);
+    Ok(())
+}
+
+#[test]
+fn a_writer_of_single_bytes_gets_the_whole_pong(rt: HostRuntime) -> Result<(), Fail> {
+    let alloc = rt.alloc();
+    let mut taking = writer_for(alloc, 32);
+    taking.most = 1;
+    let outcome = serve_once(alloc, reader_of(alloc, &[PING.as_slice()])?, taking)?;
+    assert_eq!(rt; outcome.taken.as_slice(), PONG.as_slice());
+    assert_eq!(rt; outcome.written, 32);
+    assert_eq!(rt; outcome.state, State::Closed(CloseReason::Bye));
+    Ok(())
+}
+
+#[test]
+fn a_writer_that_fails_or_takes_nothing_ends_the_session(rt: HostRuntime) -> Result<(), Fail> {
+    let alloc = rt.alloc();
+    for at_end in [AtEnd::Fails, AtEnd::Nothing] {
+        for size in [0usize, 1, 24, 31] {
+            let mut taking = writer_for(alloc, size);
+            taking.at_end = at_end;
+            let given = reader_of(alloc, &[PING.as_slice(), PING.as_slice()])?;
+            let outcome = serve_once(alloc, given, taking)?;
+            assert_eq!(rt; outcome.taken.as_slice(), &PONG[..size]);
+            assert_eq!(rt; outcome.written, size as u64);
+            assert_eq!(rt; outcome.state, State::Closed(CloseReason::WriteFault));
+            assert_eq!(rt; outcome.read, ReadEnd::Stopped);
+        }
+    }
+    Ok(())
+}
+
+#[test]
+fn what_was_interrupted_is_made_again(rt: HostRuntime) -> Result<(), Fail> {
+    let alloc = rt.alloc();
+    let mut given = reader_of(alloc, &[PING.as_slice()])?;
+    given.interrupts = true;
+    let mut taking = writer_for(alloc, 32);
+    taking.interrupts = true;
+    let outcome = serve_once(alloc, given, taking)?;
+    assert_eq!(rt; outcome.taken.as_slice(), PONG.as_slice());
+    assert_eq!(rt; outcome.state, State::Closed(CloseReason::Bye));
+    assert_eq!(rt; outcome.read, ReadEnd::Eof);
+    Ok(())
+}
+
+#[test]
+fn a_hall_grants_and_keeps_its_calls(rt: HostRuntime) -> Result<(), Fail> {
+    let (mut hall, mut badges) = Hall::new(rt.alloc(), 3)?;
+    let mut badge = badges.pop().ok_or(Fault::Memory)?;
+    let answer = hall.call(&mut badge, Question::Admit)?;
+    assert_eq!(rt; answer, Answer::Go);
+    assert_eq!(rt; badge.peer(), 2);
+    assert_eq!(rt; badge.count(), 1);
+    assert!(rt; !badge.full());
+    assert_eq!(rt;
+        hall.journal(),
+        [Entry::Asked(2, Question::Admit)].as_slice()
+    );
+    Ok(())
+}
+
+#[test]
+fn a_ping_is_answered_when_the_hall_lets_it(rt: HostRuntime) -> Result<(), Fail> {
+    let alloc = rt.alloc();
+    let (mut session, opening) = Session::new(alloc, SETTINGS)?;
+    assert_eq!(rt; opening.len(), 0);
+    assert_eq!(rt; session.state(), State::Start);
+    let ping = Event::Said(Item::Good(BoundedMessage::new(Message::Ping(0))));
+    let (messages, question) = session.step(alloc, &ping)?;
+    assert_eq!(rt; messages.len(), 0);
+    assert_eq!(rt; question, Some(Question::Admit));
+    let (messages, question) = session.step(alloc, &Event::Told(Answer::Go))?;
+    assert_eq!(rt; question, None);
+    let mut writer = Out::new(writer_for(alloc, 32));
+    let written = write_out(alloc, &mut writer, messages.as_slice());
+    assert_eq!(rt; written, Ok(32));
+    assert!(rt; !writer.failed());
+    assert_eq!(rt; writer.into_inner().taken.as_slice(), PONG.as_slice());
+    Ok(())
+}
+
+#[test]
+fn a_close_reason_is_printed_by_its_name(rt: HostRuntime) -> Result<(), Fail> {
+    let line = format!(in rt.alloc(); "closed {}", CloseReason::Bye)?;
+    assert_eq!(rt; line.as_str(), "closed Bye");
+    Ok(())
+}

@@ -1,0 +1,5 @@
+pub mod Appends
+pub mod Laws
+pub mod Loop
+pub mod Parts
+pub mod Repeats

@@ -1,0 +1,22 @@
+//! Transactions: their bytes, their names, and the rules that stand by themselves.
+#![tactic(auto)]
+
+mod copying;
+mod counting;
+mod reading;
+mod rules;
+mod script;
+mod size;
+mod tx;
+mod writing;
+
+pub use counting::read_count;
+pub use reading::{read_hash, read_tx};
+pub use rules::check_tx;
+pub use script::Script;
+pub use size::compact_size;
+pub use tx::{Inputs, OutPoint, Outputs, Tx, TxIn, TxOut};
+pub use writing::{one_text, write_tx};
+
+#[cfg(test)]
+mod tests;

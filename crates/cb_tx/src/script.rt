@@ -1,0 +1,65 @@
+ghost use Rattle.std.specs.Prelude.{◌≡◌, ◌==◌, length, IfOk, IsOkUnless};
+ghost use Rattle.cb_base.specs.declared.fault.Fault.TheVariants.{Memory};
+
+use cb_base::Fault;
+use std::alloc::Global;
+use std::marker::Model;
+
+/// A script: bytes that nobody here runs. It is seen as their list.
+#[derive(Debug, Drop)]
+pub struct Script {
+    bytes: Vec<u8>,
+}
+
+impl Model for Script {
+    ghost use Rattle.std.specs.Prelude.{ℕ, List};
+
+    ghost Value = { List ℕ };
+
+    ghost view = { λ script. script.bytes.items };
+}
+
+impl Script {
+    /// The bytes as a script.
+    pub fn new(bytes: Vec<u8>) -> Script
+        ensures { result ≡ bytes.items }
+    {
+        Script { bytes }
+    }
+
+    /// How many bytes it has.
+    pub fn len(&self) -> usize
+        ensures { result ≡ length self.now }
+    {
+        self.bytes.len()
+    }
+
+    /// Whether it has none.
+    pub fn is_empty(&self) -> bool
+        ensures { result ≡ (length self.now == 0) }
+    {
+        self.bytes.is_empty()
+    }
+
+    /// Its bytes.
+    pub fn as_slice(&self) -> &[u8]
+        ensures { result.now ≡ self.now }
+    {
+        self.bytes.as_slice()
+    }
+
+    /// Its bytes, given out.
+    pub fn into_vec(self) -> Vec<u8>
+        ensures { result.items ≡ self }
+    {
+        self.bytes
+    }
+
+    /// A script of the same bytes. The only error is `Fault::Memory`.
+    pub fn copy(&self, alloc: Global) -> Result<Script, Fault>
+        ensures same { IfOk result (λ script. script ≡ self.now) }
+        ensures memory { IsOkUnless result Memory }
+    {
+        Ok(Script::new(Vec::from_slice(alloc, self.bytes.as_slice())?))
+    }
+}

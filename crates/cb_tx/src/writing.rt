@@ -1,0 +1,133 @@
+ghost use Rattle.std.specs.Prelude.{◌≡◌, ℕ, ◌^◌, ◌<◌, List, ◌++◌, length, min, All, OnOk, OnErr, IfOk, IsOkUnless};
+ghost use Rattle.cb_base.specs.declared.fault.Fault.TheVariants.{Memory};
+ghost use Rattle.cb_base.specs.DoubleHash.{double_hash};
+ghost use Rattle.cb_tx.specs.Text.{IsInput, IsOutput, IsTx, input_text, list_text, output_text, script_text, tx_text};
+ghost use Rattle.cb_tx.specs.Writing.{Extends};
+ghost use Rattle.cb_tx.specs.declared.tx.Tx.{Tx};
+
+use crate::script::Script;
+use crate::tx::{Tx, TxIn, TxOut};
+use cb_base::{Fault, Hash256, dsha, put_compact};
+use std::alloc::Global;
+
+#[tactic(auto, unfolding(crate::specs::Text::script_text), using(crate::proofs::Appends::appends))]
+fn put_script(out: &mut Vec<u8>, script: &Script) -> Result<(), Fault>
+    ensures ok { OnOk result (out.new.items ≡ out.old.items ++ script_text script.now) }
+    ensures err { OnErr result (Extends out.old.items out.new.items) }
+    ensures memory { IsOkUnless result Memory }
+    ensures fits { length script.now < 2 ^ 64 }
+{
+    put_compact(out, script.len() as u64)?;
+    out.extend_from_slice(script.as_slice())?;
+    Ok(())
+}
+
+fn hash_bytes(hash: &Hash256) -> &[u8]
+    ensures bytes { result.now ≡ hash.now.0 }
+    ensures len { length hash.now.0 ≡ 32 }
+{
+    hash.0.as_slice()
+}
+
+#[tactic(auto, unfolding(crate::specs::Text::input_text), using(crate::proofs::Appends::appends))]
+fn put_input(out: &mut Vec<u8>, input: &TxIn) -> Result<(), Fault>
+    ensures ok { OnOk result (out.new.items ≡ out.old.items ++ input_text input.now) }
+    ensures err { OnErr result (Extends out.old.items out.new.items) }
+    ensures memory { IsOkUnless result Memory }
+    ensures fits { OnOk result (IsInput input.now) }
+{
+    out.extend_from_slice(hash_bytes(&input.prev.txid))?;
+    out.extend_from_slice(&input.prev.index.to_le_bytes())?;
+    put_script(out, &input.script)?;
+    out.extend_from_slice(&input.sequence.to_le_bytes())?;
+    Ok(())
+}
+
+#[tactic(auto, unfolding(crate::specs::Text::output_text), using(crate::proofs::Appends::appends))]
+fn put_output(out: &mut Vec<u8>, output: &TxOut) -> Result<(), Fault>
+    ensures ok { OnOk result (out.new.items ≡ out.old.items ++ output_text output.now) }
+    ensures err { OnErr result (Extends out.old.items out.new.items) }
+    ensures memory { IsOkUnless result Memory }
+    ensures fits { OnOk result (IsOutput output.now) }
+{
+    out.extend_from_slice(&output.value.to_le_bytes())?;
+    put_script(out, &output.script)
+}
+
+#[tactic(auto, unfolding(crate::specs::Text::list_text), using(crate::proofs::Appends::appends))]
+fn put_inputs(out: &mut Vec<u8>, inputs: &[TxIn]) -> Result<(), Fault>
+    ensures ok { OnOk result (out.new.items ≡ out.old.items ++ list_text input_text inputs.now) }
+    ensures err { OnErr result (Extends out.old.items out.new.items) }
+    ensures memory { IsOkUnless result Memory }
+    ensures few { length inputs.now < 2 ^ 64 }
+    ensures fits { OnOk result (All IsInput inputs.now) }
+{
+    put_compact(out, inputs.len() as u64)?;
+    for input in inputs {
+        put_input(out, input)?;
+    }
+    Ok(())
+}
+
+#[tactic(auto, unfolding(crate::specs::Text::list_text), using(crate::proofs::Appends::appends))]
+fn put_outputs(out: &mut Vec<u8>, outputs: &[TxOut]) -> Result<(), Fault>
+    ensures ok { OnOk result (out.new.items ≡ out.old.items ++ list_text output_text outputs.now) }
+    ensures err { OnErr result (Extends out.old.items out.new.items) }
+    ensures memory { IsOkUnless result Memory }
+    ensures few { length outputs.now < 2 ^ 64 }
+    ensures fits { OnOk result (All IsOutput outputs.now) }
+{
+    put_compact(out, outputs.len() as u64)?;
+    for output in outputs {
+        put_output(out, output)?;
+    }
+    Ok(())
+}
+
+#[tactic(auto, unfolding(crate::specs::Text::tx_text), using(crate::proofs::Appends::appends))]
+fn put_tx(out: &mut Vec<u8>, tx: &Tx) -> Result<(), Fault>
+    ensures ok { OnOk result (out.new.items ≡ out.old.items ++ tx_text tx.now) }
+    ensures err { OnErr result (Extends out.old.items out.new.items) }
+    ensures memory { IsOkUnless result Memory }
+    ensures fits { OnOk result (IsTx tx.now) }
+{
+    out.extend_from_slice(&tx.version.to_le_bytes())?;
+    put_inputs(out, tx.inputs.as_slice())?;
+    put_outputs(out, tx.outputs.as_slice())?;
+    out.extend_from_slice(&tx.lock_time.to_le_bytes())?;
+    Ok(())
+}
+
+/// Writes the transaction's text at the end. The only error is `Fault::Memory`, which leaves the vector as it was.
+pub fn write_tx(out: &mut Vec<u8>, tx: &Tx) -> Result<(), Fault>
+    ensures ok { OnOk result (out.new.items ≡ out.old.items ++ tx_text tx.now) }
+    ensures err { OnErr result (out.new.items ≡ out.old.items) }
+    ensures memory { IsOkUnless result Memory }
+    // Each number is one of its field, and each hash has 32 bytes.
+    ensures fits { OnOk result (IsTx tx.now) }
+{
+    out.reserve(tx.size() as usize)?;
+    let len = out.len();
+    let put = put_tx(out, tx);
+    if put.is_err() {
+        out.truncate(len);
+    }
+    put
+}
+
+impl Tx {
+    /// The double hash of its text, which is its name. The only error is `Fault::Memory`.
+    pub fn txid(&self, alloc: Global) -> Result<Hash256, Fault>
+        ensures name { IfOk result (λ txid. txid ≡ double_hash (tx_text self.now)) }
+        ensures memory { IsOkUnless result Memory }
+    {
+        let mut text = Vec::new(alloc);
+        write_tx(&mut text, self)?;
+        Ok(dsha(text.as_slice()))
+    }
+}
+
+/// One transaction has one text, and no text begins another.
+pub fn one_text()
+    ensures { (a b : Tx) (x y : List ℕ) → IsTx a → IsTx b → tx_text a ++ x ≡ tx_text b ++ y → (a ≡ b) × (x ≡ y) }
+{}

@@ -1,0 +1,50 @@
+-- Commands, as an envelope names them (Bitcoin's peer-to-peer protocol).
+use Rattle.std.specs.Prelude.{◌≡◌, ℕ, ◌-◌, ◌&&◌, Bool, true, List, [], ◌∷◌, ◌++◌, length, take, drop, nat_le, ◌==◌, replicate, codes, find, if◌then◌else◌, Option, Some, None}
+use Rattle.std.specs.List.{list_all, position_or_len}
+use Rattle.std.specs.Str.{bytes_eq}
+use Rattle.cb_wire.specs.declared.command.Command.{Command}
+use Rattle.cb_wire.specs.declared.command.Command.TheVariants.{Verack, Ping, Pong}
+
+-- the known commands
+abbrev pub known_commands : List Command
+known_commands = Verack ∷ Ping ∷ Pong ∷ []
+
+abbrev pub command_name : Command → List ℕ
+command_name Verack = codes "verack"
+command_name Ping = codes "ping"
+command_name Pong = codes "pong"
+
+-- the known command of a name
+abbrev pub known_command : List ℕ → Option Command
+known_command name = find (λ command. bytes_eq name (command_name command)) known_commands
+
+-- a byte that a command may have: from the space to the tilde
+abbrev pub is_command_byte : ℕ → Bool
+is_command_byte byte = nat_le 0x20 byte && nat_le byte 0x7e
+
+-- the form of a command: 1 to 12 such bytes
+abbrev pub is_command : List ℕ → Bool
+is_command name = nat_le 1 (length name) && nat_le (length name) 12 && list_all is_command_byte name
+
+abbrev pub IsCommand : List ℕ → Type 0
+IsCommand name = is_command name ≡ true
+
+-- of a command's form, and not the name of a known one
+pub record IsUnknownName (name : List ℕ) : Type 0 where
+  pub form : is_command name ≡ true
+  pub unknown : known_command name ≡ None
+
+-- a command in the twelve bytes of an envelope: its bytes, and then zeros
+abbrev pub command_field : List ℕ → List ℕ
+command_field name = name ++ replicate (12 - length name) 0
+
+-- how many bytes stand before the first zero
+abbrev pub name_length : List ℕ → ℕ
+name_length field = position_or_len (λ byte. byte == 0) field
+
+-- The command in those twelve bytes, if there is one: what stands before the first zero is of a command's form, and
+-- only zeros follow.
+unfoldable pub command_in : List ℕ → Option (List ℕ)
+command_in field =
+    if is_command (take (name_length field) field) && list_all (λ byte. byte == 0) (drop (name_length field) field)
+    then Some (take (name_length field) field) else None

@@ -1,0 +1,4 @@
+pub mod Command
+pub mod Envelope
+pub mod Grammar
+pub mod Stream

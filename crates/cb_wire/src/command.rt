@@ -1,0 +1,108 @@
+ghost use Rattle.std.specs.Prelude.{◌≡◌, ◌↔◌, IsTrue, codes, string_bytes, IfOk, IsOkUnless};
+ghost use Rattle.cb_base.specs.declared.fault.Fault.TheVariants.{Memory};
+
+use crate::envelope::is_command;
+use cb_base::Fault;
+use std::alloc::Global;
+use std::marker::Model;
+
+/// The commands whose payloads are understood.
+#[derive(Clone, Copy, Debug, PartialEq, Eq)]
+pub enum Command {
+    Verack,
+    Ping,
+    Pong,
+}
+
+impl Command {
+    ghost use Rattle.cb_wire.specs.Command.{IsCommand, command_name, known_command};
+
+    /// Whether a name is of a command's form, which `decode` needs: 1 to 12 bytes from the space to the tilde.
+    pub fn is_name(name: &str) -> bool
+        ensures { IsTrue result ↔ IsCommand name.now }
+    {
+        is_command(name.as_bytes())
+    }
+
+    /// The command of this name, if it is a known one.
+    pub fn named(name: &str) -> Option<Command>
+        ensures { result ≡ known_command name.now }
+    {
+        match name {
+            "verack" => Some(Command::Verack),
+            "ping" => Some(Command::Ping),
+            "pong" => Some(Command::Pong),
+            _ => None,
+        }
+    }
+
+    /// The name, as an envelope has it.
+    pub fn name(&self) -> &'static str
+        ensures { result.now ≡ command_name self.now }
+    {
+        match self {
+            Command::Verack => "verack",
+            Command::Ping => "ping",
+            Command::Pong => "pong",
+        }
+    }
+}
+
+/// The name of a command that isn't known: 1 to 12 bytes from the space to the tilde.
+///
+/// It is seen as its bytes.
+#[derive(Debug, Drop)]
+pub struct UnknownName {
+    text: String,
+}
+
+impl Model for UnknownName {
+    ghost use Rattle.std.specs.Prelude.{ℕ, List, string_bytes};
+
+    ghost Value = { List ℕ };
+
+    ghost view = { λ name. string_bytes name.text };
+
+    ghost use Rattle.cb_wire.specs.Command.{IsUnknownName};
+
+    ghost invariant = { λ name. IsUnknownName (string_bytes name.text) };
+}
+
+impl UnknownName {
+    ghost use Rattle.cb_wire.specs.Command.{IsUnknownName};
+
+    /// Whether `new` takes this name: it is of a command's form and no known command's.
+    pub fn accepts(name: &str) -> bool
+        ensures { IsTrue result ↔ IsUnknownName name.now }
+    {
+        Command::is_name(name) && Command::named(name).is_none()
+    }
+
+    /// Takes a name of a command's form that is no known command's.
+    ///
+    /// The only error is `Fault::Memory`.
+    pub fn new(alloc: Global, name: &str) -> Result<UnknownName, Fault>
+        requires { IsUnknownName name.now }
+        ensures name { IfOk result (λ unknown. unknown ≡ name.now) }
+        ensures memory { IsOkUnless result Memory }
+    {
+        let text = String::from_str(alloc, name)?;
+        Ok(UnknownName { text })
+    }
+
+    /// The name as text.
+    pub fn as_str(&self) -> &str
+        ensures name { result.now ≡ self.now }
+        ensures form { IsUnknownName self.now }
+    {
+        self.text.as_str()
+    }
+
+    /// An equal name. The only error is `Fault::Memory`.
+    pub fn copy(&self, alloc: Global) -> Result<UnknownName, Fault>
+        ensures equal { IfOk result (λ copy. copy ≡ self.now) }
+        ensures memory { IsOkUnless result Memory }
+    {
+        UnknownName::new(alloc, self.as_str())
+    }
+}

@@ -1,0 +1,32 @@
+ghost use Rattle.std.specs.Prelude.{◌≡◌, IfOk, IsOkUnless};
+ghost use Rattle.cb_base.specs.declared.fault.Fault.TheVariants.{Memory};
+
+use crate::command::Command;
+use crate::message::BoundedMessage;
+use cb_base::Fault;
+use std::alloc::Global;
+
+/// What an envelope held.
+#[derive(Debug, Drop)]
+pub enum Item {
+    /// A message, within the limits of the protocol.
+    Good(BoundedMessage),
+    /// A wrong checksum, or twelve bytes that are no command.
+    Damaged,
+    /// A known command whose payload can't be read, with the fault of its first field from the left.
+    Bad(Command, Fault),
+}
+
+impl Item {
+    /// An equal item. The only error is `Fault::Memory`.
+    pub fn copy(&self, alloc: Global) -> Result<Item, Fault>
+        ensures equal { IfOk result (λ copy. copy ≡ self.now) }
+        ensures memory { IsOkUnless result Memory }
+    {
+        Ok(match self {
+            Item::Good(message) => Item::Good(message.copy(alloc)?),
+            Item::Damaged => Item::Damaged,
+            Item::Bad(command, fault) => Item::Bad(*command, *fault),
+        })
+    }
+}

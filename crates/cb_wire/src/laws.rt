@@ -1,0 +1,44 @@
+//! What holds of every stream, whatever it was cut into: laws of the definitions that the contracts cite.
+//!
+//! Each is a function that does nothing and whose contract is the law.
+ghost use Rattle.std.specs.Prelude.{◌≡◌, ◌↔◌, ◌+◌, ◌<◌, ℕ, List, [], ◌∷◌, length, map, take, Option, Some, None};
+ghost use Rattle.std.specs.List.{AllByRecursion};
+ghost use Rattle.cb_base.specs.declared.fault.Fault.{Fault};
+ghost use Rattle.cb_wire.specs.declared.message.Message.{Message};
+ghost use Rattle.cb_wire.specs.declared.item.Item.{Item};
+ghost use Rattle.cb_wire.specs.declared.item.Item.TheVariants.{Good};
+ghost use Rattle.cb_wire.specs.Grammar.{IsProper};
+ghost use Rattle.cb_wire.specs.Stream.{Stream, Reading, texts};
+ghost use Rattle.cb_wire.specs.declared.envelope.Front.TheVariants.{Whole};
+ghost use Rattle.cb_wire.specs.Command.{IsCommand, command_field, command_in};
+ghost use Rattle.cb_wire.specs.Envelope.{IsEnvelopeOf, front_at, item_at, text};
+
+/// A byte string has one reading at the most: its items, its rest and its fault are determined.
+pub fn one_reading()
+    ensures items { (bytes : List ℕ) (i j : List Item) (r s : List ℕ) (f g : Option Fault) → Stream bytes i r f → Stream bytes j s g → i ≡ j }
+    ensures rest { (bytes : List ℕ) (i j : List Item) (r s : List ℕ) (f g : Option Fault) → Stream bytes i r f → Stream bytes j s g → r ≡ s }
+    ensures fault { (bytes : List ℕ) (i j : List Item) (r s : List ℕ) (f g : Option Fault) → Stream bytes i r f → Stream bytes j s g → f ≡ g }
+{}
+
+/// Every byte string has a reading.
+pub fn some_reading()
+    ensures { (bytes : List ℕ) → Reading bytes }
+{}
+
+/// The texts of messages, one after another, are a stream of these messages with nothing left over. So they are read
+/// back however they are cut, and no two messages have one text.
+pub fn texts_are_a_stream()
+    ensures stream { (messages : List Message) → AllByRecursion IsProper messages → Stream (texts messages) (map (λ message. Good message) messages) [] None }
+    ensures alone { (m n : Message) → IsProper m → IsProper n → text m ≡ text n → m ≡ n }
+{}
+
+/// The twelve bytes of an envelope hold a command exactly where they are its name, of a command's form, and then zeros.
+pub fn commands_are_names_and_zeros()
+    ensures { (field name : List ℕ) → length field ≡ 12 → ((command_in field ≡ Some name) ↔ (IsCommand name × (field ≡ command_field name))) }
+{}
+
+/// A message comes of an envelope of its own alone: where an item is `Good`, its bytes are magic, the message's name,
+/// the length and the checksum of a payload that spells the message, and that payload.
+pub fn good_items_are_envelopes()
+    ensures { (bytes : List ℕ) (n : ℕ) (message : Message) → AllByRecursion (λ byte. byte < 256) bytes → front_at bytes ≡ Whole n → item_at n bytes ≡ Good message → IsEnvelopeOf (take (24 + n) bytes) message }
+{}

@@ -1,0 +1,42 @@
+-- How a run ends: the exit status, and what standard error gets.
+use Rattle.std.specs.Prelude.{ℕ, List, [], codes}
+use Rattle.cb_session.specs.declared.state.CloseReason.{CloseReason}
+use Rattle.cb_session.specs.declared.state.CloseReason.TheVariants as reasons
+use Rattle.cbrelay.specs.declared.ending.Status.{Status}
+use Rattle.cbrelay.specs.declared.ending.Status.TheVariants.{Success, Usage, Refused, BadInput, NoMemory}
+use Rattle.cbrelay.specs.declared.ending.Halt.{Halt}
+use Rattle.cbrelay.specs.declared.ending.Halt.TheVariants.{Memory, ReadFailed, WriteFailed}
+
+-- the number that the process ends with
+abbrev pub status_code : Status → ℕ
+status_code Success = 0
+status_code Usage = 1
+status_code Refused = 2
+status_code BadInput = 3
+status_code NoMemory = 4
+
+abbrev pub halt_status : Halt → Status
+halt_status Memory = NoMemory
+halt_status ReadFailed = BadInput
+halt_status WriteFailed = BadInput
+
+-- the line on standard error; none for want of memory, which the status tells
+abbrev pub halt_line : Halt → List ℕ
+halt_line Memory = []
+halt_line ReadFailed = codes "read failed\n"
+halt_line WriteFailed = codes "write failed\n"
+
+-- the status of a run of `serve` whose session was closed for this reason
+abbrev pub reason_status : CloseReason → Status
+reason_status reasons.Bye = Success
+reason_status reasons.Memory = NoMemory
+reason_status reasons.BadStream = BadInput
+reason_status reasons.BadMessage = BadInput
+reason_status reasons.BadBlock = BadInput
+reason_status reasons.BadRequest = BadInput
+reason_status reasons.OldPeer = BadInput
+reason_status reasons.SelfPeer = BadInput
+reason_status reasons.Kicked = BadInput
+reason_status reasons.TraceFull = BadInput
+reason_status reasons.HallFull = BadInput
+reason_status reasons.WriteFault = BadInput

@@ -1,0 +1,33 @@
+-- What `decode` prints.
+use Rattle.std.specs.Prelude.{ℕ, List, [], ◌++◌, length, codes, Option, Some, None}
+use Rattle.std.specs.List.{flat_map}
+use Rattle.std.specs.Fmt.{decimal}
+use Rattle.cb_base.specs.declared.fault.Fault.{Fault}
+use Rattle.cb_base.specs.Fault.{fault_text}
+use Rattle.cb_wire.specs.declared.message.Message.{Message}
+use Rattle.cb_wire.specs.declared.message.Message.TheVariants.{Verack, Ping, Pong, Unknown}
+use Rattle.cb_wire.specs.declared.item.Item.{Item}
+use Rattle.cb_wire.specs.declared.item.Item.TheVariants.{Good, Damaged, Bad}
+use Rattle.cb_wire.specs.Command.{command_name}
+
+-- a message: its name and what it carries
+abbrev pub message_text : Message → List ℕ
+message_text Verack = codes "verack\n"
+message_text (Ping nonce) = codes "ping " ++ decimal nonce ++ codes "\n"
+message_text (Pong nonce) = codes "pong " ++ decimal nonce ++ codes "\n"
+message_text (Unknown name payload) = codes "unknown " ++ name ++ codes " " ++ decimal (length payload) ++ codes "\n"
+
+-- an item: its message, or what is wrong with it
+abbrev pub item_text : Item → List ℕ
+item_text (Good message) = message_text message
+item_text Damaged = codes "damaged\n"
+item_text (Bad command fault) = codes "bad " ++ command_name command ++ codes " " ++ fault_text fault ++ codes "\n"
+
+-- items, one after another
+abbrev pub items_text : List Item → List ℕ
+items_text items = flat_map item_text items
+
+-- a stream's fault
+abbrev pub broken_text : Option Fault → List ℕ
+broken_text None = []
+broken_text (Some fault) = codes "broken " ++ fault_text fault ++ codes "\n"

@@ -1,0 +1,33 @@
+//! The program `cbrelay`: its command line, and what each of its commands prints.
+#![tactic(auto)]
+
+mod command;
+mod decode;
+mod ending;
+mod lines;
+mod output;
+mod printed;
+mod serve;
+mod sim;
+mod simulate;
+#[cfg(test)]
+mod tests;
+
+use cb_session::{In, Out};
+use std::process::ExitCode;
+
+/// Hands all to `command`: the words, standard input, standard output and standard error.
+fn main(rt: HostRuntime) -> ExitCode {
+    let alloc = rt.alloc();
+    let words = match std::env::args(&rt) {
+        Ok(args) => args.collect(alloc),
+        Err(_) => return ExitCode::from(ending::Status::NoMemory.code()),
+    };
+    let Ok(words) = words else {
+        return ExitCode::from(ending::Status::NoMemory.code());
+    };
+    let mut reader = In::new(rt.reader());
+    let mut writer = Out::new(std::io::writer(&rt));
+    let mut errors = Out::new(rt.stderr());
+    ExitCode::from(command::command(alloc, words, &mut reader, &mut writer, &mut errors))
+}

@@ -1,0 +1,26 @@
+//! Writing a whole piece to a sink.
+
+ghost use Rattle.std.specs.Prelude.{◌≡◌, OnOk, IsOkUnless};
+ghost use Rattle.std.specs.Io.KnownBytes.{Appends};
+ghost use Rattle.cbrelay.specs.declared.ending.Halt.TheVariants.{WriteFailed};
+
+use crate::ending::Halt;
+use cb_session::Sink;
+
+/// Writes all of a piece. The only error is that a write failed, or took nothing.
+pub fn write_all<W: Sink>(writer: &mut W, piece: &[u8]) -> Result<(), Halt>
+    ensures written { OnOk result (Appends (W.contents writer.old) (W.contents writer.new) piece.now) }
+    ensures failed { IsOkUnless result WriteFailed }
+{
+    let mut rest = piece;
+    while !rest.is_empty() {
+        match writer.write(rest) {
+            Some(taken) if taken > 0 => {
+                let (_, after) = rest.split_at(taken);
+                rest = after;
+            }
+            _ => return Err(Halt::WriteFailed),
+        }
+    }
+    Ok(())
+}
