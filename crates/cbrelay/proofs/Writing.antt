@@ -1,6 +1,7 @@
 -- Writing a piece part by part.
-use Rattle.std.proofs.Common.{◌≡◌, ℕ, List, ◌++◌, take, drop, Option, sym, ap, ◌∙◌, append_assoc}
+use Rattle.std.proofs.Common.{◌≡◌, ℕ, Bool, true, false, List, ◌++◌, take, drop, Option, sym, ap, ◌∙◌, append_assoc}
 use Rattle.std.proofs.lemmas.List.{take-append-drop}
+use Rattle.std.specs.Prelude.{◌||◌}
 use Rattle.std.specs.Io.KnownBytes.{Appends}
 use Rattle.cb_session.proofs.Known.{Appends-then}
 
@@ -13,3 +14,8 @@ wrote_more piece front rest after n a b c e h k d = (
       ∙ ap (λ (r : List ℕ). (front ++ take n rest) ++ r) (sym d),
   Appends-then a b c front (take n rest) h k,
 )
+
+-- a failure that was marked stays so
+pub stays_marked : (was is more : Bool) → is ≡ (was || more) → was ≡ true → is ≡ true
+stays_marked true is more e w = e
+stays_marked false is more e w = absurd (let z : false ≡ true = w in cc)

@@ -1,5 +1,16 @@
 //! The command line.
 
+ghost use Rattle.std.specs.Prelude.{◌≡◌, ◌⊎◌, true, IfOk, IfErr, MatchResult};
+ghost use Rattle.std.specs.Io.KnownBytes.{Appends};
+ghost use Rattle.cb_session.specs.declared.state.CloseReason.{CloseReason};
+ghost use Rattle.cb_session.specs.declared.state.CloseReason.TheVariants as reasons;
+ghost use Rattle.cbrelay.specs.declared.ending.Halt.TheVariants.{Memory, WriteFailed};
+ghost use Rattle.cbrelay.specs.declared.ending.Status.TheVariants.{Usage};
+ghost use Rattle.cbrelay.specs.Command.{PrintsReport, EndsEarly, Halts, TellsPeer, code_of};
+ghost use Rattle.cbrelay.specs.Ending.{halt_status, halt_line};
+ghost use Rattle.cbrelay.specs.Peer.{WasServed};
+ghost use Rattle.cbrelay.specs.SimInput.{SimulatesKnown};
+
 use crate::decode::decode;
 use crate::ending::{Halt, Status};
 use crate::output::write_all;
@@ -31,13 +42,55 @@ pub fn command<R: Source, W: Sink, E: Sink>(
     reader: &mut R,
     writer: &mut W,
     errors: &mut E,
-) -> u8 {
-    let ended = match task_of(alloc, words.as_slice()) {
-        Ok(Task::Decode) => code_of(decode(alloc, reader, writer)),
-        Ok(Task::Serve) => code_of(serve_peer(alloc, reader, writer, errors)),
-        Ok(Task::Sim) => simulate(alloc, reader, writer),
-        Err(error) => code_of(refuse(alloc, &error, errors)),
-    };
+) -> u8
+    // One of the commands ran to its end, or the words were refused, or the run ended early.
+    ensures { (PrintsReport (R.remaining reader.old) (W.contents writer.old) (W.contents writer.new) result × (errors.new ≡ errors.old))
+        ⊎ ((SimulatesKnown (R.remaining reader.old) (W.contents writer.old) (W.contents writer.new) result × (errors.new ≡ errors.old))
+        ⊎ (((reason : CloseReason)
+        × (WasServed (R.remaining reader.old) (R.remaining reader.new) (R.has_failed reader.new) (W.contents writer.old) (W.contents writer.new) (W.has_failed writer.new) reason
+        ⊎ ((reason ≡ reasons.Memory) × (reader.new ≡ reader.old) × (writer.new ≡ writer.old)))
+        × TellsPeer (R.has_failed reader.new) (W.has_failed writer.new) (E.contents errors.old) (E.contents errors.new) (E.has_failed errors.new) result reason)
+        ⊎ (((result ≡ 1) × (reader.new ≡ reader.old) × (writer.new ≡ writer.old))
+        ⊎ Halts (E.contents errors.old) (E.contents errors.new) (E.has_failed errors.new) result))) }
+{
+    match task_of(alloc, words.as_slice()) {
+        Ok(Task::Decode) => settle(code_of(decode(alloc, reader, writer)), errors),
+        Ok(Task::Serve) => answer_peer(alloc, reader, writer, errors),
+        Ok(Task::Sim) => settle(simulate(alloc, reader, writer), errors),
+        Err(error) => settle_refusal(alloc, &error, errors),
+    }
+}
+
+/// Answers a peer, and then says what failed.
+fn answer_peer<R: Source, W: Sink, E: Sink>(
+    alloc: Global,
+    reader: &mut R,
+    writer: &mut W,
+    errors: &mut E,
+) -> u8
+    ensures { (reason : CloseReason)
+        × (WasServed (R.remaining reader.old) (R.remaining reader.new) (R.has_failed reader.new) (W.contents writer.old) (W.contents writer.new) (W.has_failed writer.new) reason
+        ⊎ ((reason ≡ reasons.Memory) × (reader.new ≡ reader.old) × (writer.new ≡ writer.old)))
+        × TellsPeer (R.has_failed reader.new) (W.has_failed writer.new) (E.contents errors.old) (E.contents errors.new) (E.has_failed errors.new) result reason }
+{
+    let ended = serve_peer(alloc, reader, writer, errors);
+    settle(code_of(ended), errors)
+}
+
+/// Says why the command line was refused, or gives the help that it asked for.
+fn settle_refusal<E: Sink>(alloc: Global, error: &clap::Error, errors: &mut E) -> u8
+    ensures { (result ≡ 1) ⊎ Halts (E.contents errors.old) (E.contents errors.new) (E.has_failed errors.new) result }
+{
+    let ended = refuse(alloc, error, errors);
+    settle(code_of(ended), errors)
+}
+
+/// The exit status of a run. Where it ended early, standard error is told why.
+fn settle<E: Sink>(ended: Result<u8, Halt>, errors: &mut E) -> u8
+    ensures settled { MatchResult ended (λ code. (result ≡ code) × (errors.new ≡ errors.old))
+        (EndsEarly (E.contents errors.old) (E.contents errors.new) (E.has_failed errors.new) result) }
+    ensures stays { E.has_failed errors.old ≡ true → E.has_failed errors.new ≡ true }
+{
     match ended {
         Ok(code) => code,
         Err(halt) => tell(halt, errors).code(),
@@ -45,7 +98,9 @@ pub fn command<R: Source, W: Sink, E: Sink>(
 }
 
 /// The number of the status that a run came to.
-fn code_of(ended: Result<Status, Halt>) -> Result<u8, Halt> {
+fn code_of(ended: Result<Status, Halt>) -> Result<u8, Halt>
+    ensures { result ≡ code_of ended }
+{
     let status = ended?;
     Ok(status.code())
 }
@@ -69,7 +124,10 @@ fn task_of(alloc: Global, words: &[String]) -> Result<Task, clap::Error> {
 }
 
 /// Prints why the command line was refused, or the help that it asked for.
-fn refuse<E: Sink>(alloc: Global, error: &clap::Error, errors: &mut E) -> Result<Status, Halt> {
+fn refuse<E: Sink>(alloc: Global, error: &clap::Error, errors: &mut E) -> Result<Status, Halt>
+    ensures usage { IfOk result (λ status. status ≡ Usage) }
+    ensures err { IfErr result (λ halt. ((halt ≡ Memory) × (errors.new ≡ errors.old)) ⊎ ((halt ≡ WriteFailed) × (E.has_failed errors.new ≡ true))) }
+{
     if error.kind() == ErrorKind::OutOfMemory {
         return Err(Halt::Memory);
     }
@@ -79,7 +137,11 @@ fn refuse<E: Sink>(alloc: Global, error: &clap::Error, errors: &mut E) -> Result
 }
 
 /// Says on standard error why the run ended early, and answers the status.
-fn tell<E: Sink>(halt: Halt, errors: &mut E) -> Status {
+fn tell<E: Sink>(halt: Halt, errors: &mut E) -> Status
+    ensures told { Appends (E.contents errors.old) (E.contents errors.new) (halt_line halt) ⊎ (E.has_failed errors.new ≡ true) }
+    ensures status { result ≡ halt_status halt }
+    ensures stays { E.has_failed errors.old ≡ true → E.has_failed errors.new ≡ true }
+{
     // Where even this can't be written, the status alone tells.
     let _ = write_all(errors, halt.line().as_bytes());
     halt.status()

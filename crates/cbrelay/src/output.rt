@@ -1,6 +1,6 @@
 //! Writing a whole piece to a sink.
 
-ghost use Rattle.std.specs.Prelude.{◌≡◌, OnOk, IsOkUnless};
+ghost use Rattle.std.specs.Prelude.{◌≡◌, true, OnOk, OnErr, IsOkUnless};
 ghost use Rattle.std.specs.Io.KnownBytes.{Appends};
 ghost use Rattle.cbrelay.specs.declared.ending.Halt.TheVariants.{WriteFailed};
 
@@ -11,6 +11,8 @@ use cb_session::Sink;
 pub fn write_all<W: Sink>(writer: &mut W, piece: &[u8]) -> Result<(), Halt>
     ensures written { OnOk result (Appends (W.contents writer.old) (W.contents writer.new) piece.now) }
     ensures failed { IsOkUnless result WriteFailed }
+    ensures marked { OnErr result (W.has_failed writer.new ≡ true) }
+    ensures stays { W.has_failed writer.old ≡ true → W.has_failed writer.new ≡ true }
 {
     let mut rest = piece;
     while !rest.is_empty() {

@@ -1,9 +1,14 @@
 //! The command `serve`: one peer's connection over standard input and output.
 
-ghost use Rattle.std.specs.Prelude.{◌≡◌, true};
+ghost use Rattle.std.specs.Prelude.{◌≡◌, ◌⊎◌, true, OnOk, OnErr, IsOkUnless};
+ghost use Rattle.std.specs.Io.KnownBytes.{Appends};
 ghost use Rattle.cb_session.specs.Session.{is_closed};
+ghost use Rattle.cb_session.specs.declared.state.CloseReason.{CloseReason};
+ghost use Rattle.cb_session.specs.declared.state.CloseReason.TheVariants as reasons;
 ghost use Rattle.cb_session.specs.declared.state.State.TheVariants.{Closed};
+ghost use Rattle.cbrelay.specs.declared.ending.Halt.TheVariants.{WriteFailed};
 ghost use Rattle.cbrelay.specs.Ending.{reason_status};
+ghost use Rattle.cbrelay.specs.Peer.{WasServed, PeerEnds, closed_text, peer_end};
 
 use crate::ending::{Halt, Status};
 use crate::output::write_all;
@@ -20,27 +25,30 @@ const SETTINGS: Settings = Settings {
 };
 
 /// Answers a peer until its session is over, and tells why on standard error.
+///
+/// An error is that a read or a write failed. Want of memory closes the session, and the status tells.
 pub fn serve_peer<R: Source, W: Sink, E: Sink>(
     alloc: Global,
     reader: &mut R,
     writer: &mut W,
     errors: &mut E,
-) -> Result<Status, Halt> {
+) -> Result<Status, Halt>
+    // The connection was served whole; or there was no memory before the first read, and nothing was read or written.
+    // In both cases its end is told.
+    ensures { (reason : CloseReason) × (WasServed (R.remaining reader.old) (R.remaining reader.new) (R.has_failed reader.new) (W.contents writer.old) (W.contents writer.new) (W.has_failed writer.new) reason
+        ⊎ ((reason ≡ reasons.Memory) × (reader.new ≡ reader.old) × (writer.new ≡ writer.old)))
+        × PeerEnds (R.has_failed reader.new) (W.has_failed writer.new) (E.contents errors.old) (E.contents errors.new) (E.has_failed errors.new) reason result }
+{
     let reason = connection(alloc, reader, writer);
-    write_all(errors, b"closed ")?;
-    write_all(errors, reason.name().as_bytes())?;
-    write_all(errors, b"\n")?;
-    if reader.failed() {
-        return Err(Halt::ReadFailed);
-    }
-    if writer.failed() {
-        return Err(Halt::WriteFailed);
-    }
-    Ok(status_of(reason))
+    tell_closed(errors, reason)?;
+    end_of(reader, writer, reason)
 }
 
 /// Serves the connection with a hall of its own. Want of memory before the first read closes it as later.
-fn connection<R: Source, W: Sink>(alloc: Global, reader: &mut R, writer: &mut W) -> CloseReason {
+fn connection<R: Source, W: Sink>(alloc: Global, reader: &mut R, writer: &mut W) -> CloseReason
+    ensures { WasServed (R.remaining reader.old) (R.remaining reader.new) (R.has_failed reader.new) (W.contents writer.old) (W.contents writer.new) (W.has_failed writer.new) result
+        ⊎ ((result ≡ reasons.Memory) × (reader.new ≡ reader.old) × (writer.new ≡ writer.old)) }
+{
     let Ok((mut hall, mut badges)) = Hall::new(alloc, 1) else {
         return CloseReason::Memory;
     };
@@ -51,6 +59,30 @@ fn connection<R: Source, W: Sink>(alloc: Global, reader: &mut R, writer: &mut W)
         Ok(served) => reason_of(served.trace.state()),
         Err(_) => CloseReason::Memory,
     }
+}
+
+/// Tells why a session is over. The only error is that a write failed.
+fn tell_closed<E: Sink>(errors: &mut E, reason: CloseReason) -> Result<(), Halt>
+    ensures told { OnOk result (Appends (E.contents errors.old) (E.contents errors.new) (closed_text reason)) }
+    ensures failed { IsOkUnless result WriteFailed }
+    ensures marked { OnErr result (E.has_failed errors.new ≡ true) }
+{
+    write_all(errors, b"closed ")?;
+    write_all(errors, reason.name().as_bytes())?;
+    write_all(errors, b"\n")
+}
+
+/// How the run ends: a read or a write that failed comes before the session's reason.
+fn end_of<R: Source, W: Sink>(reader: &R, writer: &W, reason: CloseReason) -> Result<Status, Halt>
+    ensures { result ≡ peer_end (R.has_failed reader.now) (W.has_failed writer.now) reason }
+{
+    if reader.failed() {
+        return Err(Halt::ReadFailed);
+    }
+    if writer.failed() {
+        return Err(Halt::WriteFailed);
+    }
+    Ok(status_of(reason))
 }
 
 /// Why a session that is over is.

@@ -1,5 +1,10 @@
 //! The command `sim`: a run of the crew's core, a line for each act.
 
+ghost use Rattle.std.specs.Prelude.{◌≡◌, IfOk, OnOk};
+ghost use Rattle.std.specs.Io.KnownBytes.{Appends};
+ghost use Rattle.cbrelay.specs.SimInput.{SimulatesKnown};
+ghost use Rattle.cbrelay.specs.SimRun.{final_text, status_of};
+
 use crate::ending::Halt;
 use crate::lines::LineReader;
 use crate::output::write_all;
@@ -9,21 +14,24 @@ use std::alloc::Global;
 
 /// Runs the crew's core by the lines of the input, and prints how it stands at the end. The answer is the exit status.
 ///
-/// A line that can't be read ends the run, and no report is printed.
+/// What a line prints is written before the next line is taken. A line that can't be read ends the run, and no report
+/// is printed.
 pub fn simulate<R: Source, W: Sink>(
     alloc: Global,
     reader: &mut R,
     writer: &mut W,
-) -> Result<u8, Halt> {
+) -> Result<u8, Halt>
+    // Over a reader and a writer that tell their bytes: what is printed for the whole input, and the status.
+    ensures { IfOk result (SimulatesKnown (R.remaining reader.old) (W.contents writer.old) (W.contents writer.new)) }
+{
     let mut lines = LineReader::new(alloc)?;
     let mut simulation = Simulation::new(alloc);
     for _ in 0..u64::MAX {
+        if !lines.advance(reader)? {
+            return report(alloc, simulation, writer);
+        }
         let mut text = String::new(alloc);
-        let flow = if lines.advance(reader)? {
-            simulation.line(lines.line(), &mut text)?
-        } else {
-            Flow::Stop
-        };
+        let flow = simulation.line(lines.line(), &mut text)?;
         write_all(writer, text.as_bytes())?;
         if flow == Flow::Stop {
             return report(alloc, simulation, writer);
@@ -33,7 +41,10 @@ pub fn simulate<R: Source, W: Sink>(
 }
 
 /// Prints how the run stands at its end, and answers the exit status.
-fn report<W: Sink>(alloc: Global, simulation: Simulation, writer: &mut W) -> Result<u8, Halt> {
+fn report<W: Sink>(alloc: Global, simulation: Simulation, writer: &mut W) -> Result<u8, Halt>
+    ensures text { OnOk result (Appends (W.contents writer.old) (W.contents writer.new) (final_text simulation.stage)) }
+    ensures status { IfOk result (λ status. status ≡ status_of simulation.stage simulation.refused) }
+{
     let mut text = String::new(alloc);
     let status = simulation.finish(&mut text)?;
     write_all(writer, text.as_bytes())?;

@@ -1,0 +1,51 @@
+-- What `serve` comes to for its peer.
+use Rattle.std.specs.Prelude.{◌≡◌, ℕ, pos, Bool, true, false, ◌⊎◌, List, [], ◌∷◌, ◌++◌, codes, Option, Result, Ok, Err}
+use Rattle.std.specs.Io.KnownBytes.{Appends}
+use Rattle.cb_session.specs.declared.state.State.TheVariants.{Closed}
+use Rattle.cb_session.specs.declared.state.CloseReason.{CloseReason}
+use Rattle.cb_session.specs.declared.hall.Entry.{Entry}
+use Rattle.cb_session.specs.declared.reading.ReadEnd.{ReadEnd}
+use Rattle.cb_session.specs.Hall.{BadgeState}
+use Rattle.cb_session.specs.Session.{reason_name}
+use Rattle.cb_session.specs.Trace.{TraceView, state_of}
+use Rattle.cb_session.specs.Serving.{Origin, Serves, progress}
+use Rattle.cbrelay.specs.declared.ending.Status.{Status}
+use Rattle.cbrelay.specs.declared.ending.Halt.{Halt}
+use Rattle.cbrelay.specs.declared.ending.Halt.TheVariants.{ReadFailed, WriteFailed}
+use Rattle.cbrelay.specs.Ending.{reason_status}
+
+-- where serving begins: the peer's settings, the one peer 0, and an empty journal
+abbrev pub peer_origin : Option (List ℕ) → Origin
+peer_origin held =
+    record {
+      settings = record { inbound = true; nonce = 1; time = pos 0; height = pos 0; salt = 0 };
+      peer = 0;
+      held = held;
+      journal = [];
+    }
+
+-- The connection was served to its end, from its source as it was (input) to its source as it is (remaining), and from
+-- what the writer held to what it holds; its session is closed for this reason.
+pub record WasServed (input remaining : Option (List ℕ)) (read_failed : Bool) (held holds : Option (List ℕ)) (write_failed : Bool) (reason : CloseReason) : Type 0 where
+  pub trace : TraceView
+  pub journal : List Entry
+  pub badge : BadgeState
+  pub written : ℕ
+  pub end : ReadEnd
+  pub serves : Serves (peer_origin held) input remaining read_failed (progress trace holds write_failed journal badge written) end
+  pub closed : state_of trace ≡ Closed reason
+
+-- the line on standard error
+abbrev pub closed_text : CloseReason → List ℕ
+closed_text reason = codes "closed " ++ reason_name reason ++ 10 ∷ []
+
+-- the end of a run whose session was closed for this reason, by whether a read and a write failed
+abbrev pub peer_end : Bool → Bool → CloseReason → Result Status Halt
+peer_end true write_failed reason = Err ReadFailed
+peer_end false true reason = Err WriteFailed
+peer_end false false reason = Ok (reason_status reason)
+
+-- Standard error was told the reason, and the run ended by what failed; or standard error itself failed.
+abbrev pub PeerEnds : Bool → Bool → Option (List ℕ) → Option (List ℕ) → Bool → CloseReason → Result Status Halt → Type 0
+PeerEnds read_failed write_failed told tells errors_failed reason result =
+    (Appends told tells (closed_text reason) × (result ≡ peer_end read_failed write_failed reason)) ⊎ ((errors_failed ≡ true) × (result ≡ Err WriteFailed))
