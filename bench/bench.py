@@ -1,8 +1,9 @@
 #!/usr/bin/env python3
 """Measures the processor time of the built program beside `openssl dgst -sha256`, and prints ratios.
 
-Usage: bench/bench.py [PROGRAM]. It needs the program (crates/cbrelay/out/cbrelay, as `rt run` leaves it), openssl and
-python3, and takes about a minute.
+Usage: bench/bench.py [PROGRAM [SOUND]]. It needs the program (crates/cbrelay/out/cbrelay, as `rt run` leaves it), the
+program that tells whether a block is sound (crates/bench_sound/out/bench_sound, likewise), openssl and python3, and takes
+about two minutes.
 """
 
 import hashlib
@@ -33,6 +34,42 @@ def unknown(count):
     return envelope(b"filler", payload) * count
 
 
+def hash_twice(data):
+    return hashlib.sha256(hashlib.sha256(data).digest()).digest()
+
+
+def compact_size(number):
+    """A number as Bitcoin's protocol writes a count."""
+    if number < 0xFD:
+        return struct.pack("<B", number)
+    if number < 0x1_0000:
+        return b"\xfd" + struct.pack("<H", number)
+    return b"\xfe" + struct.pack("<I", number)
+
+
+def transaction(number, script_len):
+    """A transaction with one input and one output, whose script has this length."""
+    spent = hashlib.sha256(struct.pack("<Q", number)).digest() + struct.pack("<I", 0)
+    paid = struct.pack("<q", 1) + compact_size(script_len) + bytes(script_len)
+    return struct.pack("<i", 1) + b"\x01" + spent + b"\x00" + b"\xff" * 4 + b"\x01" + paid + struct.pack("<I", 0)
+
+
+def merkle_root(level):
+    while len(level) > 1:
+        if len(level) % 2 == 1:
+            level.append(level[-1])
+        level = [hash_twice(level[i] + level[i + 1]) for i in range(0, len(level), 2)]
+    return level[0]
+
+
+def block(count, script_len):
+    """A block of so many transactions, with its true root."""
+    texts = [transaction(number, script_len) for number in range(count)]
+    root = merkle_root([hash_twice(text) for text in texts])
+    header = struct.pack("<i", 1) + bytes(32) + root + struct.pack("<III", 0, 0x207F_FFFF, 0)
+    return header + compact_size(count) + b"".join(texts)
+
+
 def acts(count):
     """A run of `sim`: one peer's items, put a thousand at a time and then taken."""
     put = b"".join(b"put 0 %d\n" % item for item in range(1_000))
@@ -60,8 +97,9 @@ def seconds(command, path):
 
 
 class Bench:
-    def __init__(self, program, folder):
+    def __init__(self, program, sound, folder):
         self.program = program
+        self.sound = sound
         self.folder = folder
 
     def write(self, data):
@@ -71,7 +109,9 @@ class Bench:
         return path
 
     def run(self, word, data, wanted):
-        took, status = seconds([self.program, word], self.write(data))
+        """The time of a command of the program, or of the program that looks at a block."""
+        command = [self.sound] if word == "sound" else [self.program, word]
+        took, status = seconds(command, self.write(data))
         if status != wanted:
             sys.exit(f"{word} ended with status {status}, and not with {wanted}")
         return took
@@ -94,12 +134,31 @@ class Bench:
         print(f"{name}: {first * 1000:.0f} ms, and {second * 1000:.0f} ms for twice as much: {second / first:.2f} times as long")
 
 
+def built(place, crate):
+    """The path of a program that was built: the argument at this place, or where `rt run` leaves it."""
+    path = os.path.abspath(sys.argv[place]) if len(sys.argv) > place else os.path.join(ROOT, f"crates/{crate}/out/{crate}")
+    if not os.access(path, os.X_OK):
+        sys.exit(f"{path} isn't built: cd crates/{crate} && rt run < stdin")
+    return path
+
+
+def blocks(bench):
+    """The times of blocks near a million bytes, and of the trees over many transactions."""
+    small, large = envelope(b"block", block(4_000, 188)), envelope(b"block", block(10, 99_930))
+    for name, message in (("4,000 transactions", small), ("10 transactions", large)):
+        bench.speed(f"decode, a block of 1,000,000 bytes with {name}", "decode", as_lines(message, 65_536) * 5, message * 5, 0)
+    bench.growth("decode, a block of 4,000 small transactions", "decode",
+                 as_lines(envelope(b"block", block(4_000, 0)), 65_536), as_lines(envelope(b"block", block(8_000, 0)), 65_536), 0)
+    many = block(16_000, 0)
+    bench.speed("sound, 16,000 transactions", "sound", many, many, 0)
+    bench.growth("sound, 8,000 transactions", "sound", block(8_000, 0), many, 0)
+
+
 def main():
-    program = os.path.abspath(sys.argv[1]) if len(sys.argv) > 1 else os.path.join(ROOT, "crates/cbrelay/out/cbrelay")
-    if not os.access(program, os.X_OK):
-        sys.exit(f"{program} isn't built: cd crates/cbrelay && rt run < ../../examples/first.hex")
+    program, sound = built(1, "cbrelay"), built(2, "bench_sound")
     with tempfile.TemporaryDirectory() as folder:
-        bench = Bench(program, folder)
+        bench = Bench(program, sound, folder)
+        blocks(bench)
         many = pings(250_000)
         bench.speed("decode, pings in pieces of 65,536 bytes", "decode", as_lines(many, 65_536), many, 0)
         bench.speed("decode, one ping a line", "decode", as_lines(many, 32), many, 0)

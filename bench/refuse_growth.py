@@ -1,8 +1,8 @@
 #!/usr/bin/env python3
-"""Refuses each growth of memory in turn, and looks at how the built program ends.
+"""Refuses each growth of memory in turn, and looks at how the built programs end.
 
-Usage: bench/refuse_growth.py [PROGRAM]. It needs the program (crates/cbrelay/out/cbrelay, as `rt run` leaves it), a C
-compiler as `cc`, and python3, and takes a few seconds. A small library that is loaded before the C library makes the
+Usage: bench/refuse_growth.py. It needs the programs (crates/cbrelay/out/cbrelay and crates/bench_sound/out/bench_sound, as
+`rt run` leaves them), a C compiler as `cc`, and python3, and takes a few seconds. A small library that is loaded before the C library makes the
 Nth growth fail; N goes up until a run makes fewer. Each run has to end with status 4 after a beginning of what it prints
 with ample memory, or wholly as with ample memory, where it could do without that growth.
 """
@@ -11,6 +11,8 @@ import os
 import subprocess
 import sys
 import tempfile
+
+from bench import block
 
 ROOT = os.path.dirname(os.path.dirname(os.path.abspath(__file__)))
 
@@ -46,6 +48,22 @@ __attribute__((destructor)) static void tell(void) {
 """
 
 
+def example(name):
+    with open(os.path.join(ROOT, "examples", name), "rb") as file:
+        return file.read()
+
+
+# What is run: a name, the crate of the program, its words, and its standard input.
+RUNS = [
+    ("decode first.hex", "cbrelay", ["decode"], example("first.hex")),
+    ("decode not-hex.hex", "cbrelay", ["decode"], example("not-hex.hex")),
+    ("decode other-network.hex", "cbrelay", ["decode"], example("other-network.hex")),
+    ("decode faults.hex", "cbrelay", ["decode"], example("faults.hex")),
+    ("serve mixed.bin", "cbrelay", ["serve"], example("mixed.bin")),
+    ("sound, a block of 5 transactions", "bench_sound", [], block(5, 10)),
+]
+
+
 def build(folder):
     source = os.path.join(folder, "refusal.c")
     library = os.path.join(folder, "refusal.so")
@@ -55,13 +73,13 @@ def build(folder):
     return library
 
 
-def run(program, word, data, library, place):
+def run(command, data, library, place):
     """One run in which this growth is refused: its status, its output, and whether it made fewer growths."""
     reading, writing = os.pipe()
     os.dup2(writing, 9)
     os.close(writing)
     environment = dict(os.environ, LD_PRELOAD=library, REFUSED_GROWTH=str(place))
-    ran = subprocess.run([program, word], input=data, capture_output=True, env=environment, pass_fds=[9], timeout=60)
+    ran = subprocess.run(command, input=data, capture_output=True, env=environment, pass_fds=[9], timeout=60)
     os.close(9)
     told = os.read(reading, 16)
     os.close(reading)
@@ -76,14 +94,13 @@ def is_same(ran, ample):
     return (ran.returncode, ran.stdout, ran.stderr) == (ample.returncode, ample.stdout, ample.stderr)
 
 
-def in_turn(program, word, name, library):
-    with open(os.path.join(ROOT, "examples", name), "rb") as file:
-        data = file.read()
-    ample = subprocess.run([program, word], input=data, capture_output=True)
+def in_turn(told, crate, words, data, library):
+    command = [os.path.join(ROOT, "crates", crate, "out", crate)] + words
+    ample = subprocess.run(command, input=data, capture_output=True)
     refused, spared, failures = 0, 0, 0
     place = 1
     while True:
-        ran, fewer = run(program, word, data, library, place)
+        ran, fewer = run(command, data, library, place)
         if fewer:
             break
         if is_refusal(ran, ample):
@@ -92,24 +109,22 @@ def in_turn(program, word, name, library):
             spared += 1
         else:
             failures += 1
-            print(f"{word} {name}: growth {place} refused: status {ran.returncode}, printed {ran.stdout!r}, {ran.stderr!r}")
+            print(f"{told}: growth {place} refused: status {ran.returncode}, printed {ran.stdout!r}, {ran.stderr!r}")
         place += 1
     if not is_same(ran, ample):
         failures += 1
-        print(f"{word} {name}: another end with ample memory: status {ran.returncode}")
-    print(f"{word} {name}: {place - 1} growths refused in turn: {refused} ended the run, {spared} were done without, {failures} failures")
+        print(f"{told}: another end with ample memory: status {ran.returncode}")
+    print(f"{told}: {place - 1} growths refused in turn: {refused} ended the run, {spared} were done without, {failures} failures")
     return failures
 
 
 def main():
-    program = os.path.abspath(sys.argv[1]) if len(sys.argv) > 1 else os.path.join(ROOT, "crates/cbrelay/out/cbrelay")
-    if not os.access(program, os.X_OK):
-        sys.exit(f"{program} isn't built: cd crates/cbrelay && rt run < ../../examples/first.hex")
+    for crate in ("cbrelay", "bench_sound"):
+        if not os.access(os.path.join(ROOT, "crates", crate, "out", crate), os.X_OK):
+            sys.exit(f"{crate} isn't built: cd crates/{crate} && rt run < stdin")
     with tempfile.TemporaryDirectory() as folder:
         library = build(folder)
-        failures = sum(in_turn(program, word, name, library) for word, name in [
-            ("decode", "first.hex"), ("decode", "not-hex.hex"), ("decode", "other-network.hex"), ("decode", "faults.hex"), ("serve", "mixed.bin"),
-        ])
+        failures = sum(in_turn(*what, library) for what in RUNS)
     sys.exit(1 if failures else 0)
 
 

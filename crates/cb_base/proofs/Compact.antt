@@ -1,12 +1,12 @@
 -- CompactSize: what is read was written so, what was written is read again, and when each fault comes.
-use Rattle.std.proofs.Common.{◌≡◌, ℕ, zero, suc, ◌+◌, ◌^◌, ◌<◌, ◌≤◌, ◌⊎◌, Bool, true, false, cond, eqb, ltb, List, [], ◌∷◌, ◌++◌, length, get_or, take, drop, Result, Ok, Err, refl, sym, ap, subst, ◌∙◌, append_assoc, arith, inl, inr}
+use Rattle.std.proofs.Common.{◌≡◌, ℕ, suc, ◌+◌, ◌^◌, ◌<◌, ◌≤◌, ◌⊎◌, Bool, true, false, cond, eqb, ltb, List, [], ◌∷◌, ◌++◌, length, get_or, take, drop, Result, Ok, Err, refl, sym, ap, subst, ◌∙◌, arith, inl, inr}
 use Rattle.std.specs.Prelude.{◌↔◌, IfOk}
 use Rattle.std.specs.Int.{Width, w8, w16, w32, w64, byte_len, from_le_bytes, to_le_bytes}
-use Rattle.std.proofs.lemmas.Bool.{ltb-false, ltb-true, lt-ltb, le-ltb, cases_lt, eqb-true}
+use Rattle.std.proofs.lemmas.Bool.{ltb-false, ltb-true, lt-ltb, le-ltb, cases_lt}
 use Rattle.std.proofs.lemmas.List.{get_or-append-add}
 use Rattle.cb_base.specs.declared.fault.Fault.{Fault}
 use Rattle.cb_base.specs.declared.fault.Fault.TheVariants.{NotShortest, Truncated}
-use Rattle.cb_base.specs.Reading.{Read, Reads, ◌>>=◌, number_at}
+use Rattle.cb_base.specs.Reading.{Reads, ◌>>=◌, number_at}
 use Rattle.cb_base.specs.CompactSize.{compact_text, SpellsLonger, BeginsLonger, wanted, wide_at, compact_at}
 use Rattle.cb_base.proofs.Fields.{AreBytes, bind_ok, guard_ok, Takes, IsWide, wide16, wide32, wide64, number_takes, number_again, ok_is}
 

@@ -1,5 +1,5 @@
 -- The first block of the chain is sound.
-use Rattle.std.proofs.Common.{◌≡◌, ℕ, ◌<◌, List, [], ◌∷◌, length, get_or, map, All, refl, sym, ap, subst, ◌∙◌, arith}
+use Rattle.std.proofs.Common.{◌≡◌, ℕ, List, [], ◌∷◌, length, get_or, map, refl, sym, ap, subst, ◌∙◌, arith}
 use Rattle.std.specs.Prelude.{◌≢◌}
 use Rattle.std.proofs.lemmas.List.Elements.{All-from_recursion}
 use Rattle.cb_base.specs.declared.hash.Hash256.{Hash256}
@@ -9,7 +9,7 @@ use Rattle.cb_tx.specs.declared.tx.Tx.{Tx}
 use Rattle.cb_tx.specs.Text.{tx_text, list_text, input_text, output_text, script_text}
 use Rattle.cb_block.specs.Blocks.{texts}
 use Rattle.cb_block.specs.Genesis.{headline, to_a_key, genesis_tx}
-use Rattle.cb_block.specs.MerkleTree.{IsLevel, itself, HasEqualPair}
+use Rattle.cb_block.specs.MerkleTree.{itself, HasEqualPair}
 use Rattle.cb_block.specs.Soundness.{names, IsSound}
 use Rattle.cb_block.proofs.Levels.{level_top}
 

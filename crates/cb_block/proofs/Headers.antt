@@ -1,11 +1,11 @@
 -- The laws of a header's and a block's text: what is read was written so, and what was written is read again.
-use Rattle.std.proofs.Common.{◌≡◌, ℕ, ◌+◌, ◌^◌, ◌<◌, ◌≤◌, ◌⊎◌, List, [], ◌∷◌, ◌++◌, length, All, Result, Ok, Err, refl, sym, ap, subst, ◌∙◌, append_assoc, arith, inl, inr}
+use Rattle.std.proofs.Common.{◌≡◌, ℕ, ◌^◌, ◌⊎◌, List, ◌++◌, Result, Ok, Err, refl, sym, ap, subst, ◌∙◌, append_assoc, inl, inr}
 use Rattle.std.specs.Prelude.{IfOk}
 use Rattle.std.specs.Int.{w32, to_le_bytes, cast_unsigned}
 use Rattle.std.proofs.lemmas.List.Elements.{All-from_recursion, recursion_from_All}
 use Rattle.cb_base.specs.declared.fault.Fault.{Fault}
 use Rattle.cb_base.specs.declared.fault.Fault.TheVariants.{Memory}
-use Rattle.cb_base.specs.Reading.{Read, Reads, ReadsInMemory, ◌>>=◌, number_at, signed_at}
+use Rattle.cb_base.specs.Reading.{Reads, ReadsInMemory, ◌>>=◌, number_at, signed_at}
 use Rattle.cb_base.proofs.Fields.{AreBytes, bind_ok, ok_is, Takes, Takes-then, wide32, number_takes, number_again}
 use Rattle.cb_tx.specs.declared.tx.Tx.{Tx}
 use Rattle.cb_tx.specs.Text.{tx_text, list_text, IsTx}

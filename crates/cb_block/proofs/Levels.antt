@@ -1,7 +1,7 @@
 -- The levels of a tree lie one above the other.
-use Rattle.std.proofs.Common.{◌≡◌, ℕ, zero, suc, ◌+◌, ◌<◌, ◌≤◌, ◌⊎◌, List, [], ◌∷◌, ◌++◌, length, map, refl, sym, ap, subst, ◌∙◌, arith, inl, inr}
+use Rattle.std.proofs.Common.{◌≡◌, ◌<◌, ◌≤◌, ◌⊎◌, List, [], ◌∷◌, length, sym, ap, subst, ◌∙◌, arith, inl, inr}
 use Rattle.cb_base.specs.declared.hash.Hash256.{Hash256}
-use Rattle.cb_block.specs.MerkleTree.{pair_texts, up, IsLevel, itself, above, IsRoot, HasEqualPair, IsMutated}
+use Rattle.cb_block.specs.MerkleTree.{up, IsLevel, itself, above, IsRoot}
 
 -- a level is the leaves, or a level above the level above the leaves
 pub level_split : (leaves level : List Hash256) → IsLevel leaves level → (level ≡ leaves) ⊎ ((2 ≤ length leaves) × IsLevel (up leaves) level)

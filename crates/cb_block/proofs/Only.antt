@@ -1,14 +1,13 @@
 -- A sound list is the only one under its root, where no hashes collide.
-use Rattle.std.proofs.Common.{◌≡◌, ℕ, zero, suc, ◌+◌, ◌<◌, ◌≤◌, ◌⊎◌, List, [], ◌∷◌, ◌++◌, length, take, drop, map, All, refl, sym, ap, subst, ◌∙◌, arith, inl, inr}
+use Rattle.std.proofs.Common.{◌≡◌, ℕ, suc, ◌<◌, ◌≤◌, ◌⊎◌, List, [], ◌∷◌, ◌++◌, length, take, drop, map, All, refl, sym, ap, subst, ◌∙◌, arith, inl, inr}
 use Rattle.std.specs.Prelude.{◌≢◌, Contains}
-use Rattle.std.proofs.lemmas.List.{take_at, drop_at, length-append, length-map}
+use Rattle.std.proofs.lemmas.List.{take_at, drop_at, length-append}
 use Rattle.std.proofs.lemmas.List.Elements.{All-head}
 use Rattle.sha2.proofs.Facts256.{length-sha256}
 use Rattle.cb_base.specs.declared.hash.Hash256.{Hash256}
 use Rattle.cb_base.specs.DoubleHash.{double_hash}
-use Rattle.cb_block.specs.MerkleTree.{pair_texts, up, IsLevel, itself, above, IsRoot, HasEqualPair, IsMutated}
+use Rattle.cb_block.specs.MerkleTree.{pair_texts, up, IsLevel, itself, above, HasEqualPair, IsMutated}
 use Rattle.cb_block.specs.Soundness.{names, IsSound, IsMet, AreApart}
-use Rattle.cb_block.proofs.Levels.{level_split}
 
 -- each hash has 32 bytes
 data AreHashes : List Hash256 → Type 0 where

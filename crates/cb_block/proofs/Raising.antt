@@ -1,12 +1,12 @@
 -- Putting a level's pairs in place of the level, from the left.
-use Rattle.std.proofs.Common.{◌≡◌, ℕ, zero, suc, ◌+◌, ◌-◌, ◌*◌, ◌/◌, ◌%◌, ◌<◌, ◌≤◌, ◌⊎◌, Bool, true, false, eqb, List, [], ◌∷◌, ◌++◌, length, get_or, take, drop, set, map, refl, sym, ap, subst, ◌∙◌, append_assoc, arith, inl, inr}
+use Rattle.std.proofs.Common.{◌≡◌, ℕ, zero, suc, ◌+◌, ◌-◌, ◌*◌, ◌/◌, ◌%◌, ◌<◌, ◌≤◌, ◌⊎◌, Bool, true, false, eqb, List, [], ◌∷◌, ◌++◌, length, get_or, take, drop, set, refl, sym, ap, subst, ◌∙◌, append_assoc, arith, inl, inr}
 use Rattle.std.specs.Prelude.{◌↔◌, IsTrue}
-use Rattle.std.proofs.lemmas.List.{append-nil, take_at, take_all, take_more, length-append, length-take, length-drop, get_or-append_right, get_or-drop, take-append-drop, drop_more, set_at}
+use Rattle.std.proofs.lemmas.List.{take_at, take_all, take_more, length-append, length-take, length-drop, get_or-append_right, get_or-drop, take-append-drop, drop_more, set_at}
 use Rattle.std.proofs.lemmas.Bool.{false≢true}
 use lib.Pointwise.{pointwise, bytes_decides}
 use Rattle.cb_base.specs.declared.hash.Hash256.{Hash256}
 use Rattle.cb_base.specs.DoubleHash.{double_hash}
-use Rattle.cb_block.specs.MerkleTree.{pair_texts, up, HasEqualPair}
+use Rattle.cb_block.specs.MerkleTree.{up, HasEqualPair}
 
 hash_same : (a b : Hash256) (r : Bool) → r ≡ pointwise eqb a.0 b.0 → r ≡ true → a ≡ b
 hash_same a b r e t = ap (λ (x : List ℕ). record { 0 = x }) ((bytes_decides a.0 b.0).0 (sym e ∙ t))

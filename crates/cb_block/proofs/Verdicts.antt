@@ -1,5 +1,5 @@
 -- What the tests of a block's transactions and of their tree tell of the block.
-use Rattle.std.proofs.Common.{◌≡◌, ℕ, zero, suc, ◌<◌, Bool, true, false, List, [], ◌∷◌, eqb, length, map, All, refl, sym, ap, subst, ◌∙◌, arith}
+use Rattle.std.proofs.Common.{◌≡◌, ℕ, ◌<◌, Bool, true, false, List, [], ◌∷◌, eqb, length, map, All, refl, sym, ap, subst, ◌∙◌, arith}
 use Rattle.std.specs.Prelude.{◌≢◌, ◌↔◌, Any, IsTrue, not, ◌==◌}
 use Rattle.std.proofs.lemmas.Bool.{false≢true}
 use Rattle.std.proofs.lemmas.List.{length-map}
@@ -11,7 +11,7 @@ use Rattle.cb_tx.specs.Text.{tx_text}
 use Rattle.cb_block.specs.declared.block.Block.{Block}
 use Rattle.cb_block.specs.Blocks.{texts, IsSoundBlock}
 use Rattle.cb_block.specs.MerkleTree.{IsRoot, IsMutated}
-use Rattle.cb_block.specs.Soundness.{names, IsSound}
+use Rattle.cb_block.specs.Soundness.{names}
 use Rattle.cb_block.proofs.Levels.{one_root}
 use Rattle.cb_block.proofs.Texts.{none_of_64}
 

@@ -1,11 +1,10 @@
 -- What is said of blocks: when one is sound, and the rules that it meets by itself (Bitcoin's consensus).
-use Rattle.std.specs.Prelude.{◌≡◌, ◌≢◌, ℕ, ◌<◌, ◌≤◌, ◌⊎◌, List, [], ◌∷◌, length, map, take, All, Any, slice_get, Some}
+use Rattle.std.specs.Prelude.{◌≡◌, ◌≢◌, ℕ, ◌<◌, ◌≤◌, List, [], ◌∷◌, length, map, take, All, Any, slice_get, Some}
 use Rattle.cb_base.specs.declared.fault.Fault.{Fault}
-use Rattle.cb_base.specs.declared.fault.Fault.TheVariants.{Memory, Empty, Size64, Mutated, BadRoot, Oversize, BadCoinbase, BadTx}
-use Rattle.cb_base.specs.declared.hash.Hash256.{Hash256}
+use Rattle.cb_base.specs.declared.fault.Fault.TheVariants.{Empty, Size64, Mutated, BadRoot, Oversize, BadCoinbase, BadTx}
 use Rattle.cb_base.specs.declared.fault.TxRule.{TxRule}
 use Rattle.cb_tx.specs.declared.tx.Tx.{Tx}
-use Rattle.cb_tx.specs.Text.{tx_text, IsTx}
+use Rattle.cb_tx.specs.Text.{tx_text}
 use Rattle.cb_tx.specs.Rules.{IsCoinbase, IsLeastBroken, MeetsRules}
 use Rattle.cb_block.specs.declared.block.Block.{Block}
 use Rattle.cb_block.specs.MerkleTree.{IsRoot, IsMutated}

@@ -1,5 +1,5 @@
 -- The block that the chain of the regression test network begins with (Bitcoin's protocol).
-use Rattle.std.specs.Prelude.{◌≡◌, ℕ, pos, List, [], ◌∷◌, ◌++◌, codes, replicate}
+use Rattle.std.specs.Prelude.{ℕ, pos, List, [], ◌∷◌, codes, replicate}
 use Rattle.cb_base.specs.DoubleHash.{double_hash}
 use Rattle.cb_tx.specs.declared.tx.TxIn.{TxIn}
 use Rattle.cb_tx.specs.declared.tx.TxOut.{TxOut}

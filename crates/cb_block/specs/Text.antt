@@ -1,7 +1,6 @@
 -- The spelling of headers and blocks (Bitcoin's protocol, without BIP 141's witnesses).
-use Rattle.std.specs.Prelude.{◌≡◌, ℕ, ◌<◌, ◌^◌, List, ◌++◌, length, map, All, FitsSigned}
+use Rattle.std.specs.Prelude.{◌≡◌, ℕ, ◌<◌, ◌^◌, List, ◌++◌, length, All, FitsSigned}
 use Rattle.std.specs.Int.{w32, to_le_bytes, cast_unsigned}
-use Rattle.cb_tx.specs.declared.tx.Tx.{Tx}
 use Rattle.cb_tx.specs.Text.{list_text, tx_text, IsTx}
 use Rattle.cb_block.specs.declared.header.Header.{Header}
 use Rattle.cb_block.specs.declared.block.Block.{Block}

@@ -71,7 +71,7 @@ impl SoundBlock {
         ensures same { IfOk result (λ copy. copy ≡ self.now) }
         ensures memory { IsOkUnless result Memory }
     {
-        let txids = Vec::from_slice(alloc, self.txids.as_slice())?;
+        let txids = Vec::from_slice(alloc, self.txids())?;
         let block = self.block.copy(alloc)?;
         Ok(SoundBlock { block, txids })
     }

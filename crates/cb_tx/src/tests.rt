@@ -36,19 +36,38 @@ fn fault_of(alloc: Global, text: &str) -> Result<Option<Fault>, Fail> {
     Ok(fault)
 }
 
-// A transaction's size, its txid as people write it, and its text, which is read and written and copied.
+// A transaction's size, and its txid as people write it.
 fn shown_as(rt: &impl Abort, alloc: Global, text: &str, size: u64, txid: &str) -> Result<(), Fail> {
     let tx = read(alloc, text)?;
     assert_eq!(rt; tx.size(), size);
     let name = tx.txid(alloc)?.show(alloc)?;
     assert_eq!(rt; name.as_str(), txid);
+    Ok(())
+}
+
+// The text of a transaction, which is read and written.
+fn written(alloc: Global, text: &str) -> Result<String, Fail> {
+    let tx = read(alloc, text)?;
     let mut out = Vec::new(alloc);
     write_tx(&mut out, &tx)?;
-    let written = hex::encode(alloc, out.as_slice())?;
-    assert_eq!(rt; written.as_str(), text);
-    let mut again = Vec::new(alloc);
-    write_tx(&mut again, &tx.copy(alloc)?)?;
-    assert_eq!(rt; again.as_slice(), out.as_slice());
+    Ok(hex::encode(alloc, out.as_slice())?)
+}
+
+// The text of a transaction's copy.
+fn copied(alloc: Global, text: &str) -> Result<String, Fail> {
+    let tx = read(alloc, text)?;
+    let copy = tx.copy(alloc)?;
+    let mut out = Vec::new(alloc);
+    write_tx(&mut out, &copy)?;
+    Ok(hex::encode(alloc, out.as_slice())?)
+}
+
+// The text comes back, of the transaction and of its copy.
+fn comes_back(rt: &impl Abort, alloc: Global, text: &str) -> Result<(), Fail> {
+    let same = written(alloc, text)?;
+    assert_eq!(rt; same.as_str(), text);
+    let copy = copied(alloc, text)?;
+    assert_eq!(rt; copy.as_str(), text);
     Ok(())
 }
 
@@ -56,6 +75,7 @@ fn shown_as(rt: &impl Abort, alloc: Global, text: &str, size: u64, txid: &str) -
 fn row_6(rt: HostRuntime) -> Result<(), Fail> {
     let txid = "4a5e1e4baab89f3a32518a88c31bc87f618f76673e2cc77ab2127b7afdeda33b";
     shown_as(&rt, rt.alloc(), FIRST, 204, txid)?;
+    comes_back(&rt, rt.alloc(), FIRST)?;
     let tx = read(rt.alloc(), FIRST)?;
     assert!(rt; tx.is_coinbase());
     assert_eq!(rt; check_tx(rt.alloc(), &tx), Ok(()));
@@ -66,6 +86,7 @@ fn row_6(rt: HostRuntime) -> Result<(), Fail> {
 fn copies(rt: HostRuntime) -> Result<(), Fail> {
     let txid = "f4184fc596403b9d638783cf57adfe4c75c605f6356fbc91338530e9831e9e16";
     shown_as(&rt, rt.alloc(), PAYMENT, 275, txid)?;
+    comes_back(&rt, rt.alloc(), PAYMENT)?;
     let tx = read(rt.alloc(), PAYMENT)?;
     assert!(rt; !tx.is_coinbase());
     assert_eq!(rt; check_tx(rt.alloc(), &tx), Ok(()));
@@ -81,29 +102,28 @@ fn row_8_has_64_bytes(rt: HostRuntime) -> Result<(), Fail> {
 }
 
 #[test]
-fn row_a_counts_that_lie(rt: HostRuntime) -> Result<(), Fail> {
+fn row_a_no_inputs(rt: HostRuntime) -> Result<(), Fail> {
     let empty = read(rt.alloc(), "01000000000000000000")?;
     assert_eq!(rt; empty.size(), 10);
     assert_eq!(rt;
         check_tx(rt.alloc(), &empty),
         Err(Fault::BadTx(TxRule::NoInputs))
     );
-    assert_eq!(rt;
-        fault_of(rt.alloc(), "01000000ffffffffffffffffff")?,
-        Some(Fault::Truncated)
-    );
-    assert_eq!(rt;
-        fault_of(rt.alloc(), "01000000fd0500")?,
-        Some(Fault::NotShortest)
-    );
-    assert_eq!(rt;
-        fault_of(rt.alloc(), &SIZE_64[..126])?,
-        Some(Fault::Truncated)
-    );
     Ok(())
 }
 
-// A transaction that spends output 7 of the txid with this first byte, by a script of so many bytes.
+#[test]
+fn row_a_counts_that_lie(rt: HostRuntime) -> Result<(), Fail> {
+    let many = fault_of(rt.alloc(), "01000000ffffffffffffffffff")?;
+    assert_eq!(rt; many, Some(Fault::Truncated));
+    let long = fault_of(rt.alloc(), "01000000fd0500")?;
+    assert_eq!(rt; long, Some(Fault::NotShortest));
+    let cut = fault_of(rt.alloc(), &SIZE_64[..126])?;
+    assert_eq!(rt; cut, Some(Fault::Truncated));
+    Ok(())
+}
+
+// An input that spends the output of this place, of the txid with this first byte, by a script of so many bytes.
 fn input(alloc: Global, first: u8, index: u32, script: usize) -> Result<TxIn, Fail> {
     let mut txid = [0u8; 32];
     txid[0] = first;
@@ -125,6 +145,26 @@ fn output(alloc: Global, value: i64, script: usize) -> Result<TxOut, Fail> {
     })
 }
 
+// Inputs, each by what `input` takes.
+fn inputs_of(alloc: Global, spends: &[(u8, u32, usize)]) -> Result<Vec<TxIn>, Fail> {
+    let mut inputs = Vec::new(alloc);
+    for (first, index, script) in spends {
+        let input = input(alloc, *first, *index, *script)?;
+        inputs.push(input)?;
+    }
+    Ok(inputs)
+}
+
+// Outputs, each by what `output` takes.
+fn outputs_of(alloc: Global, pays: &[(i64, usize)]) -> Result<Vec<TxOut>, Fail> {
+    let mut outputs = Vec::new(alloc);
+    for (value, script) in pays {
+        let output = output(alloc, *value, *script)?;
+        outputs.push(output)?;
+    }
+    Ok(outputs)
+}
+
 fn tx_of(inputs: Vec<TxIn>, outputs: Vec<TxOut>) -> Tx {
     Tx {
         version: 2,
@@ -134,131 +174,140 @@ fn tx_of(inputs: Vec<TxIn>, outputs: Vec<TxOut>) -> Tx {
     }
 }
 
+fn tx_with(alloc: Global, spends: &[(u8, u32, usize)], pays: &[(i64, usize)]) -> Result<Tx, Fail> {
+    let inputs = inputs_of(alloc, spends)?;
+    let outputs = outputs_of(alloc, pays)?;
+    Ok(tx_of(inputs, outputs))
+}
+
+// What `check_tx` says of such a transaction.
+fn verdict(
+    alloc: Global,
+    spends: &[(u8, u32, usize)],
+    pays: &[(i64, usize)],
+) -> Result<Option<Fault>, Fail> {
+    let tx = tx_with(alloc, spends, pays)?;
+    Ok(check_tx(alloc, &tx).err())
+}
+
+// One input that spends an output, and one output that pays nothing.
+const ONE: [(u8, u32, usize); 1] = [(1, 0, 0)];
+
+const NOTHING: [(i64, usize); 1] = [(0, 0)];
+
+// The output of no transaction.
+const NULL: u32 = 0xffff_ffff;
+
 const MONEY: i64 = 2_100_000_000_000_000;
 
 #[test]
 fn row_b_values(rt: HostRuntime) -> Result<(), Fail> {
-    let alloc = rt.alloc();
-    let below = tx_of(
-        vec![in alloc; input(alloc, 1, 0, 0)?]?,
-        vec![in alloc; output(alloc, -1, 0)?]?,
-    );
-    assert_eq!(rt;
-        check_tx(alloc, &below),
-        Err(Fault::BadTx(TxRule::BadValue))
-    );
-    let above = tx_of(
-        vec![in alloc; input(alloc, 1, 0, 0)?]?,
-        vec![in alloc; output(alloc, MONEY + 1, 0)?]?,
-    );
-    assert_eq!(rt;
-        check_tx(alloc, &above),
-        Err(Fault::BadTx(TxRule::BadValue))
-    );
-    let all = tx_of(
-        vec![in alloc; input(alloc, 1, 0, 0)?]?,
-        vec![in alloc; output(alloc, MONEY, 0)?]?,
-    );
-    assert_eq!(rt; check_tx(alloc, &all), Ok(()));
-    let twice = tx_of(
-        vec![in alloc; input(alloc, 1, 0, 0)?]?,
-        vec![in alloc; output(alloc, MONEY, 0)?, output(alloc, MONEY, 0)?]?,
-    );
-    assert_eq!(rt; check_tx(alloc, &twice), Err(Fault::BadTx(TxRule::BadSum)));
+    for (value, fault) in [
+        (-1, Some(Fault::BadTx(TxRule::BadValue))),
+        (MONEY + 1, Some(Fault::BadTx(TxRule::BadValue))),
+        (MONEY, None),
+    ] {
+        let told = verdict(rt.alloc(), ONE.as_slice(), [(value, 0)].as_slice())?;
+        assert_eq!(rt; told, fault);
+    }
     Ok(())
 }
 
 #[test]
-fn rules_of_inputs(rt: HostRuntime) -> Result<(), Fail> {
-    let alloc = rt.alloc();
-    let no_outputs = tx_of(vec![in alloc; input(alloc, 1, 0, 0)?]?, vec![in alloc]?);
-    assert_eq!(rt;
-        check_tx(alloc, &no_outputs),
-        Err(Fault::BadTx(TxRule::NoOutputs))
-    );
-    let repeated = tx_of(
-        vec![in alloc;
-            input(alloc, 1, 0, 0)?,
-            input(alloc, 1, 1, 0)?,
-            input(alloc, 1, 0, 9)?,
-        ]?,
-        vec![in alloc; output(alloc, 0, 0)?]?,
-    );
-    assert_eq!(rt;
-        check_tx(alloc, &repeated),
-        Err(Fault::BadTx(TxRule::RepeatedInput))
-    );
+fn row_b_sum(rt: HostRuntime) -> Result<(), Fail> {
+    let twice = [(MONEY, 0), (MONEY, 0)];
+    let told = verdict(rt.alloc(), ONE.as_slice(), twice.as_slice())?;
+    assert_eq!(rt; told, Some(Fault::BadTx(TxRule::BadSum)));
+    Ok(())
+}
+
+#[test]
+fn no_outputs(rt: HostRuntime) -> Result<(), Fail> {
+    let told = verdict(rt.alloc(), ONE.as_slice(), [].as_slice())?;
+    assert_eq!(rt; told, Some(Fault::BadTx(TxRule::NoOutputs)));
+    Ok(())
+}
+
+#[test]
+fn an_input_twice(rt: HostRuntime) -> Result<(), Fail> {
+    let spends = [(1, 0, 0), (1, 1, 0), (1, 0, 9)];
+    let told = verdict(rt.alloc(), spends.as_slice(), NOTHING.as_slice())?;
+    assert_eq!(rt; told, Some(Fault::BadTx(TxRule::RepeatedInput)));
+    Ok(())
+}
+
+#[test]
+fn scripts_of_coinbases(rt: HostRuntime) -> Result<(), Fail> {
     for (len, fault) in [
-        (1, Err(Fault::BadTx(TxRule::BadCoinbaseScript))),
-        (2, Ok(())),
-        (100, Ok(())),
-        (101, Err(Fault::BadTx(TxRule::BadCoinbaseScript))),
+        (1, Some(Fault::BadTx(TxRule::BadCoinbaseScript))),
+        (2, None),
+        (100, None),
+        (101, Some(Fault::BadTx(TxRule::BadCoinbaseScript))),
     ] {
-        let coinbase = tx_of(
-            vec![in alloc; input(alloc, 0, 0xffff_ffff, len)?]?,
-            vec![in alloc; output(alloc, 0, 0)?]?,
-        );
-        assert_eq!(rt; check_tx(alloc, &coinbase), fault);
+        let spends = [(0, NULL, len)];
+        let told = verdict(rt.alloc(), spends.as_slice(), NOTHING.as_slice())?;
+        assert_eq!(rt; told, fault);
     }
-    let null = tx_of(
-        vec![in alloc; input(alloc, 1, 0, 0)?, input(alloc, 0, 0xffff_ffff, 0)?]?,
-        vec![in alloc; output(alloc, 0, 0)?]?,
-    );
-    assert_eq!(rt;
-        check_tx(alloc, &null),
-        Err(Fault::BadTx(TxRule::NullInput))
-    );
+    Ok(())
+}
+
+#[test]
+fn a_null_input_among_others(rt: HostRuntime) -> Result<(), Fail> {
+    let spends = [(1, 0, 0), (0, NULL, 0)];
+    let told = verdict(rt.alloc(), spends.as_slice(), NOTHING.as_slice())?;
+    assert_eq!(rt; told, Some(Fault::BadTx(TxRule::NullInput)));
     Ok(())
 }
 
 #[test]
 fn a_million_bytes(rt: HostRuntime) -> Result<(), Fail> {
-    let alloc = rt.alloc();
-    let largest = tx_of(
-        vec![in alloc; input(alloc, 1, 0, 0)?]?,
-        vec![in alloc; output(alloc, 0, 999_936)?]?,
-    );
+    let largest = tx_with(rt.alloc(), ONE.as_slice(), [(0, 999_936)].as_slice())?;
     assert_eq!(rt; largest.size(), 1_000_000);
-    assert_eq!(rt; check_tx(alloc, &largest), Ok(()));
-    let larger = tx_of(
-        vec![in alloc; input(alloc, 1, 0, 0)?]?,
-        vec![in alloc; output(alloc, 0, 999_937)?]?,
-    );
-    assert_eq!(rt;
-        check_tx(alloc, &larger),
-        Err(Fault::BadTx(TxRule::TooLong))
-    );
+    assert_eq!(rt; check_tx(rt.alloc(), &largest), Ok(()));
     Ok(())
+}
+
+#[test]
+fn a_million_bytes_and_one(rt: HostRuntime) -> Result<(), Fail> {
+    let told = verdict(rt.alloc(), ONE.as_slice(), [(0, 999_937)].as_slice())?;
+    assert_eq!(rt; told, Some(Fault::BadTx(TxRule::TooLong)));
+    Ok(())
+}
+
+// 10,000 inputs that spend different outputs.
+fn many(alloc: Global) -> Result<Vec<TxIn>, Fail> {
+    let mut inputs = Vec::new(alloc);
+    for index in 0..10_000u32 {
+        let input = input(alloc, 1, index, 0)?;
+        inputs.push(input)?;
+    }
+    Ok(inputs)
 }
 
 // An input that comes twice is looked for in a set, and not by comparing each two.
 #[test]
 fn many_inputs(rt: HostRuntime) -> Result<(), Fail> {
-    let alloc = rt.alloc();
-    let mut inputs = Vec::new(alloc);
-    for index in 0..10_000u32 {
-        inputs.push(input(alloc, 1, index, 0)?)?;
-    }
-    let mut outputs = Vec::new(alloc);
-    outputs.push(output(alloc, 0, 0)?)?;
-    let tx = tx_of(inputs, outputs);
-    assert_eq!(rt; check_tx(alloc, &tx), Ok(()));
-    let mut inputs = tx.inputs.into_vec();
-    inputs.push(input(alloc, 1, 5_000, 0)?)?;
-    let tx = Tx {
-        inputs: Inputs::new(inputs),
-        ..tx
-    };
+    let inputs = many(rt.alloc())?;
+    let tx = tx_of(inputs, outputs_of(rt.alloc(), NOTHING.as_slice())?);
+    assert_eq!(rt; check_tx(rt.alloc(), &tx), Ok(()));
+    Ok(())
+}
+
+#[test]
+fn many_inputs_and_one_again(rt: HostRuntime) -> Result<(), Fail> {
+    let mut inputs = many(rt.alloc())?;
+    let again = input(rt.alloc(), 1, 5_000, 0)?;
+    inputs.push(again)?;
+    let tx = tx_of(inputs, outputs_of(rt.alloc(), NOTHING.as_slice())?);
     assert_eq!(rt;
-        check_tx(alloc, &tx),
+        check_tx(rt.alloc(), &tx),
         Err(Fault::BadTx(TxRule::RepeatedInput))
     );
     Ok(())
 }
 
 #[test]
-fn parts_of_a_transaction(rt: HostRuntime) -> Result<(), Fail> {
-    let alloc = rt.alloc();
+fn counts_and_hashes(rt: HostRuntime) -> Result<(), Fail> {
     assert_eq!(rt; compact_size(253), 3);
     let mut cursor = Cursor::new(&[2, 7, 7]);
     assert_eq!(rt; read_count(&mut cursor, 1)?, 2);
@@ -266,16 +315,36 @@ fn parts_of_a_transaction(rt: HostRuntime) -> Result<(), Fail> {
     let bytes = [9u8; 32];
     let mut cursor = Cursor::new(bytes.as_slice());
     assert_eq!(rt; read_hash(&mut cursor)?, Hash256(bytes));
-    let script = Script::new(vec![in alloc; 1, 2, 3]?);
+    Ok(())
+}
+
+#[test]
+fn scripts(rt: HostRuntime) -> Result<(), Fail> {
+    let bytes = [1u8, 2, 3];
+    let script = Script::new(Vec::from_slice(rt.alloc(), bytes.as_slice())?);
     assert_eq!(rt; script.len(), 3);
     assert!(rt; !script.is_empty());
-    assert_eq!(rt; script.copy(alloc)?.as_slice(), [1, 2, 3].as_slice());
-    assert_eq!(rt; script.into_vec().as_slice(), [1, 2, 3].as_slice());
-    let inputs = Inputs::new(vec![in alloc; input(alloc, 1, 0, 0)?]?);
+    let copy = script.copy(rt.alloc())?;
+    assert_eq!(rt; copy.as_slice(), bytes.as_slice());
+    let list = script.into_vec();
+    assert_eq!(rt; list.as_slice(), bytes.as_slice());
+    Ok(())
+}
+
+#[test]
+fn lists_of_inputs(rt: HostRuntime) -> Result<(), Fail> {
+    let inputs = Inputs::new(inputs_of(rt.alloc(), ONE.as_slice())?);
     assert_eq!(rt; inputs.as_slice().len(), 1);
-    assert_eq!(rt; inputs.into_vec().len(), 1);
-    let outputs = Outputs::new(vec![in alloc; output(alloc, 1, 0)?]?);
+    let list = inputs.into_vec();
+    assert_eq!(rt; list.len(), 1);
+    Ok(())
+}
+
+#[test]
+fn lists_of_outputs(rt: HostRuntime) -> Result<(), Fail> {
+    let outputs = Outputs::new(outputs_of(rt.alloc(), NOTHING.as_slice())?);
     assert_eq!(rt; outputs.as_slice().len(), 1);
-    assert_eq!(rt; outputs.into_vec().len(), 1);
+    let list = outputs.into_vec();
+    assert_eq!(rt; list.len(), 1);
     Ok(())
 }

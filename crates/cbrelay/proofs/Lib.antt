@@ -1,4 +1,5 @@
 pub mod Cutting
+pub mod Entering
 pub mod Reporting
 pub mod SimRead
 pub mod SimReportLemmas

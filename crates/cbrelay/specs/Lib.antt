@@ -8,3 +8,4 @@ pub mod SimInput
 pub mod SimLine
 pub mod SimReport
 pub mod SimRun
+pub mod Words

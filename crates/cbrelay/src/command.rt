@@ -1,6 +1,6 @@
 //! The command line.
 
-ghost use Rattle.std.specs.Prelude.{◌≡◌, ◌⊎◌, true, IfOk, IfErr, MatchResult};
+ghost use Rattle.std.specs.Prelude.{◌≡◌, ◌⊎◌, ℕ, true, List, [], ◌∷◌, codes, map, option_map, string_bytes, IfOk, IfErr, MatchResult};
 ghost use Rattle.std.specs.Io.KnownBytes.{Appends};
 ghost use Rattle.cb_session.specs.declared.state.CloseReason.{CloseReason};
 ghost use Rattle.cb_session.specs.declared.state.CloseReason.TheVariants as reasons;
@@ -10,6 +10,7 @@ ghost use Rattle.cbrelay.specs.Command.{PrintsReport, EndsEarly, Halts, TellsPee
 ghost use Rattle.cbrelay.specs.Ending.{halt_status, halt_line};
 ghost use Rattle.cbrelay.specs.Peer.{WasServed};
 ghost use Rattle.cbrelay.specs.SimInput.{SimulatesKnown};
+ghost use Rattle.cbrelay.specs.Words.{ByTask, task_in, task_named};
 
 use crate::decode::decode;
 use crate::ending::{Halt, Status};
@@ -43,15 +44,19 @@ pub fn command<R: Source, W: Sink, E: Sink>(
     writer: &mut W,
     errors: &mut E,
 ) -> u8
-    // One of the commands ran to its end, or the words were refused, or the run ended early.
-    ensures { (PrintsReport (R.remaining reader.old) (W.contents writer.old) (W.contents writer.new) result × (errors.new ≡ errors.old))
-        ⊎ ((SimulatesKnown (R.remaining reader.old) (W.contents writer.old) (W.contents writer.new) result × (errors.new ≡ errors.old))
-        ⊎ (((reason : CloseReason)
+    // The words were refused, or the run ended early, or the command that the words name came to its end.
+    ensures ran { ((result ≡ 1) × (reader.new ≡ reader.old) × (writer.new ≡ writer.old))
+        ⊎ (Halts (E.contents errors.old) (E.contents errors.new) (E.has_failed errors.new) result
+        ⊎ ByTask (task_in (map string_bytes words.items))
+        (PrintsReport (R.remaining reader.old) (W.contents writer.old) (W.contents writer.new) result × (errors.new ≡ errors.old))
+        ((reason : CloseReason)
         × (WasServed (R.remaining reader.old) (R.remaining reader.new) (R.has_failed reader.new) (W.contents writer.old) (W.contents writer.new) (W.has_failed writer.new) reason
         ⊎ ((reason ≡ reasons.Memory) × (reader.new ≡ reader.old) × (writer.new ≡ writer.old)))
         × TellsPeer (R.has_failed reader.new) (W.has_failed writer.new) (E.contents errors.old) (E.contents errors.new) (E.has_failed errors.new) result reason)
-        ⊎ (((result ≡ 1) × (reader.new ≡ reader.old) × (writer.new ≡ writer.old))
-        ⊎ Halts (E.contents errors.old) (E.contents errors.new) (E.has_failed errors.new) result))) }
+        (SimulatesKnown (R.remaining reader.old) (W.contents writer.old) (W.contents writer.new) result × (errors.new ≡ errors.old))) }
+    // The commands by their words.
+    ensures named { (name : List ℕ) → (task_in (name ∷ []) ≡ Task.Decode) × (task_in (name ∷ codes "decode" ∷ []) ≡ Task.Decode)
+        × (task_in (name ∷ codes "serve" ∷ []) ≡ Task.Serve) × (task_in (name ∷ codes "sim" ∷ []) ≡ Task.Sim) }
 {
     match task_of(alloc, words.as_slice()) {
         Ok(Task::Decode) => settle(code_of(decode(alloc, reader, writer)), errors),
@@ -106,7 +111,9 @@ fn code_of(ended: Result<Status, Halt>) -> Result<u8, Halt>
 }
 
 /// The task that the words name: `decode` where they name none.
-fn task_of(alloc: Global, words: &[String]) -> Result<Task, clap::Error> {
+fn task_of(alloc: Global, words: &[String]) -> Result<Task, clap::Error>
+    ensures { IfOk result (λ task. task ≡ task_in (map string_bytes words.now)) }
+{
     let decode = Command::new(alloc, "decode").about("Print the items of a stream of hex pieces");
     let serve = Command::new(alloc, "serve").about("Answer a peer: its bytes in, ours out");
     let sim = Command::new(alloc, "sim").about("Run the crew's core, a line for each act");
@@ -116,11 +123,18 @@ fn task_of(alloc: Global, words: &[String]) -> Result<Task, clap::Error> {
         .subcommand(serve)?
         .subcommand(sim)?;
     let matches = command.try_get_matches_from(words)?;
-    Ok(match matches.subcommand_name() {
+    Ok(task_named(matches.subcommand_name()))
+}
+
+/// The task of the command that was entered: `decode`, where none was.
+fn task_named(name: Option<&str>) -> Task
+    ensures { result ≡ task_named (option_map (λ text. text.now) name.entry) }
+{
+    match name {
         Some("serve") => Task::Serve,
         Some("sim") => Task::Sim,
-        _ => Task::Decode,
-    })
+        Some(_) | None => Task::Decode,
+    }
 }
 
 /// Prints why the command line was refused, or the help that it asked for.

@@ -1,7 +1,6 @@
-use Rattle.std.proofs.Common.{◌≡◌, ◌≤◌, ◌<◌, arith}
+use Rattle.std.proofs.Common.{◌≡◌, ◌<◌, arith}
 use Rattle.std.proofs.lemmas.Bool.{lt-ltb, ltb-true}
 use Rattle.std.proofs.lemmas.List.Elements.{All-from_recursion, recursion_from_All}
-use Rattle.cb_block.specs.Work.{little_endian}
 use Rattle.cb_block.proofs.Target.{all_zero, parted}
 use Rattle.cb_block.proofs.header.meets_target.Goals as goal
 

@@ -1,4 +1,4 @@
-use Rattle.std.proofs.Common.{◌≡◌, take, subst, arith, All}
+use Rattle.std.proofs.Common.{subst, arith, All}
 use Rattle.std.proofs.lemmas.List.{take_all}
 use Rattle.std.proofs.lemmas.List.Elements.{All-more}
 use Rattle.cb_tx.specs.Rules.{MeetsRules}

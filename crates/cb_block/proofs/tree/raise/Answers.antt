@@ -1,5 +1,5 @@
 -- The steps and the end of the loop over the pairs.
-use Rattle.std.proofs.Common.{◌≡◌, ◌*◌, ◌+◌, ◌<◌, ◌≤◌, ◌/◌, ◌%◌, ◌∙◌, Vec, Global, length, take, ap, arith}
+use Rattle.std.proofs.Common.{◌≡◌, ◌*◌, ◌+◌, ◌<◌, ◌/◌, ◌%◌, ◌∙◌, Vec, Global, length, take, ap, arith}
 use Rattle.cb_base.specs.declared.hash.Hash256.{Hash256}
 use Rattle.cb_block.proofs.Raising.{raise_more, equal_found, equal_kept, raise_ends_odd, raise_ends_even, equal_all}
 use Rattle.cb_block.proofs.tree.raise.Goals as goal
