@@ -16,7 +16,7 @@ import sys
 
 ROOT = os.path.dirname(os.path.dirname(os.path.abspath(__file__)))
 MAGIC = bytes.fromhex("fabfb5da")
-NAMES = {1: "Memory", 2: "Truncated", 12: "BadMagic", 13: "Oversize", 14: "Trailing"}
+NAMES = {1: "Memory", 2: "Truncated", 3: "NotShortest", 12: "BadMagic", 13: "Oversize", 14: "Trailing"}
 
 
 def envelope(command, payload):
@@ -54,6 +54,11 @@ def item_of(field, checksum, payload):
     name = name.decode("ascii")
     if name == "verack":
         return ("bad", name, 14) if payload else ("verack",)
+    if name in ("tx", "block"):
+        try:
+            return (name, *carried(name, payload))
+        except Fault as fault:
+            return ("bad", name, fault.number)
     if name in ("ping", "pong"):
         if len(payload) < 8:
             return ("bad", name, 2)
@@ -61,6 +66,79 @@ def item_of(field, checksum, payload):
             return ("bad", name, 14)
         return (name, struct.unpack("<Q", payload)[0])
     return ("unknown", name, len(payload))
+
+
+class Fault(Exception):
+    """A payload that can't be read: the number of its first fault from the left."""
+
+    def __init__(self, number):
+        super().__init__(number)
+        self.number = number
+
+
+def carried(name, payload):
+    """What is printed of a transaction or a block: its hash, and its bytes or its transactions."""
+    if name == "tx":
+        place = after_tx(payload, 0)
+        told = shown(payload), len(payload)
+    else:
+        place = after(payload, 0, 80)
+        txs, place = count_at(payload, place, 10)
+        for _ in range(txs):
+            place = after_tx(payload, place)
+        told = shown(payload[:80]), txs
+    if place < len(payload):
+        raise Fault(14)
+    return told
+
+
+def shown(text):
+    return hashlib.sha256(hashlib.sha256(text).digest()).digest()[::-1].hex()
+
+
+def after(data, place, size):
+    """The place behind so many bytes."""
+    if len(data) - place < size:
+        raise Fault(2)
+    return place + size
+
+
+def compact_at(data, place):
+    """A CompactSize, and the place behind it."""
+    end = after(data, place, 1)
+    first = data[place]
+    for mark, size, least in ((253, 2, 253), (254, 4, 0x10000), (255, 8, 0x100000000)):
+        if first == mark:
+            place, end = end, after(data, end, size)
+            value = int.from_bytes(data[place:end], "little")
+            if value < least:
+                raise Fault(3)
+            return value, end
+    return first, end
+
+
+def count_at(data, place, least):
+    """The count of items of at least so many bytes, and the place behind it."""
+    count, place = compact_at(data, place)
+    if count * least > len(data) - place:
+        raise Fault(2)
+    return count, place
+
+
+def after_script(data, place):
+    size, place = compact_at(data, place)
+    return after(data, place, size)
+
+
+def after_tx(data, place):
+    """The place behind a transaction."""
+    inputs, place = count_at(data, after(data, place, 4), 41)
+    for _ in range(inputs):
+        place = after(data, after_script(data, after(data, place, 36)), 4)
+    outputs, place = count_at(data, place, 9)
+    for _ in range(outputs):
+        place = after_script(data, after(data, place, 8))
+    return after(data, place, 4)
 
 
 def line_of(item):
@@ -107,7 +185,55 @@ def served(stream):
 # ---- the strings
 
 
+def random_bytes(rng, size):
+    return bytes(rng.randrange(256) for _ in range(size))
+
+
+def spelled(rng, number):
+    """A CompactSize, now and then longer than it needs."""
+    lengths = [(0, 253), (2, 0x10000), (4, 0x100000000), (8, 1 << 64)]
+    fitting = [size for size, limit in lengths if number < limit]
+    size = rng.choice(fitting) if rng.random() < 0.02 else fitting[0]
+    return bytes([number]) if size == 0 else bytes([{2: 253, 4: 254, 8: 255}[size]]) + number.to_bytes(size, "little")
+
+
+def random_script(rng):
+    size = rng.choice([0, 0, 1, 25, 107, 252, 253, 300])
+    return spelled(rng, size) + random_bytes(rng, size)
+
+
+def random_tx(rng):
+    inputs, outputs = rng.choice([0, 1, 1, 2, 3]), rng.choice([0, 1, 1, 2, 3])
+    text = random_bytes(rng, 4) + spelled(rng, inputs)
+    for _ in range(inputs):
+        text += random_bytes(rng, 36) + random_script(rng) + random_bytes(rng, 4)
+    text += spelled(rng, outputs)
+    for _ in range(outputs):
+        text += random_bytes(rng, 8) + random_script(rng)
+    return text + random_bytes(rng, 4)
+
+
+def random_tx_or_block(rng):
+    """The envelope of a transaction or a block; some are hurt before the checksum is taken."""
+    if rng.random() < 0.5:
+        command, payload = b"tx", random_tx(rng)
+    else:
+        txs = rng.choice([0, 1, 2, 5])
+        command, payload = b"block", random_bytes(rng, 80) + spelled(rng, txs) + b"".join(random_tx(rng) for _ in range(txs))
+    change = rng.randrange(8)
+    if change == 0:
+        payload = payload[: rng.randrange(len(payload))]
+    elif change == 1:
+        payload += random_bytes(rng, rng.randrange(1, 4))
+    elif change == 2:
+        place = rng.randrange(len(payload))
+        payload = payload[:place] + bytes([rng.choice([0, 1, 252, 253, 254, 255])]) + payload[place + 1 :]
+    return envelope(command, payload)
+
+
 def random_message(rng):
+    if rng.random() < 0.3:
+        return random_tx_or_block(rng)
     command = rng.choice([b"verack", b"ping", b"pong", b"ping", b"hello", b"a b", b"pingpongping", bytes(rng.randrange(256) for _ in range(rng.randrange(13)))])
     size = rng.choice([0, 8, 8, 8, 7, 9, rng.randrange(200)])
     return envelope(command, bytes(rng.randrange(256) for _ in range(size)))

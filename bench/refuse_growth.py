@@ -60,6 +60,8 @@ RUNS = [
     ("decode other-network.hex", "cbrelay", ["decode"], example("other-network.hex")),
     ("decode faults.hex", "cbrelay", ["decode"], example("faults.hex")),
     ("serve mixed.bin", "cbrelay", ["serve"], example("mixed.bin")),
+    ("decode blocks.hex", "cbrelay", ["decode"], example("blocks.hex")),
+    ("serve blocks.bin", "cbrelay", ["serve"], example("blocks.bin")),
     ("sound, a block of 5 transactions", "bench_sound", [], block(5, 10)),
 ]
 

@@ -78,7 +78,7 @@ header_laws_at inner old r new e are h = header_laws old r new (subst AreBytes e
 
 -- ---- blocks
 
-block_spells : (bytes : List ℕ) (x : Block) (rest : List ℕ) → AreBytes bytes → block_at bytes ≡ Ok (x, rest) → Takes bytes (block_text x) rest × IsBlock x
+pub block_spells : (bytes : List ℕ) (x : Block) (rest : List ℕ) → AreBytes bytes → block_at bytes ≡ Ok (x, rest) → Takes bytes (block_text x) rest × IsBlock x
 unfolding block_at block_text
 block_spells bytes x rest are h =
     let a = bind_ok (header_at bytes) (λ header. list_at 10 tx_at header.1 >>= λ txs. Ok (record { header = header.0; txs = txs.0 }, txs.1)) (x, rest) h in

@@ -6,11 +6,11 @@ ghost use Rattle.cb_tx.specs.Reading.{GivesInMemory, count_at, items_at, list_at
 ghost use Rattle.cb_tx.specs.Text.{IsTx, list_text, tx_text};
 ghost use Rattle.cb_tx.specs.Writing.{Extends};
 ghost use Rattle.cb_block.specs.Reading.{block_at, first_count_at};
-ghost use Rattle.cb_block.specs.Text.{IsBlock, block_text, header_text};
+ghost use Rattle.cb_block.specs.Text.{IsBlock, IsHeader, block_text, header_text};
 ghost use Rattle.cb_block.specs.declared.block.Block.{Block};
 
 use crate::block::{Block, Txs};
-use crate::header::read_header;
+use crate::header::{Header, read_header};
 use cb_base::{Cursor, Fault, put_compact};
 use cb_tx::{Tx, compact_size, read_count, read_tx, write_tx};
 use std::alloc::Global;
@@ -91,6 +91,8 @@ fn put_txs(out: &mut Vec<u8>, txs: &[Tx]) -> Result<(), Fault>
     ensures ok { OnOk result (out.new.items ≡ out.old.items ++ list_text tx_text txs.now) }
     ensures err { OnErr result (Extends out.old.items out.new.items) }
     ensures memory { IsOkUnless result Memory }
+    ensures few { length txs.now < 2 ^ 64 }
+    ensures fits { OnOk result (All IsTx txs.now) }
 {
     put_compact(out, txs.len() as u64)?;
     for tx in txs {
@@ -99,13 +101,22 @@ fn put_txs(out: &mut Vec<u8>, txs: &[Tx]) -> Result<(), Fault>
     Ok(())
 }
 
+// A header's 80 bytes. Each of its numbers is one of its field, and each hash has 32 bytes.
+fn header_bytes(header: Header) -> [u8; 80]
+    ensures text { result ≡ header_text header }
+    ensures fits { IsHeader header }
+{
+    header.text()
+}
+
 #[tactic(auto, unfolding(crate::specs::Text::block_text), using(cb_tx::proofs::Appends::appends))]
 fn put_block(out: &mut Vec<u8>, block: &Block) -> Result<(), Fault>
     ensures ok { OnOk result (out.new.items ≡ out.old.items ++ block_text block.now) }
     ensures err { OnErr result (Extends out.old.items out.new.items) }
     ensures memory { IsOkUnless result Memory }
+    ensures fits { OnOk result (IsBlock block.now) }
 {
-    out.extend_from_slice(&block.header.text())?;
+    out.extend_from_slice(&header_bytes(block.header))?;
     put_txs(out, block.txs.as_slice())
 }
 
@@ -114,6 +125,8 @@ pub fn write_block(out: &mut Vec<u8>, block: &Block) -> Result<(), Fault>
     ensures ok { OnOk result (out.new.items ≡ out.old.items ++ block_text block.now) }
     ensures err { OnErr result (out.new.items ≡ out.old.items) }
     ensures memory { IsOkUnless result Memory }
+    // Each number is one of its field, and each hash has 32 bytes.
+    ensures fits { OnOk result (IsBlock block.now) }
 {
     out.reserve(block.size() as usize)?;
     let len = out.len();

@@ -68,6 +68,8 @@ abbrev pub matter_of_message : Message → Matter
 matter_of_message messages.Verack = Pass
 matter_of_message (messages.Ping nonce) = AnswerPing nonce
 matter_of_message (messages.Pong nonce) = Pass
+matter_of_message (messages.Tx tx) = Pass
+matter_of_message (messages.Block block) = Pass
 matter_of_message (messages.Unknown name payload) = Pass
 
 abbrev pub matter_of : Item → Matter

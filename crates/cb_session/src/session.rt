@@ -43,6 +43,8 @@ impl Matter {
             Message::Ping(nonce) => Matter::AnswerPing(*nonce),
             Message::Verack => Matter::Pass,
             Message::Pong(_) => Matter::Pass,
+            Message::Tx(_) => Matter::Pass,
+            Message::Block(_) => Matter::Pass,
             Message::Unknown(_, _) => Matter::Pass,
         }
     }

@@ -31,6 +31,30 @@ const SHORT_PING: [u8; 24] = [
     0xe0, 0xe2,
 ];
 
+/// A `tx` of 10 bytes, without inputs and outputs. Its checksum was computed by another implementation of SHA-256.
+const TX: [u8; 34] = [
+    0xfa, 0xbf, 0xb5, 0xda, 0x74, 0x78, 0, 0, 0, 0, 0, 0, 0, 0, 0, 0, 0x0a, 0, 0, 0, 0x43, 0xec,
+    0x7a, 0x57, 0x01, 0, 0, 0, 0, 0, 0, 0, 0, 0,
+];
+
+/// The 24 bytes before a `block` of 81 zeros, a header and no transaction. Its checksum was computed by another
+/// implementation of SHA-256.
+const BLOCK_FRONT: [u8; 24] = [
+    0xfa, 0xbf, 0xb5, 0xda, 0x62, 0x6c, 0x6f, 0x63, 0x6b, 0, 0, 0, 0, 0, 0, 0, 0x51, 0, 0, 0, 0x23,
+    0xdb, 0x0e, 0x43,
+];
+
+/// A `tx` and a `block` with no payload.
+const SHORT_TX: [u8; 24] = [
+    0xfa, 0xbf, 0xb5, 0xda, 0x74, 0x78, 0, 0, 0, 0, 0, 0, 0, 0, 0, 0, 0, 0, 0, 0, 0x5d, 0xf6, 0xe0,
+    0xe2,
+];
+
+const SHORT_BLOCK: [u8; 24] = [
+    0xfa, 0xbf, 0xb5, 0xda, 0x62, 0x6c, 0x6f, 0x63, 0x6b, 0, 0, 0, 0, 0, 0, 0, 0, 0, 0, 0, 0x5d,
+    0xf6, 0xe0, 0xe2,
+];
+
 /// An envelope's 24 bytes with the magic of another network.
 const OTHER_MAGIC: [u8; 24] = [
     0xf9, 0xbe, 0xb4, 0xd9, 0, 0, 0, 0, 0, 0, 0, 0, 0, 0, 0, 0, 0, 0, 0, 0, 0, 0, 0, 0,
@@ -342,6 +366,38 @@ fn a_ping_is_answered_when_the_hall_lets_it(rt: HostRuntime) -> Result<(), Fail>
     assert_eq!(rt; written, Ok(32));
     assert!(rt; !writer.failed());
     assert_eq!(rt; writer.into_inner().taken.as_slice(), PONG.as_slice());
+    Ok(())
+}
+
+/// Before the handshake they are passed over, as a `verack` is.
+#[test]
+fn transactions_and_blocks_are_passed_over(rt: HostRuntime) -> Result<(), Fail> {
+    let alloc = rt.alloc();
+    let parts = [
+        TX.as_slice(),
+        BLOCK_FRONT.as_slice(),
+        &[0; 81],
+        PING.as_slice(),
+    ];
+    let given = reader_of(alloc, parts.as_slice())?;
+    let outcome = serve_once(alloc, given, writer_for(alloc, usize::MAX))?;
+    assert_eq!(rt; outcome.taken.as_slice(), PONG.as_slice());
+    assert_eq!(rt; outcome.calls, 3);
+    assert_eq!(rt; outcome.state, State::Closed(CloseReason::Bye));
+    Ok(())
+}
+
+#[test]
+fn a_transaction_or_a_block_that_cannot_be_read_is_a_bad_message(
+    rt: HostRuntime,
+) -> Result<(), Fail> {
+    let alloc = rt.alloc();
+    for short in [SHORT_TX, SHORT_BLOCK] {
+        let given = reader_of(alloc, &[short.as_slice(), PING.as_slice()])?;
+        let outcome = serve_once(alloc, given, writer_for(alloc, usize::MAX))?;
+        assert_eq!(rt; outcome.taken.len(), 0);
+        assert_eq!(rt; outcome.state, State::Closed(CloseReason::BadMessage));
+    }
     Ok(())
 }
 

@@ -10,7 +10,7 @@ use Rattle.std.proofs.lemmas.Slice.Eq.{bytes_eq-Decides}
 use Rattle.cb_base.specs.declared.hash.Hash256.{Hash256}
 use Rattle.cb_base.specs.DoubleHash.{double_hash}
 use Rattle.cb_wire.specs.declared.message.Message.{Message}
-use Rattle.cb_wire.specs.declared.message.Message.TheVariants.{Verack, Ping, Pong, Unknown}
+use Rattle.cb_wire.specs.declared.message.Message.TheVariants.{Verack, Ping, Pong, Tx, Block, Unknown}
 use Rattle.cb_wire.specs.declared.command.Command.{Command}
 use Rattle.cb_wire.specs.Grammar.{name_of, payload_text, IsMessage, IsWithinLimits, IsProper, message_under}
 use Rattle.cb_wire.proofs.Messages.{text_read}
@@ -67,6 +67,8 @@ pub name_of-command : (message : Message) → IsMessage message → is_command (
 name_of-command Verack h = refl
 name_of-command (Ping nonce) h = refl
 name_of-command (Pong nonce) h = refl
+name_of-command (Tx tx) h = refl
+name_of-command (Block block) h = refl
 name_of-command (Unknown name payload) h = h.form
 
 command_field-length : (name : List ℕ) → is_command name ≡ true → length (command_field name) ≡ 12
@@ -190,7 +192,7 @@ text-alone message h limit =
     subst (λ (bytes : List ℕ). Stream bytes (Good message ∷ []) [] None) (append-nil (text message)) (text-stream message [] [] [] None h limit empty)
 
 -- the same of what was written
-pub again_lem : {V E : Type 0} (message : Message) (items : V → List ℕ) (r : Result V E) → IsMessage message → IsWithinLimits message → IfOk r (λ v. items v ≡ text message)
+pub again_lem : {V E : Type 0} (message : Message) (items : V → List ℕ) (r : Result V E) → IfOk r (λ _. IsMessage message) → IsWithinLimits message → IfOk r (λ v. items v ≡ text message)
     → IfOk r (λ v. Stream (items v) (Good message ∷ []) [] None)
 again_lem message items (Ok v) h limit e = subst (λ (bytes : List ℕ). Stream bytes (Good message ∷ []) [] None) (sym e) (text-alone message h limit)
 again_lem message items (Err f) h limit e = tt

@@ -3,16 +3,18 @@ use Rattle.std.specs.Prelude.{◌≡◌, ℕ, ◌-◌, ◌&&◌, Bool, true, Lis
 use Rattle.std.specs.List.{list_all, position_or_len}
 use Rattle.std.specs.Str.{bytes_eq}
 use Rattle.cb_wire.specs.declared.command.Command.{Command}
-use Rattle.cb_wire.specs.declared.command.Command.TheVariants.{Verack, Ping, Pong}
+use Rattle.cb_wire.specs.declared.command.Command.TheVariants.{Verack, Ping, Pong, Tx, Block}
 
 -- the known commands
 abbrev pub known_commands : List Command
-known_commands = Verack ∷ Ping ∷ Pong ∷ []
+known_commands = Verack ∷ Ping ∷ Pong ∷ Tx ∷ Block ∷ []
 
 abbrev pub command_name : Command → List ℕ
 command_name Verack = codes "verack"
 command_name Ping = codes "ping"
 command_name Pong = codes "pong"
+command_name Tx = codes "tx"
+command_name Block = codes "block"
 
 -- the known command of a name
 abbrev pub known_command : List ℕ → Option Command

@@ -1,9 +1,12 @@
-ghost use Rattle.std.specs.Prelude.{◌≡◌, ◌⊎◌, ◌≤◌, [], ◌∷◌, length, Ok, Err, None, IfOk, IsOkUnless};
+ghost use Rattle.std.specs.Prelude.{◌≡◌, ◌⊎◌, ◌≤◌, [], ◌∷◌, length, codes, Ok, Err, Some, None, IfOk, IsOkUnless};
+ghost use Rattle.cb_base.specs.declared.fault.Fault.{Fault};
 ghost use Rattle.cb_base.specs.declared.fault.Fault.TheVariants.{Memory};
-ghost use Rattle.cb_wire.specs.Command.{IsCommand};
+ghost use Rattle.cb_block.specs.Text.{IsBlock, block_text};
+ghost use Rattle.cb_tx.specs.Text.{IsTx, tx_text};
+ghost use Rattle.cb_wire.specs.Command.{IsCommand, known_command};
 ghost use Rattle.cb_wire.specs.declared.message.Message.{Message};
 ghost use Rattle.cb_wire.specs.declared.item.Item.TheVariants.{Good};
-ghost use Rattle.cb_wire.specs.Grammar.{message_at, payload_at, Gives, Spells, IsMessage, IsWithinLimits};
+ghost use Rattle.cb_wire.specs.Grammar.{message_at, payload_at, Gives, Spells, IsMessage, IsUnpaid, IsWithinLimits};
 ghost use Rattle.cb_wire.specs.Envelope.{envelope_text, text};
 ghost use Rattle.cb_wire.specs.Stream.{Stream};
 
@@ -11,20 +14,28 @@ use crate::command::{Command, UnknownName};
 use crate::envelope::{COMMAND_LEN, HEADER_LEN, MAGIC};
 use crate::message::{Message, Payload};
 use cb_base::{Cursor, Fault, dsha};
+use cb_block::{Block, read_block, write_block};
+use cb_tx::{Tx, read_tx, write_tx};
 use std::alloc::Global;
 
 /// Reads the payload of a message. A command that isn't known gives its payload as it is.
 ///
 /// `command` is of a command's form: 1 to 12 bytes from the space to the tilde. An error is `Fault::Memory`, or the
-/// fault of the first field from the left that can't be read: `Truncated` or `Trailing`.
+/// fault of the first field from the left that can't be read: `Truncated` where bytes lack or a count of items doesn't
+/// fit in what is left, `NotShortest` where a count or a length is spelled longer than it needs, and last `Trailing`
+/// where bytes are left over.
 pub fn decode(alloc: Global, command: &str, payload: &[u8]) -> Result<Message, Fault>
     requires { IsCommand command.now }
     // What is read is spelled so.
     ensures found { IfOk result (Spells command.now payload.now) }
+    // Each number of what is read is one of its field, and each hash has 32 bytes.
+    ensures kept { IfOk result IsMessage }
     // What is spelled so is read, unless memory runs out.
     ensures only { (message : Message) → IsMessage message → Spells command.now payload.now message → (result ≡ Ok message) ⊎ (result ≡ Err Memory) }
     // Which fault it is.
     ensures exact { Gives (message_at command.now payload.now) result }
+    // Up to the first count of a transaction or a block no memory is taken.
+    ensures unpaid { (fault : Fault) → IsUnpaid (known_command command.now) payload.now fault → result ≡ Err fault }
 {
     message_under(alloc, command, payload)
 }
@@ -32,7 +43,8 @@ pub fn decode(alloc: Global, command: &str, payload: &[u8]) -> Result<Message, F
 /// The message under this name: the payload of a known command is read, that of an unknown one is copied.
 fn message_under(alloc: Global, name: &str, payload: &[u8]) -> Result<Message, Fault>
     requires { IsCommand name.now }
-    ensures { Gives (message_at name.now payload.now) result }
+    ensures exact { Gives (message_at name.now payload.now) result }
+    ensures unpaid { (fault : Fault) → IsUnpaid (known_command name.now) payload.now fault → result ≡ Err fault }
 {
     match Command::named(name) {
         Some(command) => read_payload(alloc, command, payload),
@@ -45,14 +57,17 @@ fn message_under(alloc: Global, name: &str, payload: &[u8]) -> Result<Message, F
 }
 
 /// The payload of a known command: one arm for each.
-pub fn read_payload(_alloc: Global, command: Command, payload: &[u8]) -> Result<Message, Fault>
-    ensures { Gives (payload_at command payload.now) result }
+pub fn read_payload(alloc: Global, command: Command, payload: &[u8]) -> Result<Message, Fault>
+    ensures exact { Gives (payload_at command payload.now) result }
+    ensures unpaid { (fault : Fault) → IsUnpaid (Some command) payload.now fault → result ≡ Err fault }
 {
     let mut cursor = Cursor::new(payload);
     let message = match command {
         Command::Verack => Message::Verack,
         Command::Ping => Message::Ping(cursor.u64()?),
         Command::Pong => Message::Pong(cursor.u64()?),
+        Command::Tx => Message::Tx(read_tx(alloc, &mut cursor)?),
+        Command::Block => Message::Block(read_block(alloc, &mut cursor)?),
     };
     if cursor.left() > 0 {
         return Err(Fault::Trailing);
@@ -67,10 +82,11 @@ pub fn encode(alloc: Global, message: &Message) -> Result<Vec<u8>, Fault>
     requires { IsWithinLimits message.now }
     ensures text { IfOk result (λ bytes. bytes.items ≡ text message.now) }
     ensures memory { IsOkUnless result Memory }
+    // Each number of what is written is one of its field, and each hash has 32 bytes.
+    ensures kept { IfOk result (λ _. IsMessage message.now) }
     // What was written is this one message as a stream, and nothing is left over: so no other message has this text.
     ensures again { IfOk result (λ bytes. Stream bytes.items (Good message.now ∷ []) [] None) }
 {
-    message.has_ranges();
     write_text(alloc, message)
 }
 
@@ -79,13 +95,40 @@ fn write_text(alloc: Global, message: &Message) -> Result<Vec<u8>, Fault>
     requires { IsWithinLimits message.now }
     ensures text { IfOk result (λ bytes. bytes.items ≡ text message.now) }
     ensures memory { IsOkUnless result Memory }
+    ensures kept { IfOk result (λ _. IsMessage message.now) }
 {
     match message {
         Message::Verack => envelope(alloc, "verack", &[]),
         Message::Ping(nonce) => envelope(alloc, "ping", nonce.to_le_bytes().as_slice()),
         Message::Pong(nonce) => envelope(alloc, "pong", nonce.to_le_bytes().as_slice()),
+        Message::Tx(tx) => envelope_of_tx(alloc, tx),
+        Message::Block(block) => envelope_of_block(alloc, block),
         Message::Unknown(name, payload) => envelope(alloc, name.as_str(), payload.as_slice()),
     }
+}
+
+/// The envelope of a transaction.
+fn envelope_of_tx(alloc: Global, tx: &Tx) -> Result<Vec<u8>, Fault>
+    requires { length (tx_text tx.now) ≤ 4000000 }
+    ensures text { IfOk result (λ bytes. bytes.items ≡ envelope_text (codes "tx") (tx_text tx.now)) }
+    ensures memory { IsOkUnless result Memory }
+    ensures fits { IfOk result (λ _. IsTx tx.now) }
+{
+    let mut payload = Vec::new(alloc);
+    write_tx(&mut payload, tx)?;
+    envelope(alloc, "tx", payload.as_slice())
+}
+
+/// The envelope of a block.
+fn envelope_of_block(alloc: Global, block: &Block) -> Result<Vec<u8>, Fault>
+    requires { length (block_text block.now) ≤ 4000000 }
+    ensures text { IfOk result (λ bytes. bytes.items ≡ envelope_text (codes "block") (block_text block.now)) }
+    ensures memory { IsOkUnless result Memory }
+    ensures fits { IfOk result (λ _. IsBlock block.now) }
+{
+    let mut payload = Vec::new(alloc);
+    write_block(&mut payload, block)?;
+    envelope(alloc, "block", payload.as_slice())
 }
 
 /// The envelope of a payload, in one growth: magic, the command and zeros up to twelve bytes, the length, the checksum,

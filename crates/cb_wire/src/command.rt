@@ -12,6 +12,8 @@ pub enum Command {
     Verack,
     Ping,
     Pong,
+    Tx,
+    Block,
 }
 
 impl Command {
@@ -32,6 +34,8 @@ impl Command {
             "verack" => Some(Command::Verack),
             "ping" => Some(Command::Ping),
             "pong" => Some(Command::Pong),
+            "tx" => Some(Command::Tx),
+            "block" => Some(Command::Block),
             _ => None,
         }
     }
@@ -44,6 +48,8 @@ impl Command {
             Command::Verack => "verack",
             Command::Ping => "ping",
             Command::Pong => "pong",
+            Command::Tx => "tx",
+            Command::Block => "block",
         }
     }
 }

@@ -1,8 +1,8 @@
 //! Messages of Bitcoin's peer-to-peer protocol, their envelopes, and the stream that they come in.
 //!
 //! A command is added by one row in each of these: `Command` and `Message` name it, `Command::named` and
-//! `Command::name` hold its text, `read_payload` reads it, `write_text` writes it, and `Message::copy`,
-//! `Message::has_ranges` and `Message::is_within_limits` have its arm. The definitions in specs/ have the same rows.
+//! `Command::name` hold its text, `read_payload` reads it, `write_text` writes it, and `Message::copy` and
+//! `Message::is_within_limits` have its arm. The definitions in specs/ have the same rows.
 #![tactic(auto)]
 
 mod assembler;

@@ -3,6 +3,8 @@ ghost use Rattle.cb_base.specs.declared.fault.Fault.TheVariants.{Memory};
 
 use crate::command::UnknownName;
 use cb_base::Fault;
+use cb_block::Block;
+use cb_tx::Tx;
 use std::alloc::Global;
 use std::marker::Model;
 
@@ -76,12 +78,16 @@ pub enum Message {
     Ping(u64),
     /// `pong` (BIP 31), with the nonce of the ping that it answers.
     Pong(u64),
+    /// `tx`: a transaction.
+    Tx(Tx),
+    /// `block`: a header, and transactions of which nothing says that they belong to it.
+    Block(Block),
     /// Any other command, with its payload as it came.
     Unknown(UnknownName, Payload),
 }
 
 impl Message {
-    ghost use Rattle.cb_wire.specs.Grammar.{IsMessage, IsWithinLimits};
+    ghost use Rattle.cb_wire.specs.Grammar.{IsWithinLimits};
 
     /// An equal message. The only error is `Fault::Memory`.
     pub fn copy(&self, alloc: Global) -> Result<Message, Fault>
@@ -92,25 +98,12 @@ impl Message {
             Message::Verack => Message::Verack,
             Message::Ping(nonce) => Message::Ping(*nonce),
             Message::Pong(nonce) => Message::Pong(*nonce),
+            Message::Tx(tx) => Message::Tx(tx.copy(alloc)?),
+            Message::Block(block) => Message::Block(block.copy(alloc)?),
             Message::Unknown(name, payload) => {
                 Message::Unknown(name.copy(alloc)?, payload.copy(alloc)?)
             }
         })
-    }
-
-    /// What the types of the fields keep, for a contract to cite: it does nothing.
-    pub fn has_ranges(&self)
-        ensures { IsMessage self.now }
-    {
-        match self {
-            Message::Ping(nonce) | Message::Pong(nonce) => {
-                let _in_range: u64 = *nonce;
-            }
-            Message::Unknown(name, _) => {
-                let _form = name.as_str();
-            }
-            Message::Verack => {}
-        }
     }
 
     /// Whether the message is within the limits of the protocol: its payload has at most 4,000,000 bytes.
@@ -119,6 +112,8 @@ impl Message {
     {
         match self {
             Message::Verack | Message::Ping(_) | Message::Pong(_) => true,
+            Message::Tx(tx) => tx.size() <= 4_000_000,
+            Message::Block(block) => block.size() <= 4_000_000,
             Message::Unknown(_, payload) => payload.len() <= 4_000_000,
         }
     }

@@ -33,12 +33,92 @@ const PING: [u8; 32] = [
     0xca, 0x62, 0, 0, 0, 0, 0, 0, 0, 0,
 ];
 
+/// The one transaction of the regression test network's first block.
+const FIRST_TX: &str =
+    "01000000010000000000000000000000000000000000000000000000000000000000000000ffffffff4d04ffff001d0104455468652054696d65732030332f4a616e2f32303039204368616e63656c6c6f72206f6e206272696e6b206f66207365636f6e64206261696c6f757420666f722062616e6b73ffffffff0100f2052a01000000434104678afdb0fe5548271967f1a67130b7105cd6a828e03909a67962e0ea1f61deb649f6bc3f4cef38c4f35504e51ec112de5c384df7ba0b8d578a4c702b6bf11d5fac00000000";
+
+/// The envelope's 24 bytes before it. Its checksum is the txid's first four bytes.
+const TX_FRONT: &str = "fabfb5da747800000000000000000000cc0000003ba3edfd";
+
+/// That block's header.
+const FIRST_HEADER: &str =
+    "0100000000000000000000000000000000000000000000000000000000000000000000003ba3edfd7a7b12b27ac72c3e67768f617fc81bc3888a51323a9fb8aa4b1e5e4adae5494dffff7f2002000000";
+
+/// The envelope's 24 bytes before the block. Its checksum was computed by another implementation of SHA-256.
+const BLOCK_FRONT: &str = "fabfb5da626c6f636b000000000000001d010000ddad65e9";
+
+/// The lines that stand for the block and for its transaction.
+const FIRST_LINES: &str =
+    "block 0f9188f13cb7b2c71f2a335e3a4fc328bf5beb436012afca590b1a11466e2206 1\ntx 4a5e1e4baab89f3a32518a88c31bc87f618f76673e2cc77ab2127b7afdeda33b 204\n";
+
+/// A transaction of 64 bytes: one input with the txid of 32 bytes 11, and one output of value 1 with an empty script.
+const SIZE_64: &str =
+    "01000000011111111111111111111111111111111111111111111111111111111111111111000000000401020304ffffffff0101000000000000000000000000";
+
+/// The envelope's 24 bytes before it. Its checksum was computed by another implementation of SHA-256.
+const SIZE_64_FRONT: &str = "fabfb5da74780000000000000000000040000000b18f9f90";
+
+/// The line that stands for a transaction of version 1 without inputs and outputs.
+const NO_INPUTS_LINE: &str =
+    "tx d21633ba23f70118185227be58a63527675641ad37967e2aa461559f577aec43 10";
+
+/// The bytes that texts of hex stand for, one after another.
+fn bytes_of(alloc: Global, texts: &[&str]) -> Result<Vec<u8>, Fail> {
+    let mut bytes = Vec::new(alloc);
+    for text in texts {
+        bytes.extend_from_slice(hex::decode(alloc, text)?.as_slice())?;
+    }
+    Ok(bytes)
+}
+
+/// The line that stands for what a payload, texts of hex, is decoded to: a message or a fault.
+fn decoded_line(alloc: Global, command: &str, texts: &[&str]) -> Result<String, Fail> {
+    let payload = bytes_of(alloc, texts)?;
+    if !Command::is_name(command) {
+        return Err(Fail::from("no name of a command"));
+    }
+    match decode(alloc, command, payload.as_slice()) {
+        Ok(message) => message_line(alloc, &message),
+        Err(fault) => Ok(format!(in alloc; "{fault}")?),
+    }
+}
+
+/// The envelope of a message that is within the limits.
+fn encoded(alloc: Global, message: &Message) -> Result<Vec<u8>, Fail> {
+    if !message.is_within_limits() {
+        return Err(Fail::from("past the limits"));
+    }
+    Ok(encode(alloc, message)?)
+}
+
+/// Whether what a payload is decoded to, and a copy of that, are encoded as an envelope of these 24 bytes and it.
+fn comes_back(alloc: Global, command: &str, front: &str, payload: &str) -> Result<bool, Fail> {
+    if !Command::is_name(command) {
+        return Ok(false);
+    }
+    let envelope = bytes_of(alloc, [front, payload].as_slice())?;
+    let payload = bytes_of(alloc, [payload].as_slice())?;
+    let message = decode(alloc, command, payload.as_slice())?;
+    let copy = message.copy(alloc)?;
+    let first = encoded(alloc, &message)?;
+    let second = encoded(alloc, &copy)?;
+    Ok(first.as_slice() == envelope.as_slice() && second.as_slice() == envelope.as_slice())
+}
+
 /// The line that stands for a message.
 fn message_line(alloc: Global, message: &Message) -> Result<String, Fail> {
     Ok(match message {
         Message::Verack => String::from_str(alloc, "verack")?,
         Message::Ping(nonce) => format!(in alloc; "ping {nonce}")?,
         Message::Pong(nonce) => format!(in alloc; "pong {nonce}")?,
+        Message::Tx(tx) => {
+            let txid = tx.txid(alloc)?.show(alloc)?;
+            format!(in alloc; "tx {txid} {}", tx.size())?
+        }
+        Message::Block(block) => {
+            let hash = block.header.hash().show(alloc)?;
+            format!(in alloc; "block {hash} {}", block.txs.as_slice().len())?
+        }
         Message::Unknown(name, payload) => {
             format!(in alloc; "unknown {} {}", name.as_str(), payload.len())?
         }
@@ -231,6 +311,94 @@ fn each_command_is_decoded(rt: HostRuntime) -> Result<(), Fail> {
     Ok(())
 }
 
+/// The first block and its transaction as messages, in one piece and byte by byte.
+#[test]
+fn row_c_the_first_block(rt: HostRuntime) -> Result<(), Fail> {
+    let texts = [
+        BLOCK_FRONT,
+        FIRST_HEADER,
+        "01",
+        FIRST_TX,
+        TX_FRONT,
+        FIRST_TX,
+    ];
+    let bytes = bytes_of(rt.alloc(), texts.as_slice())?;
+    for size in [1usize, 1_000] {
+        let text = lines_of_pieces(rt.alloc(), bytes.as_slice(), size)?;
+        assert_eq!(rt; text.as_str(), FIRST_LINES, "in pieces of {size}");
+    }
+    Ok(())
+}
+
+#[test]
+fn row_a_counts_that_lie(rt: HostRuntime) -> Result<(), Fail> {
+    for (count, expected) in [
+        ("00", "F2 Truncated"),
+        ("ffffffffffffffffff", "F2 Truncated"),
+        ("fd0500", "F3 NotShortest"),
+    ] {
+        let line = decoded_line(rt.alloc(), "tx", ["01000000", count].as_slice())?;
+        assert_eq!(rt; line.as_str(), expected);
+    }
+    let line = decoded_line(rt.alloc(), "tx", ["01000000000000000000"].as_slice())?;
+    assert_eq!(rt; line.as_str(), NO_INPUTS_LINE);
+    let texts = [FIRST_HEADER, "ffffffffffffffffff"];
+    let line = decoded_line(rt.alloc(), "block", texts.as_slice())?;
+    assert_eq!(rt; line.as_str(), "F2 Truncated");
+    Ok(())
+}
+
+/// A CompactSize as the count of a transaction's inputs: its own fault comes before that of a count too great for
+/// what is left.
+#[test]
+fn row_4(rt: HostRuntime) -> Result<(), Fail> {
+    for (count, expected) in [
+        ("fc", "F2 Truncated"),
+        ("fdfc00", "F3 NotShortest"),
+        ("fdfd00", "F2 Truncated"),
+        ("feffff0000", "F3 NotShortest"),
+        ("fe00000100", "F2 Truncated"),
+        ("fd05", "F2 Truncated"),
+    ] {
+        let line = decoded_line(rt.alloc(), "tx", ["01000000", count].as_slice())?;
+        assert_eq!(rt; line.as_str(), expected);
+    }
+    Ok(())
+}
+
+/// With one byte too many, and with none; a field that can't be read comes before bytes that are left.
+#[test]
+fn a_transaction_or_a_block_is_all_of_its_payload(rt: HostRuntime) -> Result<(), Fail> {
+    for (command, front, behind, expected) in [
+        ("tx", FIRST_TX, "00", "F14 Trailing"),
+        ("tx", "", "", "F2 Truncated"),
+        ("tx", "0100000000", "fd000000000000", "F3 NotShortest"),
+        ("block", FIRST_HEADER, "0000", "F14 Trailing"),
+        ("block", FIRST_HEADER, "", "F2 Truncated"),
+    ] {
+        let line = decoded_line(rt.alloc(), command, [front, behind].as_slice())?;
+        assert_eq!(rt; line.as_str(), expected);
+    }
+    Ok(())
+}
+
+/// A transaction of 64 bytes is a message like any other.
+#[test]
+fn row_8_as_a_message(rt: HostRuntime) -> Result<(), Fail> {
+    assert!(rt; comes_back(rt.alloc(), "tx", SIZE_64_FRONT, SIZE_64)?);
+    Ok(())
+}
+
+#[test]
+fn transactions_and_blocks_are_encoded(rt: HostRuntime) -> Result<(), Fail> {
+    assert!(rt; comes_back(rt.alloc(), "tx", TX_FRONT, FIRST_TX)?);
+    let mut block = String::from_str(rt.alloc(), FIRST_HEADER)?;
+    block.push_str("01")?;
+    block.push_str(FIRST_TX)?;
+    assert!(rt; comes_back(rt.alloc(), "block", BLOCK_FRONT, block.as_str())?);
+    Ok(())
+}
+
 #[test]
 fn names_are_tested_before_they_are_taken(rt: HostRuntime) {
     let cases = [
@@ -238,6 +406,8 @@ fn names_are_tested_before_they_are_taken(rt: HostRuntime) {
         ("two words", true, true),
         ("twelve bytes", true, true),
         ("verack", true, false),
+        ("tx", true, false),
+        ("block", true, false),
         ("", false, false),
         ("thirteen byte", false, false),
         ("tab\t", false, false),

@@ -130,7 +130,7 @@ impl Decoding {
         self.fault = fed.fault;
         self.bad |= has_bad(fed.items.as_slice());
         let mut text = String::new(self.alloc);
-        push_items(&mut text, fed.items.as_slice())?;
+        push_items(self.alloc, &mut text, fed.items.as_slice())?;
         if !told {
             push_fault(&mut text, fed.fault)?;
         }

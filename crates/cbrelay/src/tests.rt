@@ -154,6 +154,56 @@ fn decode_tells_a_ping_without_payload(rt: HostRuntime) -> Result<(), Fail> {
     Ok(())
 }
 
+/// The first block of the regression test network in its envelope, cut behind the header and the count.
+const FIRST_BLOCK: &str =
+    "fabfb5da626c6f636b000000000000001d010000ddad65e90100000000000000000000000000000000000000000000000000000000000000000000003ba3edfd7a7b12b27ac72c3e67768f617fc81bc3888a51323a9fb8aa4b1e5e4adae5494dffff7f200200000001\n01000000010000000000000000000000000000000000000000000000000000000000000000ffffffff4d04ffff001d0104455468652054696d65732030332f4a616e2f32303039204368616e63656c6c6f72206f6e206272696e6b206f66207365636f6e64206261696c6f757420666f722062616e6b73ffffffff0100f2052a01000000434104678afdb0fe5548271967f1a67130b7105cd6a828e03909a67962e0ea1f61deb649f6bc3f4cef38c4f35504e51ec112de5c384df7ba0b8d578a4c702b6bf11d5fac00000000\n";
+
+/// Its one transaction, as a message.
+const FIRST_TX: &str =
+    "fabfb5da747800000000000000000000cc0000003ba3edfd01000000010000000000000000000000000000000000000000000000000000000000000000ffffffff4d04ffff001d0104455468652054696d65732030332f4a616e2f32303039204368616e63656c6c6f72206f6e206272696e6b206f66207365636f6e64206261696c6f757420666f722062616e6b73ffffffff0100f2052a01000000434104678afdb0fe5548271967f1a67130b7105cd6a828e03909a67962e0ea1f61deb649f6bc3f4cef38c4f35504e51ec112de5c384df7ba0b8d578a4c702b6bf11d5fac00000000\n";
+
+#[test]
+fn row_c_decode_tells_the_first_block(rt: HostRuntime) -> Result<(), Fail> {
+    let mut text = String::from_str(rt.alloc(), FIRST_BLOCK)?;
+    text.push_str(FIRST_TX)?;
+    let ran = run(rt.alloc(), &["decode"], text.as_str())?;
+    assert_eq!(rt;
+        ran.written.as_slice(),
+        b"block 0f9188f13cb7b2c71f2a335e3a4fc328bf5beb436012afca590b1a11466e2206 1\ntx 4a5e1e4baab89f3a32518a88c31bc87f618f76673e2cc77ab2127b7afdeda33b 204\nrest 0\n".as_slice()
+    );
+    assert_eq!(rt; ran.status, 0);
+    Ok(())
+}
+
+/// A transaction and a block without payload, a count of inputs that is spelled too long, and one byte
+/// behind a transaction.
+#[test]
+fn decode_tells_transactions_that_cannot_be_read(rt: HostRuntime) -> Result<(), Fail> {
+    for (text, printed) in [
+        (
+            "fabfb5da747800000000000000000000000000005df6e0e2",
+            "bad tx F2 Truncated\nrest 0\n",
+        ),
+        (
+            "fabfb5da626c6f636b00000000000000000000005df6e0e2",
+            "bad block F2 Truncated\nrest 0\n",
+        ),
+        (
+            "fabfb5da74780000000000000000000007000000924efdca01000000fd0500",
+            "bad tx F3 NotShortest\nrest 0\n",
+        ),
+        (
+            "fabfb5da7478000000000000000000000b000000611025090100000000000000000000",
+            "bad tx F14 Trailing\nrest 0\n",
+        ),
+    ] {
+        let ran = run(rt.alloc(), &["decode"], text)?;
+        assert_eq!(rt; ran.written.as_slice(), printed.as_bytes(), "at {text}");
+        assert_eq!(rt; ran.status, 3, "at {text}");
+    }
+    Ok(())
+}
+
 /// Lines end at LF or at CR LF, the last without an end too; an empty line is an empty piece; hex has either case.
 #[test]
 fn decode_reads_lines(rt: HostRuntime) -> Result<(), Fail> {
@@ -298,6 +348,25 @@ fn serve_ends_at_a_ping_without_payload(rt: HostRuntime) -> Result<(), Fail> {
     assert!(rt; ran.written.is_empty());
     assert_eq!(rt; ran.errors.as_slice(), b"closed BadMessage\n".as_slice());
     assert_eq!(rt; ran.status, 3);
+    Ok(())
+}
+
+#[test]
+fn serve_passes_over_transactions_and_blocks(rt: HostRuntime) -> Result<(), Fail> {
+    let mut text = String::from_str(rt.alloc(), FIRST_BLOCK)?;
+    text.push_str(FIRST_TX)?;
+    text.push_str(PING)?;
+    let pong = bytes_of(rt.alloc(), PONG)?;
+    let ran = serve(rt.alloc(), text.as_str())?;
+    assert_eq!(rt; ran.written.as_slice(), pong.as_slice());
+    assert_eq!(rt; ran.errors.as_slice(), b"closed Bye\n".as_slice());
+    assert_eq!(rt; ran.status, 0);
+    let short = serve(
+        rt.alloc(),
+        "fabfb5da747800000000000000000000000000005df6e0e2",
+    )?;
+    assert!(rt; short.written.is_empty());
+    assert_eq!(rt; short.errors.as_slice(), b"closed BadMessage\n".as_slice());
     Ok(())
 }
 
