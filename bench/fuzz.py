@@ -159,8 +159,7 @@ def decoded(lines):
             items, _, fault = items_of(stream)
             return printed(items, fault) + f"line {number} not hex\n", 3
     items, rest, fault = items_of(stream)
-    bad = fault is not None or any(item[0] == "bad" for item in items)
-    return printed(items, fault) + f"rest {rest}\n", 3 if bad else 0
+    return printed(items, fault) + f"rest {rest}\n", 0 if fault is None else 3
 
 
 def printed(items, fault):

@@ -1,10 +1,8 @@
 -- The run of `decode` line by line: what stands after each, and what it comes to at the end.
 use Rattle.std.proofs.Common.{◌≡◌, ℕ, Bool, true, false, ◌+◌, List, [], ◌∷◌, ◌++◌, length, Option, Some, None, Ok, refl, sym, ap, subst, ◌∙◌, append_assoc, inl, inr, arith}
 use Rattle.std.proofs.lemmas.List.{append-nil, length-append}
-use Rattle.std.proofs.lemmas.List.Folds.{list_any-append}
 use Rattle.std.proofs.lemmas.Grind.{flat_map-append}
-use Rattle.std.specs.Prelude.{is_some, ◌||◌}
-use Rattle.std.specs.List.{list_any}
+use Rattle.std.specs.Prelude.{is_some}
 use Rattle.std.specs.Io.KnownBytes.{prepend_known, Appends}
 use Rattle.std.specs.Str.Lines.{lines}
 use Rattle.hex.specs.Hex.{decode_of}
@@ -16,7 +14,7 @@ use Rattle.cbrelay.specs.declared.ending.Status.{Status}
 use Rattle.cbrelay.specs.declared.ending.Status.TheVariants.{BadInput}
 use Rattle.cbrelay.specs.Lines.{NextLine}
 use Rattle.cbrelay.specs.Printed.{item_text, items_text, broken_text}
-use Rattle.cbrelay.specs.Report.{Decoded, Decodes, is_bad, AreHexOf, IsNotHex, rest_text, not_hex_text, stream_status, ReportsKnown}
+use Rattle.cbrelay.specs.Report.{Decoded, Decodes, AreHexOf, IsNotHex, rest_text, not_hex_text, stream_status, ReportsKnown}
 
 -- ---- one piece
 
@@ -24,15 +22,11 @@ none_is : (fault : Option Fault) → is_some fault ≡ false → fault ≡ None
 none_is None e = refl
 none_is (Some why) e = absurd (let z = e in cc)
 
--- items that were told, and more
-some_bad : (items more : List Item) (bad bad' : Bool) → bad ≡ list_any is_bad items → bad' ≡ (bad || list_any is_bad more) → bad' ≡ list_any is_bad (items ++ more)
-some_bad items more bad bad' h k = k ∙ ap (λ (b : Bool). b || list_any is_bad more) h ∙ sym (list_any-append is_bad items more)
-
 -- a piece of a stream that has no fault yet
 pub decodes-more : (bytes out piece text : List ℕ) (old new : Decoded) (more : List Item) → is_some old.fault ≡ false
     → ((items : List Item) → Stream bytes items old.rest old.fault → Stream (bytes ++ piece) (items ++ more) new.rest new.fault)
-    → text ≡ items_text more ++ broken_text new.fault → new.bad ≡ (old.bad || list_any is_bad more) → Decodes bytes out old → Decodes (bytes ++ piece) (out ++ text) new
-decodes-more bytes out piece text old new more none goes t b d =
+    → text ≡ items_text more ++ broken_text new.fault → Decodes bytes out old → Decodes (bytes ++ piece) (out ++ text) new
+decodes-more bytes out piece text old new more none goes t d =
     let quiet : broken_text old.fault ≡ [] = ap broken_text (none_is old.fault none) in
     record {
       items = d.items ++ more;
@@ -40,7 +34,6 @@ decodes-more bytes out piece text old new more none goes t b d =
       printed =
           ap (λ (x : List ℕ). x ++ text) (d.printed ∙ ap (λ (x : List ℕ). items_text d.items ++ x) quiet ∙ append-nil (items_text d.items)) ∙ ap (λ (x : List ℕ). items_text d.items ++ x) t
           ∙ sym (append_assoc (items_text d.items) (items_text more) (broken_text new.fault)) ∙ ap (λ (x : List ℕ). x ++ broken_text new.fault) (sym (flat_map-append item_text d.items more));
-      bad_is = some_bad d.items more old.bad new.bad d.bad_is b;
     }
 
 -- a list that stays as it is was given nothing
@@ -55,8 +48,8 @@ fault_of (Some why) e = (why, refl)
 -- a piece of a stream that has a fault: it gives no item
 pub decodes-broken : (bytes out piece text : List ℕ) (old new : Decoded) (more : List Item) → is_some old.fault ≡ true
     → ((items : List Item) → Stream bytes items old.rest old.fault → Stream (bytes ++ piece) (items ++ more) new.rest new.fault)
-    → text ≡ items_text more → new.bad ≡ (old.bad || list_any is_bad more) → Decodes bytes out old → Decodes (bytes ++ piece) (out ++ text) new
-decodes-broken bytes out piece text old new more some goes t b d =
+    → text ≡ items_text more → Decodes bytes out old → Decodes (bytes ++ piece) (out ++ text) new
+decodes-broken bytes out piece text old new more some goes t d =
     let why = fault_of old.fault some in
     let broken : Stream bytes d.items old.rest (Some why.0) = subst (λ (f : Option Fault). Stream bytes d.items old.rest f) why.1 d.spelled in
     let s = Stream-broken bytes piece d.items old.rest why.0 broken in
@@ -71,7 +64,6 @@ decodes-broken bytes out piece text old new more some goes t b d =
           ap (λ (x : List ℕ). out ++ x) nothing ∙ append-nil out ∙ d.printed
           ∙ ap (λ (f : Option Fault). items_text d.items ++ broken_text f) (why.1 ∙ same.fault)
           ∙ ap (λ (i : List Item). items_text i ++ broken_text new.fault) same.items;
-      bad_is = some_bad d.items more old.bad new.bad d.bad_is b;
     }
 
 -- ---- all lines so far
@@ -102,7 +94,7 @@ GoingKnown (Some input) (Some held) (Some rest) None stream number = ⊥
 GoingKnown (Some input) (Some held) (Some rest) (Some holds) stream number = Going input held rest holds stream number
 
 -- at the beginning
-pub going-start : (whole old : Option (List ℕ)) (ahead : List ℕ) (stream : Decoded) → ahead ≡ [] → stream ≡ record { rest = []; fault = None; bad = false }
+pub going-start : (whole old : Option (List ℕ)) (ahead : List ℕ) (stream : Decoded) → ahead ≡ [] → stream ≡ record { rest = []; fault = None }
     → GoingKnown whole old (prepend_known ahead whole) old stream 1
 going-start None old ahead stream n e = tt
 going-start (Some input) None ahead stream n e = tt
@@ -112,7 +104,7 @@ going-start (Some input) (Some held) ahead stream n e = record {
   text = [];
   lines_are = ap (λ (x : List ℕ). lines (x ++ input)) (sym n);
   hex = refl;
-  decodes = rw (e) (record { items = []; spelled = rw (front_at-nil) (refl, refl); printed = refl; bad_is = refl });
+  decodes = rw (e) (record { items = []; spelled = rw (front_at-nil) (refl, refl); printed = refl });
   holds_is = sym (append-nil held);
   number_is = refl;
 }
@@ -151,7 +143,7 @@ no_lines : (rest : List ℕ) → rest ≡ [] → lines rest ≡ []
 no_lines rest e = ap lines e
 
 ended : (whole old r r' o o' : Option (List ℕ)) (stream : Decoded) (number : ℕ) (line : List ℕ) (status : Status) → GoingKnown whole old r o stream number
-    → NextLine false r r' line → Appends o o' (rest_text (length stream.rest)) → status ≡ stream_status stream.bad stream.fault → ReportsKnown whole old o' status
+    → NextLine false r r' line → Appends o o' (rest_text (length stream.rest)) → status ≡ stream_status stream.fault → ReportsKnown whole old o' status
 ended None old r r' o o' stream number line status g n w s = tt
 ended (Some input) None r r' o o' stream number line status g n w s = tt
 ended (Some input) (Some held) None r' o o' stream number line status g n w s = absurd g
@@ -175,7 +167,7 @@ ended (Some input) (Some held) (Some xs) (Some xs') (Some ys) (Some ys') stream 
 
 -- the input is at its end
 pub going-end : (whole old r r' o o' : Option (List ℕ)) (stream : Decoded) (number : ℕ) (found : Bool) (line : List ℕ) (status : Status) → GoingKnown whole old r o stream number
-    → NextLine found r r' line → found ≡ false → Appends o o' (rest_text (length stream.rest)) → status ≡ stream_status stream.bad stream.fault → ReportsKnown whole old o' status
+    → NextLine found r r' line → found ≡ false → Appends o o' (rest_text (length stream.rest)) → status ≡ stream_status stream.fault → ReportsKnown whole old o' status
 going-end whole old r r' o o' stream number found line status g n e w s =
     ended whole old r r' o o' stream number line status g (subst (λ (b : Bool). NextLine b r r' line) e n) w s
 

@@ -1,36 +1,26 @@
 -- What `decode` prints for its whole input.
-use Rattle.std.specs.Prelude.{◌≡◌, ℕ, ◌+◌, Bool, true, false, List, [], ◌∷◌, ◌++◌, length, codes, ⊤, ◌⊎◌, Option, Some, None, Ok, Err}
-use Rattle.std.specs.List.{list_any}
+use Rattle.std.specs.Prelude.{◌≡◌, ℕ, ◌+◌, List, [], ◌∷◌, ◌++◌, length, codes, ⊤, ◌⊎◌, Option, Some, None, Ok, Err}
 use Rattle.std.specs.Fmt.{decimal}
 use Rattle.std.specs.Str.Lines.{lines}
 use Rattle.hex.specs.Hex.{decode_of}
 use Rattle.hex.specs.declared.error.FromHexError.{FromHexError}
 use Rattle.cb_base.specs.declared.fault.Fault.{Fault}
 use Rattle.cb_wire.specs.declared.item.Item.{Item}
-use Rattle.cb_wire.specs.declared.item.Item.TheVariants.{Good, Damaged, Bad}
 use Rattle.cb_wire.specs.Stream.{Stream}
 use Rattle.cbrelay.specs.declared.ending.Status.{Status}
 use Rattle.cbrelay.specs.declared.ending.Status.TheVariants.{Success, BadInput}
 use Rattle.cbrelay.specs.Printed.{items_text, broken_text}
 
--- a stream that is decoded: what is left over behind the last whole envelope, the stream's fault, and whether the
--- payload of a known command couldn't be read
+-- a stream that is decoded: what is left over behind the last whole envelope, and the stream's fault
 pub record Decoded : Type 0 where
   pub rest : List ℕ
   pub fault : Option Fault
-  pub bad : Bool
-
-abbrev pub is_bad : Item → Bool
-is_bad (Good message) = false
-is_bad Damaged = false
-is_bad (Bad command fault) = true
 
 -- the bytes are such a stream, and the text is what is printed of its items and its fault
 pub record Decodes (bytes text : List ℕ) (stream : Decoded) : Type 0 where
   pub items : List Item
   pub spelled : Stream bytes items stream.rest stream.fault
   pub printed : text ≡ items_text items ++ broken_text stream.fault
-  pub bad_is : stream.bad ≡ list_any is_bad items
 
 -- each line is hex, and the bytes are what they are the hex of, one after another
 abbrev pub AreHexOf : List (List ℕ) → List ℕ → Type 0
@@ -50,11 +40,10 @@ rest_text n = codes "rest " ++ decimal n ++ codes "\n"
 abbrev pub not_hex_text : ℕ → List ℕ
 not_hex_text number = codes "line " ++ decimal number ++ codes " not hex\n"
 
--- the status after a stream: its fault and a bad item are faults of the input
-abbrev pub stream_status : Bool → Option Fault → Status
-stream_status false None = Success
-stream_status true None = BadInput
-stream_status bad (Some fault) = BadInput
+-- the status after a stream: its fault is a fault of the input; an item that is damaged or bad is told and isn't
+abbrev pub stream_status : Option Fault → Status
+stream_status None = Success
+stream_status (Some fault) = BadInput
 
 -- all lines are hex: what their stream prints, and then how many bytes are left over
 pub record ReportsAll (input out : List ℕ) (status : Status) : Type 0 where
@@ -64,7 +53,7 @@ pub record ReportsAll (input out : List ℕ) (status : Status) : Type 0 where
   pub hex : AreHexOf (lines input) bytes
   pub decodes : Decodes bytes text stream
   pub out_is : out ≡ text ++ rest_text (length stream.rest)
-  pub status_is : status ≡ stream_status stream.bad stream.fault
+  pub status_is : status ≡ stream_status stream.fault
 
 -- a line isn't hex: what the stream of the lines before it prints, and then that line's number
 pub record ReportsUpTo (input out : List ℕ) (status : Status) : Type 0 where

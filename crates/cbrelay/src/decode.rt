@@ -2,10 +2,9 @@
 
 ghost use Rattle.std.specs.Prelude.{◌≡◌, ℕ, List, [], ◌++◌, length, ⊤, IfOk, IsOkUnless, OnOk, MatchOption, None, string_bytes, Ok, false};
 ghost use Rattle.std.specs.Io.KnownBytes.{Appends};
-ghost use Rattle.std.specs.List.{list_any};
 ghost use Rattle.hex.specs.Hex.{decode_of};
 ghost use Rattle.cbrelay.specs.declared.ending.Halt.TheVariants.{Memory};
-ghost use Rattle.cbrelay.specs.Report.{Decodes, IsNotHex, is_bad, ReportsKnown, rest_text, not_hex_text, stream_status};
+ghost use Rattle.cbrelay.specs.Report.{Decodes, IsNotHex, ReportsKnown, rest_text, not_hex_text, stream_status};
 
 use crate::ending::{Halt, Status};
 use crate::lines::LineReader;
@@ -64,14 +63,13 @@ fn print_not_hex<W: Sink>(alloc: Global, number: u64, writer: &mut W) -> Result<
     write_all(writer, text.as_bytes())
 }
 
-/// A stream that is decoded piece by piece. It is seen as what is left over behind the last whole envelope, the
-/// stream's fault, and whether the payload of a known command couldn't be read.
+/// A stream that is decoded piece by piece. It is seen as what is left over behind the last whole envelope, and the
+/// stream's fault.
 #[derive(Debug, Drop)]
 pub struct Decoding {
     alloc: Global,
     assembler: Assembler,
     fault: Option<Fault>,
-    bad: bool,
 }
 
 impl Model for Decoding {
@@ -80,7 +78,7 @@ impl Model for Decoding {
 
     ghost Value = { Decoded };
 
-    ghost view = { λ decoding. record { rest = decoding.assembler.rest; fault = decoding.assembler.fault; bad = decoding.bad } };
+    ghost view = { λ decoding. record { rest = decoding.assembler.rest; fault = decoding.assembler.fault } };
 
     ghost invariant = { λ decoding. decoding.fault ≡ decoding.assembler.fault };
 }
@@ -90,13 +88,12 @@ impl Decoding {
 
     /// At a stream's beginning.
     pub fn new(alloc: Global) -> Decoding
-        ensures { result ≡ record { rest = []; fault = None; bad = false } }
+        ensures { result ≡ record { rest = []; fault = None } }
     {
         Decoding {
             alloc,
             assembler: Assembler::new(alloc),
             fault: None,
-            bad: false,
         }
     }
 
@@ -128,7 +125,6 @@ impl Decoding {
             return Err(Halt::Memory);
         };
         self.fault = fed.fault;
-        self.bad |= has_bad(fed.items.as_slice());
         let mut text = String::new(self.alloc);
         push_items(self.alloc, &mut text, fed.items.as_slice())?;
         if !told {
@@ -146,33 +142,11 @@ impl Decoding {
 
     /// The status of a run that ends here.
     pub fn status(&self) -> Status
-        ensures { result ≡ stream_status self.now.bad self.now.fault }
+        ensures { result ≡ stream_status self.now.fault }
     {
         match self.fault {
             Some(_) => Status::BadInput,
-            None => {
-                if self.bad {
-                    Status::BadInput
-                } else {
-                    Status::Success
-                }
-            }
+            None => Status::Success,
         }
-    }
-}
-
-/// Whether the payload of a known command couldn't be read.
-fn has_bad(items: &[Item]) -> bool
-    ensures { result ≡ list_any is_bad items.now }
-{
-    items.iter().any(|item| is_bad_item(item))
-}
-
-fn is_bad_item(item: &Item) -> bool
-    ensures { result ≡ is_bad item.now }
-{
-    match item {
-        Item::Bad(_, _) => true,
-        Item::Good(_) | Item::Damaged => false,
     }
 }

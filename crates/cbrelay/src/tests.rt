@@ -150,7 +150,7 @@ fn decode_tells_a_ping_without_payload(rt: HostRuntime) -> Result<(), Fail> {
         ran.written.as_slice(),
         b"bad ping F2 Truncated\nrest 0\n".as_slice()
     );
-    assert_eq!(rt; ran.status, 3);
+    assert_eq!(rt; ran.status, 0);
     Ok(())
 }
 
@@ -199,7 +199,7 @@ fn decode_tells_transactions_that_cannot_be_read(rt: HostRuntime) -> Result<(), 
     ] {
         let ran = run(rt.alloc(), &["decode"], text)?;
         assert_eq!(rt; ran.written.as_slice(), printed.as_bytes(), "at {text}");
-        assert_eq!(rt; ran.status, 3, "at {text}");
+        assert_eq!(rt; ran.status, 0, "at {text}");
     }
     Ok(())
 }

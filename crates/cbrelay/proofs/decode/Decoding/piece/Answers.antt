@@ -1,5 +1,4 @@
 use Rattle.std.proofs.Common.{rules}
-use Rattle.std.specs.Prelude.{◌||◌}
 use Rattle.cbrelay.specs.Report.{Decoded}
 use Rattle.cbrelay.proofs.Reporting.{decodes-more, decodes-broken}
 use Rattle.cbrelay.proofs.decode.Decoding.piece.Goals as goal
@@ -7,13 +6,13 @@ use Rattle.cbrelay.proofs.decode.Decoding.piece.Goals.{then-not-told+in_ok-push_
 
 pub returns-clause-printed : goal.returns-clause-printed
 returns-clause-printed c bytes out =
-    let old : Decoded = record { rest = c.self.inside.assembler.rest; fault = c.self.inside.assembler.fault; bad = c.self.inside.bad } in
-    let new : Decoded = record { rest = c.feed.new.self.rest; fault = c.feed.new.self.fault; bad = c.self.inside.bad || c.has_bad.result } in
+    let old : Decoded = record { rest = c.self.inside.assembler.rest; fault = c.self.inside.assembler.fault } in
+    let new : Decoded = record { rest = c.feed.new.self.rest; fault = c.feed.new.self.fault } in
     rw (← c.self.view_is) (elim c.if-not-told.branch [
       | then-not-told+in_ok-push_fault w ↦
           decodes-more bytes out c.args.piece.now _ old new c.in-Ok.fed.items.items
-          (search rules) (λ items. c.in-Ok.ensures.stream bytes items) (search rules) (search rules)
+          (search rules) (λ items. c.in-Ok.ensures.stream bytes items) (search rules)
       | else-not-told w ↦
           decodes-broken bytes out c.args.piece.now _ old new c.in-Ok.fed.items.items
-          (search rules) (λ items. c.in-Ok.ensures.stream bytes items) (search rules) (search rules)
+          (search rules) (λ items. c.in-Ok.ensures.stream bytes items) (search rules)
     ])
