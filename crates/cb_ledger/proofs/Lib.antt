@@ -1,0 +1,7 @@
+pub mod Changes
+pub mod Lengths
+pub mod Outpoints
+pub mod Spending
+pub mod Sums
+pub mod Touching
+pub mod Txs

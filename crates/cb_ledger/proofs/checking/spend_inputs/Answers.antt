@@ -1,0 +1,30 @@
+use Rattle.std.proofs.Common.{◌≡◌, ◌∙◌, sym, inr, arith, to_z, of_z, ◌+ℤ◌, SFits, rules}
+use Rattle.std.specs.Int.{w64, w128}
+use Rattle.std.proofs.lemmas.Int.{ints, to_z-of_z}
+use Rattle.cb_ledger.specs.Spend.{spend_inputs}
+use Rattle.cb_ledger.specs.Undo.{changed}
+use Rattle.cb_ledger.proofs.Spending.{inputs_more, inputs_refused, inputs_end}
+use Rattle.cb_ledger.proofs.checking.spend_inputs.Goals as goal
+
+pub returns-in-None : goal.returns-in-None
+returns-in-None c =
+    let u = c.args.ledger.now.unspent in
+    inr (inputs_refused (changed u c.loop-input.draft) c.args.inputs.now c.loop-input.input-index c.input-item.result (to_z w128 c.loop-input.sum-bits) (spend_inputs (changed u c.args.draft.now) c.args.inputs.now) c.loop-input-test.true c.input-item.is (sym c.in-None.ensures) c.loop-input.invariant.spent)
+
+pub loop-input-preserved : goal.loop-input-preserved
+loop-input-preserved c =
+    let u = c.args.ledger.now.unspent in
+    let sum = to_z w128 c.loop-input.sum-bits in
+    let value = c.in-Some.value in
+    let fits : SFits w64 value = search rules in
+    let added : to_z w128 (of_z w128 (sum +ℤ to_z w128 (of_z w128 c.from-sum.result))) ≡ sum +ℤ value = grind (arith, ints, to_z-of_z, to_z-of_z w64 value fits) in
+    rw added (record {
+      spent = inputs_more (changed u c.loop-input.draft) (changed u c.note.new.self) c.args.inputs.now c.loop-input.input-index c.input-item.result sum value (spend_inputs (changed u c.args.draft.now) c.args.inputs.now) c.loop-input-test.true c.input-item.is (sym c.value.ensures ∙ c.in-Some.is) (c.in_ok-note-in-Some.ensures.ok u) c.loop-input.invariant.spent;
+      least = omega (arith, ints);
+      most = omega (arith, ints);
+    })
+
+pub returns : goal.returns
+returns c =
+    let u = c.args.ledger.now.unspent in
+    inputs_end (changed u c.loop-input.draft) c.args.inputs.now c.loop-input.input-index (to_z w128 c.loop-input.sum-bits) (spend_inputs (changed u c.args.draft.now) c.args.inputs.now) c.loop-input-test.false c.loop-input.invariant.spent

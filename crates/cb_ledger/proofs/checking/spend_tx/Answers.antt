@@ -1,0 +1,45 @@
+use Rattle.std.proofs.Common.{◌∙◌, ap, inr, SFits, rules, arith, ◌<ℤ◌, ◌≤ℤ◌}
+use Rattle.std.specs.Int.{w128}
+use Rattle.std.proofs.lemmas.Int.{ints, to_z-of_z}
+use Rattle.std.proofs.lemmas.Result.{err_from_is_err_and}
+use Rattle.cb_tx.specs.Rules.{value_sum}
+use Rattle.cb_ledger.specs.Spend.{make_outputs, spend_tx}
+use Rattle.cb_ledger.specs.Undo.{changed}
+use Rattle.cb_ledger.proofs.Txs.{Tells-same, is_coinbase_is, tx_coinbase, tx_unspent, tx_overspent, tx_other}
+use Rattle.cb_ledger.proofs.checking.spend_tx.Goals as goal
+
+pub returns-then-is_coinbase : goal.returns-then-is_coinbase
+returns-then-is_coinbase c =
+    let u = changed c.args.ledger.now.unspent c.args.draft.now in
+    let tx = c.args.tx.now in
+    let outputs = c.as_slice-outputs.result.now in
+    Tells-same (make_outputs u c.args.txid 0 outputs) (spend_tx u tx) (λ _. changed c.args.ledger.now.unspent c.make_outputs.new.draft) c.make_outputs.result
+    (tx_coinbase u tx c.args.txid outputs (is_coinbase_is tx.inputs c.is_coinbase.result c.is_coinbase.ensures ∙ c.if-is_coinbase.true) c.requires.name c.as_slice-outputs.ensures) c.make_outputs.ensures
+
+pub returns-in_err-spent : goal.returns-in_err-spent
+returns-in_err-spent c =
+    let u = changed c.args.ledger.now.unspent c.args.draft.now in
+    let tx = c.args.tx.now in
+    let p = err_from_is_err_and c.from_residual.result c.from_residual.ensures.1 in
+    rw (p.1, p.2) (tx_unspent u tx c.as_slice.result.now c.in_err-spent.field-0.0 (is_coinbase_is tx.inputs c.is_coinbase.result c.is_coinbase.ensures ∙ c.if-is_coinbase.false) c.as_slice.ensures c.in_err-spent.ensures)
+
+pub returns-then-spent-sum_of : goal.returns-then-spent-sum_of
+returns-then-spent-sum_of c =
+    let u = changed c.args.ledger.now.unspent c.args.draft.now in
+    let tx = c.args.tx.now in
+    let fits : SFits w128 c.in_ok-spent.spent = search rules in
+    let fits_sum : SFits w128 c.sum_of.result = search rules in
+    let less : c.in_ok-spent.spent <ℤ c.sum_of.result = grind (arith, ints, to_z-of_z w128 c.in_ok-spent.spent fits, to_z-of_z w128 c.sum_of.result fits_sum) in
+    inr (tx_overspent u tx c.as_slice.result.now c.in_ok-spent.spent c.sum_of.result (changed c.args.ledger.now.unspent c.spend_inputs.new.draft) (is_coinbase_is tx.inputs c.is_coinbase.result c.is_coinbase.ensures ∙ c.if-is_coinbase.false) c.as_slice.ensures c.in_ok-spent.ensures (c.sum_of.ensures ∙ ap value_sum c.as_slice-outputs.ensures) less)
+
+pub returns : goal.returns
+returns c =
+    let u = changed c.args.ledger.now.unspent c.args.draft.now in
+    let next = changed c.args.ledger.now.unspent c.spend_inputs.new.draft in
+    let tx = c.args.tx.now in
+    let outputs = c.as_slice-outputs.result.now in
+    let fits : SFits w128 c.in_ok-spent.spent = search rules in
+    let fits_sum : SFits w128 c.sum_of.result = search rules in
+    let enough : c.sum_of.result ≤ℤ c.in_ok-spent.spent = grind (arith, ints, to_z-of_z w128 c.in_ok-spent.spent fits, to_z-of_z w128 c.sum_of.result fits_sum) in
+    Tells-same (make_outputs next c.args.txid 0 outputs) (spend_tx u tx) (λ _. changed c.args.ledger.now.unspent c.make_outputs-2.new.draft) c.make_outputs-2.result
+    (tx_other u tx c.args.txid c.as_slice.result.now outputs c.in_ok-spent.spent c.sum_of.result next (is_coinbase_is tx.inputs c.is_coinbase.result c.is_coinbase.ensures ∙ c.if-is_coinbase.false) c.requires.name c.as_slice.ensures c.as_slice-outputs.ensures c.in_ok-spent.ensures (c.sum_of.ensures ∙ ap value_sum c.as_slice-outputs.ensures) enough) c.make_outputs-2.ensures

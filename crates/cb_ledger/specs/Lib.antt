@@ -1,0 +1,4 @@
+pub mod Spend
+pub mod Touched
+pub mod Undo
+pub mod Unspent

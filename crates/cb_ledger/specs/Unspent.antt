@@ -1,0 +1,39 @@
+-- The unspent outputs: a finite map from outpoints to values.
+use Rattle.std.specs.Prelude.{ℕ, ℤ, pos, ◌+ℤ◌, List, [], ◌∷◌, refl}
+use Rattle.std.specs.Coded.{Coded, code_by, coded×, coded_list, coded_ℕ, coded_ℤ}
+use Rattle.std.specs.Cmp.Lexicographic.{slice_cmp}
+use Rattle.std.specs.FinMap as map
+use Rattle.std.specs.Ordering.{nat_cmp, ordering_then}
+use Rattle.std.specs.declared.cmp.Ordering.{Ordering}
+use Rattle.cb_tx.specs.declared.tx.OutPoint.{OutPoint}
+
+-- by the txid's bytes, and then by the output's place
+abbrev pub outpoint_cmp : OutPoint → OutPoint → Ordering
+outpoint_cmp a b = ordering_then (slice_cmp nat_cmp a.txid.0 b.txid.0) (nat_cmp a.index b.index)
+
+-- an outpoint as a pair of bytes and a number
+abbrev pub coded_outpoint : Coded OutPoint
+coded_outpoint =
+    code_by (List ℕ × ℕ) (coded× (coded_list coded_ℕ) coded_ℕ) (λ p. (p.txid.0, p.index)) (λ p. record { txid = record { 0 = p.0 }; index = p.1 }) (λ _. refl)
+
+-- the value of each unspent output
+abbrev pub Unspent : Type 0
+Unspent = map.FinMap outpoint_cmp ℤ
+
+-- the values, added up
+abbrev pub sum_of : List (OutPoint × ℤ) → ℤ
+sum_of [] = pos 0
+sum_of (e ∷ es) = e.1 +ℤ sum_of es
+
+-- all values together
+abbrev pub total : Unspent → ℤ
+total u = sum_of (map.entries u)
+
+-- What contracts see of a ledger: the unspent outputs, and for how many more there is room.
+pub record Held : Type 0 where
+  pub unspent : Unspent
+  pub room : ℕ
+
+abbrev pub coded_held : Coded Held
+coded_held =
+    code_by (Unspent × ℕ) (coded× (map.code coded_outpoint coded_ℤ) coded_ℕ) (λ h. (h.unspent, h.room)) (λ p. record { unspent = p.0; room = p.1 }) (λ _. refl)

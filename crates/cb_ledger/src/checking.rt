@@ -1,0 +1,97 @@
+ghost use Rattle.std.specs.Prelude.{◌≡◌, ◌<◌, ◌^◌, length, All};
+ghost use Rattle.cb_base.specs.DoubleHash.{double_hash};
+ghost use Rattle.cb_tx.specs.Rules.{value_sum};
+ghost use Rattle.cb_tx.specs.Text.{tx_text};
+ghost use Rattle.cb_block.specs.Blocks.{texts};
+ghost use Rattle.cb_block.specs.Soundness.{names};
+ghost use Rattle.cb_ledger.specs.Spend.{make_outputs as outputs_made, spend, spend_inputs as inputs_spent, spend_tx as tx_spent, Tells};
+ghost use Rattle.cb_ledger.specs.Undo.{changed};
+
+use crate::draft::Draft;
+use crate::ledger::Ledger;
+use cb_base::{Fault, Hash256};
+use cb_tx::{OutPoint, Tx, TxIn, TxOut};
+
+// The values of the outputs, added up.
+fn sum_of(outputs: &[TxOut]) -> i128
+    ensures { result ≡ value_sum outputs.now }
+{
+    let mut sum = 0i128;
+    for output in outputs {
+        sum += i128::from(output.value);
+    }
+    sum
+}
+
+// Spends the inputs in order, and adds up what they are worth.
+fn spend_inputs(ledger: &Ledger, draft: &mut Draft, inputs: &[TxIn]) -> Result<i128, Fault>
+    ensures { Tells (inputs_spent (changed ledger.now.unspent draft.old) inputs.now) (λ sum. (sum, changed ledger.now.unspent draft.new)) result }
+{
+    let mut sum = 0i128;
+    for input in inputs {
+        match draft.value(ledger, &input.prev) {
+            Some(value) => {
+                draft.note(input.prev, None)?;
+                sum += i128::from(value);
+            }
+            None => return Err(Fault::NoInput),
+        }
+    }
+    Ok(sum)
+}
+
+// Makes the outputs in order.
+fn make_outputs(
+    ledger: &Ledger,
+    draft: &mut Draft,
+    txid: Hash256,
+    outputs: &[TxOut],
+) -> Result<(), Fault>
+    requires { length outputs.now < 2 ^ 32 }
+    ensures { Tells (outputs_made (changed ledger.now.unspent draft.old) txid 0 outputs.now) (λ _. changed ledger.now.unspent draft.new) result }
+{
+    let mut index = 0u32;
+    for output in outputs {
+        let point = OutPoint { txid, index };
+        if draft.value(ledger, &point).is_some() {
+            return Err(Fault::Remade);
+        }
+        draft.note(point, Some(output.value))?;
+        index += 1;
+    }
+    Ok(())
+}
+
+// Spends a transaction's inputs and makes its outputs.
+fn spend_tx(ledger: &Ledger, draft: &mut Draft, txid: Hash256, tx: &Tx) -> Result<(), Fault>
+    requires name { txid ≡ double_hash (tx_text tx.now) }
+    requires few { length tx.now.outputs < 2 ^ 32 }
+    ensures { Tells (tx_spent (changed ledger.now.unspent draft.old) tx.now) (λ _. changed ledger.now.unspent draft.new) result }
+{
+    let outputs = tx.outputs.as_slice();
+    if tx.is_coinbase() {
+        return make_outputs(ledger, draft, txid, outputs);
+    }
+    let spent = spend_inputs(ledger, draft, tx.inputs.as_slice())?;
+    if spent < sum_of(outputs) {
+        return Err(Fault::Overspent);
+    }
+    make_outputs(ledger, draft, txid, outputs)
+}
+
+// The transactions in order, over the ledger: what they change, or the first fault.
+pub(crate) fn spend_txs(
+    ledger: &Ledger,
+    draft: &mut Draft,
+    txs: &[Tx],
+    txids: &[Hash256],
+) -> Result<(), Fault>
+    requires named { txids.now ≡ names (texts txs.now) }
+    requires few { All (λ tx. length tx.outputs < 2 ^ 32) txs.now }
+    ensures { Tells (spend (changed ledger.now.unspent draft.old) txs.now) (λ _. changed ledger.now.unspent draft.new) result }
+{
+    for place in 0..txs.len() {
+        spend_tx(ledger, draft, txids[place], &txs[place])?;
+    }
+    Ok(())
+}
