@@ -3,7 +3,7 @@
 
 Usage: bench/bench.py [PROGRAM [SOUND]]. It needs the program (crates/cbrelay/out/cbrelay, as `rt run` leaves it), the
 program that tells whether a block is sound (crates/bench_sound/out/bench_sound, likewise), openssl and python3, and takes
-about two minutes.
+about a minute.
 """
 
 import hashlib
