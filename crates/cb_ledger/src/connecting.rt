@@ -77,6 +77,7 @@ impl Ledger {
         ensures err { OnErr result (self.new.unspent ≡ self.old.unspent) }
         ensures undo { IfOk result (λ undo. LeadsBack undo block.now.txs self.old.unspent self.new.unspent) }
         ensures kept { IfOk result (λ undo. places + length undo ≤ self.new.room) }
+        ensures fits { IfOk result (λ undo. places + length undo < 2 ^ 64) }
         ensures room { OnErr result (self.old.room ≤ self.new.room) }
     {
         let mut undo = changes_of(self, block)?;

@@ -1,0 +1,17 @@
+pub mod Aside
+pub mod Ends
+pub mod Exchanges
+pub mod Forks
+pub mod Heights
+pub mod Histories
+pub mod Laws
+pub mod Locators
+pub mod Marks
+pub mod Nodes
+pub mod Partings
+pub mod Planning
+pub mod Rising
+pub mod Steps
+pub mod Tips
+pub mod Turning
+pub mod Ways

@@ -1,0 +1,58 @@
+-- What a block will change, by the places of the nodes.
+use Rattle.std.proofs.Common.{◌≡◌, ℕ, suc, ◌+◌, ◌-◌, ◌<◌, List, [], ◌∷◌, ◌++◌, length, map, take, drop, Some, sym, ap, subst, ◌∙◌, arith, All}
+use Rattle.std.specs.Prelude.{reverse}
+use Rattle.std.specs.List.{AllByRecursion}
+use Rattle.std.proofs.lemmas.List.{drop-map, take_rest}
+use Rattle.std.proofs.lemmas.List.Elements.{All-from_recursion}
+use Rattle.std.proofs.lemmas.Option.{slice_get_within}
+use Rattle.cb_base.specs.declared.hash.Hash256.{Hash256}
+use Rattle.cb_block.specs.declared.header.Header.{Header}
+use Rattle.cb_chain.specs.declared.node.Node.{Node}
+use Rattle.cb_chain.specs.Entries.{block_hash}
+use Rattle.cb_chain.specs.Best.{active, best}
+use Rattle.cb_chain.specs.Keeping.{IsTree, Step, active_places, climb, place_of, tree_of}
+use Rattle.cb_chain.specs.Plans.{change_at, hash_at}
+use Rattle.cb_chain.proofs.Nodes.{found}
+use Rattle.cb_chain.proofs.Steps.{Stands, all_drop, steps_stand}
+use Rattle.cb_chain.proofs.Rising.{Answer, all_hashes, changes_same, map_map}
+use Rattle.cb_chain.proofs.Ways.{active_way}
+
+pub place_low : (nodes : List Node) (hash : Hash256) (place : ℕ) → IsTree nodes → place_of (tree_of nodes) hash ≡ Some place → place < length nodes
+place_low nodes hash place is e =
+    let f = found nodes hash place is e in
+    slice_get_within nodes place f.node f.at
+
+all_places : (nodes : List Node) (steps : List Step) → AllByRecursion (Stands nodes) steps → AllByRecursion (λ (p : ℕ). p < length nodes) (map (λ (s : Step). s.place) steps)
+all_places nodes [] h = tt
+all_places nodes (step ∷ steps) h = (slice_get_within nodes step.place h.0.node h.0.at, all_places nodes steps h.1)
+
+-- the places of a way's steps are those of nodes
+pub places_low : (nodes : List Node) (hash : Hash256) (fork : ℕ) (places : List ℕ) → IsTree nodes → places ≡ map (λ (s : Step). s.place) (drop fork (climb (tree_of nodes) hash)) → All (λ p. p < length nodes) places
+places_low nodes hash fork places is e =
+    let steps = drop fork (climb (tree_of nodes) hash) in
+    let stands = all_drop (Stands nodes) fork (climb (tree_of nodes) hash) (steps_stand nodes hash is) in
+    All-from_recursion (λ (p : ℕ). p < length nodes) places (subst (AllByRecursion (λ (p : ℕ). p < length nodes)) (sym e) (all_places nodes steps stands))
+
+-- what stands above a height on the active chain
+pub off_is : (nodes : List Node) (path : List ℕ) (fork : ℕ) → path ≡ active_places (tree_of nodes)
+    → take (length path - (fork + 1)) (drop (fork + 1) path) ≡ map (λ (s : Step). s.place) (drop fork (climb (tree_of nodes) (best (tree_of nodes))))
+off_is nodes path fork e =
+    let place : Step → ℕ = λ s. s.place in
+    let steps = climb (tree_of nodes) (best (tree_of nodes)) in
+    let one : fork + 1 ≡ suc fork = omega arith in
+    take_rest path (fork + 1) ∙ ap (drop (fork + 1)) e ∙ ap (λ (n : ℕ). drop n (0 ∷ map place steps)) one ∙ drop-map place fork steps
+
+pub planned : (nodes : List Node) (header : Header) (fork : ℕ) (off branch : List ℕ) (hash : Hash256) (change : Answer) → IsTree nodes
+    → off ≡ map (λ (s : Step). s.place) (drop fork (climb (tree_of nodes) (best (tree_of nodes)))) → branch ≡ map (λ (s : Step). s.place) (drop fork (climb (tree_of nodes) header.prev)) → hash ≡ block_hash header
+    → change.off ≡ reverse (map (hash_at nodes) off) → change.on ≡ map (hash_at nodes) branch ++ hash ∷ [] → change ≡ change_at (tree_of nodes) header fork
+planned nodes header fork off branch hash change is off_places branch_places hash_is off_hashes on_hashes =
+    let tree = tree_of nodes in
+    let name : Step → Header = λ s. s.entry.header in
+    let old = climb tree (best tree) in
+    let new = climb tree header.prev in
+    let left : map (hash_at nodes) off ≡ map block_hash (drop (suc fork) (active tree)) =
+    ap (map (hash_at nodes)) off_places ∙ all_hashes nodes (drop fork old) (all_drop (Stands nodes) fork old (steps_stand nodes (best tree) is)) ∙ sym (map_map block_hash name (drop fork old))
+    ∙ ap (map block_hash) (sym (drop-map name fork old)) ∙ ap (λ (hs : List Header). map block_hash (drop (suc fork) hs)) (sym (active_way nodes is)) in
+    let come : map (hash_at nodes) branch ≡ map (λ (s : Step). block_hash s.entry.header) (drop fork new) =
+    ap (map (hash_at nodes)) branch_places ∙ all_hashes nodes (drop fork new) (all_drop (Stands nodes) fork new (steps_stand nodes header.prev is)) in
+    changes_same (off_hashes ∙ ap reverse left) (on_hashes ∙ ap (λ (hs : List Hash256). hs ++ hash ∷ []) come ∙ ap (λ (h : Hash256). map (λ (s : Step). block_hash s.entry.header) (drop fork new) ++ h ∷ []) hash_is)

@@ -1,0 +1,175 @@
+-- The tip among the active blocks, and what is unspent after it.
+use Rattle.std.proofs.Common.{◌≡◌, ℕ, suc, ◌+◌, ◌-◌, ◌<◌, Bool, true, false, cond, List, [], ◌∷◌, ◌++◌, length, map, get_or, Some, None, Option, refl, sym, ap, subst, ◌∙◌, arith, inl, inr, length-append}
+use Rattle.std.specs.Prelude.{reverse, is_ok, slice_get, unwrap_or, ◌&&◌, Ok}
+use Rattle.std.specs.FinMap as finite
+use Rattle.std.proofs.lemmas.Bool.{cases_Bool}
+use Rattle.std.proofs.lemmas.List.{get_or_push, map-append}
+use Rattle.std.specs.List.{All}
+use Rattle.std.proofs.lemmas.List.Elements.{All-nil, All-cons, All-append, All-map}
+use Rattle.cb_base.specs.declared.hash.Hash256.{Hash256}
+use Rattle.cb_ledger.specs.declared.undo.Change.{Change}
+use Rattle.cb_ledger.specs.Unspent.{Unspent}
+use Rattle.cb_chain.specs.Entries.{Entry, Tree, block_hash, genesis_hash, height_of, same}
+use Rattle.cb_chain.specs.Best.{best, is_higher, spend_block, stopped_at, then_spend, unspent_after}
+use Rattle.cb_chain.specs.Keeping.{Connects, IsChain, IsTree, Step, Turn, active_places, climb, place_of, tree_of, turn_of, way}
+use Rattle.cb_chain.specs.declared.node.Node.{Node}
+use Rattle.cb_chain.proofs.Nodes.{same-refl, chosen, found, length_tree, reverse_cons}
+
+-- ---- a new chain
+
+pub chain_first : (tree : Tree) (path : List ℕ) (records : List (List Change)) (u : Unspent) → tree ≡ [] → path ≡ 0 ∷ [] → records ≡ [] → u ≡ finite.empty → IsChain tree path records u
+unfolding way
+chain_first tree path records u none first no_records empty =
+    rw (none, first, no_records, empty) (record { places = refl; ledger = refl })
+
+-- ---- the tip is known
+
+some_either : (b : Bool) (x : ℕ) (o : Option ℕ) (p : ℕ) → o ≡ Some p → (q : ℕ) × (cond b (Some x) o ≡ Some q)
+some_either true x o p e = (x, refl)
+some_either false x o p e = (p, e)
+
+known_step : (entry : Entry) (older : Tree) (b : Bool) → (p : ℕ) × (place_of older (best older) ≡ Some p) → (q : ℕ) × (place_of (entry ∷ older) (cond b (block_hash entry.header) (best older)) ≡ Some q)
+known_step entry older true below = (suc (length older), rw (same-refl (block_hash entry.header)) refl)
+known_step entry older false below = some_either (same (best older) (block_hash entry.header)) (suc (length older)) (place_of older (best older)) below.0 below.1
+
+pub known_best : (tree : Tree) → (p : ℕ) × (place_of tree (best tree) ≡ Some p)
+unfolding best
+known_best [] = (0, rw (same-refl genesis_hash) refl)
+known_best (entry ∷ older) =
+    known_step entry older (is_ok (unspent_after (entry ∷ older) (block_hash entry.header)) && is_higher (entry ∷ older) (block_hash entry.header) (best older)) (known_best older)
+
+-- ---- the last of the active places is the tip's
+
+-- the places of a way from the first block's on end with its own
+places_end : (tree : Tree) (hash : Hash256) (p : ℕ) → place_of tree hash ≡ Some p → (front : List ℕ) × (0 ∷ map (λ step. step.place) (climb tree hash) ≡ front ++ p ∷ [])
+unfolding way
+places_end [] hash p e =
+    elim (chosen (same hash genesis_hash) 0 None p e) [
+      | inl w ↦ ([], ap (λ (q : ℕ). q ∷ []) w.1)
+      | inr w ↦ absurd (let none : None ≡ Some p = w.1 in cc)
+    ]
+places_end (entry ∷ older) hash p e =
+    elim (chosen (same hash (block_hash entry.header)) (suc (length older)) (place_of older hash) p e) [
+      | inl w ↦
+          let step : Step = record { place = suc (length older); entry = entry } in
+          let below = climb older entry.header.prev in
+          let whole : climb (entry ∷ older) hash ≡ below ++ step ∷ [] = rw w.0 (reverse_cons (way older entry.header.prev) step) in
+          (0 ∷ map (λ step. step.place) below, ap (λ (steps : List Step). 0 ∷ map (λ step. step.place) steps) whole ∙ ap (◌∷◌ 0) (map-append (λ step. step.place) below (step ∷ [])) ∙ ap (λ (q : ℕ). 0 ∷ map (λ step. step.place) below ++ q ∷ []) w.1)
+      | inr w ↦ let r = places_end older hash p w.1 in (r.0, rw w.0 r.1)
+    ]
+
+pub record IsTip (tree : Tree) (path : List ℕ) : Type 0 where
+  pub place : ℕ
+  pub known : place_of tree (best tree) ≡ Some place
+  pub some : 0 < length path
+  pub last : (d : ℕ) → get_or path (length path - 1) d ≡ place
+
+pub tip_last : (tree : Tree) (path : List ℕ) → path ≡ active_places tree → IsTip tree path
+tip_last tree path is =
+    let known = known_best tree in
+    let down = places_end tree (best tree) known.0 known.1 in
+    let ends : path ≡ down.0 ++ known.0 ∷ [] = is ∙ down.1 in
+    let long : length path ≡ length down.0 + 1 = ap length ends ∙ length-append down.0 (known.0 ∷ []) in
+    record {
+      place = known.0;
+      known = known.1;
+      some = omega (arith, long);
+      last = λ d. ap (λ (xs : List ℕ). get_or xs (length path - 1) d) ends ∙ get_or_push down.0 known.0 d (length path - 1) (omega (arith, long));
+    }
+
+-- ---- what is unspent after a way
+
+-- blocks in turn but for the last, and the last
+record Parted (before : Unspent) (turns : List Turn) (last : Turn) (after : Unspent) : Type 0 where
+  between : Unspent
+  records : List (List Change)
+  front : Connects before turns records between
+  spends : spend_block last.block between ≡ Ok after
+
+parted : (before : Unspent) (turns : List Turn) (last : Turn) (records : List (List Change)) (after : Unspent) → Connects before (turns ++ last ∷ []) records after → Parted before turns last after
+parted before [] last [] after h = absurd h
+parted before [] last (changes ∷ []) after h = record { between = before; records = []; front = refl; spends = h.1 ∙ ap Ok h.3 }
+parted before [] last (changes ∷ more ∷ records) after h = absurd h.3
+parted before (turn ∷ turns) last [] after h = absurd h
+parted before (turn ∷ turns) last (changes ∷ records) after h =
+    let rest = parted h.0 turns last records after h.3 in
+    record { between = rest.between; records = changes ∷ rest.records; front = (h.0, h.1, h.2, rest.front); spends = rest.spends }
+
+no_turns : (before : Unspent) (records : List (List Change)) (after : Unspent) → Connects before [] records after → before ≡ after
+no_turns before [] after h = h
+no_turns before (changes ∷ records) after h = absurd h
+
+-- what connects along a way is what is unspent after it
+pub connected : (tree : Tree) (hash : Hash256) (records : List (List Change)) (u : Unspent) → Connects finite.empty (map turn_of (climb tree hash)) records u → unspent_after tree hash ≡ Ok u
+unfolding way unspent_after
+connected [] hash records u h = ap Ok (no_turns finite.empty records u h)
+connected (entry ∷ older) hash records u h =
+    elim (cases_Bool (same hash (block_hash entry.header))) [
+      | inl is ↦
+          let step : Step = record { place = suc (length older); entry = entry } in
+          let below = climb older entry.header.prev in
+          let whole : climb (entry ∷ older) hash ≡ below ++ step ∷ [] = rw is (reverse_cons (way older entry.header.prev) step) in
+          let turns : map turn_of (climb (entry ∷ older) hash) ≡ map turn_of below ++ turn_of step ∷ [] = ap (map turn_of) whole ∙ map-append turn_of below (step ∷ []) in
+          let parts = parted finite.empty (map turn_of below) (turn_of step) records u (subst (λ (ts : List Turn). Connects finite.empty ts records u) turns h) in
+          let front = connected older entry.header.prev parts.records parts.between parts.front in
+          rw is (ap (then_spend entry) front ∙ ap (stopped_at (block_hash entry.header)) parts.spends)
+      | inr isnt ↦
+          let same_way : climb (entry ∷ older) hash ≡ climb older hash = rw isnt refl in
+          rw isnt (connected older hash records u (subst (λ (steps : List Step). Connects finite.empty (map turn_of steps) records u) same_way h))
+    ]
+
+-- ---- the places of a way are places among the nodes
+
+abbrev Low : ℕ → Step → Type 0
+Low n step = step.place < n
+
+way_low : (tree : Tree) (hash : Hash256) (n : ℕ) → length tree < n → All (Low n) (way tree hash)
+unfolding way
+way_low [] hash n lt = All-nil (Low n)
+way_low (entry ∷ older) hash n lt =
+    let fewer : length older < n = omega (arith, lt) in
+    elim (cases_Bool (same hash (block_hash entry.header))) [
+      | inl is ↦ rw is (All-cons (Low n) (record { place = suc (length older); entry = entry }) (way older entry.header.prev) lt (way_low older entry.header.prev n fewer))
+      | inr isnt ↦ rw isnt (way_low older hash n fewer)
+    ]
+
+low_back : (n : ℕ) (steps : List Step) → All (Low n) steps → All (Low n) (reverse steps)
+low_back n [] all = all
+low_back n (step ∷ steps) all =
+    let here : step.place < n = all 0 step (omega arith) in
+    let others : All (Low n) steps = λ k d lt. all (suc k) d (omega (arith, lt)) in
+    rw (reverse_cons steps step) (All-append (Low n) (reverse steps) (step ∷ []) (low_back n steps others) (All-cons (Low n) step [] here (All-nil (Low n))))
+
+-- all active places are
+pub active_low : (nodes : List Node) → IsTree nodes → All (λ p. p < length nodes) (active_places (tree_of nodes))
+active_low nodes is =
+    let n = length nodes in
+    let tree = tree_of nodes in
+    let long : length nodes ≡ suc (length tree) = length_tree nodes is in
+    let steps = low_back n (way tree (best tree)) (way_low tree (best tree) n (omega (arith, long))) in
+    All-cons (λ p. p < n) 0 (map (λ step. step.place) (climb tree (best tree))) (omega (arith, long)) (All-map (λ p. p < n) (λ (step : Step). step.place) (climb tree (best tree)) steps)
+
+pub low_at : (nodes : List Node) (path : List ℕ) (i p : ℕ) → path ≡ active_places (tree_of nodes) → i < length path → p ≡ get_or path i p → IsTree nodes → p < length nodes
+low_at nodes path i p places lt at is =
+    let low : All (λ q. q < length nodes) path = subst (All (λ q. q < length nodes)) (sym places) (active_low nodes is) in
+    let there : get_or path i p < length nodes = low i p lt in
+    omega (arith, there, at)
+
+-- ---- the tip's node
+
+pub record IsTipNode (tree : Tree) (node : Node) : Type 0 where
+  pub hash : node.hash ≡ best tree
+  pub height : height_of tree (best tree) ≡ Some node.height
+
+pub tip_node : (nodes : List Node) (path : List ℕ) (i p : ℕ) (node : Node) → path ≡ active_places (tree_of nodes) → i ≡ length path - 1 → p ≡ get_or path i p → slice_get nodes p ≡ Some node → IsTree nodes
+    → IsTipNode (tree_of nodes) node
+tip_node nodes path i p node places end at there is =
+    let tree = tree_of nodes in
+    let tip = tip_last tree path places in
+    let last : p ≡ tip.place = at ∙ ap (λ (j : ℕ). get_or path j p) end ∙ tip.last p in
+    let one = found nodes (best tree) tip.place is tip.known in
+    let same_node : one.node ≡ node = ap (λ (o : Option Node). unwrap_or o node) (sym one.at ∙ ap (slice_get nodes) (sym last) ∙ there) in
+    record {
+      hash = ap (λ (n : Node). n.hash) (sym same_node) ∙ one.name;
+      height = one.height ∙ ap (λ (n : Node). Some n.height) same_node;
+    }

@@ -1,0 +1,45 @@
+use Rattle.std.proofs.Common.{◌≡◌, ◌∷◌, ◌∙◌, Err, None, Some, ap, inr, refl, sym, subst, false}
+use Rattle.std.proofs.lemmas.Result.{err_from_is_err_and}
+use Rattle.cb_chain.specs.declared.node.Node.{Node}
+use Rattle.cb_chain.specs.Calls.AcceptsHeader.{kept, refused, without_work}
+use Rattle.cb_chain.specs.Calls.{AcceptsHeader, header_entry}
+use Rattle.cb_chain.specs.Entries.{Entry}
+use Rattle.cb_chain.specs.History.{IsHistoric}
+use Rattle.cb_chain.specs.Keeping.{IsNode, entry_from, tree_of}
+use Rattle.cb_chain.proofs.Aside.{Grows, bare_best, bare_node, bare_on, grows_chain, grows_tree, header_free}
+use Rattle.cb_chain.proofs.Histories.{historic_header, history_header}
+use Rattle.cb_chain.proofs.chain.Chain.accept_header.Goals as goal
+
+pub returns-in_err-spot-clause-err : goal.returns-in_err-spot-clause-err
+returns-in_err-spot-clause-err c =
+    let p = err_from_is_err_and c.from_residual-in_err-spot.result c.from_residual-in_err-spot.ensures.1 in rw (p.1, p.2) (inr (refused c.in_ok-check_header.ensures c.in_err-spot.field-0.0 c.in_err-spot.ensures.err refl refl))
+
+pub invariant_of-self-2 : goal.invariant_of-self-2
+invariant_of-self-2 c =
+    let one : IsNode c.node.result c.args.self.now =
+    subst (λ (n : Node). IsNode n c.args.self.now) (sym c.node.ensures) (bare_node c.in_ok-spot.spot c.args.header c.args.self.now false c.in_ok-spot.ensures.ok (header_free c.args.self.now c.args.header c.in_ok-spot.ensures.none))
+    in
+    let grows : Grows c.self.inside.tree.nodes c.reserve.new.self.nodes c.args.self.now c.node.result =
+    record { is = c.in_ok-reserve.ensures.tree; same = c.in_ok-reserve.ensures.same; view = c.self.view_is; one = one }
+    in
+    let entry : entry_from c.node.result ≡ header_entry c.args.header = ap entry_from c.node.ensures ∙ bare_on c.in_ok-spot.spot c.args.header c.in_ok-spot.ensures.ok.header in
+    let grown : tree_of c.add.new.self.nodes ≡ header_entry c.args.header ∷ c.args.self.now =
+    grows_tree c.self.inside.tree.nodes c.reserve.new.self.nodes c.add.new.self.nodes c.args.self.now c.node.result grows c.add.ensures ∙ ap (λ (e : Entry). e ∷ c.args.self.now) entry
+    in
+    let told : AcceptsHeader c.args.self.now c.args.header None (tree_of c.add.new.self.nodes) = kept c.in_ok-check_header.ensures c.in_ok-spot.ensures.none refl grown in (
+      grows_chain c.self.inside.tree.nodes c.reserve.new.self.nodes c.add.new.self.nodes c.args.self.now c.node.result c.self.inside.active.items c.self.inside.undos.items c.self.inside.ledger.unspent
+          grows c.add.ensures (bare_best (entry_from c.node.result) c.args.self.now (ap (λ (n : Node). n.kept) c.node.ensures)) c.self.invariant.0,
+      historic_header c.args.self.now (tree_of c.add.new.self.nodes) c.args.header None (subst IsHistoric c.self.view_is c.self.invariant.1) told,
+    )
+
+pub returns-in_err-spot-clause-history : goal.returns-in_err-spot-clause-history
+returns-in_err-spot-clause-history c =
+    let p = err_from_is_err_and c.from_residual-in_err-spot.result c.from_residual-in_err-spot.ensures.1 in
+    history_header c.args.self.now c.args.header c.from_residual-in_err-spot.result c.in_err-spot.field-0.0 (p.1 ∙ ap Err p.2)
+    (refused c.in_ok-check_header.ensures c.in_err-spot.field-0.0 c.in_err-spot.ensures.err refl refl)
+
+pub returns-in_err-check_header-clause-history : goal.returns-in_err-check_header-clause-history
+returns-in_err-check_header-clause-history c =
+    let p = err_from_is_err_and c.from_residual.result c.from_residual.ensures.1 in
+    let w = c.in_err-check_header.ensures in
+    history_header c.args.self.now c.args.header c.from_residual.result c.in_err-check_header.field-0.0 (p.1 ∙ ap Err p.2) (without_work w.1 (ap Some w.0) refl)

@@ -1,0 +1,10 @@
+use Rattle.std.proofs.Common.{ap, sym, ◌∙◌}
+use Rattle.cb_chain.specs.Best.{best, unspent_after}
+use Rattle.cb_chain.specs.Entries.{Tree}
+use Rattle.cb_chain.proofs.Tips.{connected}
+use Rattle.cb_chain.proofs.chain.Chain.ledger.Goals as goal
+
+pub returns : goal.returns
+returns c =
+    let inside = c.self.inside in
+    ap (λ (tree : Tree). unspent_after tree (best tree)) (sym c.self.view_is) ∙ connected _ _ inside.undos.items inside.ledger.unspent c.self.invariant.0.ledger

@@ -1,0 +1,18 @@
+use Rattle.std.proofs.Common.{◌∙◌}
+use Rattle.cb_chain.proofs.Heights.{rest_within, follow_more, follow_all}
+use Rattle.cb_chain.proofs.following.headers_from.Goals as goal
+
+pub loop-place-init : goal.loop-place-init
+loop-place-init c = c.new-headers.ensures.items
+
+pub node-requires : goal.node-requires
+node-requires c = λ is. rest_within c.args.tree.now.nodes c.args.places.now c.args.height c.loop-place.place-index is c.requires.places c.loop-place-test.true
+
+pub loop-place-preserved : goal.loop-place-preserved
+loop-place-preserved c =
+    c.in_ok-push.ensures.items
+    ∙ follow_more c.args.tree.now.nodes c.args.places.now c.args.height c.loop-place.place-index c.node.result.now c.loop-place.headers.items c.requires.tree c.requires.places c.loop-place-test.true c.node.ensures.node c.loop-place.invariant
+
+pub returns-clause-exact : goal.returns-clause-exact
+returns-clause-exact c =
+    c.loop-place.invariant ∙ follow_all c.args.tree.now.nodes c.args.places.now c.args.height c.loop-place.place-index c.requires.tree c.requires.places c.loop-place-test.false

@@ -1,0 +1,14 @@
+use Rattle.std.proofs.Common.{◌≡◌, ◌≤◌, length, List, subst, sym, ◌∙◌}
+use Rattle.std.proofs.lemmas.List.{take_all}
+use Rattle.cb_chain.specs.declared.node.Node.{Node}
+use Rattle.cb_chain.specs.Keeping.{IsPlaced}
+use Rattle.cb_chain.proofs.Nodes.{entries_like}
+use Rattle.cb_chain.proofs.tree.Tree.copy.Goals as goal
+
+pub invariant_of-result : goal.invariant_of-result
+invariant_of-result c =
+    let old = c.self.inside.nodes.items in
+    let places = entries_like c.self.inside.places.entries c.in_ok-places.places.entries c.in_ok-places.ensures.cases in
+    let long : length old ≤ c.loop-node.node-index = subst (λ (ns : List Node). length ns ≤ c.loop-node.node-index) c.deref-node-items.ensures.value c.loop-node-test.false in
+    let nodes : c.loop-node.nodes.items ≡ old = c.loop-node.invariant ∙ take_all c.loop-node.node-index old long in
+    subst (λ es. IsPlaced c.loop-node.nodes.items es) (sym places) (subst (λ (ns : List Node). IsPlaced ns c.self.inside.places.entries) (sym nodes) c.self.invariant)

@@ -1,0 +1,52 @@
+-- What holds of each chain that a node keeps (Bitcoin's consensus): how its active headers are linked, what their blocks
+-- leave unspent, and which of its blocks stands highest.
+use Rattle.std.specs.Prelude.{◌≡◌, ◌≤◌, ◌⊎◌, ℕ, true, List, [], ◌∷◌, ◌++◌, Option, Some, Ok, drop, map, option_and_then, unwrap_or}
+use Rattle.std.specs.FinMap as finite
+use Rattle.cb_base.specs.declared.hash.Hash256.{Hash256}
+use Rattle.cb_block.specs.declared.header.Header.{Header}
+use Rattle.cb_block.specs.declared.block.Block.{Block}
+use Rattle.cb_block.specs.Genesis.{genesis_header}
+use Rattle.cb_ledger.specs.Spend.{spend}
+use Rattle.cb_ledger.specs.Unspent.{Unspent}
+use Rattle.cb_tx.specs.declared.tx.Tx.{Tx}
+use Rattle.cb_chain.specs.Entries.{Entry, Tree, block_hash, entry_of, height_of, is_kept}
+use Rattle.cb_chain.specs.Best.{active, best}
+
+-- Headers from above one hash up to another: each names the one before it, and the last one has the other hash.
+abbrev pub AreLinked : Hash256 → List Header → Hash256 → Type 0
+AreLinked below [] top = below ≡ top
+AreLinked below (header ∷ headers) top = (header.prev ≡ below) × AreLinked (block_hash header) headers top
+
+-- headers from the network's first one up to a hash
+abbrev pub ReachesUp : List Header → Hash256 → Type 0
+ReachesUp [] top = ⊥
+ReachesUp (first ∷ others) top = (first ≡ genesis_header) × AreLinked (block_hash first) others top
+
+-- the block that is kept under a hash
+abbrev pub kept_under : Tree → Hash256 → Option Block
+kept_under tree hash = option_and_then (λ entry. entry.block) (entry_of tree hash)
+
+-- the blocks that are kept under the hashes of headers, in order
+abbrev pub AreBlocksOf : Tree → List Header → List Block → Type 0
+AreBlocksOf tree headers blocks = map (λ header. kept_under tree (block_hash header)) headers ≡ map Some blocks
+
+-- all their transactions, in order
+abbrev pub txs_of : List Block → List Tx
+txs_of [] = []
+txs_of (block ∷ blocks) = block.txs ++ txs_of blocks
+
+-- The blocks of the active chain above the first are kept, and what is unspent is what their transactions leave: spent in
+-- order, from nothing, without a fault.
+abbrev pub IsLeftBy : Tree → Unspent → Type 0
+IsLeftBy tree unspent = (blocks : List Block) × AreBlocksOf tree (drop 1 (active tree)) blocks × (spend finite.empty (txs_of blocks) ≡ Ok unspent)
+
+-- how far above the first block a known header stands
+abbrev pub height_in : Tree → Hash256 → ℕ
+height_in tree hash = unwrap_or (height_of tree hash) 0
+
+-- It stands no higher than the tip. At the tip's height it is the tip, or the tip was kept before it.
+abbrev pub ComesAfter : Tree → Entry → Tree → Type 0
+ComesAfter tree entry older =
+    let hash = block_hash entry.header in
+    (height_in (entry ∷ older) hash ≤ height_in tree (best tree))
+    × (height_in (entry ∷ older) hash ≡ height_in tree (best tree) → (best tree ≡ hash) ⊎ (is_kept older (best tree) ≡ true))

@@ -1,0 +1,9 @@
+pub mod Best
+pub mod Calls
+pub mod Entries
+pub mod Following
+pub mod History
+pub mod Keeping
+pub mod Laws
+pub mod Locator
+pub mod Plans

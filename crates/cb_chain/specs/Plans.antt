@@ -1,0 +1,20 @@
+-- What a block changes of the active chain that stands on a branch of it.
+use Rattle.std.specs.Prelude.{ℕ, suc, List, [], ◌∷◌, ◌++◌, map, drop, reverse, unwrap_or, option_map, slice_get}
+use Rattle.cb_base.specs.declared.hash.Hash256.{Hash256}
+use Rattle.cb_block.specs.declared.header.Header.{Header}
+use Rattle.cb_chain.specs.declared.change.Change.{Change}
+use Rattle.cb_chain.specs.declared.node.Node.{Node}
+use Rattle.cb_chain.specs.Entries.{Tree, block_hash, genesis_hash}
+use Rattle.cb_chain.specs.Best.{active}
+use Rattle.cb_chain.specs.Keeping.{climb}
+
+-- the hash of the node at a place
+abbrev pub hash_at : List Node → ℕ → Hash256
+hash_at nodes place = unwrap_or (option_map (λ node. node.hash) (slice_get nodes place)) genesis_hash
+
+-- What changes where the chain leaves all above a height for the branch of a header's parent, and the header.
+abbrev pub change_at : Tree → Header → ℕ → Change
+change_at tree header fork = record {
+  off = reverse (map block_hash (drop (suc fork) (active tree)));
+  on = map (λ step. block_hash step.entry.header) (drop fork (climb tree header.prev)) ++ block_hash header ∷ [];
+}

@@ -1,0 +1,180 @@
+ghost use Rattle.std.specs.Prelude.{◌≡◌, ◌⊎◌, ◌∷◌, List, true, None, Some, Ok, Err, IfErr, IfOk, MatchResult, OnOk};
+ghost use Rattle.cb_base.specs.declared.fault.Fault.TheVariants.{Memory};
+ghost use Rattle.cb_chain.specs.Best.{best};
+ghost use Rattle.cb_chain.specs.Calls.{AcceptsBlock, AcceptsHeader, block_fault, header_fault, joined};
+ghost use Rattle.cb_chain.specs.Entries.{block_hash, is_kept};
+ghost use Rattle.cb_chain.specs.History.{BlockCall, Call, HeaderCall, IsHistoric, IsHistory};
+ghost use Rattle.cb_chain.specs.Keeping.{IsSpot, node_on, parent_fault};
+
+use crate::chain::Chain;
+use crate::change::{Change, Hashes};
+use crate::node::{Kept, Node};
+use cb_base::{Fault, Hash256};
+use cb_block::{Header, SoundBlock, check_block, check_header};
+
+/// The greatest height.
+pub const MOST_HEIGHT: u32 = 1_000_000_000;
+
+// Where a header will stand in the tree.
+#[derive(Clone, Copy, Debug)]
+pub(crate) struct Spot {
+    pub(crate) header: Header,
+    pub(crate) hash: Hash256,
+    pub(crate) parent: usize,
+    pub(crate) height: u32,
+}
+
+impl Spot {
+    // The node of a header that stands here.
+    pub(crate) fn node(self, kept: Option<Kept>, marked: bool) -> Node
+        ensures { result ≡ node_on self kept marked }
+    {
+        Node {
+            header: self.header,
+            hash: self.hash,
+            height: self.height,
+            parent: self.parent,
+            kept,
+            marked,
+        }
+    }
+}
+
+impl Chain {
+    // Where a header stands on its parent, or the first reason against that. Its parent's block may be asked for.
+    fn spot_on_parent(&self, header: Header, hash: Hash256, block: bool) -> Result<Spot, Fault>
+        requires { hash ≡ block_hash header }
+        ensures ok { IfOk result (λ spot. IsSpot spot header self.now) }
+        ensures none { OnOk result (parent_fault self.now header.prev block ≡ None) }
+        ensures err { IfErr result (λ fault. parent_fault self.now header.prev block ≡ Some fault) }
+    {
+        let Some(parent) = self.tree.place(&header.prev) else {
+            return Err(Fault::NoParent);
+        };
+        let node = self.tree.node(parent);
+        if node.marked {
+            return Err(Fault::BadParent);
+        }
+        if block && node.kept.is_none() {
+            return Err(Fault::NoParent);
+        }
+        if node.height >= MOST_HEIGHT {
+            return Err(Fault::TooMany);
+        }
+        Ok(Spot {
+            header,
+            hash,
+            parent,
+            height: node.height + 1,
+        })
+    }
+
+    // Where a header will stand, or the first reason against it.
+    fn header_spot(&self, header: Header) -> Result<Spot, Fault>
+        ensures ok { IfOk result (λ spot. IsSpot spot header self.now) }
+        ensures none { OnOk result (header_fault self.now header ≡ None) }
+        ensures err { IfErr result (λ fault. header_fault self.now header ≡ Some fault) }
+    {
+        let hash = header.hash();
+        if let Some(place) = self.tree.place(&hash) {
+            if self.tree.node(place).marked {
+                return Err(Fault::BadParent);
+            }
+            return Err(Fault::Known);
+        }
+        self.spot_on_parent(header, hash, false)
+    }
+
+    // Where a block will stand, or the first reason against it.
+    fn block_spot(&self, header: Header) -> Result<Spot, Fault>
+        ensures ok { IfOk result (λ spot. IsSpot spot header self.now) }
+        ensures none { OnOk result (block_fault self.now header ≡ None) }
+        ensures err { IfErr result (λ fault. block_fault self.now header ≡ Some fault) }
+        ensures tip { is_kept self.now (best self.now) ≡ true }
+    {
+        let hash = header.hash();
+        if let Some(place) = self.tree.place(&hash) {
+            let node = self.tree.node(place);
+            if node.marked {
+                return Err(Fault::BadParent);
+            }
+            if node.kept.is_some() {
+                return Err(Fault::Known);
+            }
+        }
+        self.spot_on_parent(header, hash, true)
+    }
+
+    /// Keeps a header.
+    ///
+    /// The first of these that holds is told, and then nothing has changed: `Fault::BadWork` where `check_header` refuses
+    /// it, `Fault::BadParent` where it is marked bad, `Fault::Known` where it is known, `Fault::NoParent` where its parent
+    /// isn't, `Fault::BadParent` where its parent is marked bad, `Fault::TooMany` where its height would be above
+    /// 1,000,000,000, and `Fault::Memory`.
+    pub fn accept_header(&mut self, header: Header) -> Result<(), Fault>
+        ensures ok { OnOk result (AcceptsHeader self.old header None self.new) }
+        ensures err { IfErr result (λ fault. ((fault ≡ Memory) × (self.new ≡ self.old))
+            ⊎ AcceptsHeader self.old header (Some fault) self.new) }
+        // What is kept is that of the calls so far with this one, or without it where memory was wanting.
+        ensures history { (calls : List Call) → IsHistory calls self.old
+            → MatchResult result (λ _. IsHistory (HeaderCall header ∷ calls) self.new)
+            (λ fault. ((fault ≡ Memory) × IsHistory calls self.new) ⊎ IsHistory (HeaderCall header ∷ calls) self.new) }
+    {
+        check_header(&header)?;
+        let spot = self.header_spot(header)?;
+        self.tree.reserve()?;
+        self.tree.add(spot.node(None, false));
+        Ok(())
+    }
+
+    /// Keeps a block, and makes it the tip where it is higher than the tip.
+    ///
+    /// The first of these that holds is told, and then nothing has changed: `Fault::BadWork` where `check_header` refuses
+    /// its header, `Fault::BadParent` where it is marked bad, `Fault::Known` where it is kept, `Fault::BadParent` where
+    /// its parent is marked bad, `Fault::NoParent` where its parent isn't kept, `Fault::TooMany` where its height would be
+    /// above 1,000,000,000. Then what `check_block` tells: the header is kept, and marked bad. Then, where it is higher
+    /// than the tip, the fault of the first block on its path that can't be connected: that block and all kept blocks
+    /// above it are marked bad, and the tip stays. `Fault::Memory` changes nothing.
+    pub fn accept_block(&mut self, block: SoundBlock) -> Result<Change, Fault>
+        ensures ok { IfOk result (λ change. AcceptsBlock self.old block (Ok change) self.new) }
+        ensures err { IfErr result (λ fault. ((fault ≡ Memory) × (self.new ≡ self.old))
+            ⊎ AcceptsBlock self.old block (Err fault) self.new) }
+        // What is kept is that of the calls so far with this one, or without it where memory was wanting.
+        ensures history { (calls : List Call) → IsHistory calls self.old
+            → MatchResult result (λ _. IsHistory (BlockCall block ∷ calls) self.new)
+            (λ fault. ((fault ≡ Memory) × IsHistory calls self.new) ⊎ IsHistory (BlockCall block ∷ calls) self.new) }
+    {
+        let header = block.block().header;
+        check_header(&header)?;
+        let spot = self.block_spot(header)?;
+        match check_block(self.alloc, &block) {
+            Ok(()) => self.join(spot, Kept::new(block)),
+            Err(fault) if fault == Fault::Memory => Err(fault),
+            Err(fault) => {
+                self.tree.reserve()?;
+                self.tree.add(spot.node(None, true));
+                Err(fault)
+            }
+        }
+    }
+
+    // Keeps a block that meets its rules.
+    fn join(&mut self, spot: Spot, kept: Kept) -> Result<Change, Fault>
+        requires spot { IsSpot spot kept.header self.old }
+        requires none { block_fault self.old kept.header ≡ None }
+        requires tip { is_kept self.old (best self.old) ≡ true }
+        requires calls { IsHistoric (joined self.old kept).1 }
+        ensures ok { IfOk result (λ change. (Ok change, self.new) ≡ joined self.old kept) }
+        ensures err { IfErr result (λ fault. ((fault ≡ Memory) × (self.new ≡ self.old)) ⊎ ((Err fault, self.new) ≡ joined self.old kept)) }
+    {
+        if spot.height > self.tip_height() {
+            return self.lead(spot, kept);
+        }
+        self.tree.reserve()?;
+        self.tree.add(spot.node(Some(kept), false));
+        Ok(Change {
+            off: Hashes::new(Vec::new(self.alloc)),
+            on: Hashes::new(Vec::new(self.alloc)),
+        })
+    }
+}

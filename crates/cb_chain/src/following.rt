@@ -1,0 +1,143 @@
+ghost use Rattle.std.specs.Prelude.{◌≡◌, ◌<◌, suc, length, drop, take, IfOk, IfSome, IsOkUnless};
+ghost use Rattle.cb_base.specs.declared.fault.Fault.TheVariants.{Memory};
+ghost use Rattle.cb_chain.specs.Best.{active};
+ghost use Rattle.cb_chain.specs.Following.{headers_above, headers_after, place_in, start_of, up_to};
+ghost use Rattle.cb_chain.specs.Keeping.{IsTree, active_places, tree_of};
+ghost use Rattle.cb_chain.specs.Locator.{locator_of};
+
+use crate::chain::Chain;
+use crate::tree::Tree;
+use crate::walking::fork_of;
+use cb_base::{Fault, Hash256};
+use cb_block::Header;
+use std::alloc::Global;
+
+/// How many headers `Chain::after` answers at the most.
+pub const MOST_HEADERS: usize = 2_000;
+
+// The active headers above a height, of nodes by their heights.
+fn headers_from(
+    alloc: Global,
+    tree: &Tree,
+    places: &[usize],
+    height: usize,
+) -> Result<Vec<Header>, Fault>
+    requires tree { IsTree tree.now.nodes }
+    requires places { places.now ≡ active_places (tree_of tree.now.nodes) }
+    requires height { height < length places.now }
+    ensures exact { IfOk result (λ headers. headers.items ≡ drop (suc height) (active (tree_of tree.now.nodes))) }
+    ensures memory { IsOkUnless result Memory }
+{
+    let mut headers = Vec::new(alloc);
+    for place in &places[height + 1..] {
+        headers.push(tree.node(*place).header)?;
+    }
+    Ok(headers)
+}
+
+// The same up to the stop and with it, and at most 2,000.
+fn headers_to(
+    alloc: Global,
+    tree: &Tree,
+    places: &[usize],
+    height: usize,
+    stop: &Hash256,
+) -> Result<Vec<Header>, Fault>
+    requires tree { IsTree tree.now.nodes }
+    requires places { places.now ≡ active_places (tree_of tree.now.nodes) }
+    requires height { height < length places.now }
+    ensures exact { IfOk result (λ headers. headers.items ≡ take 2000 (up_to stop.now (drop (suc height) (active (tree_of tree.now.nodes))))) }
+    ensures memory { IsOkUnless result Memory }
+{
+    let mut headers = Vec::new(alloc);
+    for place in &places[height + 1..] {
+        if headers.len() == MOST_HEADERS {
+            break;
+        }
+        let node = tree.node(*place);
+        headers.push(node.header)?;
+        if node.hash == *stop {
+            break;
+        }
+    }
+    Ok(headers)
+}
+
+impl Chain {
+    // The height of a hash, where it stands on the best chain.
+    fn active_height(&self, hash: &Hash256) -> Option<usize>
+        ensures height { result ≡ place_in (active self.now) 0 hash.now }
+        ensures low { IfSome result (λ height. height < length (active_places self.now)) }
+    {
+        let place = self.tree.place(hash)?;
+        let height = self.tree.node(place).height as usize;
+        match self.active.get(height) {
+            Some(other) if *other == place => Some(height),
+            _ => None,
+        }
+    }
+
+    // The height of the first of these hashes that stands on the best chain, or else 0.
+    fn start(&self, locator: &[Hash256]) -> usize
+        ensures height { result ≡ start_of (active self.now) locator.now }
+        ensures low { result < length (active_places self.now) }
+    {
+        for hash in locator {
+            if let Some(height) = self.active_height(hash) {
+                return height;
+            }
+        }
+        0
+    }
+
+    /// The headers of the best chain after the first hash of the locator that stands on it, or after the first block's
+    /// where none does: up to the stop and with it, where it is among them, and at most 2,000.
+    ///
+    /// The only error is `Fault::Memory`.
+    pub fn after(&self, locator: &[Hash256], stop: &Hash256) -> Result<Vec<Header>, Fault>
+        ensures exact { IfOk result (λ headers. headers.items ≡ headers_after self.now locator.now stop.now) }
+        ensures memory { IsOkUnless result Memory }
+    {
+        let start = self.tree.node(self.active[self.start(locator)]);
+        headers_to(
+            self.alloc,
+            &self.tree,
+            self.active.as_slice(),
+            start.height as usize,
+            stop,
+        )
+    }
+
+    /// The headers of the best chain above the place where it left the branch of a known header, up to the tip. Of an
+    /// unknown one there are none. The only error is `Fault::Memory`.
+    pub fn path(&self, from: &Hash256) -> Result<Vec<Header>, Fault>
+        ensures exact { IfOk result (λ headers. headers.items ≡ headers_above self.now from.now) }
+        ensures memory { IsOkUnless result Memory }
+    {
+        let Some(place) = self.tree.place(from) else {
+            return Ok(Vec::new(self.alloc));
+        };
+        let fork = fork_of(&self.tree, self.active.as_slice(), place);
+        headers_from(self.alloc, &self.tree, self.active.as_slice(), fork)
+    }
+
+    /// Hashes of the best chain from the tip down: the first twelve one after another, then by steps of 2, 4, 8 and so
+    /// on, and last the first block's, once. The only error is `Fault::Memory`.
+    pub fn locator(&self) -> Result<Vec<Hash256>, Fault>
+        ensures exact { IfOk result (λ hashes. hashes.items ≡ locator_of self.now) }
+        ensures memory { IsOkUnless result Memory }
+    {
+        let mut hashes = Vec::new(self.alloc);
+        let mut height = self.active.len() - 1;
+        let mut step = 1usize;
+        while height > 0 {
+            hashes.push(self.tree.node(self.active[height]).hash)?;
+            if hashes.len() >= 12 {
+                step *= 2;
+            }
+            height = height.saturating_sub(step);
+        }
+        hashes.push(self.tree.node(self.active[0]).hash)?;
+        Ok(hashes)
+    }
+}

@@ -1,0 +1,19 @@
+//! The chain: the tree of headers and blocks, the best chain in it, and the ledger of that chain.
+#![tactic(auto)]
+
+mod accepting;
+mod chain;
+mod change;
+mod following;
+mod law;
+mod leading;
+mod node;
+mod switching;
+mod tree;
+mod walking;
+
+pub use accepting::MOST_HEIGHT;
+pub use chain::Chain;
+pub use change::{Change, Hashes};
+pub use following::MOST_HEADERS;
+pub use law::{active_is_linked, has_history, kept_once, ledger_is_folded, none_higher};

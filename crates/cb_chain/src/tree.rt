@@ -1,0 +1,211 @@
+ghost use Rattle.std.specs.Prelude.{◌≡◌, ◌+◌, ◌<◌, ◌≤◌, ◌&&◌, ◌||◌, nat_eq, is_some, [], ◌∷◌, ◌++◌, length, slice_get, Some, option_map, option_copied, IfOk, IfSome, IsOk, IsOkUnless, IsSome, OnOk};
+ghost use Rattle.cb_base.specs.declared.fault.Fault.TheVariants.{Memory};
+ghost use Rattle.cb_chain.specs.Calls.{marked_above};
+ghost use Rattle.cb_chain.specs.Entries.{entry_of, height_of};
+ghost use Rattle.cb_chain.specs.Keeping.{IsFirst, IsNode, IsTree, block_at, entry_from, marked_nodes, place_of, tree_of};
+ghost use Rattle.cb_chain.specs.declared.node.Node.{Node};
+
+use crate::node::{Kept, Node};
+use cb_base::{Fault, Hash256};
+use cb_block::genesis;
+use std::alloc::Global;
+use std::collections::HashMap;
+use std::marker::Model;
+
+// The headers and blocks, in the order in which they came. A header comes before those that stand on it. It is seen as the
+// list of its nodes, and for how many more there is room.
+#[derive(Drop)]
+pub(crate) struct Tree {
+    alloc: Global,
+    nodes: Vec<Node>,
+    // The place of the newest node of each hash.
+    places: HashMap<Hash256, usize>,
+}
+
+impl Model for Tree {
+    ghost use Rattle.std.specs.Prelude.{◌-◌, min, vec_len, vec_capacity};
+    ghost use Rattle.std.specs.HashMap.{spare};
+    ghost use Rattle.cb_chain.specs.Keeping.{Grown, IsPlaced};
+
+    ghost Value = { Grown };
+
+    ghost view = { λ tree. record { nodes = tree.nodes.items; room = min (spare tree.places) (vec_capacity tree.nodes - vec_len tree.nodes) } };
+
+    ghost invariant = { λ tree. IsPlaced tree.nodes.items tree.places.entries };
+}
+
+// The first node.
+fn first_node(alloc: Global) -> Result<Node, Fault>
+    ensures first { IfOk result IsFirst }
+    ensures memory { IsOkUnless result Memory }
+{
+    let block = genesis(alloc)?;
+    let header = block.block().header;
+    Ok(Node {
+        header,
+        hash: header.hash(),
+        height: 0,
+        parent: 0,
+        kept: Some(Kept::new(block)),
+        marked: false,
+    })
+}
+
+impl Tree {
+    // The tree of the first block alone.
+    pub(crate) fn new(alloc: Global) -> Result<Tree, Fault>
+        ensures nodes { IfOk result (λ tree. tree_of tree.nodes ≡ []) }
+        ensures tree { IfOk result (λ tree. IsTree tree.nodes) }
+        ensures memory { IsOkUnless result Memory }
+    {
+        let first = first_node(alloc)?;
+        let mut places = HashMap::new(alloc);
+        places.insert(first.hash, 0)?;
+        let mut nodes = Vec::with_capacity(alloc, 1)?;
+        nodes.push(first)?;
+        Ok(Tree {
+            alloc,
+            nodes,
+            places,
+        })
+    }
+
+    // How many nodes there are.
+    pub(crate) fn len(&self) -> usize
+        ensures { result ≡ length self.now.nodes }
+    {
+        self.nodes.len()
+    }
+
+    // The place of a hash.
+    pub(crate) fn place(&self, hash: &Hash256) -> Option<usize>
+        ensures place { result ≡ place_of (tree_of self.now.nodes) hash.now }
+        ensures within { IfSome result (λ place. place < length self.now.nodes) }
+        ensures tree { IsTree self.now.nodes }
+    {
+        self.places.get(hash).copied()
+    }
+
+    // The node at a place.
+    pub(crate) fn node(&self, place: usize) -> &Node
+        requires { IsTree self.now.nodes → place < length self.now.nodes }
+        ensures node { slice_get self.now.nodes place ≡ Some result.now }
+        ensures tree { IsTree self.now.nodes }
+    {
+        &self.nodes[place]
+    }
+
+    // The newest node of a hash.
+    pub(crate) fn find(&self, hash: &Hash256) -> Option<&Node>
+        ensures entry { entry_of (tree_of self.now.nodes) hash.now ≡ option_map entry_from (option_copied result) }
+        ensures height { height_of (tree_of self.now.nodes) hash.now ≡ option_map (λ node. node.height) (option_copied result) }
+    {
+        match self.places.get(hash) {
+            Some(place) => Some(&self.nodes[*place]),
+            None => None,
+        }
+    }
+
+    // Room for one node more.
+    pub(crate) fn reserve(&mut self) -> Result<(), Fault>
+        ensures same { self.new.nodes ≡ self.old.nodes }
+        ensures tree { IsTree self.new.nodes }
+        ensures room { OnOk result (0 < self.new.room) }
+        ensures memory { IsOkUnless result Memory }
+    {
+        self.nodes.reserve(1)?;
+        self.places.reserve(1)?;
+        Ok(())
+    }
+
+    // One node more, for which there is room.
+    pub(crate) fn add(&mut self, node: Node)
+        requires room { 0 < self.old.room }
+        requires node { IsNode node (tree_of self.old.nodes) }
+        ensures { self.new.nodes ≡ self.old.nodes ++ node ∷ [] }
+    {
+        let noted: Result<_, _> = self.places.insert(node.hash, self.nodes.len());
+        noted.unwrap();
+        self.nodes.push(node).unwrap();
+    }
+
+    // Marks the block at a place and all kept blocks above it.
+    pub(crate) fn mark_above(&mut self, first: usize)
+        requires above { 0 < first }
+        requires kept { IsSome (block_at self.old.nodes first) }
+        ensures marks { (node : Node) → slice_get self.old.nodes first ≡ Some node
+            → tree_of self.new.nodes ≡ marked_above node.hash (tree_of self.old.nodes) }
+        ensures len { length self.new.nodes ≡ length self.old.nodes }
+        ensures tree { IsTree self.new.nodes }
+    {
+        mark_from(self.nodes.as_mut_slice(), first);
+    }
+
+    // A tree that equals it.
+    pub(crate) fn copy(&self) -> Result<Tree, Fault>
+        ensures same { IfOk result (λ copy. copy.nodes ≡ self.now.nodes) }
+        ensures memory { IsOkUnless result Memory }
+    {
+        let mut nodes = Vec::with_capacity(self.alloc, self.nodes.len())?;
+        for node in &self.nodes {
+            nodes.push(copy_node(self.alloc, node)?)?;
+        }
+        let places = self.places.clone()?;
+        Ok(Tree {
+            alloc: self.alloc,
+            nodes,
+            places,
+        })
+    }
+}
+
+// Whether a kept block is the one at a place, or stands on one that is marked.
+fn is_bad(nodes: &[Node], first: usize, place: usize) -> bool
+    requires place { place < length nodes.now }
+    requires parent { (node : Node) → slice_get nodes.now place ≡ Some node → node.parent < length nodes.now }
+    ensures { (node parent : Node) → slice_get nodes.now place ≡ Some node → slice_get nodes.now node.parent ≡ Some parent
+        → result ≡ (is_some node.kept && (nat_eq place first || parent.marked)) }
+{
+    let node = &nodes[place];
+    node.kept.is_some() && (place == first || nodes[node.parent].marked)
+}
+
+// Marks the block at a place and all kept blocks above it.
+fn mark_from(nodes: &mut [Node], first: usize)
+    requires tree { IsTree nodes.old }
+    requires above { 0 < first }
+    requires kept { IsSome (block_at nodes.old first) }
+    ensures marks { (node : Node) → slice_get nodes.old first ≡ Some node → nodes.new ≡ marked_nodes node.hash nodes.old }
+{
+    for place in first..nodes.len() {
+        if is_bad(nodes, first, place) {
+            nodes[place].marked = true;
+        }
+    }
+}
+
+fn copy_kept(alloc: Global, kept: &Kept) -> Result<Kept, Fault>
+    ensures same { IfOk result (λ copy. copy ≡ kept.now) }
+    ensures memory { IsOkUnless result Memory }
+{
+    let block = kept.block().copy(alloc)?;
+    Ok(Kept::new(block))
+}
+
+fn copy_node(alloc: Global, node: &Node) -> Result<Node, Fault>
+    ensures same { IfOk result (λ copy. copy ≡ node.now) }
+    ensures memory { IsOkUnless result Memory }
+{
+    let kept = match &node.kept {
+        Some(kept) => Some(copy_kept(alloc, kept)?),
+        None => None,
+    };
+    Ok(Node {
+        header: node.header,
+        hash: node.hash,
+        height: node.height,
+        parent: node.parent,
+        kept,
+        marked: node.marked,
+    })
+}
