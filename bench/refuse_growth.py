@@ -1,9 +1,9 @@
 #!/usr/bin/env python3
 """Refuses each growth of memory in turn, and looks at how the built programs end.
 
-Usage: bench/refuse_growth.py. It needs the programs (crates/cbrelay/out/cbrelay and crates/bench_sound/out/bench_sound, as
-`rt run` leaves them), a C compiler as `cc`, and python3, and takes a few seconds. A small library that is loaded before the C library makes the
-Nth growth fail; N goes up until a run makes fewer. Each run has to end with status 4 after a beginning of what it prints
+Usage: bench/refuse_growth.py. It needs the programs (crates/NAME/out/NAME of cbrelay, bench_sound and bench_chain, as
+`rt run` leaves them), a C compiler as `cc`, and python3, and takes a few seconds. A small library that is loaded before the
+C library makes the Nth growth fail; N goes up until a run makes fewer. Each run has to end with status 4 after a beginning of what it prints
 with ample memory, or wholly as with ample memory, where it could do without that growth.
 """
 
@@ -13,6 +13,7 @@ import sys
 import tempfile
 
 from bench import block
+from chain import careful_play
 
 ROOT = os.path.dirname(os.path.dirname(os.path.abspath(__file__)))
 
@@ -63,6 +64,7 @@ RUNS = [
     ("decode blocks.hex", "cbrelay", ["decode"], example("blocks.hex")),
     ("serve blocks.bin", "cbrelay", ["serve"], example("blocks.bin")),
     ("sound, a block of 5 transactions", "bench_sound", [], block(5, 10)),
+    ("chain, a block at the tip and three blocks for two", "bench_chain", [], careful_play()),
 ]
 
 
@@ -121,7 +123,7 @@ def in_turn(told, crate, words, data, library):
 
 
 def main():
-    for crate in ("cbrelay", "bench_sound"):
+    for crate in ("cbrelay", "bench_sound", "bench_chain"):
         if not os.access(os.path.join(ROOT, "crates", crate, "out", crate), os.X_OK):
             sys.exit(f"{crate} isn't built: cd crates/{crate} && rt run < stdin")
     with tempfile.TemporaryDirectory() as folder:

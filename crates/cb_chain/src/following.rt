@@ -28,7 +28,7 @@ fn headers_from(
     ensures exact { IfOk result (λ headers. headers.items ≡ drop (suc height) (active (tree_of tree.now.nodes))) }
     ensures memory { IsOkUnless result Memory }
 {
-    let mut headers = Vec::new(alloc);
+    let mut headers = Vec::with_capacity(alloc, places.len() - height - 1)?;
     for place in &places[height + 1..] {
         headers.push(tree.node(*place).header)?;
     }

@@ -3,7 +3,7 @@ use Rattle.cb_chain.proofs.Heights.{rest_within, follow_more, follow_all}
 use Rattle.cb_chain.proofs.following.headers_from.Goals as goal
 
 pub loop-place-init : goal.loop-place-init
-loop-place-init c = c.new-headers.ensures.items
+loop-place-init c = c.in_ok-headers.ensures.items
 
 pub node-requires : goal.node-requires
 node-requires c = λ is. rest_within c.args.tree.now.nodes c.args.places.now c.args.height c.loop-place.place-index is c.requires.places c.loop-place-test.true
