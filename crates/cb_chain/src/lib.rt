@@ -17,3 +17,6 @@ pub use chain::Chain;
 pub use change::{Change, Hashes};
 pub use following::MOST_HEADERS;
 pub use law::{active_is_linked, has_history, kept_once, ledger_is_folded, none_higher};
+
+#[cfg(test)]
+mod tests;
