@@ -4,14 +4,18 @@ use Rattle.std.specs.Int.{w32}
 use Rattle.cb_base.specs.declared.fault.Fault.{Fault}
 use Rattle.cb_base.specs.declared.fault.Fault.TheVariants.{Memory, Truncated}
 use Rattle.cb_base.specs.CompactSize.{compact_at}
-use Rattle.cb_base.specs.Reading.{Read, ◌>>=◌, signed_at}
+use Rattle.cb_base.specs.Reading.{Read, ◌>>=◌, bytes_at, signed_at}
 use Rattle.cb_base.proofs.Fields.{bind_ok, ok_is}
-use Rattle.cb_base.proofs.Unpaid.{IsUnpaid, unpaid_then, unpaid_cond, unpaid_compact, never_memory}
+use Rattle.cb_base.proofs.Unpaid.{IsUnpaid, unpaid_bytes, unpaid_then, unpaid_cond, unpaid_compact, never_memory}
 use Rattle.cb_tx.specs.declared.tx.TxIn.{TxIn}
-use Rattle.cb_tx.specs.Reading.{count_at, items_at, list_at, input_at, first_count_at, CountsSome, TakesMemory}
+use Rattle.cb_tx.specs.Reading.{hash_at, count_at, items_at, list_at, input_at, first_count_at, CountsSome, TakesMemory}
 
 short : Truncated ≢ Memory
 short e = absurd cc
+
+pub unpaid_hash : (bytes : List ℕ) → IsUnpaid (hash_at bytes)
+unfolding hash_at
+unpaid_hash bytes = unpaid_then (bytes_at 32 bytes) _ (unpaid_bytes 32 bytes) (λ _. tt)
 
 pub unpaid_count : (least : ℕ) (bytes : List ℕ) → IsUnpaid (count_at least bytes)
 unfolding count_at

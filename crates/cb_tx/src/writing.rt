@@ -117,6 +117,7 @@ pub fn write_tx(out: &mut Vec<u8>, tx: &Tx) -> Result<(), Fault>
     ensures memory { IsOkUnless result Memory }
     // It comes only where the vector has no room for the text.
     ensures full { OnErr result (vec_capacity out.old < vec_len out.old + length (tx_text tx.now)) }
+    ensures capacity { vec_capacity out.old ≤ vec_capacity out.new }
     // Each number is one of its field, and each hash has 32 bytes.
     ensures fits { OnOk result (IsTx tx.now) }
 {
