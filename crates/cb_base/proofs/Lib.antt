@@ -1,3 +1,4 @@
 pub mod Compact
 pub mod Fields
 pub mod Hashes
+pub mod Unpaid

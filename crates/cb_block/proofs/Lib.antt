@@ -5,6 +5,7 @@ pub mod Headers
 pub mod Levels
 pub mod Only
 pub mod Raising
+pub mod Taking
 pub mod Target
 pub mod Texts
 pub mod Verdicts

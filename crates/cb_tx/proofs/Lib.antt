@@ -3,3 +3,4 @@ pub mod Laws
 pub mod Loop
 pub mod Parts
 pub mod Repeats
+pub mod Taking
