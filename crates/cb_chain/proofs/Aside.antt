@@ -124,15 +124,15 @@ block_unknown nodes tree header view none =
 
 -- ---- what a header becomes where nothing speaks against it
 
-none_first : (b : Bool) (fault : Fault) (others : Option Fault) → cond b (Some fault) others ≡ None → (b ≡ false) × (others ≡ None)
+pub none_first : (b : Bool) (fault : Fault) (others : Option Fault) → cond b (Some fault) others ≡ None → (b ≡ false) × (others ≡ None)
 none_first true fault others e = absurd cc
 none_first false fault others e = (refl, e)
 
-not_false : (b : Bool) → not b ≡ false → b ≡ true
+pub not_false : (b : Bool) → not b ≡ false → b ≡ true
 not_false true e = refl
 not_false false e = absurd cc
 
-known_is_kept : (entry : Option Entry) → is_some entry ≡ false → has_block entry ≡ false
+pub known_is_kept : (entry : Option Entry) → is_some entry ≡ false → has_block entry ≡ false
 known_is_kept None e = refl
 known_is_kept (Some entry) e = absurd cc
 
@@ -208,7 +208,7 @@ pub aside_other : (nodes : List Node) (node : Node) → IsTree nodes → IsNode 
 aside_other nodes node is one =
     kept_other (tree_of nodes) (best (tree_of nodes)) (block_hash node.header) (best_kept nodes is) (subst (λ (h : Hash256). is_kept (tree_of nodes) h ≡ false) one.hash one.once)
 
-bare_err : (entry : Entry) (below : Result Unspent Stop) → entry.block ≡ None → is_ok (then_spend entry below) ≡ false
+pub bare_err : (entry : Entry) (below : Result Unspent Stop) → entry.block ≡ None → is_ok (then_spend entry below) ≡ false
 bare_err entry (Ok u) bare = rw bare refl
 bare_err entry (Err stop) bare = refl
 

@@ -13,13 +13,14 @@ use Rattle.cb_block.specs.Genesis.{genesis_header}
 use Rattle.cb_ledger.specs.declared.undo.Change.{Change}
 use Rattle.cb_ledger.specs.Unspent.{Unspent}
 use Rattle.cb_chain.specs.declared.node.Node.{Node}
-use Rattle.cb_chain.specs.Entries.{Entry, Tree, block_hash, genesis_hash, same, height_of, is_kept}
+use Rattle.cb_chain.specs.Entries.{Entry, Tree, block_hash, genesis_hash, same, height_of, is_kept, is_known}
 use Rattle.cb_chain.specs.Best.{Stop, active, best, branch, is_higher, unspent_after}
 use Rattle.cb_chain.specs.Calls.{block_entry, change_of, joined, marked_above}
 use Rattle.cb_chain.specs.Following.{above_branch}
 use Rattle.cb_chain.specs.Keeping.{Connects, Halts, IsChain, IsFork, IsNode, IsTree, LikeBack, Step, Turn, block_at, climb, entry_from, place_of, taken_back, tree_of, turn_at, turn_of, way}
 use Rattle.cb_chain.specs.Plans.{change_at, hash_at}
 use Rattle.cb_chain.proofs.Nodes.{is_grown, length_tree, tree_grown, reverse_cons, same-refl, same-true}
+use Rattle.cb_chain.proofs.Roots.{AreRooted, known_placed, rooted}
 use Rattle.cb_chain.proofs.Tips.{known_best}
 use Rattle.cb_chain.proofs.Turning.{IsHalt, connects_join, connects_like, connects_outcome, connects_split, connects_taken, halts_outcome, outcome, outcome_more, unspent_climb}
 use Rattle.cb_chain.proofs.Steps.{Stands, all_drop, all_more, all_middle, branch_climb, height_climb, same_map, steps_kept, steps_stand}
@@ -175,11 +176,13 @@ pub joined_err : (old : Tree) (block : Block) (stop : Stop) → is_higher (block
 joined_err old block stop higher err = rw (higher, err) refl
 
 -- what is unspent after the lower part
-lower_outcome : (nodes : List Node) (block : Block) (path : List ℕ) (records : List (List Change)) (unspent : Unspent) (fork : ℕ) (branch : List ℕ) → (p : IsParted nodes block path records unspent fork branch)
+lower_outcome : (nodes : List Node) (block : Block) (path : List ℕ) (records : List (List Change)) (unspent : Unspent) (fork : ℕ) (branch : List ℕ) → IsRise nodes block path records unspent fork branch → (p : IsParted nodes block path records unspent fork branch)
     → unspent_after (block_entry block ∷ tree_of nodes) (block_hash block.header) ≡ outcome (Ok (taken_back unspent (reverse (drop fork records)))) p.upper
-lower_outcome nodes block path records unspent fork branch p =
+lower_outcome nodes block path records unspent fork branch is p =
     let u = taken_back unspent (reverse (drop fork records)) in
-    unspent_climb (block_entry block ∷ tree_of nodes) (block_hash block.header) ∙ ap (outcome (Ok finite.empty)) p.whole ∙ outcome_more (Ok finite.empty) p.lower p.upper
+    let rooted_new : AreRooted (block_entry block ∷ tree_of nodes) = (known_placed (tree_of nodes) block.header.prev is.parent is.known, rooted nodes is.tree) in
+    let known : is_known (block_entry block ∷ tree_of nodes) (block_hash block.header) ≡ true = rw (same-refl (block_hash block.header)) refl in
+    unspent_climb (block_entry block ∷ tree_of nodes) (block_hash block.header) rooted_new known ∙ ap (outcome (Ok finite.empty)) p.whole ∙ outcome_more (Ok finite.empty) p.lower p.upper
     ∙ ap (λ (r : Result Unspent Stop). outcome r p.upper) (connects_outcome finite.empty u p.lower (take fork records) p.low)
 
 pub changes_same : {off other : List Hash256} {on more : List Hash256} → off ≡ other → on ≡ more → ◌≡◌ {A = Answer} (record { off = off; on = on }) (record { off = other; on = more })
@@ -236,7 +239,7 @@ risen nodes block path records unspent fork branch others after is connects =
     let u = taken_back unspent (reverse (drop fork records)) in
     let p = parted nodes block path records unspent fork branch is in
     let high : Connects u (map turn_of p.upper) others after = subst (λ (ts : List Turn). Connects u ts others after) (sym p.turns) connects in
-    let ok : unspent_after new hash ≡ Ok after = lower_outcome nodes block path records unspent fork branch p ∙ connects_outcome u after p.upper others high in
+    let ok : unspent_after new hash ≡ Ok after = lower_outcome nodes block path records unspent fork branch is p ∙ connects_outcome u after p.upper others high in
     let tip : best new ≡ hash = best_new (block_entry block) tree after ok is.higher in
     let way_is : climb new (best new) ≡ p.lower ++ p.upper = ap (climb new) tip ∙ p.whole in
     let turns_are : map turn_of p.lower ++ map turn_of p.upper ≡ map turn_of (climb new (best new)) = sym (map-append turn_of p.lower p.upper) ∙ ap (map turn_of) (sym way_is) in
@@ -302,7 +305,7 @@ halted_at nodes block node path records unspent fork branch place fault is one e
     let new = block_entry block ∷ tree in
     let hash = block_hash block.header in
     let more = nodes ++ node ∷ [] in
-    let err : unspent_after new hash ≡ Err stop.stop = lower_outcome nodes block path records unspent fork branch p ∙ stop.result in
+    let err : unspent_after new hash ≡ Err stop.stop = lower_outcome nodes block path records unspent fork branch is p ∙ stop.result in
     let tip : best new ≡ best tree = best_other (block_entry block) tree stop.stop err in
     let way_is : climb new (best new) ≡ climb tree (best tree) = ap (climb new) tip ∙ climb_other (block_entry block) tree (best tree) (apart new hash (best tree) is.higher) in
     let grown : tree_of more ≡ new = tree_grown nodes node is.tree ∙ ap (λ (e : Entry). e ∷ tree) entry_is in
