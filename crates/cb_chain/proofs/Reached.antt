@@ -1,7 +1,7 @@
 -- What holds of each tree that calls leave, by recursion on the list of calls: how its entries stand on one another, and that
 -- no path to a marked one can be spent.
 use Rattle.std.proofs.Common.{◌≡◌, ℕ, Bool, true, false, cond, List, [], ◌∷◌, Some, None, Option, refl, sym, ap, subst, ◌∙◌, inl, inr, ◌⊎◌}
-use Rattle.std.specs.Prelude.{⊤, ◌&&◌, not, is_ok, is_some, Result, Ok, Err, IsOk}
+use Rattle.std.specs.Prelude.{⊤, ◌&&◌, not, is_ok, is_some, Result, Ok, Err, IsErr, IsOk}
 use Rattle.std.proofs.lemmas.Bool.{and_parts, cases_Bool, false≢true}
 use Rattle.cb_base.specs.declared.fault.Fault.{Fault}
 use Rattle.cb_base.specs.declared.fault.Fault.TheVariants.{BadParent, Known, NoParent, TooMany}
@@ -53,52 +53,12 @@ unkept_bad tree hash unkept =
       | inr bad ↦ bad
     ]
 
-bad_behind : (entry : Entry) (below : Result Unspent Stop) → is_ok below ≡ false → is_ok (then_spend entry below) ≡ false
-bad_behind entry (Ok u) bad = absurd (false≢true (sym bad))
-bad_behind entry (Err stop) bad = refl
-
--- ---- what leads through a block whose path stops
-
-leads_own : (entry : Entry) (older : Tree) (first hash : Hash256) → same hash (block_hash entry.header) ≡ true
-    → leads_through (entry ∷ older) first hash ≡ cond (same hash first) true (leads_through older first entry.header.prev)
-unfolding leads_through
-leads_own entry older first hash is = rw is refl
-
-leads_behind : (entry : Entry) (older : Tree) (first hash : Hash256) → same hash (block_hash entry.header) ≡ false → leads_through (entry ∷ older) first hash ≡ leads_through older first hash
-unfolding leads_through
-leads_behind entry older first hash isnt = rw isnt refl
-
--- a path that stops in a tree stops in what stands behind its newest entry
-bad_older : (entry : Entry) (older : Tree) (first : Hash256) → IsPlanted entry older → is_ok (unspent_after (entry ∷ older) first) ≡ false → is_ok (unspent_after older first) ≡ false
-bad_older entry older first is bad =
-    elim (cases_Bool (same first (block_hash entry.header))) [
-      | inl own ↦ unkept_bad older first (subst (λ (h : Hash256). is_kept older h ≡ false) (sym (same-true first (block_hash entry.header) own)) is.once)
-      | inr other ↦ ap is_ok (sym (spent_behind entry older first other)) ∙ bad
-    ]
-
-leads_bad : (tree : Tree) (first hash : Hash256) → ArePlanted tree → is_ok (unspent_after tree first) ≡ false → leads_through tree first hash ≡ true → is_ok (unspent_after tree hash) ≡ false
-unfolding leads_through
-leads_bad [] first hash are bad through = absurd (false≢true through)
-leads_bad (entry ∷ older) first hash are bad through =
-    let older_bad = bad_older entry older first are.0 bad in
-    elim (cases_Bool (same hash (block_hash entry.header))) [
-      | inl is ↦
-          elim (cases_Bool (same hash first)) [
-            | inl it ↦ subst (λ (h : Hash256). is_ok (unspent_after (entry ∷ older) h) ≡ false) (sym (same-true hash first it)) bad
-            | inr isnt ↦
-                let below : leads_through older first entry.header.prev ≡ true =
-                ap (λ (b : Bool). cond b true (leads_through older first entry.header.prev)) (sym isnt) ∙ sym (leads_own entry older first hash is) ∙ through in
-                ap is_ok (spent_own entry older hash is) ∙ bad_behind entry (unspent_after older entry.header.prev) (leads_bad older first entry.header.prev are.1 older_bad below)
-          ]
-      | inr isnt ↦ ap is_ok (spent_behind entry older hash isnt) ∙ leads_bad older first hash are.1 older_bad (sym (leads_behind entry older first hash isnt) ∙ through)
-    ]
-
 -- ---- where a kept block's path stops
 
 -- it is kept, and its own path stops there
-pub record IsStop (tree : Tree) (first : Hash256) : Type 0 where
-  pub kept : is_kept tree first ≡ true
-  pub bad : is_ok (unspent_after tree first) ≡ false
+pub record IsStop (tree : Tree) (stop : Stop) : Type 0 where
+  pub kept : is_kept tree stop.first ≡ true
+  pub at : unspent_after tree stop.first ≡ Err stop
 
 stopped_first : (hash : Hash256) (r : Result Unspent Fault) (stop : Stop) → stopped_at hash r ≡ Err stop → stop.first ≡ hash
 stopped_first hash (Ok u) stop e = absurd (let none : Ok u ≡ Err stop = e in cc)
@@ -116,30 +76,93 @@ kept_own entry older hash is = rw is refl
 kept_behind : (entry : Entry) (older : Tree) (hash : Hash256) → same hash (block_hash entry.header) ≡ false → is_kept (entry ∷ older) hash ≡ is_kept older hash
 kept_behind entry older hash isnt = rw isnt refl
 
-stop_more : (entry : Entry) (older : Tree) (first : Hash256) → IsPlanted entry older → IsStop older first → IsStop (entry ∷ older) first
-stop_more entry older first is stop =
-    elim (cases_Bool (same first (block_hash entry.header))) [
-      | inl own ↦ absurd (false≢true (sym is.once ∙ subst (λ (h : Hash256). is_kept older h ≡ true) (same-true first (block_hash entry.header) own) stop.kept))
-      | inr other ↦ record { kept = kept_behind entry older first other ∙ stop.kept; bad = ap is_ok (spent_behind entry older first other) ∙ stop.bad }
+-- a kept block isn't the newest one, where that is a new one
+kept_apart : (entry : Entry) (older : Tree) (hash : Hash256) → IsPlanted entry older → is_kept older hash ≡ true → same hash (block_hash entry.header) ≡ false
+kept_apart entry older hash is kept =
+    elim (cases_Bool (same hash (block_hash entry.header))) [
+      | inl own ↦ absurd (false≢true (sym is.once ∙ subst (λ (h : Hash256). is_kept older h ≡ true) (same-true hash (block_hash entry.header) own) kept))
+      | inr other ↦ other
     ]
 
-stop_is : (tree : Tree) (hash : Hash256) (stop : Stop) → ArePlanted tree → is_kept tree hash ≡ true → unspent_after tree hash ≡ Err stop → IsStop tree stop.first
+stop_more : (entry : Entry) (older : Tree) (stop : Stop) → IsPlanted entry older → IsStop older stop → IsStop (entry ∷ older) stop
+stop_more entry older stop is before =
+    let other = kept_apart entry older stop.first is before.kept in
+    record { kept = kept_behind entry older stop.first other ∙ before.kept; at = spent_behind entry older stop.first other ∙ before.at }
+
+first_spent : (hash : Hash256) (stop : Stop) → is_kept [] hash ≡ true → unspent_after [] hash ≡ Err stop → ⊥
 unfolding unspent_after
-stop_is [] hash stop are kept e =
+first_spent hash stop kept e =
     elim (cases_Bool (same hash genesis_hash)) [
-      | inl is ↦ absurd (let none : is_ok (unspent_after [] hash) ≡ true = rw is refl in false≢true (sym (ap is_ok e) ∙ none))
-      | inr isnt ↦ absurd (let none : false ≡ true = rw isnt at kept in false≢true none)
+      | inl is ↦ let ok : is_ok (unspent_after [] hash) ≡ true = rw is refl in false≢true (sym (ap is_ok e) ∙ ok)
+      | inr isnt ↦ let none : false ≡ true = rw isnt at kept in false≢true none
     ]
+
+stop_is : (tree : Tree) (hash : Hash256) (stop : Stop) → ArePlanted tree → is_kept tree hash ≡ true → unspent_after tree hash ≡ Err stop → IsStop tree stop
+stop_is [] hash stop are kept e = absurd (first_spent hash stop kept e)
 stop_is (entry ∷ older) hash stop are kept e =
     elim (cases_Bool (same hash (block_hash entry.header))) [
       | inl is ↦
           elim (stop_here entry (unspent_after older entry.header.prev) stop (sym (spent_own entry older hash is) ∙ e)) [
-            | inl below ↦ stop_more entry older stop.first are.0 (stop_is older entry.header.prev stop are.1 (are.0.under (sym (kept_own entry older hash is) ∙ kept)) below)
+            | inl below ↦ stop_more entry older stop are.0 (stop_is older entry.header.prev stop are.1 (are.0.under (sym (kept_own entry older hash is) ∙ kept)) below)
             | inr here ↦
                 let it : hash ≡ stop.first = same-true hash (block_hash entry.header) is ∙ sym here in
-                subst (IsStop (entry ∷ older)) it (record { kept = kept; bad = ap is_ok e })
+                record { kept = ap (is_kept (entry ∷ older)) (sym it) ∙ kept; at = ap (unspent_after (entry ∷ older)) (sym it) ∙ e }
           ]
-      | inr isnt ↦ stop_more entry older stop.first are.0 (stop_is older hash stop are.1 (sym (kept_behind entry older hash isnt) ∙ kept) (sym (spent_behind entry older hash isnt) ∙ e))
+      | inr isnt ↦ stop_more entry older stop are.0 (stop_is older hash stop are.1 (sym (kept_behind entry older hash isnt) ∙ kept) (sym (spent_behind entry older hash isnt) ∙ e))
+    ]
+
+-- ---- what leads through a block whose path stops
+
+leads_own : (entry : Entry) (older : Tree) (first hash : Hash256) → same hash (block_hash entry.header) ≡ true
+    → leads_through (entry ∷ older) first hash ≡ cond (same hash first) true (leads_through older first entry.header.prev)
+unfolding leads_through
+leads_own entry older first hash is = rw is refl
+
+leads_behind : (entry : Entry) (older : Tree) (first hash : Hash256) → same hash (block_hash entry.header) ≡ false → leads_through (entry ∷ older) first hash ≡ leads_through older first hash
+unfolding leads_through
+leads_behind entry older first hash isnt = rw isnt refl
+
+leads_none : (first hash : Hash256) → leads_through [] first hash ≡ false
+unfolding leads_through
+leads_none first hash = refl
+
+-- what stands on the path of a kept block is kept
+leads_kept : (tree : Tree) (first hash : Hash256) → ArePlanted tree → is_kept tree hash ≡ true → leads_through tree first hash ≡ true → is_kept tree first ≡ true
+leads_kept [] first hash are kept through = absurd (false≢true (sym (leads_none first hash) ∙ through))
+leads_kept (entry ∷ older) first hash are kept through =
+    let more : is_kept older first ≡ true → is_kept (entry ∷ older) first ≡ true = λ below. kept_behind entry older first (kept_apart entry older first are.0 below) ∙ below in
+    elim (cases_Bool (same hash (block_hash entry.header))) [
+      | inl is ↦
+          elim (cases_Bool (same hash first)) [
+            | inl it ↦ ap (is_kept (entry ∷ older)) (sym (same-true hash first it)) ∙ kept
+            | inr isnt ↦
+                let below : leads_through older first entry.header.prev ≡ true =
+                ap (λ (b : Bool). cond b true (leads_through older first entry.header.prev)) (sym isnt) ∙ sym (leads_own entry older first hash is) ∙ through in
+                more (leads_kept older first entry.header.prev are.1 (are.0.under (sym (kept_own entry older hash is) ∙ kept)) below)
+          ]
+      | inr isnt ↦ more (leads_kept older first hash are.1 (sym (kept_behind entry older hash isnt) ∙ kept) (sym (leads_behind entry older first hash isnt) ∙ through))
+    ]
+
+-- a path through it stops where its own does
+leads_stop : (tree : Tree) (first hash : Hash256) (stop : Stop) → ArePlanted tree → unspent_after tree first ≡ Err stop → is_kept tree hash ≡ true → leads_through tree first hash ≡ true → unspent_after tree hash ≡ Err stop
+leads_stop [] first hash stop are e kept through = absurd (false≢true (sym (leads_none first hash) ∙ through))
+leads_stop (entry ∷ older) first hash stop are e kept through =
+    let before : is_kept older first ≡ true → unspent_after older first ≡ Err stop = λ below. sym (spent_behind entry older first (kept_apart entry older first are.0 below)) ∙ e in
+    elim (cases_Bool (same hash (block_hash entry.header))) [
+      | inl is ↦
+          elim (cases_Bool (same hash first)) [
+            | inl it ↦ ap (unspent_after (entry ∷ older)) (same-true hash first it) ∙ e
+            | inr isnt ↦
+                let prev = entry.header.prev in
+                let below : leads_through older first prev ≡ true = ap (λ (b : Bool). cond b true (leads_through older first prev)) (sym isnt) ∙ sym (leads_own entry older first hash is) ∙ through in
+                let under = are.0.under (sym (kept_own entry older hash is) ∙ kept) in
+                let stops = leads_stop older first prev stop are.1 (before (leads_kept older first prev are.1 under below)) under below in
+                spent_own entry older hash is ∙ ap (then_spend entry) stops
+          ]
+      | inr isnt ↦
+          let there = sym (kept_behind entry older hash isnt) ∙ kept in
+          let leads = sym (leads_behind entry older first hash isnt) ∙ through in
+          spent_behind entry older hash isnt ∙ leads_stop older first hash stop are.1 (before (leads_kept older first hash are.1 there leads)) there leads
     ]
 
 -- ---- what a call finds where it keeps something
@@ -179,16 +202,34 @@ block_new tree header e =
 pub record IsReached (tree : Tree) : Type 0 where
   pub planted : ArePlanted tree
   pub marks : (hash : Hash256) → is_marked tree hash ≡ true → is_ok (unspent_after tree hash) ≡ false
+  pub stops : (hash : Hash256) (stop : Stop) → is_kept tree hash ≡ true → is_marked tree hash ≡ true → unspent_after tree hash ≡ Err stop → is_marked tree stop.first ≡ true
+
+first_unmarked : (hash : Hash256) → is_marked [] hash ≡ true → ⊥
+first_unmarked hash marked =
+    elim (cases_Bool (same hash genesis_hash)) [
+      | inl is ↦ let none : false ≡ true = rw is at marked in false≢true none
+      | inr isnt ↦ let none : false ≡ true = rw isnt at marked in false≢true none
+    ]
 
 reached_first : IsReached []
-reached_first =
-    record {
-      planted = tt;
-      marks = λ hash marked. elim (cases_Bool (same hash genesis_hash)) [
-        | inl is ↦ absurd (let none : false ≡ true = rw is at marked in false≢true none)
-        | inr isnt ↦ absurd (let none : false ≡ true = rw isnt at marked in false≢true none)
-      ];
-    }
+reached_first = record { planted = tt; marks = λ hash marked. absurd (first_unmarked hash marked); stops = λ hash stop kept marked e. absurd (first_unmarked hash marked) }
+
+marked_own : (entry : Entry) (older : Tree) (hash : Hash256) → same hash (block_hash entry.header) ≡ true → is_marked (entry ∷ older) hash ≡ entry.marked
+marked_own entry older hash is = rw is refl
+
+marked_behind : (entry : Entry) (older : Tree) (hash : Hash256) → same hash (block_hash entry.header) ≡ false → is_marked (entry ∷ older) hash ≡ is_marked older hash
+marked_behind entry older hash isnt = rw isnt refl
+
+-- a marked hash isn't a new one
+marked_more : (entry : Entry) (older : Tree) (hash : Hash256) → IsNew older entry.header → is_marked older hash ≡ true → is_marked (entry ∷ older) hash ≡ true
+marked_more entry older hash new marked =
+    elim (cases_Bool (same hash (block_hash entry.header))) [
+      | inl own ↦ absurd (false≢true (sym new.unmarked ∙ ap (is_marked older) (sym (same-true hash (block_hash entry.header) own)) ∙ marked))
+      | inr other ↦ marked_behind entry older hash other ∙ marked
+    ]
+
+bare_unkept : (o : Option Block) → o ≡ None → is_some o ≡ true → ⊥
+bare_unkept o none kept = false≢true (sym (ap is_some none) ∙ kept)
 
 -- One entry more. What is marked at once has no block.
 reached_more : (entry : Entry) (older : Tree) → IsReached older → IsNew older entry.header → (is_some entry.block ≡ true → is_kept older entry.header.prev ≡ true) → (entry.marked ≡ true → entry.block ≡ None) → IsReached (entry ∷ older)
@@ -196,10 +237,14 @@ reached_more entry older is new under bare =
     record {
       planted = (record { parent = new.parent; once = new.once; under = under }, is.planted);
       marks = λ hash marked. elim (cases_Bool (same hash (block_hash entry.header))) [
-        | inl own ↦
-            let here : entry.marked ≡ true = rw own at marked in
-            ap is_ok (spent_own entry older hash own) ∙ bare_err entry (unspent_after older entry.header.prev) (bare here)
-        | inr other ↦ let there : is_marked older hash ≡ true = rw other at marked in ap is_ok (spent_behind entry older hash other) ∙ is.marks hash there
+        | inl own ↦ ap is_ok (spent_own entry older hash own) ∙ bare_err entry (unspent_after older entry.header.prev) (bare (sym (marked_own entry older hash own) ∙ marked))
+        | inr other ↦ ap is_ok (spent_behind entry older hash other) ∙ is.marks hash (sym (marked_behind entry older hash other) ∙ marked)
+      ];
+      stops = λ hash stop kept marked e. elim (cases_Bool (same hash (block_hash entry.header))) [
+        | inl own ↦ absurd (bare_unkept entry.block (bare (sym (marked_own entry older hash own) ∙ marked)) (sym (kept_own entry older hash own) ∙ kept))
+        | inr other ↦
+            marked_more entry older stop.first new
+            (is.stops hash stop (sym (kept_behind entry older hash other) ∙ kept) (sym (marked_behind entry older hash other) ∙ marked) (sym (spent_behind entry older hash other) ∙ e))
       ];
     }
 
@@ -226,48 +271,99 @@ mark_cases : (b : Bool) (entry : Entry) → (mark b entry).marked ≡ true → (
 mark_cases true entry e = inr refl
 mark_cases false entry e = inl e
 
+mark_stays : (b : Bool) (entry : Entry) → entry.marked ≡ true → (mark b entry).marked ≡ true
+mark_stays true entry e = refl
+mark_stays false entry e = e
+
 mark_hash : (b : Bool) (entry : Entry) → block_hash (mark b entry).header ≡ block_hash entry.header
 mark_hash true entry = refl
 mark_hash false entry = refl
 
-marked_own : (entry : Entry) (older : Tree) (hash : Hash256) → same hash (block_hash entry.header) ≡ true → is_marked (entry ∷ older) hash ≡ entry.marked
-marked_own entry older hash is = rw is refl
+-- A block and all kept blocks above it are marked: the entry of a hash, and those behind it.
+abbrev through : Hash256 → Entry → Tree → Bool
+through first entry older = is_some entry.block && leads_through (entry ∷ older) first (block_hash entry.header)
 
-marked_behind : (entry : Entry) (older : Tree) (hash : Hash256) → same hash (block_hash entry.header) ≡ false → is_marked (entry ∷ older) hash ≡ is_marked older hash
-marked_behind entry older hash isnt = rw isnt refl
+now_own : (first : Hash256) (entry : Entry) (older : Tree) (hash : Hash256) → same hash (block_hash entry.header) ≡ true → is_marked (marked_above first (entry ∷ older)) hash ≡ (mark (through first entry older) entry).marked
+now_own first entry older hash is =
+    let b = through first entry older in
+    marked_own (mark b entry) (marked_above first older) hash (ap (same hash) (mark_hash b entry) ∙ is)
 
--- what is marked was marked before, or leads through the first
-marked_then : (first : Hash256) (tree : Tree) (hash : Hash256) → is_marked (marked_above first tree) hash ≡ true → (is_marked tree hash ≡ true) ⊎ (leads_through tree first hash ≡ true)
+now_behind : (first : Hash256) (entry : Entry) (older : Tree) (hash : Hash256) → same hash (block_hash entry.header) ≡ false → is_marked (marked_above first (entry ∷ older)) hash ≡ is_marked (marked_above first older) hash
+now_behind first entry older hash isnt =
+    let b = through first entry older in
+    marked_behind (mark b entry) (marked_above first older) hash (ap (same hash) (mark_hash b entry) ∙ isnt)
+
+-- what is marked was marked before, or is kept and leads through the first
+marked_then : (first : Hash256) (tree : Tree) (hash : Hash256) → is_marked (marked_above first tree) hash ≡ true → (is_marked tree hash ≡ true) ⊎ ((is_kept tree hash ≡ true) × (leads_through tree first hash ≡ true))
 marked_then first [] hash marked = inl marked
 marked_then first (entry ∷ older) hash marked =
-    let through = is_some entry.block && leads_through (entry ∷ older) first (block_hash entry.header) in
-    let now = mark through entry in
-    let newer = marked_above first older in
     elim (cases_Bool (same hash (block_hash entry.header))) [
       | inl is ↦
-          let here : now.marked ≡ true = sym (marked_own now newer hash (ap (same hash) (mark_hash through entry) ∙ is)) ∙ marked in
-          elim (mark_cases through entry here) [
+          elim (mark_cases (through first entry older) entry (sym (now_own first entry older hash is) ∙ marked)) [
             | inl before ↦ inl (marked_own entry older hash is ∙ before)
             | inr leads ↦
-                let it = same-true hash (block_hash entry.header) is in
-                inr (ap (leads_through (entry ∷ older) first) it ∙ (and_parts (is_some entry.block) (leads_through (entry ∷ older) first (block_hash entry.header)) leads).1)
+                let both = and_parts (is_some entry.block) (leads_through (entry ∷ older) first (block_hash entry.header)) leads in
+                inr (kept_own entry older hash is ∙ both.0, ap (leads_through (entry ∷ older) first) (same-true hash (block_hash entry.header) is) ∙ both.1)
           ]
       | inr isnt ↦
-          elim (marked_then first older hash (sym (marked_behind now newer hash (ap (same hash) (mark_hash through entry) ∙ isnt)) ∙ marked)) [
+          elim (marked_then first older hash (sym (now_behind first entry older hash isnt) ∙ marked)) [
             | inl before ↦ inl (marked_behind entry older hash isnt ∙ before)
-            | inr leads ↦ inr (leads_behind entry older first hash isnt ∙ leads)
+            | inr leads ↦ inr (kept_behind entry older hash isnt ∙ leads.0, leads_behind entry older first hash isnt ∙ leads.1)
           ]
     ]
 
-reached_marked : (first : Hash256) (tree : Tree) → is_ok (unspent_after tree first) ≡ false → IsReached tree → IsReached (marked_above first tree)
-reached_marked first tree bad is =
+-- no mark is lost
+still_marked : (first : Hash256) (tree : Tree) (hash : Hash256) → is_marked tree hash ≡ true → is_marked (marked_above first tree) hash ≡ true
+still_marked first [] hash marked = marked
+still_marked first (entry ∷ older) hash marked =
+    elim (cases_Bool (same hash (block_hash entry.header))) [
+      | inl is ↦ now_own first entry older hash is ∙ mark_stays (through first entry older) entry (sym (marked_own entry older hash is) ∙ marked)
+      | inr isnt ↦ now_behind first entry older hash isnt ∙ still_marked first older hash (sym (marked_behind entry older hash isnt) ∙ marked)
+    ]
+
+mark_now : (b : Bool) (entry : Entry) → b ≡ true → (mark b entry).marked ≡ true
+mark_now true entry e = refl
+mark_now false entry e = absurd (false≢true e)
+
+-- the first is marked itself
+first_marked : (tree : Tree) (stop : Stop) → IsStop tree stop → is_marked (marked_above stop.first tree) stop.first ≡ true
+first_marked [] stop is = absurd (first_spent stop.first stop is.kept is.at)
+first_marked (entry ∷ older) stop is =
+    let first = stop.first in
+    elim (cases_Bool (same first (block_hash entry.header))) [
+      | inl own ↦
+          let it = same-true first (block_hash entry.header) own in
+          let leads : leads_through (entry ∷ older) first (block_hash entry.header) ≡ true =
+          leads_own entry older first (block_hash entry.header) (same-refl (block_hash entry.header))
+          ∙ ap (λ (b : Bool). cond b true (leads_through older first entry.header.prev)) (ap (λ (h : Hash256). same h first) (sym it) ∙ same-refl first) in
+          let both : through first entry older ≡ true = ap (λ (b : Bool). b && leads_through (entry ∷ older) first (block_hash entry.header)) (sym (kept_own entry older first own) ∙ is.kept) ∙ leads in
+          now_own first entry older first own ∙ mark_now (through first entry older) entry both
+      | inr other ↦
+          let before : IsStop older stop = record { kept = sym (kept_behind entry older first other) ∙ is.kept; at = sym (spent_behind entry older first other) ∙ is.at } in
+          now_behind first entry older first other ∙ first_marked older stop before
+    ]
+
+one_stop : (tree : Tree) (hash : Hash256) (stop other : Stop) → unspent_after tree hash ≡ Err stop → unspent_after tree hash ≡ Err other → other.first ≡ stop.first
+one_stop tree hash stop other e f = let one : other ≡ stop = cc in ap (λ (s : Stop). s.first) one
+
+reached_marked : (tree : Tree) (stop : Stop) → IsStop tree stop → IsReached tree → IsReached (marked_above stop.first tree)
+reached_marked tree stop at is =
+    let first = stop.first in
     record {
       planted = planted_marked first tree is.planted;
       marks = λ hash marked.
           ap is_ok (marks_keep_unspent first tree hash)
           ∙ elim (marked_then first tree hash marked) [
             | inl before ↦ is.marks hash before
-            | inr leads ↦ leads_bad tree first hash is.planted bad leads
+            | inr leads ↦ ap is_ok (leads_stop tree first hash stop is.planted at.at leads.0 leads.1)
+          ];
+      stops = λ hash other kept marked e.
+          let was : unspent_after tree hash ≡ Err other = sym (marks_keep_unspent first tree hash) ∙ e in
+          elim (marked_then first tree hash marked) [
+            | inl before ↦ still_marked first tree other.first (is.stops hash other (sym (marks_keep_kept first tree hash) ∙ kept) before was)
+            | inr leads ↦
+                let it = one_stop tree hash stop other (leads_stop tree first hash stop is.planted at.at leads.0 leads.1) was in
+                ap (is_marked (marked_above first tree)) it ∙ first_marked tree stop at
           ];
     }
 
@@ -275,7 +371,7 @@ reached_marked first tree bad is =
 
 reached_settled : (old new : Tree) (hash : Hash256) (r : Result Unspent Stop) → unspent_after new hash ≡ r → is_kept new hash ≡ true → IsReached new → IsReached (settled old new r).1
 reached_settled old new hash (Ok u) e kept is = is
-reached_settled old new hash (Err stop) e kept is = reached_marked stop.first new (stop_is new hash stop is.planted kept e).bad is
+reached_settled old new hash (Err stop) e kept is = reached_marked new stop (stop_is new hash stop is.planted kept e) is
 
 reached_joined : (old : Tree) (block : Block) → block_fault old block.header ≡ None → IsReached old → IsReached (joined old block).1
 reached_joined old block none is =
@@ -313,11 +409,17 @@ reached (call ∷ calls) tree h = reached_step h.0 call tree h.2 (reached calls 
 pub rooted_after : (tree : Tree) → IsHistoric tree → AreRooted tree
 rooted_after tree is = rooted_planted tree (reached is.0 tree is.1).planted
 
--- ---- what can be spent
+-- ---- what can't be spent
 
-pub spent_unmarked : (tree : Tree) (hash : Hash256) → IsHistoric tree → IsOk (unspent_after tree hash) → is_marked tree hash ≡ false
-spent_unmarked tree hash is ok =
-    elim (cases_Bool (is_marked tree hash)) [
-      | inl marked ↦ absurd (false≢true (sym ((reached is.0 tree is.1).marks hash marked) ∙ ok))
-      | inr clean ↦ clean
-    ]
+err_of : (r : Result Unspent Stop) → is_ok r ≡ false → IsErr r
+err_of (Ok u) bad = absurd (false≢true (sym bad))
+err_of (Err stop) bad = refl
+
+pub marked_err : (tree : Tree) (hash : Hash256) → IsHistoric tree → is_marked tree hash ≡ true → IsErr (unspent_after tree hash)
+marked_err tree hash is marked = err_of (unspent_after tree hash) ((reached is.0 tree is.1).marks hash marked)
+
+pub unkept_err : (tree : Tree) (hash : Hash256) → is_kept tree hash ≡ false → IsErr (unspent_after tree hash)
+unkept_err tree hash unkept = err_of (unspent_after tree hash) (unkept_bad tree hash unkept)
+
+pub marked_stop : (tree : Tree) (hash : Hash256) (stop : Stop) → IsHistoric tree → is_kept tree hash ≡ true → is_marked tree hash ≡ true → unspent_after tree hash ≡ Err stop → is_marked tree stop.first ≡ true
+marked_stop tree hash stop is kept marked e = (reached is.0 tree is.1).stops hash stop kept marked e
