@@ -10,7 +10,9 @@ pub mod Marks
 pub mod Nodes
 pub mod Partings
 pub mod Planning
+pub mod Reached
 pub mod Rising
+pub mod Roots
 pub mod Steps
 pub mod Tips
 pub mod Turning

@@ -5,6 +5,7 @@ ghost use Rattle.cb_chain.specs.Calls.{AcceptsBlock, AcceptsHeader, block_fault,
 ghost use Rattle.cb_chain.specs.Entries.{block_hash, is_kept};
 ghost use Rattle.cb_chain.specs.History.{BlockCall, Call, HeaderCall, IsHistoric, IsHistory};
 ghost use Rattle.cb_chain.specs.Keeping.{IsSpot, node_on, parent_fault};
+ghost use Rattle.cb_chain.specs.Laws.{LeadsOver, active_hashes};
 
 use crate::chain::Chain;
 use crate::change::{Change, Hashes};
@@ -137,6 +138,7 @@ impl Chain {
     /// above it are marked bad, and the tip stays. `Fault::Memory` changes nothing.
     pub fn accept_block(&mut self, block: SoundBlock) -> Result<Change, Fault>
         ensures ok { IfOk result (λ change. AcceptsBlock self.old block (Ok change) self.new) }
+        ensures moves { IfOk result (λ change. LeadsOver (active_hashes self.old) change (active_hashes self.new)) }
         ensures err { IfErr result (λ fault. ((fault ≡ Memory) × (self.new ≡ self.old))
             ⊎ AcceptsBlock self.old block (Err fault) self.new) }
         // What is kept is that of the calls so far with this one, or without it where memory was wanting.
@@ -165,6 +167,7 @@ impl Chain {
         requires tip { is_kept self.old (best self.old) ≡ true }
         requires calls { IsHistoric (joined self.old kept).1 }
         ensures ok { IfOk result (λ change. (Ok change, self.new) ≡ joined self.old kept) }
+        ensures moves { IfOk result (λ change. LeadsOver (active_hashes self.old) change (active_hashes self.new)) }
         ensures err { IfErr result (λ fault. ((fault ≡ Memory) × (self.new ≡ self.old)) ⊎ ((Err fault, self.new) ≡ joined self.old kept)) }
     {
         if spot.height > self.tip_height() {

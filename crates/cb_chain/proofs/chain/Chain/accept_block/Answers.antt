@@ -104,6 +104,7 @@ returns c =
     in
     record {
       ok = tt;
+      moves = tt;
       err = inr told;
       history = λ calls past. inr (c.args.self.now, past, (Err c.in-Err.fault, told));
     }
