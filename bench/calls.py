@@ -410,6 +410,9 @@ class Play:
 
 
 def main():
+    if "--help" in sys.argv:
+        print(__doc__.strip())
+        return
     count = int(sys.argv[1]) if len(sys.argv) > 1 else 2_000
     first = int(sys.argv[2]) if len(sys.argv) > 2 else 1
     program = built(3, "bench_chain")
