@@ -188,15 +188,18 @@ trace_more session session' settings entries entries' room room' place entry sen
 
 pub trace_steps : (session session' : SessionState) (settings : Settings) (entries entries' : List TraceEntry) (room room' place : ℕ) (event : Event) (starved : Bool) (sent : List Message) (asked : Option Question)
     → Puts session session' settings entries entries' room room' place (record { event = event; starved = starved }) sent asked → (takes_no_memory event ≡ true → starved ≡ false)
+    → ((entry_step (place - 1) session (record { event = event; starved = false })).messages ≡ [] → starved ≡ false)
     → TraceSteps (record { settings = settings; entries = entries; room = room }) (record { settings = settings; entries = entries'; room = room' }) event sent asked
-trace_steps session session' settings entries entries' room room' place event starved sent asked p calm =
+trace_steps session session' settings entries entries' room room' place event starved sent asked p calm silent =
     let next = next_is session settings entries room place (record { event = event; starved = starved }) p.trace.folds p.place_is in
+    let fed = next_is session settings entries room place (record { event = event; starved = false }) p.trace.folds p.place_is in
     record {
       starved = starved;
       grows = record { settings = refl; entries = p.more; room = p.less };
       messages = p.answers.messages ∙ ap (λ (made : Stepped). made.messages) next;
       question = p.answers.question ∙ ap (λ (made : Stepped). made.question) next;
       calm = calm;
+      silent = λ e. silent (ap (λ (made : Stepped). made.messages) fed ∙ e);
     }
 
 -- a step that was fed is the session's own

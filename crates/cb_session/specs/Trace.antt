@@ -114,13 +114,14 @@ pub record Grows (old new : TraceView) (event : Event) (starved : Bool) : Type 0
   pub room : new.room + 1 ≡ old.room
 
 -- The trace was given an event, and answered with what its session sent and asked. It is starved only where the step
--- took memory.
+-- took memory, and never where it had nothing to send.
 pub record TraceSteps (old new : TraceView) (event : Event) (sent : List Message) (asked : Option Question) : Type 0 where
   pub starved : Bool
   pub grows : Grows old new event starved
   pub messages : sent ≡ (next_step old (record { event = event; starved = starved })).messages
   pub question : asked ≡ (next_step old (record { event = event; starved = starved })).question
   pub calm : takes_no_memory event ≡ true → starved ≡ false
+  pub silent : (next_step old (record { event = event; starved = false })).messages ≡ [] → starved ≡ false
 
 -- room was made for two entries, or the trace ended with NoMemory
 pub record HasRoom (old new : TraceView) : Type 0 where

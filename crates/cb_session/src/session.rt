@@ -79,6 +79,8 @@ impl Session {
         ensures session { IfOk result (λ made. made.0 ≡ opening settings) }
         ensures messages { IfOk result (λ made. made.1.items ≡ []) }
         ensures memory { IsOkUnless result Memory }
+        // It opens with no message, so it takes no memory.
+        ensures calm { IsOk result }
     {
         let session = Session {
             settings,
@@ -109,6 +111,8 @@ impl Session {
         ensures err { OnErr result (self.new ≡ (closes reasons.Memory self.old).session) }
         ensures memory { IsOkUnless result Memory }
         ensures calm { takes_no_memory event.now ≡ true → IsOk result }
+        // A step that sends nothing takes no memory: of a session that is over, and of a reply that nobody waits for.
+        ensures silent { (step_of self.old event.now).messages ≡ [] → IsOk result }
     {
         if self.state.is_closed() {
             return Ok((Vec::new(alloc), None));
@@ -126,6 +130,7 @@ impl Session {
         ensures err { OnErr result (self.new ≡ (closes reasons.Memory self.old).session) }
         ensures memory { IsOkUnless result Memory }
         ensures calm { takes_no_memory event.now ≡ true → IsOk result }
+        ensures silent { (open_step self.old event.now).messages ≡ [] → IsOk result }
     {
         match event {
             Event::Said(item) => Ok(self.ask(alloc, Matter::of_item(item))),
@@ -168,6 +173,7 @@ impl Session {
         ensures ok { IfOk result (λ made. Answers (told self.old.standing self.old Go) self.new made.0.items made.1) }
         ensures err { OnErr result (self.new ≡ (closes reasons.Memory self.old).session) }
         ensures memory { IsOkUnless result Memory }
+        ensures silent { (told self.old.standing self.old Go).messages ≡ [] → IsOk result }
     {
         match self.standing.take() {
             None => Ok((Vec::new(alloc), None)),

@@ -89,7 +89,9 @@ impl Trace {
     /// the session is closed, and the answer is false.
     pub fn ready(&mut self) -> bool
         requires { IsOpen self.old }
-        ensures { Readied self.old self.new result }
+        ensures readied { Readied self.old self.new result }
+        // Where there is room already, no memory is taken.
+        ensures roomy { 2 ≤ self.old.room → result ≡ true }
     {
         if self.entries.reserve(2).is_ok() {
             return true;
@@ -140,6 +142,7 @@ fn give(alloc: Global, session: &mut Session, place: usize, event: &Event) -> Gi
     requires counted { 1 ≤ place }
     ensures answers { Answers (entry_step (place - 1) session.old (record { event = event.now; starved = result.starved })) session.new result.messages.items result.question }
     ensures calm { takes_no_memory event.now ≡ true → result.starved ≡ false }
+    ensures silent { (entry_step (place - 1) session.old (record { event = event.now; starved = false })).messages ≡ [] → result.starved ≡ false }
 {
     if place == TRACE_LIMIT {
         let (messages, question) = session.close(alloc, CloseReason::TraceFull);

@@ -5,20 +5,25 @@ ghost use Rattle.cb_session.specs.Writing.{SentFront, SentPart, Wrote, WrotePart
 use crate::sink::Sink;
 use cb_wire::{BoundedMessage, encode};
 use std::alloc::Global;
+use thiserror::Error;
 
 /// Why writing ended early.
-#[derive(Clone, Copy, Debug, PartialEq, Eq)]
+#[derive(Clone, Copy, Debug, PartialEq, Eq, Error)]
 pub enum WriteFault {
     /// A write failed.
+    #[error("a write failed")]
     Io,
     /// A write took no byte.
+    #[error("a write took no byte")]
     Zero,
     /// Memory ran out before a message was written.
+    #[error("memory ran out")]
     Memory,
 }
 
 /// Where writing ended early.
-#[derive(Clone, Copy, Debug, PartialEq, Eq)]
+#[derive(Clone, Copy, Debug, PartialEq, Eq, Error)]
+#[error("{fault} behind {written} bytes")]
 pub struct WriteEnd {
     /// How many bytes went out; the greatest u64 where they are more.
     pub written: u64,

@@ -1,7 +1,7 @@
 -- The command that the words of a command line enter.
-use Rattle.std.proofs.Common.{◌≡◌, ℕ, true, List, [], ◌∷◌, codes, Option, Some, None, refl}
+use Rattle.std.proofs.Common.{◌≡◌, ◌⊎◌, inl, inr, ℕ, Bool, true, false, List, [], ◌∷◌, codes, Option, Some, None, Result, Ok, Err, IfOk, refl}
 use Rattle.std.specs.Prelude.{option_map}
-use Rattle.clap.specs.Words.{is_simple, subcommand_name_of, subcommand_rows_of}
+use Rattle.clap.specs.Words.{is_simple, takes, subcommand_name_of, subcommand_rows_of}
 use Rattle.clap.specs.declared.parser.matches.ArgMatches.{ArgMatches}
 use Rattle.clap.proofs.OnLiterals.{clap_on_literals}
 use Rattle.cbrelay.specs.Words.{program, task_in}
@@ -23,3 +23,21 @@ name_of_rows m = mapped_twice _ (λ found. found.0) _
 pub named : (name : List ℕ) → (task_in (name ∷ []) ≡ Decode) × (task_in (name ∷ codes "decode" ∷ []) ≡ Decode) × (task_in (name ∷ codes "serve" ∷ []) ≡ Serve) × (task_in (name ∷ codes "sim" ∷ []) ≡ Sim)
 unfolding clap_on_literals
 named name = (refl, refl, refl, refl)
+
+-- and they are taken
+pub taken : (name : List ℕ) → (takes program (name ∷ []) ≡ true) × (takes program (name ∷ codes "decode" ∷ []) ≡ true) × (takes program (name ∷ codes "serve" ∷ []) ≡ true) × (takes program (name ∷ codes "sim" ∷ []) ≡ true)
+unfolding clap_on_literals
+taken name = (refl, refl, refl, refl)
+
+pub if_ok_more : {T E : Type 0} {P Q : T → Type 0} (r : Result T E) → ((t : T) → P t → Q t) → IfOk r P → IfOk r Q
+if_ok_more (Ok t) f p = f t p
+if_ok_more (Err e) f p = p
+
+-- words that clap takes halt; others are refused or halt
+pub refused : {One Halted : Type 0} (taken : Bool) → (taken ≡ true → Halted) → One ⊎ Halted → ((taken ≡ false) × One) ⊎ Halted
+refused true halts ends = inr (halts refl)
+refused false halts ends =
+    elim ends [
+      | inl one ↦ inl (refl, one)
+      | inr halted ↦ inr halted
+    ]

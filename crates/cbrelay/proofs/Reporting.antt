@@ -1,8 +1,8 @@
 -- The run of `decode` line by line: what stands after each, and what it comes to at the end.
-use Rattle.std.proofs.Common.{◌≡◌, ℕ, Bool, true, false, ◌+◌, List, [], ◌∷◌, ◌++◌, length, Option, Some, None, Ok, refl, sym, ap, subst, ◌∙◌, append_assoc, inl, inr, arith}
+use Rattle.std.proofs.Common.{◌≡◌, ℕ, Bool, true, false, ◌+◌, List, [], ◌∷◌, ◌++◌, length, Option, Some, None, Result, Ok, Err, MatchResult, IfOk, refl, sym, ap, subst, ◌∙◌, append_assoc, inl, inr, arith}
 use Rattle.std.proofs.lemmas.List.{append-nil, length-append}
 use Rattle.std.proofs.lemmas.Grind.{flat_map-append}
-use Rattle.std.specs.Prelude.{is_some}
+use Rattle.std.specs.Prelude.{is_some, IsErrAnd}
 use Rattle.std.specs.Io.KnownBytes.{prepend_known, Appends}
 use Rattle.std.specs.Str.Lines.{lines}
 use Rattle.hex.specs.Hex.{decode_of}
@@ -203,3 +203,10 @@ pub going-stop : (whole old r r' o o' : Option (List ℕ)) (stream : Decoded) (n
     → NextLine found r r' line → found ≡ true → IsNotHex line → Appends o o' (not_hex_text number) → ReportsKnown whole old o' BadInput
 going-stop whole old r r' o o' stream number found line g n e h w =
     stopped whole old r r' o o' stream number line g (subst (λ (b : Bool). NextLine b r r' line) e n) h w
+
+-- what a call gave, whose error was then changed
+pub ok_before : {T E D : Type 0} (P : T → Type 0) (Q : E → D → Type 0) (r : Result T E) (changed : Result T D) (t : T)
+    → MatchResult r (λ x. changed ≡ Ok x) (λ e. IsErrAnd changed (Q e)) → changed ≡ Ok t → IfOk r P → P t
+ok_before P Q (Ok x) changed t m e p = subst P (let same : Ok x ≡ Ok t = sym m ∙ e in cc) p
+ok_before P Q (Err why) (Ok y) t m e p = absurd m
+ok_before P Q (Err why) (Err d) t m e p = absurd (let wrong : Err d ≡ Ok t = e in cc)

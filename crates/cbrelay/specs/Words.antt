@@ -1,14 +1,18 @@
 -- What the words of a command line ask for.
-use Rattle.std.specs.Prelude.{ℕ, if◌then◌else◌, List, codes, Option, Some, None, option_map}
+use Rattle.std.specs.Prelude.{ℕ, true, if◌then◌else◌, List, codes, Option, Some, None, option_map}
 use Rattle.std.specs.Str.{bytes_eq}
 use Rattle.clap.specs.Words.{App, new_app, subcommand_of, with_subcommand}
 use Rattle.cbrelay.specs.declared.command.Task.{Task}
 use Rattle.cbrelay.specs.declared.command.Task.TheVariants.{Decode, Serve, Sim}
 
--- the program's command line: three commands that have no arguments
+-- a command that tells its version
+abbrev pub with_version : App → App
+with_version a = record a { top = record a.top { has_version = true } }
+
+-- the program's command line: its version, and three commands that have no arguments
 abbrev pub program : App
 program =
-    with_subcommand (with_subcommand (with_subcommand (new_app (codes "cbrelay")) (new_app (codes "decode")).top) (new_app (codes "serve")).top) (new_app (codes "sim")).top
+    with_subcommand (with_subcommand (with_subcommand (with_version (new_app (codes "cbrelay"))) (new_app (codes "decode")).top) (new_app (codes "serve")).top) (new_app (codes "sim")).top
 
 -- the command that the words enter, if they enter one; the first word is the program's name
 abbrev pub entered : List (List ℕ) → Option (List ℕ)

@@ -1,6 +1,6 @@
 //! The command line.
 
-ghost use Rattle.std.specs.Prelude.{◌≡◌, ◌⊎◌, ℕ, true, List, [], ◌∷◌, codes, map, option_map, string_bytes, IfOk, IfErr, MatchResult};
+ghost use Rattle.std.specs.Prelude.{◌≡◌, ◌⊎◌, ℕ, true, false, IsErr, List, [], ◌∷◌, codes, map, option_map, string_bytes, IfOk, IfErr, MatchResult};
 ghost use Rattle.std.specs.Io.KnownBytes.{Appends};
 ghost use Rattle.cb_session.specs.declared.state.CloseReason.{CloseReason};
 ghost use Rattle.cb_session.specs.declared.state.CloseReason.TheVariants as reasons;
@@ -10,7 +10,9 @@ ghost use Rattle.cbrelay.specs.Command.{PrintsReport, EndsEarly, Halts, TellsPee
 ghost use Rattle.cbrelay.specs.Ending.{halt_status, halt_line};
 ghost use Rattle.cbrelay.specs.Peer.{WasServed};
 ghost use Rattle.cbrelay.specs.SimInput.{SimulatesKnown};
-ghost use Rattle.cbrelay.specs.Words.{ByTask, task_in, task_named};
+ghost use Rattle.cbrelay.specs.Words.{ByTask, program, task_in, task_named};
+ghost use Rattle.clap.specs.Words.{app_of, kind_of, takes};
+ghost use Rattle.clap.specs.declared.error.kind.ErrorKind.TheVariants.{OutOfMemory};
 
 use crate::decode::decode;
 use crate::ending::{Halt, Status};
@@ -20,7 +22,7 @@ use crate::simulate::simulate;
 use cb_session::{Sink, Source};
 use clap::Command;
 use clap::error::ErrorKind;
-use std::alloc::Global;
+use std::alloc::{AllocError, Global};
 
 /// What a command line asks for.
 #[derive(Clone, Copy, Debug, PartialEq, Eq)]
@@ -33,6 +35,24 @@ pub enum Task {
     Sim,
 }
 
+/// The version that `--version` tells.
+const VERSION: &str = "0.1.0";
+
+/// What `--help` tells below the commands.
+const USE: &str = "\
+Without a command it is decode. All input is standard input. The network is Bitcoin's regression
+test network (regtest).
+
+Exit status:
+  0  all was done
+  1  the command line was refused, or help or the version was asked for
+  2  sim: an act was refused
+  3  the input has a fault, or a read or a write failed
+  4  memory ran out
+
+Example:
+  echo fabfb5da76657261636b000000000000000000005df6e0e2 | cbrelay decode";
+
 /// Does what the words ask for, and answers the exit status.
 ///
 /// The first word is the program's name. All input comes from `reader`. What is printed goes to `writer`, and to `errors`
@@ -44,8 +64,9 @@ pub fn command<R: Source, W: Sink, E: Sink>(
     writer: &mut W,
     errors: &mut E,
 ) -> u8
-    // The words were refused, or the run ended early, or the command that the words name came to its end.
-    ensures ran { ((result ≡ 1) × (reader.new ≡ reader.old) × (writer.new ≡ writer.old))
+    // The words were refused, which they are only where clap doesn't take them; or the run ended early; or the command that
+    // the words name came to its end.
+    ensures ran { ((takes program (map string_bytes words.items) ≡ false) × (result ≡ 1) × (reader.new ≡ reader.old) × (writer.new ≡ writer.old))
         ⊎ (Halts (E.contents errors.old) (E.contents errors.new) (E.has_failed errors.new) result
         ⊎ ByTask (task_in (map string_bytes words.items))
         (PrintsReport (R.remaining reader.old) (W.contents writer.old) (W.contents writer.new) result × (errors.new ≡ errors.old))
@@ -57,12 +78,26 @@ pub fn command<R: Source, W: Sink, E: Sink>(
     // The commands by their words.
     ensures named { (name : List ℕ) → (task_in (name ∷ []) ≡ Task.Decode) × (task_in (name ∷ codes "decode" ∷ []) ≡ Task.Decode)
         × (task_in (name ∷ codes "serve" ∷ []) ≡ Task.Serve) × (task_in (name ∷ codes "sim" ∷ []) ≡ Task.Sim) }
+    // They are taken.
+    ensures taken { (name : List ℕ) → (takes program (name ∷ []) ≡ true) × (takes program (name ∷ codes "decode" ∷ []) ≡ true)
+        × (takes program (name ∷ codes "serve" ∷ []) ≡ true) × (takes program (name ∷ codes "sim" ∷ []) ≡ true) }
 {
     match task_of(alloc, words.as_slice()) {
         Ok(Task::Decode) => settle(code_of(decode(alloc, reader, writer)), errors),
         Ok(Task::Serve) => answer_peer(alloc, reader, writer, errors),
         Ok(Task::Sim) => settle(simulate(alloc, reader, writer), errors),
         Err(error) => settle_refusal(alloc, &error, errors),
+    }
+}
+
+/// Refuses a command line of which a word isn't UTF-8: says so on `errors`, and answers the exit status.
+pub fn refuse_foreign<E: Sink>(errors: &mut E) -> u8
+    ensures { ((result ≡ 1) × Appends (E.contents errors.old) (E.contents errors.new) (codes "error: a word of the command line isn't UTF-8\n"))
+        ⊎ ((result ≡ 3) × (E.has_failed errors.new ≡ true)) }
+{
+    match write_all(errors, b"error: a word of the command line isn't UTF-8\n") {
+        Ok(()) => Status::Usage.code(),
+        Err(halt) => halt.status().code(),
     }
 }
 
@@ -84,7 +119,8 @@ fn answer_peer<R: Source, W: Sink, E: Sink>(
 
 /// Says why the command line was refused, or gives the help that it asked for.
 fn settle_refusal<E: Sink>(alloc: Global, error: &clap::Error, errors: &mut E) -> u8
-    ensures { (result ≡ 1) ⊎ Halts (E.contents errors.old) (E.contents errors.new) (E.has_failed errors.new) result }
+    ensures ends { (result ≡ 1) ⊎ Halts (E.contents errors.old) (E.contents errors.new) (E.has_failed errors.new) result }
+    ensures memory { kind_of error.now ≡ OutOfMemory → Halts (E.contents errors.old) (E.contents errors.new) (E.has_failed errors.new) result }
 {
     let ended = refuse(alloc, error, errors);
     settle(code_of(ended), errors)
@@ -110,20 +146,32 @@ fn code_of(ended: Result<Status, Halt>) -> Result<u8, Halt>
     Ok(status.code())
 }
 
-/// The task that the words name: `decode` where they name none.
-fn task_of(alloc: Global, words: &[String]) -> Result<Task, clap::Error>
-    ensures { IfOk result (λ task. task ≡ task_in (map string_bytes words.now)) }
+/// The program's command line.
+fn command_line<'a>(alloc: Global) -> Result<Command<'a>, AllocError>
+    ensures { IfOk result (λ line. app_of line ≡ program) }
 {
     let decode = Command::new(alloc, "decode").about("Print the items of a stream of hex pieces");
     let serve = Command::new(alloc, "serve").about("Answer a peer: its bytes in, ours out");
     let sim = Command::new(alloc, "sim").about("Run the crew's core, a line for each act");
-    let command = Command::new(alloc, "cbrelay")
+    Command::new(alloc, "cbrelay")
         .about("A compact block relay node")
+        .version(VERSION)
+        .after_help(USE)
         .subcommand(decode)?
         .subcommand(serve)?
-        .subcommand(sim)?;
-    let matches = command.try_get_matches_from(words)?;
-    Ok(task_named(matches.subcommand_name()))
+        .subcommand(sim)
+}
+
+/// The task that the words name: `decode` where they name none.
+fn task_of(alloc: Global, words: &[String]) -> Result<Task, clap::Error>
+    ensures task { IfOk result (λ task. task ≡ task_in (map string_bytes words.now)) }
+    ensures passes { IfErr result (λ error. takes program (map string_bytes words.now) ≡ true → kind_of error ≡ OutOfMemory) }
+{
+    let line = command_line(alloc)?;
+    match line.try_get_matches_from(words) {
+        Ok(matches) => Ok(task_named(matches.subcommand_name())),
+        Err(error) => Err(error),
+    }
 }
 
 /// The task of the command that was entered: `decode`, where none was.
@@ -141,6 +189,7 @@ fn task_named(name: Option<&str>) -> Task
 fn refuse<E: Sink>(alloc: Global, error: &clap::Error, errors: &mut E) -> Result<Status, Halt>
     ensures usage { IfOk result (λ status. status ≡ Usage) }
     ensures err { IfErr result (λ halt. ((halt ≡ Memory) × (errors.new ≡ errors.old)) ⊎ ((halt ≡ WriteFailed) × (E.has_failed errors.new ≡ true))) }
+    ensures memory { kind_of error.now ≡ OutOfMemory → IsErr result }
 {
     if error.kind() == ErrorKind::OutOfMemory {
         return Err(Halt::Memory);

@@ -1,6 +1,6 @@
 //! The command `decode`: a stream's items, one line each.
 
-ghost use Rattle.std.specs.Prelude.{◌≡◌, ℕ, List, [], ◌++◌, length, ⊤, IfOk, IsOkUnless, OnOk, MatchOption, None, string_bytes, Ok, false};
+ghost use Rattle.std.specs.Prelude.{◌≡◌, ℕ, List, [], ◌++◌, ◌%◌, length, ⊤, IsOk, IfOk, IsOkUnless, OnOk, MatchOption, None, string_bytes, Ok, false};
 ghost use Rattle.std.specs.Io.KnownBytes.{Appends};
 ghost use Rattle.hex.specs.Hex.{decode_of};
 ghost use Rattle.cbrelay.specs.declared.ending.Halt.TheVariants.{Memory};
@@ -106,6 +106,8 @@ impl Decoding {
             × ((bytes out : List ℕ) → Decodes bytes out self.old → Decodes (bytes ++ piece) (out ++ string_bytes text) self.new))) }
         ensures not_hex { IfOk result (λ printed. MatchOption printed (self.new ≡ self.old) (λ text. ⊤)) }
         ensures memory { IsOkUnless result Memory }
+        // For a line of an odd length no memory is taken.
+        ensures odd { length line.now % 2 ≡ 1 → IsOk result }
     {
         match hex::decode(self.alloc, line) {
             Ok(piece) => Ok(Some(self.piece(piece.as_slice())?)),
@@ -121,9 +123,7 @@ impl Decoding {
         ensures memory { IsOkUnless result Memory }
     {
         let told = self.fault.is_some();
-        let Ok(fed) = self.assembler.feed(piece) else {
-            return Err(Halt::Memory);
-        };
+        let fed = self.assembler.feed(piece).map_err(Halt::of_memory)?;
         self.fault = fed.fault;
         let mut text = String::new(self.alloc);
         push_items(self.alloc, &mut text, fed.items.as_slice())?;

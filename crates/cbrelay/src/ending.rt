@@ -49,7 +49,19 @@ pub enum Halt {
 }
 
 impl Halt {
+    ghost use Rattle.cb_base.specs.declared.fault.Fault.TheVariants as faults;
     ghost use Rattle.cbrelay.specs.Ending.{halt_status, halt_line};
+
+    /// What want of memory in a call makes of the run.
+    pub fn of_memory(fault: Fault) -> Halt
+        requires { fault ≡ faults.Memory }
+        ensures { result ≡ Halt.Memory }
+    {
+        match fault {
+            Fault::Memory => Halt::Memory,
+            _ => unreachable!(),
+        }
+    }
 
     /// The status that the run ends with.
     pub fn status(self) -> Status
@@ -89,17 +101,6 @@ impl<T: Drop> From<AllocFailed<T>> for Halt {
     ghost from_gives = { λ _ halt. halt ≡ Memory };
 
     fn from(_error: AllocFailed<T>) -> Halt {
-        Halt::Memory
-    }
-}
-
-impl From<Fault> for Halt {
-    ghost use Rattle.cbrelay.specs.declared.ending.Halt.TheVariants.{Memory};
-
-    ghost from_gives = { λ _ halt. halt ≡ Memory };
-
-    /// The calls whose faults come here are refused for want of memory alone.
-    fn from(_fault: Fault) -> Halt {
         Halt::Memory
     }
 }

@@ -14,13 +14,18 @@ mod simulate;
 mod tests;
 
 use cb_session::{In, Out};
+use std::io::ErrorKind;
 use std::process::ExitCode;
 
 /// Hands all to `command`: the words, standard input, standard output and standard error.
 fn main(rt: HostRuntime) -> ExitCode {
     let alloc = rt.alloc();
+    let mut errors = Out::new(rt.stderr());
     let words = match std::env::args(&rt) {
         Ok(args) => args.collect(alloc),
+        Err(error) if error.kind() == ErrorKind::InvalidData => {
+            return ExitCode::from(command::refuse_foreign(&mut errors));
+        }
         Err(_) => return ExitCode::from(ending::Status::NoMemory.code()),
     };
     let Ok(words) = words else {
@@ -28,6 +33,5 @@ fn main(rt: HostRuntime) -> ExitCode {
     };
     let mut reader = In::new(rt.reader());
     let mut writer = Out::new(std::io::writer(&rt));
-    let mut errors = Out::new(rt.stderr());
     ExitCode::from(command::command(alloc, words, &mut reader, &mut writer, &mut errors))
 }

@@ -1,6 +1,6 @@
 //! What `decode` prints of an item: one arm for each message.
 
-ghost use Rattle.std.specs.Prelude.{◌≡◌, ◌++◌, OnOk, IsOkUnless, string_bytes};
+ghost use Rattle.std.specs.Prelude.{◌≡◌, [], ◌++◌, None, IsOk, OnOk, IsOkUnless, string_bytes};
 ghost use Rattle.cbrelay.specs.declared.ending.Halt.TheVariants.{Memory};
 ghost use Rattle.cbrelay.specs.Printed.{block_line, broken_text, item_text, items_text, message_text, tx_line};
 
@@ -15,6 +15,7 @@ use std::alloc::Global;
 pub fn push_items(alloc: Global, text: &mut String, items: &[Item]) -> Result<(), Halt>
     ensures text { OnOk result (string_bytes text.new ≡ string_bytes text.old ++ items_text items.now) }
     ensures memory { IsOkUnless result Memory }
+    ensures nothing { items.now ≡ [] → IsOk result }
 {
     for item in items {
         push_item(alloc, text, item)?;
@@ -65,8 +66,8 @@ fn push_tx(alloc: Global, text: &mut String, tx: &Tx) -> Result<(), Halt>
     ensures memory { IsOkUnless result Memory }
 {
     let mut bytes = Vec::new(alloc);
-    write_tx(&mut bytes, tx)?;
-    let txid = dsha(bytes.as_slice()).show(alloc)?;
+    write_tx(&mut bytes, tx).map_err(Halt::of_memory)?;
+    let txid = dsha(bytes.as_slice()).show(alloc).map_err(Halt::of_memory)?;
     let size = bytes.len();
     writeln!(text, "tx {txid} {size}")?;
     Ok(())
@@ -77,7 +78,7 @@ fn push_block(alloc: Global, text: &mut String, block: &Block) -> Result<(), Hal
     ensures text { OnOk result (string_bytes text.new ≡ string_bytes text.old ++ block_line block.now) }
     ensures memory { IsOkUnless result Memory }
 {
-    let hash = block.header.hash().show(alloc)?;
+    let hash = block.header.hash().show(alloc).map_err(Halt::of_memory)?;
     let count = block.txs.as_slice().len();
     writeln!(text, "block {hash} {count}")?;
     Ok(())
@@ -87,6 +88,7 @@ fn push_block(alloc: Global, text: &mut String, block: &Block) -> Result<(), Hal
 pub fn push_fault(text: &mut String, fault: Option<Fault>) -> Result<(), Halt>
     ensures text { OnOk result (string_bytes text.new ≡ string_bytes text.old ++ broken_text fault) }
     ensures memory { IsOkUnless result Memory }
+    ensures nothing { fault ≡ None → IsOk result }
 {
     if let Some(fault) = fault {
         writeln!(text, "broken {fault}")?;

@@ -1,7 +1,10 @@
 //! The crew's core, run by hand: a line for the sizes of the crew, and then a line for each act.
 
-ghost use Rattle.std.specs.Prelude.{◌≡◌, ℕ, List, ◌++◌, false, IfOk, OnOk, IsOkUnless, string_bytes};
+ghost use Rattle.std.specs.Prelude.{◌≡◌, ℕ, List, ◌++◌, false, IsOk, IfOk, OnOk, IsOkUnless, string_bytes};
 ghost use Rattle.cb_base.specs.declared.fault.Fault.TheVariants.{Memory};
+ghost use Rattle.cb_sched.specs.declared.act.Act.{Act};
+ghost use Rattle.cb_sched.specs.Crew.{IsEnabled, Machine, TakesMemory};
+ghost use Rattle.cbrelay.specs.SimLine.{TellsAct};
 ghost use Rattle.cbrelay.specs.SimRun.{DoesLine, final_text, refusal_text, status_of, unreadable_text};
 
 mod read;
@@ -71,6 +74,9 @@ impl Simulation {
     pub fn line(&mut self, text: &[u8], out: &mut String) -> Result<Flow, Fault>
         ensures does { IfOk result (λ flow. (printed : List ℕ) × (string_bytes out.new ≡ string_bytes out.old ++ printed) × DoesLine text.now self.old flow printed self.new) }
         ensures memory { IsOkUnless result Memory }
+        // A line of a run that is over takes no memory, and neither does an act that can come and takes none of its own.
+        ensures over { self.old.stage ≡ Stage.Unreadable → IsOk result }
+        ensures calm { (m : Machine) (act : Act) → self.old.stage ≡ Stage.Running m → TellsAct text.now act → IsEnabled m.capacity m.crew act → (TakesMemory act → ⊥) → IsOk result }
     {
         self.lines = self.lines.saturating_add(1);
         let line = self.lines;
@@ -124,6 +130,7 @@ impl Simulation {
         ensures text { OnOk result (string_bytes out.new ≡ string_bytes out.old ++ final_text self.stage) }
         ensures status { IfOk result (λ status. status ≡ status_of self.stage self.refused) }
         ensures memory { IsOkUnless result Memory }
+        ensures over { self.stage ≡ Stage.Unreadable → IsOk result }
     {
         match &self.stage {
             Stage::Opening => {

@@ -31,7 +31,9 @@ pub fn simulate<R: Source, W: Sink>(
             return report(alloc, simulation, writer);
         }
         let mut text = String::new(alloc);
-        let flow = simulation.line(lines.line(), &mut text)?;
+        let flow = simulation
+            .line(lines.line(), &mut text)
+            .map_err(Halt::of_memory)?;
         write_all(writer, text.as_bytes())?;
         if flow == Flow::Stop {
             return report(alloc, simulation, writer);
@@ -46,7 +48,7 @@ fn report<W: Sink>(alloc: Global, simulation: Simulation, writer: &mut W) -> Res
     ensures status { IfOk result (λ status. status ≡ status_of simulation.stage simulation.refused) }
 {
     let mut text = String::new(alloc);
-    let status = simulation.finish(&mut text)?;
+    let status = simulation.finish(&mut text).map_err(Halt::of_memory)?;
     write_all(writer, text.as_bytes())?;
     Ok(status)
 }

@@ -297,6 +297,43 @@ fn other_words_are_refused(rt: HostRuntime) -> Result<(), Fail> {
     Ok(())
 }
 
+/// The version goes to standard error too, as clap writes it.
+#[test]
+fn the_version_is_told(rt: HostRuntime) -> Result<(), Fail> {
+    for word in ["--version", "-V"] {
+        let ran = run(rt.alloc(), &[word], ROW_19)?;
+        assert_eq!(rt;
+            ran.errors.as_slice(),
+            b"cbrelay 0.1.0\n".as_slice(),
+            "at {word}"
+        );
+        assert_eq!(rt; ran.status, 1, "at {word}");
+        assert!(rt; ran.written.is_empty(), "at {word}");
+    }
+    Ok(())
+}
+
+/// Help tells the commands, which one runs where none is named, the input, the network, the statuses, and an example.
+#[test]
+fn help_tells_how_to_use_it(rt: HostRuntime) -> Result<(), Fail> {
+    let ran = run(rt.alloc(), &["--help"], ROW_19)?;
+    let Ok(text) = str::from_utf8(ran.errors.as_slice()) else {
+        return Err(Fail);
+    };
+    for part in [
+        "Usage: cbrelay [COMMAND]\n",
+        "  decode  Print the items of a stream of hex pieces\n",
+        "Without a command it is decode. All input is standard input.",
+        "(regtest)",
+        "\n  2  sim: an act was refused\n",
+        "\nExample:\n  echo fabfb5da76657261636b000000000000000000005df6e0e2 | cbrelay decode\n",
+    ] {
+        assert!(rt; text.contains(part), "at {part}");
+    }
+    assert_eq!(rt; ran.status, 1);
+    Ok(())
+}
+
 /// The bytes that a text of hex lines stands for.
 fn bytes_of(alloc: Global, text: &str) -> Result<Vec<u8>, Fail> {
     let mut bytes = Vec::new(alloc);

@@ -7,21 +7,21 @@ use Rattle.cb_session.proofs.conversation.ask.Goals as goal
 pub returns-then-not-ready-clause-accounts : goal.returns-then-not-ready-clause-accounts
 returns-then-not-ready-clause-accounts c =
     λ from inputs held failed written a.
-    ask_none from c.args.trace.now c.ready.new.self held failed c.args.hall.now c.args.badge.now written inputs c.new.result.items c.requires.going c.if-not-ready.ensures c.new.ensures.items a
+    ask_none from c.args.trace.now c.ready.new.self held failed c.args.hall.now c.args.badge.now written inputs c.new.result.items c.requires.going c.if-not-ready.ensures.readied c.new.ensures.items a
 
 pub returns-in-Ok-clause-accounts : goal.returns-in-Ok-clause-accounts
 returns-in-Ok-clause-accounts c =
     λ from inputs held failed written a.
     ask_told from c.args.trace.now c.ready.new.self c.step.new.self held failed c.args.hall.now c.call.new.self c.args.badge.now c.call.new.badge written inputs c.args.question c.in-Ok.answer c.step.result.0.items c.step.result.1
-    c.requires.going c.if-not-ready.ensures c.requires.stands c.in-Ok.ensures.ok c.step.ensures a
+    c.requires.going c.if-not-ready.ensures.readied c.requires.stands c.in-Ok.ensures.ok c.step.ensures a
 
 pub returns-in-Ok-clause-silent : goal.returns-in-Ok-clause-silent
 returns-in-Ok-clause-silent c =
-    silent_more c.ready.new.self c.step.new.self _ _ _ (room_open c.args.trace.now c.ready.new.self c.if-not-ready.ensures c.requires.going) c.step.ensures
+    silent_more c.ready.new.self c.step.new.self _ _ _ (room_open c.args.trace.now c.ready.new.self c.if-not-ready.ensures.readied c.requires.going) c.step.ensures
 
 pub returns-in-Ok-clause-stands : goal.returns-in-Ok-clause-stands
 returns-in-Ok-clause-stands c =
-    stands_more c.ready.new.self c.step.new.self _ _ _ (room_open c.args.trace.now c.ready.new.self c.if-not-ready.ensures c.requires.going) c.step.ensures
+    stands_more c.ready.new.self c.step.new.self _ _ _ (room_open c.args.trace.now c.ready.new.self c.if-not-ready.ensures.readied c.requires.going) c.step.ensures
 
 pub returns-in-Err-JournalFull-clause-accounts : goal.returns-in-Err-JournalFull-clause-accounts
 returns-in-Err-JournalFull-clause-accounts c =
@@ -29,27 +29,27 @@ returns-in-Err-JournalFull-clause-accounts c =
     let marked = c.call.ensures.marks (c.in-Err-JournalFull.is ∙ ap (λ f. Err f) c.in-Err-JournalFull.field-0-is) in
     ask_refused from c.args.trace.now c.ready.new.self c.step-in-Err-JournalFull.new.self held failed c.args.hall.now c.call.new.self c.args.badge.now c.call.new.badge written inputs events.HallFull
     c.step-in-Err-JournalFull.result.0.items c.step-in-Err-JournalFull.result.1
-    c.requires.going c.if-not-ready.ensures c.in-Err-JournalFull.ensures.journal (λ h. ap (λ (b : BadgeState). b.full) marked) (λ h. ap (λ (b : BadgeState). b.full) marked) (ap (λ (b : BadgeState). b.peer) marked)
+    c.requires.going c.if-not-ready.ensures.readied c.in-Err-JournalFull.ensures.journal (λ h. ap (λ (b : BadgeState). b.full) marked) (λ h. ap (λ (b : BadgeState). b.full) marked) (ap (λ (b : BadgeState). b.peer) marked)
     refl refl refl refl c.step-in-Err-JournalFull.ensures a
 
 pub returns-in-Err-JournalFull-clause-stands : goal.returns-in-Err-JournalFull-clause-stands
 returns-in-Err-JournalFull-clause-stands c =
-    stands_more c.ready.new.self c.step-in-Err-JournalFull.new.self _ _ _ (room_open c.args.trace.now c.ready.new.self c.if-not-ready.ensures c.requires.going) c.step-in-Err-JournalFull.ensures
+    stands_more c.ready.new.self c.step-in-Err-JournalFull.new.self _ _ _ (room_open c.args.trace.now c.ready.new.self c.if-not-ready.ensures.readied c.requires.going) c.step-in-Err-JournalFull.ensures
 
 pub returns-in-Err-JournalFull-clause-silent : goal.returns-in-Err-JournalFull-clause-silent
 returns-in-Err-JournalFull-clause-silent c =
-    silent_more c.ready.new.self c.step-in-Err-JournalFull.new.self _ _ _ (room_open c.args.trace.now c.ready.new.self c.if-not-ready.ensures c.requires.going) c.step-in-Err-JournalFull.ensures
+    silent_more c.ready.new.self c.step-in-Err-JournalFull.new.self _ _ _ (room_open c.args.trace.now c.ready.new.self c.if-not-ready.ensures.readied c.requires.going) c.step-in-Err-JournalFull.ensures
 
 pub returns-in-Err : goal.returns-in-Err
 returns-in-Err c =
-    let going = room_open c.args.trace.now c.ready.new.self c.if-not-ready.ensures c.requires.going in
+    let going = room_open c.args.trace.now c.ready.new.self c.if-not-ready.ensures.readied c.requires.going in
     record {
       accounts =
           λ from inputs held failed written a.
           let badge = refused_badge c.args.badge.now c.call.new.badge c.call.result c.in-Err.field-0 c.in-Err.is c.in-Err.ensures.kinds c.call.ensures.marks c.call.ensures.memory in
           ask_refused from c.args.trace.now c.ready.new.self c.step-in-Err.new.self held failed c.args.hall.now c.call.new.self c.args.badge.now c.call.new.badge written inputs events.NoMemory
           c.step-in-Err.result.0.items c.step-in-Err.result.1
-          c.requires.going c.if-not-ready.ensures c.in-Err.ensures.journal badge.0 (λ h. absurd cc) badge.1
+          c.requires.going c.if-not-ready.ensures.readied c.in-Err.ensures.journal badge.0 (λ h. absurd cc) badge.1
           refl refl refl refl c.step-in-Err.ensures a;
       stands = stands_more c.ready.new.self c.step-in-Err.new.self _ _ _ going c.step-in-Err.ensures;
       silent = silent_more c.ready.new.self c.step-in-Err.new.self _ _ _ going c.step-in-Err.ensures;

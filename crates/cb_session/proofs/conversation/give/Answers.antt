@@ -5,11 +5,11 @@ use Rattle.cb_session.proofs.conversation.give.Goals as goal
 
 pub returns-then-not-ready-clause-gave : goal.returns-then-not-ready-clause-gave
 returns-then-not-ready-clause-gave g c =
-    λ from inputs s. gave_none from c.args.trace.now c.ready.new.self _ _ c.args.hall.now c.args.badge.now c.args.written inputs c.args.event c.requires.going c.if-not-ready.ensures s
+    λ from inputs s. gave_none from c.args.trace.now c.ready.new.self _ _ c.args.hall.now c.args.badge.now c.args.written inputs c.args.event c.requires.going c.if-not-ready.ensures.readied s
 
 pub converse-requires-clause-stands : goal.converse-requires-clause-stands
 converse-requires-clause-stands g c =
-    stands_more c.ready.new.self c.step-messages.new.self _ _ _ (room_open c.args.trace.now c.ready.new.self c.if-not-ready.ensures c.requires.going) c.step-messages.ensures
+    stands_more c.ready.new.self c.step-messages.new.self _ _ _ (room_open c.args.trace.now c.ready.new.self c.if-not-ready.ensures.readied c.requires.going) c.step-messages.ensures
 
 pub returns-clause-gave : goal.returns-clause-gave
 returns-clause-gave g c =
@@ -19,13 +19,13 @@ returns-clause-gave g c =
       settled =
           c.converse.ensures.settled from (inputs ++ c.args.event ∷ [])
           (accounts_input from c.args.trace.now c.ready.new.self c.step-messages.new.self _ _ c.args.hall.now c.args.badge.now c.args.written inputs c.args.event _ _
-          c.requires.going c.if-not-ready.ensures c.requires.input c.step-messages.ensures s);
+          c.requires.going c.if-not-ready.ensures.readied c.requires.input c.step-messages.ensures s);
       which = inl refl;
     }
 
 pub returns-then-not-ready-clause-ended : goal.returns-then-not-ready-clause-ended
-returns-then-not-ready-clause-ended g c = λ e. c.if-not-ready.ensures.closed
+returns-then-not-ready-clause-ended g c = λ e. c.if-not-ready.ensures.readied.closed
 
 pub returns-clause-ended : goal.returns-clause-ended
 returns-clause-ended g c =
-    λ e. c.converse.ensures.stays (ended c.ready.new.self c.step-messages.new.self c.args.event c.step-messages.ensures.starved (room_open c.args.trace.now c.ready.new.self c.if-not-ready.ensures c.requires.going) e c.step-messages.ensures.grows)
+    λ e. c.converse.ensures.stays (ended c.ready.new.self c.step-messages.new.self c.args.event c.step-messages.ensures.starved (room_open c.args.trace.now c.ready.new.self c.if-not-ready.ensures.readied c.requires.going) e c.step-messages.ensures.grows)

@@ -34,4 +34,4 @@ pub invariant_of-self : goal.invariant_of-self
 invariant_of-self c = trace_more _ _ _ _ _ _ _ _ _ _ _ (puts c)
 
 pub returns : goal.returns
-returns c = rw (← c.self.view_is) (trace_steps _ _ _ _ _ _ _ _ _ _ _ _ (puts c) c.give-given.ensures.calm)
+returns c = rw (← c.self.view_is) (trace_steps _ _ _ _ _ _ _ _ _ _ _ _ (puts c) c.give-given.ensures.calm c.give-given.ensures.silent)

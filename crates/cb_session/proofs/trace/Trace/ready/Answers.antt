@@ -5,8 +5,8 @@ use Rattle.cb_session.specs.declared.event.Event.TheVariants as events
 use Rattle.cb_session.proofs.Folds.{at_error, ran_out, same_view}
 use Rattle.cb_session.proofs.trace.Trace.ready.Goals as goal
 
-pub returns : goal.returns
-returns c =
+pub returns-clause-readied : goal.returns-clause-readied
+returns-clause-readied c =
     let cap = at_error c.reserve.result _ (sym c.is_ok.ensures.value ∙ c.if-is_ok.false) c.reserve.ensures.err in
     let len = c.reserve.ensures.len in
     let room : vec_capacity c.reserve.new.self - vec_len c.reserve.new.self ≡ vec_capacity c.self.inside.entries - vec_len c.self.inside.entries = omega arith in
