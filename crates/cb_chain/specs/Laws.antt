@@ -66,6 +66,6 @@ PartAtOnce (hash ∷ hashes) (other ∷ others) = hash ≢ other
 -- round, and what came on.
 pub record LeadsOver (old : List Hash256) (change : Change) (new : List Hash256) : Type 0 where
   pub shared : List Hash256
-  pub left : old ≡ shared ++ reverse change.off
-  pub joined : new ≡ shared ++ change.on
-  pub part : PartAtOnce (reverse change.off) change.on
+  pub old_is : old ≡ shared ++ reverse change.off
+  pub new_is : new ≡ shared ++ change.on
+  pub apart : PartAtOnce (reverse change.off) change.on
