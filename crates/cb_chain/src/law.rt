@@ -1,5 +1,5 @@
-//! What holds of every chain. Each law is the contract of a function that changes nothing. It looks up the tip and leaves
-//! the answer: from that call its proof has it that the nodes are a tree.
+//! What holds of every chain, and of every list of calls. Each law is the contract of a function that changes nothing. One
+//! that speaks of a chain looks up the tip and leaves the answer: from that call its proof has it that the nodes are a tree.
 ghost use Rattle.std.specs.Prelude.{◌≡◌, ◌≤◌, ◌∷◌, ◌++◌, Err, IfSome, IsErr, IsOk, List, Ok, Option, Result, false, true};
 ghost use Rattle.cb_base.specs.declared.fault.Fault.{Fault};
 ghost use Rattle.cb_base.specs.declared.hash.Hash256.{Hash256};
