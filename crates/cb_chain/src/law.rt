@@ -59,12 +59,12 @@ pub fn one_tree()
 {}
 
 /// What can't be spent with its whole path: a block that is marked bad, and what isn't kept, be it a header alone or a hash
-/// that isn't known. The path of a kept block that is marked stops at a marked one.
+/// that isn't known. Of the kept blocks whose paths stop just those are marked whose paths stop at a marked one.
 pub fn marked_is_never_spent(chain: &Chain)
     ensures marked { (hash : Hash256) → is_marked chain.now hash ≡ true → IsErr (unspent_after chain.now hash) }
     ensures unkept { (hash : Hash256) → is_kept chain.now hash ≡ false → IsErr (unspent_after chain.now hash) }
-    ensures stop { (hash : Hash256) (stop : Stop) → is_kept chain.now hash ≡ true → is_marked chain.now hash ≡ true
-        → unspent_after chain.now hash ≡ Err stop → is_marked chain.now stop.first ≡ true }
+    ensures stop { (hash : Hash256) (stop : Stop) → is_kept chain.now hash ≡ true → unspent_after chain.now hash ≡ Err stop
+        → is_marked chain.now hash ≡ is_marked chain.now stop.first }
 {
     let _ = chain.tree.place(&chain.tip());
 }
