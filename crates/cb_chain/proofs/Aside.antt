@@ -323,7 +323,7 @@ over_aside older new block spot tip change j low grown empty =
     let other = kept_other older (best older) (block_hash block.header) j.kept (block_free older block.header j.none).once in
     let whole : active_hashes older ≡ active_hashes older ++ [] = sym (append-nil (active_hashes older)) in
     let both : LeadsOver (active_hashes older) no_change (active_hashes (entry ∷ older)) =
-    record { shared = active_hashes older; left = whole; joined = ap (common.map block_hash) (active_aside entry older stays other) ∙ whole; part = tt } in
+    record { shared = active_hashes older; old_is = whole; new_is = ap (common.map block_hash) (active_aside entry older stays other) ∙ whole; apart = tt } in
     subst (λ (t : Tree). LeadsOver (active_hashes older) change (active_hashes t)) (sym grown) (subst (λ (c : Moves.Change). LeadsOver (active_hashes older) c (active_hashes (entry ∷ older))) (sym empty) both)
 
 -- ---- what a call with a block tells

@@ -8,6 +8,7 @@ pub mod Laws
 pub mod Locators
 pub mod Marks
 pub mod Nodes
+pub mod Once
 pub mod Partings
 pub mod Planning
 pub mod Reached

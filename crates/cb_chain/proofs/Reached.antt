@@ -1,7 +1,7 @@
 -- What holds of each tree that calls leave, by recursion on the list of calls: how its entries stand on one another, and that
 -- no path to a marked one can be spent.
-use Rattle.std.proofs.Common.{◌≡◌, ℕ, Bool, true, false, cond, List, [], ◌∷◌, Some, None, Option, refl, sym, ap, subst, ◌∙◌, inl, inr, ◌⊎◌}
-use Rattle.std.specs.Prelude.{⊤, ◌&&◌, not, is_ok, is_some, Result, Ok, Err, IsErr, IsOk}
+use Rattle.std.proofs.Common.{◌≡◌, Bool, true, false, cond, List, [], ◌∷◌, Some, None, Option, refl, sym, ap, subst, ◌∙◌, inl, inr, ◌⊎◌}
+use Rattle.std.specs.Prelude.{⊤, ◌&&◌, ◌||◌, not, is_ok, is_some, Result, Ok, Err, IsErr}
 use Rattle.std.proofs.lemmas.Bool.{and_parts, cases_Bool, false≢true}
 use Rattle.cb_base.specs.declared.fault.Fault.{Fault}
 use Rattle.cb_base.specs.declared.fault.Fault.TheVariants.{BadParent, Known, NoParent, TooMany}
@@ -16,7 +16,7 @@ use Rattle.cb_chain.specs.Calls.{AcceptsBlock, AcceptsHeader, bad_entry, block_e
 use Rattle.cb_chain.specs.History.{BlockCall, Call, HeaderCall, IsHistoric, IsHistory, IsStep}
 use Rattle.cb_chain.proofs.Aside.{bare_err, block_free, known_is_kept, none_first, not_false}
 use Rattle.cb_chain.proofs.Laws.{spent_kept}
-use Rattle.cb_chain.proofs.Marks.{marks_keep_kept, marks_keep_known, marks_keep_unspent}
+use Rattle.cb_chain.proofs.Marks.{marked_is, marks_keep_kept, marks_keep_known, marks_keep_unspent}
 use Rattle.cb_chain.proofs.Nodes.{same-refl, same-true}
 use Rattle.cb_chain.proofs.Roots.{AreRooted}
 
@@ -165,6 +165,30 @@ leads_stop (entry ∷ older) first hash stop are e kept through =
           spent_behind entry older hash isnt ∙ leads_stop older first hash stop are.1 (before (leads_kept older first hash are.1 there leads)) there leads
     ]
 
+either : (b : Bool) → cond b true true ≡ true
+either true = refl
+either false = refl
+
+-- a kept block's path leads through the block where it stops
+stop_leads : (tree : Tree) (hash : Hash256) (stop : Stop) → ArePlanted tree → is_kept tree hash ≡ true → unspent_after tree hash ≡ Err stop → leads_through tree stop.first hash ≡ true
+stop_leads [] hash stop are kept e = absurd (first_spent hash stop kept e)
+stop_leads (entry ∷ older) hash stop are kept e =
+    let first = stop.first in
+    let prev = entry.header.prev in
+    elim (cases_Bool (same hash (block_hash entry.header))) [
+      | inl is ↦
+          leads_own entry older first hash is
+          ∙ elim (stop_here entry (unspent_after older prev) stop (sym (spent_own entry older hash is) ∙ e)) [
+            | inl below ↦
+                let leads = stop_leads older prev stop are.1 (are.0.under (sym (kept_own entry older hash is) ∙ kept)) below in
+                ap (cond (same hash first) true) leads ∙ either (same hash first)
+            | inr here ↦
+                let it : same hash first ≡ true = ap (same hash) (here ∙ sym (same-true hash (block_hash entry.header) is)) ∙ same-refl hash in
+                ap (λ (b : Bool). cond b true (leads_through older first prev)) it
+          ]
+      | inr isnt ↦ leads_behind entry older first hash isnt ∙ stop_leads older hash stop are.1 (sym (kept_behind entry older hash isnt) ∙ kept) (sym (spent_behind entry older hash isnt) ∙ e)
+    ]
+
 -- ---- what a call finds where it keeps something
 
 record IsNew (tree : Tree) (header : Header) : Type 0 where
@@ -202,7 +226,7 @@ block_new tree header e =
 pub record IsReached (tree : Tree) : Type 0 where
   pub planted : ArePlanted tree
   pub marks : (hash : Hash256) → is_marked tree hash ≡ true → is_ok (unspent_after tree hash) ≡ false
-  pub stops : (hash : Hash256) (stop : Stop) → is_kept tree hash ≡ true → is_marked tree hash ≡ true → unspent_after tree hash ≡ Err stop → is_marked tree stop.first ≡ true
+  pub stops : (hash : Hash256) (stop : Stop) → is_kept tree hash ≡ true → unspent_after tree hash ≡ Err stop → is_marked tree hash ≡ is_marked tree stop.first
 
 first_unmarked : (hash : Hash256) → is_marked [] hash ≡ true → ⊥
 first_unmarked hash marked =
@@ -212,7 +236,7 @@ first_unmarked hash marked =
     ]
 
 reached_first : IsReached []
-reached_first = record { planted = tt; marks = λ hash marked. absurd (first_unmarked hash marked); stops = λ hash stop kept marked e. absurd (first_unmarked hash marked) }
+reached_first = record { planted = tt; marks = λ hash marked. absurd (first_unmarked hash marked); stops = λ hash stop kept e. absurd (first_spent hash stop kept e) }
 
 marked_own : (entry : Entry) (older : Tree) (hash : Hash256) → same hash (block_hash entry.header) ≡ true → is_marked (entry ∷ older) hash ≡ entry.marked
 marked_own entry older hash is = rw is refl
@@ -220,31 +244,50 @@ marked_own entry older hash is = rw is refl
 marked_behind : (entry : Entry) (older : Tree) (hash : Hash256) → same hash (block_hash entry.header) ≡ false → is_marked (entry ∷ older) hash ≡ is_marked older hash
 marked_behind entry older hash isnt = rw isnt refl
 
--- a marked hash isn't a new one
-marked_more : (entry : Entry) (older : Tree) (hash : Hash256) → IsNew older entry.header → is_marked older hash ≡ true → is_marked (entry ∷ older) hash ≡ true
-marked_more entry older hash new marked =
-    elim (cases_Bool (same hash (block_hash entry.header))) [
-      | inl own ↦ absurd (false≢true (sym new.unmarked ∙ ap (is_marked older) (sym (same-true hash (block_hash entry.header) own)) ∙ marked))
-      | inr other ↦ marked_behind entry older hash other ∙ marked
-    ]
-
 bare_unkept : (o : Option Block) → o ≡ None → is_some o ≡ true → ⊥
 bare_unkept o none kept = false≢true (sym (ap is_some none) ∙ kept)
 
--- One entry more. What is marked at once has no block.
-reached_more : (entry : Entry) (older : Tree) → IsReached older → IsNew older entry.header → (is_some entry.block ≡ true → is_kept older entry.header.prev ≡ true) → (entry.marked ≡ true → entry.block ≡ None) → IsReached (entry ∷ older)
-reached_more entry older is new under bare =
+-- what a new entry must be: a block stands on a kept one that isn't marked, and what is marked at once has no block
+record IsFit (entry : Entry) (older : Tree) : Type 0 where
+  new : IsNew older entry.header
+  under : is_some entry.block ≡ true → is_kept older entry.header.prev ≡ true
+  clean : is_some entry.block ≡ true → is_marked older entry.header.prev ≡ false
+  bare : entry.marked ≡ true → entry.block ≡ None
+
+-- a kept block isn't marked at once
+fit_unmarked : (entry : Entry) (older : Tree) → IsFit entry older → is_some entry.block ≡ true → entry.marked ≡ false
+fit_unmarked entry older is kept =
+    elim (cases_Bool entry.marked) [
+      | inl marked ↦ absurd (bare_unkept entry.block (is.bare marked) kept)
+      | inr clean ↦ clean
+    ]
+
+-- one entry more
+reached_more : (entry : Entry) (older : Tree) → IsReached older → IsFit entry older → IsReached (entry ∷ older)
+reached_more entry older is fit =
+    let prev = entry.header.prev in
+    let planted : IsPlanted entry older = record { parent = fit.new.parent; once = fit.new.once; under = fit.under } in
+    let behind : (stop : Stop) → IsStop older stop → is_marked older stop.first ≡ is_marked (entry ∷ older) stop.first =
+    λ stop at. sym (marked_behind entry older stop.first (kept_apart entry older stop.first planted at.kept)) in
     record {
-      planted = (record { parent = new.parent; once = new.once; under = under }, is.planted);
+      planted = (planted, is.planted);
       marks = λ hash marked. elim (cases_Bool (same hash (block_hash entry.header))) [
-        | inl own ↦ ap is_ok (spent_own entry older hash own) ∙ bare_err entry (unspent_after older entry.header.prev) (bare (sym (marked_own entry older hash own) ∙ marked))
+        | inl own ↦ ap is_ok (spent_own entry older hash own) ∙ bare_err entry (unspent_after older prev) (fit.bare (sym (marked_own entry older hash own) ∙ marked))
         | inr other ↦ ap is_ok (spent_behind entry older hash other) ∙ is.marks hash (sym (marked_behind entry older hash other) ∙ marked)
       ];
-      stops = λ hash stop kept marked e. elim (cases_Bool (same hash (block_hash entry.header))) [
-        | inl own ↦ absurd (bare_unkept entry.block (bare (sym (marked_own entry older hash own) ∙ marked)) (sym (kept_own entry older hash own) ∙ kept))
+      stops = λ hash stop kept e. elim (cases_Bool (same hash (block_hash entry.header))) [
+        | inl own ↦
+            let there = sym (kept_own entry older hash own) ∙ kept in
+            elim (stop_here entry (unspent_after older prev) stop (sym (spent_own entry older hash own) ∙ e)) [
+              | inl below ↦
+                  marked_own entry older hash own ∙ fit_unmarked entry older fit there ∙ sym (fit.clean there) ∙ is.stops prev stop (fit.under there) below
+                  ∙ behind stop (stop_is older prev stop is.planted (fit.under there) below)
+              | inr here ↦ ap (is_marked (entry ∷ older)) (same-true hash (block_hash entry.header) own ∙ sym here)
+            ]
         | inr other ↦
-            marked_more entry older stop.first new
-            (is.stops hash stop (sym (kept_behind entry older hash other) ∙ kept) (sym (marked_behind entry older hash other) ∙ marked) (sym (spent_behind entry older hash other) ∙ e))
+            let there = sym (kept_behind entry older hash other) ∙ kept in
+            let before = sym (spent_behind entry older hash other) ∙ e in
+            marked_behind entry older hash other ∙ is.stops hash stop there before ∙ behind stop (stop_is older hash stop is.planted there before)
       ];
     }
 
@@ -270,10 +313,6 @@ planted_marked first (entry ∷ older) are = (
 mark_cases : (b : Bool) (entry : Entry) → (mark b entry).marked ≡ true → (entry.marked ≡ true) ⊎ (b ≡ true)
 mark_cases true entry e = inr refl
 mark_cases false entry e = inl e
-
-mark_stays : (b : Bool) (entry : Entry) → entry.marked ≡ true → (mark b entry).marked ≡ true
-mark_stays true entry e = refl
-mark_stays false entry e = e
 
 mark_hash : (b : Bool) (entry : Entry) → block_hash (mark b entry).header ≡ block_hash entry.header
 mark_hash true entry = refl
@@ -312,39 +351,27 @@ marked_then first (entry ∷ older) hash marked =
           ]
     ]
 
--- no mark is lost
-still_marked : (first : Hash256) (tree : Tree) (hash : Hash256) → is_marked tree hash ≡ true → is_marked (marked_above first tree) hash ≡ true
-still_marked first [] hash marked = marked
-still_marked first (entry ∷ older) hash marked =
-    elim (cases_Bool (same hash (block_hash entry.header))) [
-      | inl is ↦ now_own first entry older hash is ∙ mark_stays (through first entry older) entry (sym (marked_own entry older hash is) ∙ marked)
-      | inr isnt ↦ now_behind first entry older hash isnt ∙ still_marked first older hash (sym (marked_behind entry older hash isnt) ∙ marked)
+one_stop : (tree : Tree) (hash : Hash256) (stop other : Stop) → unspent_after tree hash ≡ Err stop → unspent_after tree hash ≡ Err other → other ≡ stop
+one_stop tree hash stop other e f = let one : Err other ≡ Err stop = sym f ∙ e in cc
+
+-- What leads through a block leads through that block's stop, or neither does: for both the path stops at the same block.
+alike : (tree : Tree) (hash : Hash256) (stop other : Stop) → ArePlanted tree → IsStop tree stop → IsStop tree other → is_kept tree hash ≡ true → unspent_after tree hash ≡ Err other
+    → leads_through tree stop.first hash ≡ leads_through tree stop.first other.first
+alike tree hash stop other are at there kept e =
+    elim (cases_Bool (leads_through tree stop.first hash)) [
+      | inl leads ↦
+          let one : other ≡ stop = one_stop tree hash stop other (leads_stop tree stop.first hash stop are at.at kept leads) e in
+          let own : leads_through tree stop.first stop.first ≡ true = stop_leads tree stop.first stop are at.kept at.at in
+          leads ∙ sym own ∙ ap (λ (s : Stop). leads_through tree stop.first s.first) (sym one)
+      | inr apart ↦
+          elim (cases_Bool (leads_through tree stop.first other.first)) [
+            | inl leads ↦
+                let one : other ≡ stop = one_stop tree other.first stop other (leads_stop tree stop.first other.first stop are at.at there.kept leads) there.at in
+                let through : leads_through tree stop.first hash ≡ true = ap (λ (s : Stop). leads_through tree s.first hash) (sym one) ∙ stop_leads tree hash other are kept e in
+                absurd (false≢true (sym apart ∙ through))
+            | inr also ↦ apart ∙ sym also
+          ]
     ]
-
-mark_now : (b : Bool) (entry : Entry) → b ≡ true → (mark b entry).marked ≡ true
-mark_now true entry e = refl
-mark_now false entry e = absurd (false≢true e)
-
--- the first is marked itself
-first_marked : (tree : Tree) (stop : Stop) → IsStop tree stop → is_marked (marked_above stop.first tree) stop.first ≡ true
-first_marked [] stop is = absurd (first_spent stop.first stop is.kept is.at)
-first_marked (entry ∷ older) stop is =
-    let first = stop.first in
-    elim (cases_Bool (same first (block_hash entry.header))) [
-      | inl own ↦
-          let it = same-true first (block_hash entry.header) own in
-          let leads : leads_through (entry ∷ older) first (block_hash entry.header) ≡ true =
-          leads_own entry older first (block_hash entry.header) (same-refl (block_hash entry.header))
-          ∙ ap (λ (b : Bool). cond b true (leads_through older first entry.header.prev)) (ap (λ (h : Hash256). same h first) (sym it) ∙ same-refl first) in
-          let both : through first entry older ≡ true = ap (λ (b : Bool). b && leads_through (entry ∷ older) first (block_hash entry.header)) (sym (kept_own entry older first own) ∙ is.kept) ∙ leads in
-          now_own first entry older first own ∙ mark_now (through first entry older) entry both
-      | inr other ↦
-          let before : IsStop older stop = record { kept = sym (kept_behind entry older first other) ∙ is.kept; at = sym (spent_behind entry older first other) ∙ is.at } in
-          now_behind first entry older first other ∙ first_marked older stop before
-    ]
-
-one_stop : (tree : Tree) (hash : Hash256) (stop other : Stop) → unspent_after tree hash ≡ Err stop → unspent_after tree hash ≡ Err other → other.first ≡ stop.first
-one_stop tree hash stop other e f = let one : other ≡ stop = cc in ap (λ (s : Stop). s.first) one
 
 reached_marked : (tree : Tree) (stop : Stop) → IsStop tree stop → IsReached tree → IsReached (marked_above stop.first tree)
 reached_marked tree stop at is =
@@ -357,17 +384,20 @@ reached_marked tree stop at is =
             | inl before ↦ is.marks hash before
             | inr leads ↦ ap is_ok (leads_stop tree first hash stop is.planted at.at leads.0 leads.1)
           ];
-      stops = λ hash other kept marked e.
+      stops = λ hash other kept e.
           let was : unspent_after tree hash ≡ Err other = sym (marks_keep_unspent first tree hash) ∙ e in
-          elim (marked_then first tree hash marked) [
-            | inl before ↦ still_marked first tree other.first (is.stops hash other (sym (marks_keep_kept first tree hash) ∙ kept) before was)
-            | inr leads ↦
-                let it = one_stop tree hash stop other (leads_stop tree first hash stop is.planted at.at leads.0 leads.1) was in
-                ap (is_marked (marked_above first tree)) it ∙ first_marked tree stop at
-          ];
+          let there : is_kept tree hash ≡ true = sym (marks_keep_kept first tree hash) ∙ kept in
+          let end = stop_is tree hash other is.planted there was in
+          marked_is tree first hash there ∙ ap (λ (b : Bool). b || leads_through tree first hash) (is.stops hash other there was)
+          ∙ ap (λ (b : Bool). is_marked tree other.first || b) (alike tree hash stop other is.planted at end there was) ∙ sym (marked_is tree first other.first end.kept);
     }
 
 -- ---- calls
+
+-- a header alone
+bare_fit : (header : Header) (marked : Bool) (old : Tree) → IsNew old header → IsFit (record { header = header; block = None; marked = marked }) old
+bare_fit header marked old new =
+    record { new = new; under = λ there. absurd (false≢true there); clean = λ there. absurd (false≢true there); bare = λ _. refl }
 
 reached_settled : (old new : Tree) (hash : Hash256) (r : Result Unspent Stop) → unspent_after new hash ≡ r → is_kept new hash ≡ true → IsReached new → IsReached (settled old new r).1
 reached_settled old new hash (Ok u) e kept is = is
@@ -377,7 +407,10 @@ reached_joined : (old : Tree) (block : Block) → block_fault old block.header �
 reached_joined old block none is =
     let new = block_entry block ∷ old in
     let hash = block_hash block.header in
-    let more : IsReached new = reached_more (block_entry block) old is (block_new old block.header none) (λ _. (block_free old block.header none).under) (λ marked. absurd (false≢true marked)) in
+    let free = block_free old block.header none in
+    let fit : IsFit (block_entry block) old =
+    record { new = block_new old block.header none; under = λ _. free.under; clean = λ _. free.marks; bare = λ marked. absurd (false≢true marked) } in
+    let more : IsReached new = reached_more (block_entry block) old is fit in
     let kept : is_kept new hash ≡ true = rw (same-refl hash) refl in
     elim (cases_Bool (is_higher new hash (best old))) [
       | inl above ↦ rw above (reached_settled old new hash (unspent_after new hash) refl kept more)
@@ -388,13 +421,13 @@ reached_header : (old : Tree) (header : Header) (answer : Option Fault) (new : T
 reached_header old header answer new (AcceptsHeader.without_work _ _ e) is = subst IsReached (sym e) is
 reached_header old header answer new (AcceptsHeader.refused _ _ _ _ e) is = subst IsReached (sym e) is
 reached_header old header answer new (AcceptsHeader.kept _ none _ e) is =
-    subst IsReached (sym e) (reached_more (header_entry header) old is (header_new old header none) (λ there. absurd (false≢true there)) (λ marked. absurd (false≢true marked)))
+    subst IsReached (sym e) (reached_more (header_entry header) old is (bare_fit header false old (header_new old header none)))
 
 reached_block : (old : Tree) (block : Block) (answer : Result Change Fault) (new : Tree) → AcceptsBlock old block answer new → IsReached old → IsReached new
 reached_block old block answer new (AcceptsBlock.without_work _ _ e) is = subst IsReached (sym e) is
 reached_block old block answer new (AcceptsBlock.refused _ _ _ _ e) is = subst IsReached (sym e) is
 reached_block old block answer new (AcceptsBlock.breaks_rule _ none _ _ _ e) is =
-    subst IsReached (sym e) (reached_more (bad_entry block.header) old is (block_new old block.header none) (λ there. absurd (false≢true there)) (λ _. refl))
+    subst IsReached (sym e) (reached_more (bad_entry block.header) old is (bare_fit block.header true old (block_new old block.header none)))
 reached_block old block answer new (AcceptsBlock.meets_rules _ none _ e) is =
     subst IsReached (sym (ap (λ (both : Result Change Fault × Tree). both.1) e)) (reached_joined old block none is)
 
@@ -421,5 +454,5 @@ marked_err tree hash is marked = err_of (unspent_after tree hash) ((reached is.0
 pub unkept_err : (tree : Tree) (hash : Hash256) → is_kept tree hash ≡ false → IsErr (unspent_after tree hash)
 unkept_err tree hash unkept = err_of (unspent_after tree hash) (unkept_bad tree hash unkept)
 
-pub marked_stop : (tree : Tree) (hash : Hash256) (stop : Stop) → IsHistoric tree → is_kept tree hash ≡ true → is_marked tree hash ≡ true → unspent_after tree hash ≡ Err stop → is_marked tree stop.first ≡ true
-marked_stop tree hash stop is kept marked e = (reached is.0 tree is.1).stops hash stop kept marked e
+pub marked_stop : (tree : Tree) (hash : Hash256) (stop : Stop) → IsHistoric tree → is_kept tree hash ≡ true → unspent_after tree hash ≡ Err stop → is_marked tree hash ≡ is_marked tree stop.first
+marked_stop tree hash stop is kept e = (reached is.0 tree is.1).stops hash stop kept e

@@ -291,12 +291,12 @@ over_is nodes block path records unspent fork places is tip =
     ap (take (suc fork)) b.ones_is ∙ ap (λ (hs : List Header). genesis_header ∷ hs) (take-map name fork below ∙ ap (map name) (is.fork_is.below is.kept) ∙ sym (take-map name fork old)) ∙ sym (ap (take (suc fork)) b.others_is) in
     record {
       shared = shared;
-      left = ap (map block_hash) (sym (take-append-drop (suc fork) others)) ∙ map-append block_hash low high ∙ ap (λ (hs : List Hash256). shared ++ hs) (sym turned);
-      joined =
+      old_is = ap (map block_hash) (sym (take-append-drop (suc fork) others)) ∙ map-append block_hash low high ∙ ap (λ (hs : List Hash256). shared ++ hs) (sym turned);
+      new_is =
           ap (map block_hash) (b.new_is tip ∙ ap (λ (hs : List Header). hs ++ header ∷ []) (sym (take-append-drop (suc fork) ones)) ∙ append_assoc (take (suc fork) ones) (drop (suc fork) ones) (header ∷ []))
           ∙ map-append block_hash (take (suc fork) ones) (drop (suc fork) ones ++ header ∷ []) ∙ ap (λ (hs : List Header). map block_hash hs ++ map block_hash (drop (suc fork) ones ++ header ∷ [])) front
           ∙ ap (λ (hs : List Hash256). shared ++ hs) come;
-      part =
+      apart =
           subst (λ (hs : List Hash256). PartAtOnce hs (map (λ (s : Step). block_hash s.entry.header) (drop fork below) ++ block_hash header ∷ [])) (sym turned)
           (subst (PartAtOnce (map block_hash high)) come (fork_parts ones others fork header b.first b.some b.low b.short b.above));
     }

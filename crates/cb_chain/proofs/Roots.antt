@@ -1,6 +1,6 @@
 -- What is known: each header's parent was known before it.
-use Rattle.std.proofs.Common.{◌≡◌, ℕ, suc, true, false, List, [], ◌∷◌, length, map, Some, None, Option, refl, sym, ◌∙◌, inl, inr}
-use Rattle.std.specs.Prelude.{⊤, is_some, reverse}
+use Rattle.std.proofs.Common.{◌≡◌, ℕ, suc, true, false, List, [], ◌∷◌, length, map, Some, None, refl, inl, inr}
+use Rattle.std.specs.Prelude.{⊤, reverse}
 use Rattle.std.proofs.lemmas.Bool.{cases_Bool, false≢true}
 use Rattle.cb_base.specs.declared.hash.Hash256.{Hash256}
 use Rattle.cb_chain.specs.declared.node.Node.{Node}

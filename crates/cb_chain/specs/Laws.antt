@@ -1,5 +1,5 @@
 -- What holds of each chain that a node keeps (Bitcoin's consensus): how its active headers are linked, what their blocks
--- leave unspent, and which of its blocks stands highest.
+-- leave unspent, which of its blocks stands highest, and how a block changes it.
 use Rattle.std.specs.Prelude.{◌≡◌, ◌≢◌, ◌≤◌, ◌⊎◌, ⊤, ℕ, true, List, [], ◌∷◌, ◌++◌, Option, Some, Ok, drop, map, option_and_then, reverse, unwrap_or}
 use Rattle.std.specs.FinMap as finite
 use Rattle.cb_base.specs.declared.hash.Hash256.{Hash256}
@@ -66,6 +66,6 @@ PartAtOnce (hash ∷ hashes) (other ∷ others) = hash ≢ other
 -- round, and what came on.
 pub record LeadsOver (old : List Hash256) (change : Change) (new : List Hash256) : Type 0 where
   pub shared : List Hash256
-  pub left : old ≡ shared ++ reverse change.off
-  pub joined : new ≡ shared ++ change.on
-  pub part : PartAtOnce (reverse change.off) change.on
+  pub old_is : old ≡ shared ++ reverse change.off
+  pub new_is : new ≡ shared ++ change.on
+  pub apart : PartAtOnce (reverse change.off) change.on

@@ -138,6 +138,7 @@ impl Chain {
     /// above it are marked bad, and the tip stays. `Fault::Memory` changes nothing.
     pub fn accept_block(&mut self, block: SoundBlock) -> Result<Change, Fault>
         ensures ok { IfOk result (λ change. AcceptsBlock self.old block (Ok change) self.new) }
+        // From the old active chain to the new one.
         ensures moves { IfOk result (λ change. LeadsOver (active_hashes self.old) change (active_hashes self.new)) }
         ensures err { IfErr result (λ fault. ((fault ≡ Memory) × (self.new ≡ self.old))
             ⊎ AcceptsBlock self.old block (Err fault) self.new) }

@@ -14,4 +14,4 @@ returns-clause-unkept c = λ hash unkept. unkept_err c.args.chain.now hash unkep
 pub returns-clause-stop : goal.returns-clause-stop
 returns-clause-stop c =
     let past = subst IsHistoric c.chain.view_is c.chain.invariant.1 in
-    λ hash stop kept marked e. marked_stop c.args.chain.now hash stop past kept marked e
+    λ hash stop kept e. marked_stop c.args.chain.now hash stop past kept e
