@@ -409,6 +409,14 @@ class Play:
         return []
 
 
+def told_play(count):
+    """The records of the first calls, and of what is asked after them."""
+    play = Play(1)
+    for number in range(count):
+        play.turn(number)
+    return b"".join(play.records)
+
+
 def main():
     if "--help" in sys.argv:
         print(__doc__.strip())
