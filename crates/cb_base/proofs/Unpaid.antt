@@ -1,9 +1,9 @@
 -- Reading never meets the fault of memory.
-use Rattle.std.proofs.Common.{◌≡◌, ℕ, Bool, true, false, cond, ltb, eqb, List, length, Result, Ok, Err, refl, sym, ap, ◌∙◌, ◌≢◌}
+use Rattle.std.proofs.Common.{◌≡◌, ℕ, Bool, true, false, cond, ltb, eqb, List, length, Result, Ok, Err, ◌≢◌}
 use Rattle.std.specs.Int.{Width, w8, w16, w32, w64, byte_len}
 use Rattle.cb_base.specs.declared.fault.Fault.{Fault}
 use Rattle.cb_base.specs.declared.fault.Fault.TheVariants.{Memory, Truncated, NotShortest}
-use Rattle.cb_base.specs.Reading.{Read, ◌>>=◌, bytes_at, number_at, signed_at}
+use Rattle.cb_base.specs.Reading.{◌>>=◌, bytes_at, number_at, signed_at}
 use Rattle.cb_base.specs.CompactSize.{compact_at, wide_at}
 
 -- it is no fault of memory

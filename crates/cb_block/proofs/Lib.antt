@@ -1,6 +1,7 @@
+pub mod Beginning
 pub mod BlockRules
 pub mod Climbing
-pub mod Beginning
+pub mod CutTexts
 pub mod Headers
 pub mod Levels
 pub mod Only

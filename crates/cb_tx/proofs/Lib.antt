@@ -1,4 +1,5 @@
 pub mod Appends
+pub mod CutTexts
 pub mod Laws
 pub mod Loop
 pub mod Parts

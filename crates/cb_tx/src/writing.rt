@@ -1,6 +1,7 @@
-ghost use Rattle.std.specs.Prelude.{◌≡◌, ℕ, ◌+◌, ◌^◌, ◌<◌, ◌≤◌, List, ◌++◌, length, min, All, OnOk, OnErr, IfOk, IsOkUnless, vec_capacity, vec_len};
-ghost use Rattle.cb_base.specs.declared.fault.Fault.TheVariants.{Memory};
+ghost use Rattle.std.specs.Prelude.{◌≡◌, ◌≢◌, ℕ, ◌+◌, ◌^◌, ◌<◌, ◌≤◌, List, [], ◌++◌, length, min, All, Err, OnOk, OnErr, IfOk, IsOkUnless, vec_capacity, vec_len};
+ghost use Rattle.cb_base.specs.declared.fault.Fault.TheVariants.{Memory, Truncated};
 ghost use Rattle.cb_base.specs.DoubleHash.{double_hash};
+ghost use Rattle.cb_tx.specs.Reading.{tx_at};
 ghost use Rattle.cb_tx.specs.Text.{IsInput, IsOutput, IsTx, input_text, list_text, output_text, script_text, tx_text};
 ghost use Rattle.cb_tx.specs.Writing.{Extends};
 ghost use Rattle.cb_tx.specs.declared.tx.Tx.{Tx};
@@ -145,4 +146,9 @@ impl Tx {
 /// One transaction has one text, and no text begins another.
 pub fn one_text()
     ensures { (a b : Tx) (x y : List ℕ) → IsTx a → IsTx b → tx_text a ++ x ≡ tx_text b ++ y → (a ≡ b) × (x ≡ y) }
+{}
+
+/// A strict beginning of a transaction's text is too short to be read: `Fault::Truncated`.
+pub fn beginning_of_tx_is_truncated()
+    ensures { (tx : Tx) (b c : List ℕ) → IsTx tx → tx_text tx ≡ b ++ c → c ≢ [] → tx_at b ≡ Err Truncated }
 {}
