@@ -1,5 +1,6 @@
 ghost use Rattle.std.specs.Prelude.{◌≡◌, ◌⊎◌, ◌∷◌, List, true, None, Some, Ok, Err, IfErr, IfOk, MatchResult, OnOk};
 ghost use Rattle.cb_base.specs.declared.fault.Fault.TheVariants.{Memory};
+ghost use Rattle.cb_block.specs.Work.{HasWork};
 ghost use Rattle.cb_chain.specs.Best.{best};
 ghost use Rattle.cb_chain.specs.Calls.{AcceptsBlock, AcceptsHeader, block_fault, header_fault, joined};
 ghost use Rattle.cb_chain.specs.Entries.{block_hash, is_kept};
@@ -119,6 +120,8 @@ impl Chain {
         ensures history { (calls : List Call) → IsHistory calls self.old
             → MatchResult result (λ _. IsHistory (HeaderCall header ∷ calls) self.new)
             (λ fault. ((fault ≡ Memory) × IsHistory calls self.new) ⊎ IsHistory (HeaderCall header ∷ calls) self.new) }
+        // Memory is wanted only of a header that is kept.
+        ensures unpaid { result ≡ Err Memory → HasWork header × (header_fault self.old header ≡ None) }
     {
         check_header(&header)?;
         let spot = self.header_spot(header)?;
@@ -143,6 +146,8 @@ impl Chain {
         ensures history { (calls : List Call) → IsHistory calls self.old
             → MatchResult result (λ _. IsHistory (BlockCall block ∷ calls) self.new)
             (λ fault. ((fault ≡ Memory) × IsHistory calls self.new) ⊎ IsHistory (BlockCall block ∷ calls) self.new) }
+        // Memory is wanted only where the header is kept.
+        ensures unpaid { result ≡ Err Memory → HasWork block.header × (block_fault self.old block.header ≡ None) }
     {
         let header = block.block().header;
         check_header(&header)?;
