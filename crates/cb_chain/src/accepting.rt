@@ -1,5 +1,6 @@
 ghost use Rattle.std.specs.Prelude.{◌≡◌, ◌⊎◌, ◌∷◌, List, true, None, Some, Ok, Err, IfErr, IfOk, MatchResult, OnOk};
 ghost use Rattle.cb_base.specs.declared.fault.Fault.TheVariants.{Memory};
+ghost use Rattle.cb_block.specs.Work.{HasWork};
 ghost use Rattle.cb_chain.specs.Best.{best};
 ghost use Rattle.cb_chain.specs.Calls.{AcceptsBlock, AcceptsHeader, block_fault, header_fault, joined};
 ghost use Rattle.cb_chain.specs.Entries.{block_hash, is_kept};
@@ -120,6 +121,8 @@ impl Chain {
         ensures history { (calls : List Call) → IsHistory calls self.old
             → MatchResult result (λ _. IsHistory (HeaderCall header ∷ calls) self.new)
             (λ fault. ((fault ≡ Memory) × IsHistory calls self.new) ⊎ IsHistory (HeaderCall header ∷ calls) self.new) }
+        // Memory is wanted only of a header that nothing speaks against.
+        ensures unpaid { result ≡ Err Memory → HasWork header × (header_fault self.old header ≡ None) }
     {
         check_header(&header)?;
         let spot = self.header_spot(header)?;
@@ -135,7 +138,8 @@ impl Chain {
     /// its parent is marked bad, `Fault::NoParent` where its parent isn't kept, `Fault::TooMany` where its height would be
     /// above 1,000,000,000. Then what `check_block` tells: the header is kept, and marked bad. Then, where it is higher
     /// than the tip, the fault of the first block on its path that can't be connected: that block and all kept blocks
-    /// above it are marked bad, and the tip stays. `Fault::Memory` changes nothing.
+    /// above it are marked bad, and the tip stays. `Fault::Memory` changes nothing; it is told in place of a refusal that
+    /// keeps something, where there is no place for that.
     pub fn accept_block(&mut self, block: SoundBlock) -> Result<Change, Fault>
         ensures ok { IfOk result (λ change. AcceptsBlock self.old block (Ok change) self.new) }
         // From the old active chain to the new one.
@@ -146,6 +150,8 @@ impl Chain {
         ensures history { (calls : List Call) → IsHistory calls self.old
             → MatchResult result (λ _. IsHistory (BlockCall block ∷ calls) self.new)
             (λ fault. ((fault ≡ Memory) × IsHistory calls self.new) ⊎ IsHistory (BlockCall block ∷ calls) self.new) }
+        // Memory is wanted only of a block whose header nothing speaks against.
+        ensures unpaid { result ≡ Err Memory → HasWork block.header × (block_fault self.old block.header ≡ None) }
     {
         let header = block.block().header;
         check_header(&header)?;
