@@ -13,6 +13,7 @@ import sys
 import tempfile
 
 from bench import block, usage
+from calls import told_play
 from chain import careful_play
 
 ROOT = os.path.dirname(os.path.dirname(os.path.abspath(__file__)))
@@ -65,6 +66,7 @@ RUNS = [
     ("serve blocks.bin", "cbrelay", ["serve"], example("blocks.bin")),
     ("sound, a block of 5 transactions", "bench_sound", [], block(5, 10)),
     ("chain, a block at the tip and three blocks for two", "bench_chain", [], careful_play()),
+    ("chain, calls that are told and questions", "bench_chain", [], told_play(10)),
 ]
 
 

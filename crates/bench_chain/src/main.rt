@@ -5,6 +5,7 @@
 mod asking;
 mod player;
 mod records;
+mod telling;
 
 use cb_base::Fault;
 use player::Player;

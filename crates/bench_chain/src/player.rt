@@ -2,9 +2,10 @@ ghost use Rattle.std.specs.Prelude.{◌≡◌};
 ghost use Rattle.bench_chain.specs.Playing.{GoesOn};
 
 use crate::asking::{Question, answer_sizes};
+use crate::telling::{answer_line, block_line, header_line, name_line, tip_line, value_line};
 use cb_base::{Cursor, Fault, Hash256};
 use cb_block::{Header, SoundBlock, read_block, read_header, sound};
-use cb_chain::Chain;
+use cb_chain::{Chain, Change};
 use cb_tx::OutPoint;
 use std::alloc::Global;
 
@@ -24,6 +25,10 @@ pub struct Player {
     answered: u64,
     // A refused call left another chain than it found.
     changed: bool,
+    // Each call tells how it ended.
+    telling: bool,
+    // The lines of calls and answers.
+    lines: String,
 }
 
 impl Player {
@@ -38,11 +43,14 @@ impl Player {
             refused: 0,
             answered: 0,
             changed: false,
+            telling: false,
+            lines: String::new(alloc),
         })
     }
 
     /// Plays a record: `h` and a header, `b` and a block, `s` and a block that is only judged by itself, `q` with a
-    /// question's number and how often it is asked, or `c`, from which on each call is made beside a copy.
+    /// question's number and how often it is asked, `c`, from which on each call is made beside a copy, `t`, from which
+    /// on each call tells in a line how it ended, or a question that is answered by a line (`answer_line`).
     ///
     /// The chain has had the calls of before, and then some more.
     #[tactic(auto, using(crate::proofs::Goings::goes_on))]
@@ -73,7 +81,11 @@ impl Player {
                 self.careful = true;
                 Ok(())
             }
-            _ => Err(Fault::NotEnabled),
+            b't' => {
+                self.telling = true;
+                Ok(())
+            }
+            _ => self.answer(kind, &mut cursor),
         }
     }
 
@@ -100,12 +112,24 @@ impl Player {
         Ok(())
     }
 
+    // Answers a question by a line.
+    fn answer<'a>(&mut self, kind: u8, cursor: &mut Cursor<'a>) -> Result<(), Fault>
+        ensures { self.new.chain ≡ self.old.chain }
+    {
+        let line = answer_line(self.alloc, &self.chain, kind, cursor)?;
+        self.lines.push_str(line.as_str())?;
+        Ok(())
+    }
+
     #[tactic(auto, using(crate::proofs::Goings::goes_on))]
     fn take_header(&mut self, header: Header) -> Result<(), Fault>
         ensures { GoesOn self.old.chain self.new.chain }
     {
         if self.careful {
             return self.take_header_with_care(header);
+        }
+        if self.telling {
+            return self.tell_header(header);
         }
         let accepted = put_header(&mut self.chain, header)?;
         self.count(accepted);
@@ -119,8 +143,33 @@ impl Player {
         if self.careful {
             return self.take_block_with_care(block);
         }
+        if self.telling {
+            return self.tell_block(block);
+        }
         let accepted = put_block(&mut self.chain, block)?;
         self.count(accepted);
+        Ok(())
+    }
+
+    #[tactic(auto, using(crate::proofs::Goings::goes_on))]
+    fn tell_header(&mut self, header: Header) -> Result<(), Fault>
+        ensures { GoesOn self.old.chain self.new.chain }
+    {
+        let ended = offer_header(&mut self.chain, header);
+        self.count(ended.is_ok());
+        let line = header_line(self.alloc, ended)?;
+        self.lines.push_str(line.as_str())?;
+        Ok(())
+    }
+
+    #[tactic(auto, using(crate::proofs::Goings::goes_on))]
+    fn tell_block(&mut self, block: SoundBlock) -> Result<(), Fault>
+        ensures { GoesOn self.old.chain self.new.chain }
+    {
+        let ended = offer_block(&mut self.chain, block);
+        self.count(ended.is_ok());
+        let line = block_line(self.alloc, &ended)?;
+        self.lines.push_str(line.as_str())?;
         Ok(())
     }
 
@@ -174,12 +223,10 @@ impl Player {
         self.changed |= differs;
     }
 
-    /// How the chain stands, in lines.
+    /// The lines of calls and answers, and how the chain stands, in lines.
     pub fn told(&self) -> Result<String, Fault> {
-        let mut text = String::new(self.alloc);
-        let tip = self.chain.tip().show(self.alloc)?;
-        let height = self.chain.tip_height();
-        writeln!(text, "tip {tip} height {height}")?;
+        let mut text = self.lines.clone()?;
+        text.push_str(tip_line(self.alloc, &self.chain)?.as_str())?;
         let (accepted, refused) = (self.accepted, self.refused);
         writeln!(text, "accepted {accepted} refused {refused}")?;
         if self.answered > 0 {
@@ -189,33 +236,41 @@ impl Player {
         if self.changed {
             writeln!(text, "a refused call changed the chain")?;
         }
-        for name in &self.names {
-            self.tell_name(&mut text, name)?;
-        }
-        for point in &self.points {
-            let value = self.chain.ledger().value(point).unwrap_or(-1);
-            writeln!(text, "value {value}")?;
-        }
+        self.tell_remembered(&mut text)?;
         Ok(text)
     }
 
-    fn tell_name(&self, text: &mut String, name: &Hash256) -> Result<(), Fault> {
-        let shown = name.show(self.alloc)?;
-        let kept = self.chain.block(name).is_some();
-        let lacks = self.chain.lacks(name);
-        match self.chain.height(name) {
-            Some(height) => writeln!(text, "{shown} height {height} kept {kept} lacks {lacks}")?,
-            None => writeln!(text, "{shown} unknown kept {kept} lacks {lacks}")?,
+    // Of all that careful calls named.
+    fn tell_remembered(&self, text: &mut String) -> Result<(), Fault> {
+        for name in &self.names {
+            text.push_str(name_line(self.alloc, &self.chain, name)?.as_str())?;
+        }
+        for point in &self.points {
+            text.push_str(value_line(self.alloc, &self.chain, point)?.as_str())?;
         }
         Ok(())
     }
+}
+
+// Gives a header to a chain.
+fn offer_header(chain: &mut Chain, header: Header) -> Result<(), Fault>
+    ensures { GoesOn chain.old chain.new }
+{
+    chain.accept_header(header)
+}
+
+// Gives a block to a chain.
+fn offer_block(chain: &mut Chain, block: SoundBlock) -> Result<Change, Fault>
+    ensures { GoesOn chain.old chain.new }
+{
+    chain.accept_block(block)
 }
 
 // Gives a header to a chain: whether it was accepted, or that memory was wanting.
 fn put_header(chain: &mut Chain, header: Header) -> Result<bool, Fault>
     ensures { GoesOn chain.old chain.new }
 {
-    match chain.accept_header(header) {
+    match offer_header(chain, header) {
         Ok(()) => Ok(true),
         Err(fault) if fault == Fault::Memory => Err(fault),
         Err(_) => Ok(false),
@@ -226,7 +281,7 @@ fn put_header(chain: &mut Chain, header: Header) -> Result<bool, Fault>
 fn put_block(chain: &mut Chain, block: SoundBlock) -> Result<bool, Fault>
     ensures { GoesOn chain.old chain.new }
 {
-    match chain.accept_block(block) {
+    match offer_block(chain, block) {
         Ok(_) => Ok(true),
         Err(fault) if fault == Fault::Memory => Err(fault),
         Err(_) => Ok(false),

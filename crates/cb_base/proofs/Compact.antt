@@ -3,7 +3,7 @@ use Rattle.std.proofs.Common.{◌≡◌, ℕ, suc, ◌+◌, ◌^◌, ◌<◌, �
 use Rattle.std.specs.Prelude.{◌↔◌, IfOk}
 use Rattle.std.specs.Int.{Width, w8, w16, w32, w64, byte_len, from_le_bytes, to_le_bytes}
 use Rattle.std.proofs.lemmas.Bool.{ltb-false, ltb-true, lt-ltb, le-ltb, cases_lt}
-use Rattle.std.proofs.lemmas.List.{get_or-append-add}
+use Rattle.std.proofs.lemmas.List.{get_or-append-add, length-append}
 use Rattle.cb_base.specs.declared.fault.Fault.{Fault}
 use Rattle.cb_base.specs.declared.fault.Fault.TheVariants.{NotShortest, Truncated}
 use Rattle.cb_base.specs.Reading.{Reads, ◌>>=◌, number_at}
@@ -235,6 +235,29 @@ short_fails (b ∷ rest) lt =
       | four at is long ↦ is ∙ laws32.is_short rest (omega (arith, long))
       | eight at is long ↦ is ∙ laws64.is_short rest (omega (arith, long))
     ]
+
+-- the first byte of a spelling tells its length
+wanted_is : (n : ℕ) → wanted (compact_text n) ≡ length (compact_text n)
+wanted_is n =
+    elim (cases_lt n 253) [
+      | inl small ↦ let e : ltb n 253 ≡ true = lt-ltb _ _ small in rw (spelled_itself n small, e) refl
+      | inr ge ↦
+          elim (cases_lt n 65536) [
+            | inl below ↦ rw (spelled_in_two n ge below) refl
+            | inr more ↦
+                elim (cases_lt n 4294967296) [
+                  | inl below ↦ rw (spelled_in_four n more below) refl
+                  | inr above ↦ rw (spelled_in_eight n above) refl
+                ]
+          ]
+    ]
+
+-- a strict beginning of a spelling is too short
+pub compact_short : (n : ℕ) (b c : List ℕ) → compact_text n ≡ b ++ c → 0 < length c → compact_at b ≡ Err Truncated
+compact_short n [] c e some = short_fails [] (omega arith)
+compact_short n (f ∷ b) c e some =
+    let same : wanted (f ∷ b) ≡ length (compact_text n) = ap wanted (sym e) ∙ wanted_is n in
+    short_fails (f ∷ b) (omega (arith, same, ap length e, length-append (f ∷ b) c))
 
 -- what follows for a call that had old, gave r and has new
 pub record CompactLaws (old : List ℕ) (r : Result ℕ Fault) (new : List ℕ) : Type 0 where

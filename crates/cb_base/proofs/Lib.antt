@@ -1,3 +1,5 @@
 pub mod Compact
+pub mod CutTexts
 pub mod Fields
 pub mod Hashes
+pub mod Unpaid

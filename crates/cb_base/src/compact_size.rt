@@ -1,4 +1,4 @@
-ghost use Rattle.std.specs.Prelude.{◌≡◌, ℕ, ◌^◌, ◌<◌, List, ◌++◌, OnOk, OnErr, IsOkUnless};
+ghost use Rattle.std.specs.Prelude.{◌≡◌, ℕ, ◌+◌, ◌^◌, ◌<◌, ◌≤◌, List, ◌++◌, length, OnOk, OnErr, IsOkUnless, vec_len, vec_capacity};
 ghost use Rattle.cb_base.specs.CompactSize.{compact_text};
 ghost use Rattle.cb_base.specs.declared.fault.Fault.TheVariants.{Memory};
 
@@ -6,12 +6,14 @@ use crate::fault::Fault;
 
 /// Writes a number at the end, as a CompactSize: in 1, 3, 5 or 9 bytes, as few as it needs.
 ///
-/// The only error is `Fault::Memory`, which leaves the vector as it was.
+/// The only error is `Fault::Memory`, which leaves the vector as it was. It comes only where the vector has no room.
 #[tactic(auto, unfolding(crate::specs::CompactSize::compact_text))]
 pub fn put_compact(out: &mut Vec<u8>, number: u64) -> Result<(), Fault>
     ensures ok { OnOk result (out.new.items ≡ out.old.items ++ compact_text number) }
     ensures err { OnErr result (out.new.items ≡ out.old.items) }
     ensures memory { IsOkUnless result Memory }
+    ensures full { OnErr result (vec_capacity out.old < vec_len out.old + length (compact_text number)) }
+    ensures capacity { vec_capacity out.old ≤ vec_capacity out.new }
 {
     if number < 253 {
         out.push(number as u8)?;

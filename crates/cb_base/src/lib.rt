@@ -2,11 +2,13 @@
 #![tactic(auto)]
 
 mod compact_size;
+mod copying;
 mod cursor;
 mod fault;
 mod hash;
 
 pub use compact_size::{one_spelling, put_compact};
+pub use copying::copy_bytes;
 pub use cursor::Cursor;
 pub use fault::{Fault, TxRule};
 pub use hash::{Hash256, dsha, sha};

@@ -109,5 +109,9 @@ fn compact_size_at_each_limit(rt: HostRuntime) -> Result<(), Fail> {
         0, 0, 0, 1, 0, 0, 0, 255, 0xff, 0xff, 0xff, 0xff, 0xff, 0xff, 0xff, 0xff,
     ];
     assert_eq!(rt; out.as_slice(), expected.as_slice());
+    assert_eq!(rt;
+        copy_bytes(rt.alloc(), &expected)?.as_slice(),
+        expected.as_slice()
+    );
     Ok(())
 }

@@ -63,5 +63,11 @@ climb_root leaves [] mutated root c few e = absurd (omega (arith, c.some))
 climb_root leaves (a ∷ []) mutated root c few e = subst (λ (x : Hash256). IsLevel leaves (x ∷ [])) e c.is_level
 climb_root leaves (a ∷ b ∷ level) mutated root c few e = absurd (omega arith)
 
-pub none_mutated : (leaves : List Hash256) → length leaves ≡ 0 → ¬ IsMutated leaves
-none_mutated leaves e m = no_pair leaves (omega arith) (subst HasEqualPair (level_top leaves m.0 (omega arith) m.1) m.2)
+pub few_mutated : (leaves : List Hash256) → length leaves < 2 → ¬ IsMutated leaves
+few_mutated leaves few m = no_pair leaves (omega arith) (subst HasEqualPair (level_top leaves m.0 few m.1) m.2)
+
+-- one hash is the root of its tree
+pub one_is_root : (leaves : List Hash256) (other : Hash256) → 1 ≤ length leaves → length leaves < 2 → IsLevel leaves (slice_index_or leaves 0 other ∷ [])
+one_is_root [] other some few = absurd (omega arith)
+one_is_root (a ∷ []) other some few = itself refl
+one_is_root (a ∷ b ∷ leaves) other some few = absurd (omega arith)

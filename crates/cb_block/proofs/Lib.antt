@@ -1,10 +1,12 @@
+pub mod Beginning
 pub mod BlockRules
 pub mod Climbing
-pub mod Beginning
+pub mod CutTexts
 pub mod Headers
 pub mod Levels
 pub mod Only
 pub mod Raising
+pub mod Taking
 pub mod Target
 pub mod Texts
 pub mod Verdicts

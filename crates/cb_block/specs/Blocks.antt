@@ -5,7 +5,7 @@ use Rattle.cb_base.specs.declared.fault.Fault.TheVariants.{Empty, Size64, Mutate
 use Rattle.cb_base.specs.declared.fault.TxRule.{TxRule}
 use Rattle.cb_tx.specs.declared.tx.Tx.{Tx}
 use Rattle.cb_tx.specs.Text.{tx_text}
-use Rattle.cb_tx.specs.Rules.{IsCoinbase, IsLeastBroken, MeetsRules}
+use Rattle.cb_tx.specs.Rules.{IsCoinbase, IsLeastBroken, MeetsFirst, MeetsRules}
 use Rattle.cb_block.specs.declared.block.Block.{Block}
 use Rattle.cb_block.specs.MerkleTree.{IsRoot, IsMutated}
 use Rattle.cb_block.specs.Soundness.{names, IsSound}
@@ -35,6 +35,11 @@ HasOneCoinbase (first ∷ others) = IsCoinbase first × All (λ tx. ¬ IsCoinbas
 -- the first transaction that breaks a rule, and the first rule that it breaks
 abbrev pub BreaksFirst : List Tx → TxRule → Type 0
 BreaksFirst txs rule = (k : ℕ) × (tx : Tx) × (slice_get txs k ≡ Some tx) × IsLeastBroken tx rule × All MeetsRules (take k txs)
+
+-- A transaction meets its rules as far as they are told without memory, and those before it meet all of theirs. It has two
+-- inputs or more, which may spend one output.
+abbrev pub AsksMemory : List Tx → Type 0
+AsksMemory txs = (k : ℕ) × (tx : Tx) × (slice_get txs k ≡ Some tx) × (2 ≤ length tx.inputs) × MeetsFirst tx × All MeetsRules (take k txs)
 
 -- it has at most 1,000,000 bytes, one coinbase in front, and transactions that meet their rules
 pub record MeetsBlockRules (b : Block) : Type 0 where

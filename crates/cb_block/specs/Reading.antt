@@ -1,5 +1,5 @@
 -- Reading headers and blocks from the left, with the first fault that is met.
-use Rattle.std.specs.Prelude.{ℕ, List, Ok}
+use Rattle.std.specs.Prelude.{◌≡◌, ℕ, ◌<◌, List, Ok}
 use Rattle.std.specs.Int.{w32}
 use Rattle.cb_base.specs.Reading.{Read, ◌>>=◌, number_at, signed_at}
 use Rattle.cb_tx.specs.Reading.{hash_at, list_at, count_at, tx_at}
@@ -28,3 +28,7 @@ unfoldable pub first_count_at : List ℕ → Read ℕ
 first_count_at bytes = do
   header ← header_at bytes
   count_at 10 header.1
+
+-- reading a block takes memory: it has transactions
+abbrev pub TakesMemory : List ℕ → Type 0
+TakesMemory bytes = (n : ℕ × List ℕ) × (first_count_at bytes ≡ Ok n) × (0 < n.0)

@@ -1,11 +1,11 @@
-ghost use Rattle.std.specs.Prelude.{◌≡◌, ℕ, ◌-◌, ◌^◌, ◌<◌, ◌⊎◌, List, ◌++◌, length, min, slice_index, All, IfOk, IsOkUnless, MatchResult, OnOk, OnErr, Ok, Err};
+ghost use Rattle.std.specs.Prelude.{◌≡◌, ℕ, ◌+◌, ◌-◌, ◌^◌, ◌<◌, ◌≤◌, ◌⊎◌, List, [], ◌++◌, length, min, slice_index, All, IfOk, IsOk, IsOkUnless, MatchResult, OnOk, OnErr, Ok, Err, vec_capacity, vec_len};
 ghost use Rattle.cb_base.specs.Reading.{ReadsInMemory};
 ghost use Rattle.cb_base.specs.declared.fault.Fault.{Fault};
 ghost use Rattle.cb_base.specs.declared.fault.Fault.TheVariants.{Memory};
-ghost use Rattle.cb_tx.specs.Reading.{GivesInMemory, count_at, items_at, list_at, tx_at};
+ghost use Rattle.cb_tx.specs.Reading.{CountsSome, GivesInMemory, count_at, items_at, list_at, tx_at};
 ghost use Rattle.cb_tx.specs.Text.{IsTx, list_text, tx_text};
 ghost use Rattle.cb_tx.specs.Writing.{Extends};
-ghost use Rattle.cb_block.specs.Reading.{block_at, first_count_at};
+ghost use Rattle.cb_block.specs.Reading.{TakesMemory, block_at, first_count_at};
 ghost use Rattle.cb_block.specs.Text.{IsBlock, IsHeader, block_text, header_text};
 ghost use Rattle.cb_block.specs.declared.block.Block.{Block};
 
@@ -17,7 +17,8 @@ use std::alloc::Global;
 
 // So many transactions, one after the other.
 fn txs_of(alloc: Global, cursor: &mut Cursor, count: usize) -> Result<Txs, Fault>
-    ensures { GivesInMemory (items_at tx_at count cursor.old) result cursor.new }
+    ensures exact { GivesInMemory (items_at tx_at count cursor.old) result cursor.new }
+    ensures unpaid { count ≡ 0 → IsOk result }
 {
     let mut txs = Vec::with_capacity(alloc, count)?;
     for _ in 0..count {
@@ -30,6 +31,7 @@ fn txs_of(alloc: Global, cursor: &mut Cursor, count: usize) -> Result<Txs, Fault
 fn read_txs(alloc: Global, cursor: &mut Cursor) -> Result<Txs, Fault>
     ensures exact { GivesInMemory (list_at 10 tx_at cursor.old) result cursor.new }
     ensures unpaid { (fault : Fault) → count_at 10 cursor.old ≡ Err fault → result ≡ Err fault }
+    ensures paid { result ≡ Err Memory → CountsSome 10 cursor.old }
 {
     let count = read_count(cursor, 10)?;
     txs_of(alloc, cursor, count)
@@ -39,6 +41,7 @@ fn read_txs(alloc: Global, cursor: &mut Cursor) -> Result<Txs, Fault>
 fn block_or_fault(alloc: Global, cursor: &mut Cursor) -> Result<Block, Fault>
     ensures exact { GivesInMemory (block_at cursor.old) result cursor.new }
     ensures unpaid { (fault : Fault) → first_count_at cursor.old ≡ Err fault → result ≡ Err fault }
+    ensures paid { result ≡ Err Memory → TakesMemory cursor.old }
 {
     let header = read_header(cursor)?;
     let txs = read_txs(alloc, cursor)?;
@@ -50,6 +53,7 @@ fn block_of(alloc: Global, bytes: &[u8]) -> Result<(Block, Cursor<'_>), Fault>
     ensures exact { MatchResult result (λ read. block_at bytes.now ≡ Ok (read.0, read.1))
         (λ fault. (fault ≡ Memory) ⊎ (block_at bytes.now ≡ Err fault)) }
     ensures unpaid { (fault : Fault) → first_count_at bytes.now ≡ Err fault → result ≡ Err fault }
+    ensures paid { result ≡ Err Memory → TakesMemory bytes.now }
     ensures bytes { (i : ℕ) → slice_index bytes.now i < 256 }
 {
     let mut cursor = Cursor::new(bytes);
@@ -71,6 +75,8 @@ pub fn read_block<'a>(alloc: Global, cursor: &mut Cursor<'a>) -> Result<Block, F
         → (result ≡ Err Memory) ⊎ ((result ≡ Ok block) × (cursor.new ≡ rest)) }
     // Up to the first count no memory is taken.
     ensures unpaid { (fault : Fault) → first_count_at cursor.old ≡ Err fault → result ≡ Err fault }
+    // Nor is any for a count of 0.
+    ensures paid { result ≡ Err Memory → TakesMemory cursor.old }
 {
     let left = cursor.left();
     let bytes = cursor.take(left)?;
@@ -91,6 +97,8 @@ fn put_txs(out: &mut Vec<u8>, txs: &[Tx]) -> Result<(), Fault>
     ensures ok { OnOk result (out.new.items ≡ out.old.items ++ list_text tx_text txs.now) }
     ensures err { OnErr result (Extends out.old.items out.new.items) }
     ensures memory { IsOkUnless result Memory }
+    ensures full { OnErr result (vec_capacity out.old < vec_len out.old + length (list_text tx_text txs.now)) }
+    ensures capacity { vec_capacity out.old ≤ vec_capacity out.new }
     ensures few { length txs.now < 2 ^ 64 }
     ensures fits { OnOk result (All IsTx txs.now) }
 {
@@ -114,6 +122,8 @@ fn put_block(out: &mut Vec<u8>, block: &Block) -> Result<(), Fault>
     ensures ok { OnOk result (out.new.items ≡ out.old.items ++ block_text block.now) }
     ensures err { OnErr result (Extends out.old.items out.new.items) }
     ensures memory { IsOkUnless result Memory }
+    ensures full { OnErr result (vec_capacity out.old < vec_len out.old + length (block_text block.now)) }
+    ensures capacity { vec_capacity out.old ≤ vec_capacity out.new }
     ensures fits { OnOk result (IsBlock block.now) }
 {
     out.extend_from_slice(&header_bytes(block.header))?;
@@ -125,6 +135,9 @@ pub fn write_block(out: &mut Vec<u8>, block: &Block) -> Result<(), Fault>
     ensures ok { OnOk result (out.new.items ≡ out.old.items ++ block_text block.now) }
     ensures err { OnErr result (out.new.items ≡ out.old.items) }
     ensures memory { IsOkUnless result Memory }
+    // It comes only where the vector has no room for the text.
+    ensures full { OnErr result (vec_capacity out.old < vec_len out.old + length (block_text block.now)) }
+    ensures capacity { vec_capacity out.old ≤ vec_capacity out.new }
     // Each number is one of its field, and each hash has 32 bytes.
     ensures fits { OnOk result (IsBlock block.now) }
 {
@@ -158,10 +171,11 @@ impl Block {
         txs_size(self.txs.as_slice()).saturating_add(header)
     }
 
-    /// A block that equals it. The only error is `Fault::Memory`.
+    /// A block that equals it. The only error is `Fault::Memory`, and one with no transactions takes none.
     pub fn copy(&self, alloc: Global) -> Result<Block, Fault>
         ensures same { IfOk result (λ block. block ≡ self.now) }
         ensures memory { IsOkUnless result Memory }
+        ensures unpaid { self.now.txs ≡ [] → IsOk result }
     {
         let mut txs = Vec::with_capacity(alloc, self.txs.as_slice().len())?;
         for tx in self.txs.as_slice() {

@@ -1,9 +1,12 @@
-ghost use Rattle.std.specs.Prelude.{◌≡◌, ℕ, List, ◌++◌};
+ghost use Rattle.std.specs.Prelude.{◌≡◌, ◌≢◌, ℕ, List, [], ◌++◌, Err};
+ghost use Rattle.cb_base.specs.declared.fault.Fault.TheVariants.{Truncated};
 ghost use Rattle.cb_base.specs.declared.hash.Hash256.{Hash256};
 ghost use Rattle.cb_block.specs.MerkleTree.{IsRoot};
+ghost use Rattle.cb_block.specs.Reading.{block_at, header_at};
 ghost use Rattle.cb_block.specs.Soundness.{AreApart, IsSound};
-ghost use Rattle.cb_block.specs.Text.{IsBlock, block_text};
+ghost use Rattle.cb_block.specs.Text.{IsBlock, IsHeader, block_text, header_text};
 ghost use Rattle.cb_block.specs.declared.block.Block.{Block};
+ghost use Rattle.cb_block.specs.declared.header.Header.{Header};
 
 /// A Merkle tree has one root.
 pub fn one_root()
@@ -21,4 +24,14 @@ pub fn one_sound_list()
 pub fn one_block_text()
     ensures { (a b : Block) (x y : List ℕ) → IsBlock a → IsBlock b → block_text a ++ x ≡ block_text b ++ y
         → (a ≡ b) × (x ≡ y) }
+{}
+
+/// A strict beginning of a header's text is too short to be read: `Fault::Truncated`.
+pub fn beginning_of_header_is_truncated()
+    ensures { (header : Header) (b c : List ℕ) → IsHeader header → header_text header ≡ b ++ c → c ≢ [] → header_at b ≡ Err Truncated }
+{}
+
+/// The same of a block's text.
+pub fn beginning_of_block_is_truncated()
+    ensures { (block : Block) (b c : List ℕ) → IsBlock block → block_text block ≡ b ++ c → c ≢ [] → block_at b ≡ Err Truncated }
 {}

@@ -1,8 +1,9 @@
-ghost use Rattle.std.specs.Prelude.{◌≡◌, ◌⊎◌, ◌↔◌, All, IsTrue, MatchResult};
+ghost use Rattle.std.specs.Prelude.{◌≡◌, ◌≤◌, ◌⊎◌, ◌↔◌, length, All, IsTrue, MatchResult, Err};
 ghost use Rattle.cb_base.specs.declared.fault.Fault.TheVariants.{BadTx, Memory};
 ghost use Rattle.cb_base.specs.declared.fault.TxRule.{TxRule};
 ghost use Rattle.cb_tx.specs.Rules.{MeetsRules};
-ghost use Rattle.cb_block.specs.Blocks.{BreaksFirst, HasOneCoinbase, IsRefused, MeetsBlockRules};
+ghost use Rattle.cb_block.specs.Blocks.{AsksMemory, BreaksFirst, HasOneCoinbase, IsRefused, MeetsBlockRules};
+ghost use Rattle.cb_block.specs.Text.{block_text};
 
 use crate::soundness::SoundBlock;
 use cb_base::Fault;
@@ -20,8 +21,9 @@ fn has_one_coinbase(txs: &[Tx]) -> bool
 
 // Whether each transaction meets its rules: else the first fault of the first that doesn't.
 fn check_txs(alloc: Global, txs: &[Tx]) -> Result<(), Fault>
-    ensures { MatchResult result (λ _. All MeetsRules txs.now)
+    ensures exact { MatchResult result (λ _. All MeetsRules txs.now)
         (λ fault. (fault ≡ Memory) ⊎ ((rule : TxRule) × (fault ≡ BadTx rule) × BreaksFirst txs.now rule)) }
+    ensures paid { result ≡ Err Memory → AsksMemory txs.now }
 {
     for tx in txs {
         check_tx(alloc, tx)?;
@@ -35,7 +37,11 @@ fn check_txs(alloc: Global, txs: &[Tx]) -> Result<(), Fault>
 /// is no coinbase or another is one, and then the fault of the first transaction that `check_tx` refuses; that call may
 /// also answer `Fault::Memory`.
 pub fn check_block(alloc: Global, block: &SoundBlock) -> Result<(), Fault>
-    ensures { MatchResult result (λ _. MeetsBlockRules block.now) (λ fault. (fault ≡ Memory) ⊎ IsRefused block.now fault) }
+    ensures exact { MatchResult result (λ _. MeetsBlockRules block.now) (λ fault. (fault ≡ Memory) ⊎ IsRefused block.now fault) }
+    // Size and coinbase are looked at without memory.
+    ensures unpaid { result ≡ Err Memory → (length (block_text block.now) ≤ 1000000) × HasOneCoinbase block.now.txs }
+    // A transaction takes memory where it has two inputs or more, and is looked at where those before it meet their rules.
+    ensures paid { result ≡ Err Memory → AsksMemory block.now.txs }
 {
     let block = block.block();
     if block.size() > 1_000_000 {

@@ -1,4 +1,4 @@
-ghost use Rattle.std.specs.Prelude.{◌≡◌, ◌<◌, ◌++◌, ◌↔◌, length, vec_len, IfOk, IsOkUnless, IsTrue};
+ghost use Rattle.std.specs.Prelude.{◌≡◌, ◌<◌, ◌≤◌, ◌++◌, ◌↔◌, length, vec_len, IfOk, IsOkUnless, IsTrue, Err};
 ghost use Rattle.cb_base.specs.declared.fault.Fault.TheVariants.{Memory};
 ghost use Rattle.cb_base.specs.DoubleHash.{double_hash};
 ghost use Rattle.cb_block.specs.MerkleTree.{HasEqualPair, IsMutated, IsRoot, up};
@@ -59,23 +59,28 @@ pub(crate) fn tree(leaves: Vec<Hash256>) -> (Hash256, bool)
     (level[0], mutated)
 }
 
-/// The Merkle root of hashes, of which there is one at least. The only error is `Fault::Memory`.
+/// The Merkle root of hashes, of which there is one at least. The only error is `Fault::Memory`, and one hash takes none.
 pub fn root(alloc: Global, hashes: &[Hash256]) -> Result<Hash256, Fault>
     requires { 0 < length hashes.now }
     ensures root { IfOk result (λ root. IsRoot hashes.now root) }
     ensures memory { IsOkUnless result Memory }
+    ensures paid { result ≡ Err Memory → 2 ≤ length hashes.now }
 {
+    if let [only] = hashes {
+        return Ok(*only);
+    }
     let (root, _) = tree(Vec::from_slice(alloc, hashes)?);
     Ok(root)
 }
 
 /// Whether some level of the hashes' Merkle tree has two equal neighbours (CVE-2012-2459). The only error is
-/// `Fault::Memory`.
+/// `Fault::Memory`, which fewer than two hashes never meet.
 pub fn mutated(alloc: Global, hashes: &[Hash256]) -> Result<bool, Fault>
     ensures mutated { IfOk result (λ mutated. IsTrue mutated ↔ IsMutated hashes.now) }
     ensures memory { IsOkUnless result Memory }
+    ensures paid { result ≡ Err Memory → 2 ≤ length hashes.now }
 {
-    if hashes.is_empty() {
+    if hashes.len() < 2 {
         return Ok(false);
     }
     let (_, mutated) = tree(Vec::from_slice(alloc, hashes)?);

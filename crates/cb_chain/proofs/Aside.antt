@@ -1,6 +1,6 @@
 -- A node that is kept beside the active chain.
 use Rattle.std.proofs.Common as common
-use Rattle.std.proofs.Common.{◌≡◌, ℕ, zero, suc, ◌+◌, ◌<◌, ◌≤◌, Bool, true, false, cond, List, [], ◌∷◌, ◌++◌, length, Some, None, Option, refl, sym, ap, subst, ◌∙◌, arith, inl, inr, ◌⊎◌, nat_lt}
+use Rattle.std.proofs.Common.{◌≡◌, ℕ, zero, suc, ◌+◌, ◌<◌, ◌≤◌, Bool, true, false, cond, List, [], ◌∷◌, ◌++◌, append-nil, length, Some, None, Option, refl, sym, ap, subst, ◌∙◌, arith, inl, inr, ◌⊎◌, nat_lt}
 use Rattle.std.proofs.lemmas.Bool.Decides.{nat_tests}
 use Rattle.std.specs.Prelude.{slice_get, is_ok, is_some, not, reverse, ◌&&◌, IfErr, Result, Ok, Err}
 use Rattle.std.specs.FinMap as map
@@ -16,12 +16,13 @@ use Rattle.cb_ledger.specs.declared.undo.Change.{Change}
 use Rattle.cb_ledger.specs.Unspent.{Unspent}
 use Rattle.cb_chain.specs.declared.accepting.Spot.{Spot}
 use Rattle.cb_chain.specs.declared.node.Node.{Node}
-use Rattle.cb_chain.specs.Best.{Stop, best, is_higher, then_spend, unspent_after}
+use Rattle.cb_chain.specs.Best.{Stop, active, best, branch, is_higher, then_spend, unspent_after}
 use Rattle.cb_chain.specs.Entries.{Entry, Tree, block_hash, same, entry_of, has_block, has_mark, height_of, is_known, is_kept, is_marked}
 use Rattle.cb_chain.specs.declared.change.Change as Moves
 use Rattle.cb_chain.specs.Calls.AcceptsBlock.{breaks_rule, refused}
 use Rattle.cb_chain.specs.Calls.{AcceptsBlock, bad_entry, header_entry, header_fault, block_entry, block_fault, is_full_under, joined, no_change}
 use Rattle.cb_chain.specs.Keeping.{Step, entry_from, tree_of, place_of, way, climb, turn_of, node_on, parent_fault, Connects, IsChain, IsNode, IsSpot, IsTree}
+use Rattle.cb_chain.specs.Laws.{LeadsOver, active_hashes}
 use Rattle.cb_chain.proofs.Nodes.{found, unfound, same-refl, same-true, tree_grown}
 use Rattle.cb_chain.proofs.Ways.{best_kept}
 
@@ -124,15 +125,15 @@ block_unknown nodes tree header view none =
 
 -- ---- what a header becomes where nothing speaks against it
 
-none_first : (b : Bool) (fault : Fault) (others : Option Fault) → cond b (Some fault) others ≡ None → (b ≡ false) × (others ≡ None)
+pub none_first : (b : Bool) (fault : Fault) (others : Option Fault) → cond b (Some fault) others ≡ None → (b ≡ false) × (others ≡ None)
 none_first true fault others e = absurd cc
 none_first false fault others e = (refl, e)
 
-not_false : (b : Bool) → not b ≡ false → b ≡ true
+pub not_false : (b : Bool) → not b ≡ false → b ≡ true
 not_false true e = refl
 not_false false e = absurd cc
 
-known_is_kept : (entry : Option Entry) → is_some entry ≡ false → has_block entry ≡ false
+pub known_is_kept : (entry : Option Entry) → is_some entry ≡ false → has_block entry ≡ false
 known_is_kept None e = refl
 known_is_kept (Some entry) e = absurd cc
 
@@ -208,7 +209,7 @@ pub aside_other : (nodes : List Node) (node : Node) → IsTree nodes → IsNode 
 aside_other nodes node is one =
     kept_other (tree_of nodes) (best (tree_of nodes)) (block_hash node.header) (best_kept nodes is) (subst (λ (h : Hash256). is_kept (tree_of nodes) h ≡ false) one.hash one.once)
 
-bare_err : (entry : Entry) (below : Result Unspent Stop) → entry.block ≡ None → is_ok (then_spend entry below) ≡ false
+pub bare_err : (entry : Entry) (below : Result Unspent Stop) → entry.block ≡ None → is_ok (then_spend entry below) ≡ false
 bare_err entry (Ok u) bare = rw bare refl
 bare_err entry (Err stop) bare = refl
 
@@ -306,6 +307,24 @@ entry_on spot block header = ap (λ (h : Header). entry_with h block) header
 pub joined_aside : (older new : Tree) (block : Block) (change : Moves.Change) → is_higher (block_entry block ∷ older) (block_hash block.header) (best older) ≡ false → new ≡ block_entry block ∷ older
     → change ≡ no_change → joined older block ≡ (Ok change, new)
 joined_aside older new block change low grown empty = rw (low, grown, empty) refl
+
+active_aside : (entry : Entry) (older : Tree) → best (entry ∷ older) ≡ best older → same (best older) (block_hash entry.header) ≡ false → active (entry ∷ older) ≡ active older
+unfolding branch
+active_aside entry older stays other =
+    let branches : branch (entry ∷ older) (best older) ≡ branch older (best older) = rw other refl in
+    ap reverse (ap (branch (entry ∷ older)) stays ∙ branches)
+
+-- the active chain stays
+pub over_aside : (older new : Tree) (block : Block) (spot : Spot) (tip : ℕ) (change : Moves.Change) → Joins older block spot tip → spot.height ≤ tip → new ≡ block_entry block ∷ older
+    → change ≡ no_change → LeadsOver (active_hashes older) change (active_hashes new)
+over_aside older new block spot tip change j low grown empty =
+    let entry = block_entry block in
+    let stays = low_best entry older (joins_aside older block spot tip j low) in
+    let other = kept_other older (best older) (block_hash block.header) j.kept (block_free older block.header j.none).once in
+    let whole : active_hashes older ≡ active_hashes older ++ [] = sym (append-nil (active_hashes older)) in
+    let both : LeadsOver (active_hashes older) no_change (active_hashes (entry ∷ older)) =
+    record { shared = active_hashes older; old_is = whole; new_is = ap (common.map block_hash) (active_aside entry older stays other) ∙ whole; apart = tt } in
+    subst (λ (t : Tree). LeadsOver (active_hashes older) change (active_hashes t)) (sym grown) (subst (λ (c : Moves.Change). LeadsOver (active_hashes older) c (active_hashes (entry ∷ older))) (sym empty) both)
 
 -- ---- what a call with a block tells
 

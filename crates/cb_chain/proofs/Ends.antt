@@ -15,6 +15,7 @@ use Rattle.cb_chain.specs.Entries.{Entry, Tree, block_hash, is_kept}
 use Rattle.cb_chain.specs.Best.{best, is_higher}
 use Rattle.cb_chain.specs.Calls.{block_entry, block_fault, joined, marked_above}
 use Rattle.cb_chain.specs.Keeping.{Connects, Halts, IsChain, IsFork, IsNode, IsSpot, IsTree, LikeBack, Step, block_at, climb, entry_from, node_on, place_of, taken_back, tree_of, turn_at, turn_of}
+use Rattle.cb_chain.specs.Laws.{LeadsOver, active_hashes}
 use Rattle.cb_chain.specs.Plans.{change_at}
 use Rattle.cb_chain.proofs.Aside.{block_free, block_node}
 use Rattle.cb_chain.proofs.Marks.{marks_keep_chain}
@@ -94,6 +95,7 @@ on_length nodes block branch u v on h =
 pub record IsLed (old new : Tree) (block : Block) (change : Answer) (path : List ℕ) (records : List (List Change)) (unspent : Unspent) : Type 0 where
   pub chain : IsChain new path records unspent
   pub answer : (Ok change, new) ≡ joined old block
+  pub over : LeadsOver (active_hashes old) change (active_hashes new)
 
 pub led : (nodes now_nodes : List Node) (block : Block) (node : Node) (path now_path : List ℕ) (records now_records : List (List Change)) (unspent : Unspent) (fork : ℕ) (branch : List ℕ) (others : List (List Change)) (after : Unspent) (change : Answer)
     → IsRise nodes block path records unspent fork branch → entry_from node ≡ block_entry block → Connects (taken_back unspent (reverse (drop fork records))) (upper_turns nodes block branch) others after
@@ -108,6 +110,8 @@ led nodes now_nodes block node path now_path records now_records unspent fork br
     record {
       chain = subst (λ (rs : List (List Change)). IsChain (tree_of now_nodes) now_path rs after) (sym records_are) second;
       answer = sym (r.joined_is ∙ ap (λ (x : Answer). kept_ok x (block_entry block ∷ tree_of nodes)) (sym change_is) ∙ ap (kept_ok change) (sym new));
+      over = subst (λ (t : Tree). LeadsOver (active_hashes (tree_of nodes)) change (active_hashes t)) (sym new)
+          (subst (λ (x : Answer). LeadsOver (active_hashes (tree_of nodes)) x (active_hashes (block_entry block ∷ tree_of nodes))) (sym change_is) r.over);
     }
 
 -- ---- its path stops

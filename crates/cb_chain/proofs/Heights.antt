@@ -1,6 +1,6 @@
 -- The heights of hashes on the active chain, and the headers that follow.
 use Rattle.std.proofs.Common.{◌≡◌, ℕ, zero, suc, ◌+◌, ◌-◌, ◌<◌, ◌≤◌, Bool, true, false, cond, ltb, List, [], ◌∷◌, ◌++◌, length, get_or, min, take, drop, Some, None, Option, refl, sym, ap, subst, ◌∙◌, arith, inl, inr, add-zero}
-use Rattle.std.specs.Prelude.{slice_get, unwrap_or}
+use Rattle.std.specs.Prelude.{if◌then◌else◌, slice_get, unwrap_or}
 use Rattle.std.proofs.lemmas.Bool.{cases_Bool, cases_lt, ltb-false}
 use Rattle.std.proofs.lemmas.List.{append_assoc, append-nil, at_drop_all, at_drop_more, drop_all, drop_more, get_or-drop, length-drop, length-take, take_all, take_at, take_more, take_rest}
 use Rattle.std.proofs.lemmas.Option.{get_or_from_slice_get, same_Some, slice_get-get_or, slice_get_past, slice_get_read}
@@ -177,6 +177,21 @@ follow_more nodes places height i node items is are lt at so =
 
 pub follow_all : (nodes : List Node) (places : List ℕ) (height i : ℕ) → IsTree nodes → places ≡ active_places (tree_of nodes) → length (rest_of places height) ≤ i → take i (followers nodes height) ≡ followers nodes height
 follow_all nodes places height i is are le = take_all i (followers nodes height) (omega (arith, le, length_followers nodes places height is are))
+
+-- where none follows
+
+pub rest_none : (nodes : List Node) (places : List ℕ) (height : ℕ) → IsTree nodes → places ≡ active_places (tree_of nodes) → followers nodes height ≡ [] → length places - height - 1 ≡ 0
+rest_none nodes places height is are none = omega (arith, ap length none, length_followers nodes places height is are, length_rest places height)
+
+pub rest_some : (nodes : List Node) (places : List ℕ) (height i : ℕ) → IsTree nodes → places ≡ active_places (tree_of nodes) → i < length (rest_of places height) → followers nodes height ≡ [] → ⊥
+rest_some nodes places height i is are lt none = omega (arith, lt, ap length none, length_followers nodes places height is are)
+
+pub up_to_none : (stop : Hash256) (line : List Header) → take 2000 (up_to stop line) ≡ [] → line ≡ []
+up_to_none stop [] e = refl
+up_to_none stop (header ∷ headers) e =
+    let rest : List Header = if same stop (block_hash header) then [] else up_to stop headers in
+    let long : min 2000 (suc (length rest)) ≡ 0 = sym (length-take 2000 (header ∷ rest)) ∙ ap length e in
+    absurd (omega arith)
 
 -- ---- up to the stop
 

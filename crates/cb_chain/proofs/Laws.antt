@@ -163,7 +163,10 @@ folds : (tree : Tree) (hash : Hash256) (p : ℕ) (u : Unspent) → AreSteady tre
 unfolding branch unspent_after spend
 folds [] hash p u are e after =
     elim (chosen (same hash genesis_hash) 0 None p e) [
-      | inl w ↦ rw w.0 (let same_u : finite.empty ≡ u = cc in ([], refl, ap Ok same_u))
+      | inl w ↦
+          let none : Ok finite.empty ≡ Ok u = rw w.0 at after in
+          let same_u : finite.empty ≡ u = cc in
+          rw w.0 ([], refl, ap Ok same_u)
       | inr w ↦ absurd (let none : None ≡ Some p = w.1 in cc)
     ]
 folds (entry ∷ older) hash p u are e after =
@@ -215,13 +218,21 @@ spends_kept entry (Ok v) e =
       | Some block ↦ λ _. refl
     ] e
 
--- a block that can be spent is kept
-ok_kept : (entry : Entry) (older : Tree) → IsOk (unspent_after (entry ∷ older) (block_hash entry.header)) → is_kept (entry ∷ older) (block_hash entry.header) ≡ true
+-- a block that can be spent with its whole path is kept
+pub spent_kept : (tree : Tree) (hash : Hash256) → IsOk (unspent_after tree hash) → is_kept tree hash ≡ true
 unfolding unspent_after
-ok_kept entry older ok =
-    let own = same-refl (block_hash entry.header) in
-    let here : is_ok (then_spend entry (unspent_after older entry.header.prev)) ≡ true = rw own at ok in
-    rw own (spends_kept entry (unspent_after older entry.header.prev) here)
+spent_kept [] hash ok =
+    elim (cases_Bool (same hash genesis_hash)) [
+      | inl is ↦ rw is refl
+      | inr isnt ↦ let none : false ≡ true = rw isnt at ok in absurd (false≢true none)
+    ]
+spent_kept (entry ∷ older) hash ok =
+    elim (cases_Bool (same hash (block_hash entry.header))) [
+      | inl is ↦
+          let here : is_ok (then_spend entry (unspent_after older entry.header.prev)) ≡ true = rw is at ok in
+          rw is (spends_kept entry (unspent_after older entry.header.prev) here)
+      | inr isnt ↦ let there : IsOk (unspent_after older hash) = rw isnt at ok in rw isnt (spent_kept older hash there)
+    ]
 
 -- the tip is kept
 tip_kept : (tree : Tree) → AreSteady tree → is_kept tree (best tree) ≡ true
@@ -229,7 +240,7 @@ unfolding best
 tip_kept [] are = rw (same-refl genesis_hash) refl
 tip_kept (entry ∷ older) are =
     elim (turns entry older) [
-      | leads ok up is ↦ subst (λ (hash : Hash256). is_kept (entry ∷ older) hash ≡ true) (sym is) (ok_kept entry older ok)
+      | leads ok up is ↦ subst (λ (hash : Hash256). is_kept (entry ∷ older) hash ≡ true) (sym is) (spent_kept (entry ∷ older) (block_hash entry.header) ok)
       | stays _ is ↦
           let below = tip_kept older are.1 in
           subst (λ (hash : Hash256). is_kept (entry ∷ older) hash ≡ true) (sym is) (rw (kept_other entry older (best older) are.0 below) below)

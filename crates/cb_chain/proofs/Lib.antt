@@ -8,9 +8,12 @@ pub mod Laws
 pub mod Locators
 pub mod Marks
 pub mod Nodes
+pub mod Once
 pub mod Partings
 pub mod Planning
+pub mod Reached
 pub mod Rising
+pub mod Roots
 pub mod Steps
 pub mod Tips
 pub mod Turning

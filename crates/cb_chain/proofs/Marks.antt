@@ -307,7 +307,7 @@ mark_as true entry = refl
 mark_as false entry = refl
 
 -- a kept node is marked where it was, or where it leads through the first
-marked_is : (tree : Tree) (first hash : Hash256) → is_kept tree hash ≡ true → is_marked (marked_above first tree) hash ≡ is_marked tree hash || leads_through tree first hash
+pub marked_is : (tree : Tree) (first hash : Hash256) → is_kept tree hash ≡ true → is_marked (marked_above first tree) hash ≡ is_marked tree hash || leads_through tree first hash
 marked_is [] first hash kept = or_either (is_marked [] hash) false ∙ ap (λ (b : Bool). is_marked [] hash || b) (sym (leads_none first hash))
 marked_is (entry ∷ older) first hash kept =
     let b = marks first entry older in

@@ -1,5 +1,5 @@
 -- Where two chains part: the highest height at which they have the same hash.
-use Rattle.std.proofs.Common.{◌≡◌, ℕ, zero, suc, ◌+◌, ◌<◌, ◌≤◌, ◌-◌, Bool, true, false, cond, List, [], ◌∷◌, ◌++◌, length, drop, Some, None, Option, refl, sym, ap, ◌∙◌, arith, inl, inr}
+use Rattle.std.proofs.Common.{◌≡◌, ℕ, zero, suc, ◌+◌, ◌<◌, ◌≤◌, ◌-◌, Bool, true, false, cond, List, [], ◌∷◌, ◌++◌, length, map, drop, Some, None, Option, refl, sym, ap, ◌∙◌, arith, inl, inr}
 use Rattle.std.specs.Prelude.{reverse, slice_get}
 use Rattle.std.specs.Option.{option_map_or}
 use Rattle.std.proofs.lemmas.Bool.{cases_Bool, cases_lt, false≢true}
@@ -8,7 +8,8 @@ use Rattle.std.proofs.lemmas.Option.{slice_get_past, slice_get_cases}
 use Rattle.cb_block.specs.declared.header.Header.{Header}
 use Rattle.cb_chain.specs.Entries.{block_hash, same}
 use Rattle.cb_chain.specs.Following.{above_branch, stands_at}
-use Rattle.cb_chain.proofs.Nodes.{get_last, reverse_cons, same-symm}
+use Rattle.cb_chain.specs.Laws.{PartAtOnce}
+use Rattle.cb_chain.proofs.Nodes.{get_last, reverse_cons, same-refl, same-symm}
 
 -- the greatest number below this one that passes
 abbrev pub top : ℕ → (ℕ → Bool) → Option ℕ
@@ -125,3 +126,38 @@ fork_back ones others fork header first some low short is =
       ap (λ (o : Option Header). cond (option_map_or (λ x. same (block_hash x) (block_hash header)) o false) (drop (suc (length (reverse ones))) others) (above_branch (reverse ones) others)) past ∙ is,
       above_top (reverse others) new ∙ ap (above new) top_new ∙ drop-append-le (suc fork) ones (header ∷ []) (omega arith),
     )
+
+-- ---- above that height they differ
+
+top_above : (n : ℕ) (p : ℕ → Bool) (j k : ℕ) → top n p ≡ Some j → j < k → k < n → p k ≡ false
+top_above zero p j k e lt within = absurd (omega arith)
+top_above (suc n) p j k e lt within =
+    elim (cases_Bool (p n)) [
+      | inl is ↦
+          let here : Some n ≡ Some j = sym (ap (λ (b : Bool). cond b (Some n) (top n p)) is) ∙ e in
+          let one : n ≡ j = cc in
+          absurd (omega arith)
+      | inr isnt ↦
+          let below : top n p ≡ Some j = sym (ap (λ (b : Bool). cond b (Some n) (top n p)) isnt) ∙ e in
+          elim (cases_lt k n) [
+            | inl less ↦ top_above n p j k below lt less
+            | inr past ↦ ap p (let one : k ≡ n = omega arith in one) ∙ isnt
+          ]
+    ]
+
+parts_at : (k : ℕ) (ones others : List Header) (header : Header) → length others ≤ length ones → (k < length ones → agree ones others k ≡ false)
+    → PartAtOnce (map block_hash (drop k others)) (map block_hash (drop k ones ++ header ∷ []))
+parts_at zero ones [] header short differ = tt
+parts_at zero [] (other ∷ others) header short differ = absurd (omega arith)
+parts_at zero (one ∷ ones) (other ∷ others) header short differ =
+    λ e. false≢true (sym (differ (omega arith)) ∙ ap (same (block_hash other)) (sym e) ∙ same-refl (block_hash other))
+parts_at (suc k) ones [] header short differ = tt
+parts_at (suc k) [] (other ∷ others) header short differ = absurd (omega arith)
+parts_at (suc k) (one ∷ ones) (other ∷ others) header short differ = parts_at k ones others header (omega arith) (λ lt. differ (omega arith))
+
+-- the active chain and the branch, which grows by one header, where the branch leaves it
+pub fork_parts : (ones others : List Header) (fork : ℕ) (header : Header) → agree ones others 0 ≡ true → 0 < length ones → fork < length others → length others ≤ length ones
+    → above_branch (reverse ones) others ≡ drop (suc fork) others → PartAtOnce (map block_hash (drop (suc fork) others)) (map block_hash (drop (suc fork) ones ++ header ∷ []))
+fork_parts ones others fork header first some low short is =
+    let found = fork_top ones others fork first some low is in
+    parts_at (suc fork) ones others header short (λ lt. top_above (length ones) (agree ones others) fork (suc fork) found (omega arith) lt)

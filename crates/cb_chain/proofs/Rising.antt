@@ -1,5 +1,5 @@
 -- A block that is higher than the tip: the chain with it, or where its path stops.
-use Rattle.std.proofs.Common.{◌≡◌, ℕ, suc, ◌+◌, ◌<◌, Bool, true, false, cond, List, [], ◌∷◌, ◌++◌, length, map, take, drop, Some, Option, Result, Ok, Err, refl, sym, ap, subst, ◌∙◌, arith, inl, inr, nat_lt, append_assoc}
+use Rattle.std.proofs.Common.{◌≡◌, ℕ, suc, ◌+◌, ◌<◌, ◌≤◌, Bool, true, false, cond, List, [], ◌∷◌, ◌++◌, length, map, take, drop, Some, Option, Result, Ok, Err, refl, sym, ap, subst, ◌∙◌, arith, inl, inr, nat_lt, append_assoc}
 use Rattle.std.specs.Prelude.{reverse, slice_get, option_and_then, option_map, is_some, is_ok, unwrap_or, ◌&&◌, IsSome}
 use Rattle.std.specs.FinMap as finite
 use Rattle.std.specs.List.{AllByRecursion}
@@ -13,17 +13,19 @@ use Rattle.cb_block.specs.Genesis.{genesis_header}
 use Rattle.cb_ledger.specs.declared.undo.Change.{Change}
 use Rattle.cb_ledger.specs.Unspent.{Unspent}
 use Rattle.cb_chain.specs.declared.node.Node.{Node}
-use Rattle.cb_chain.specs.Entries.{Entry, Tree, block_hash, genesis_hash, same, height_of, is_kept}
+use Rattle.cb_chain.specs.Entries.{Entry, Tree, block_hash, genesis_hash, same, height_of, is_kept, is_known}
 use Rattle.cb_chain.specs.Best.{Stop, active, best, branch, is_higher, unspent_after}
 use Rattle.cb_chain.specs.Calls.{block_entry, change_of, joined, marked_above}
 use Rattle.cb_chain.specs.Following.{above_branch}
 use Rattle.cb_chain.specs.Keeping.{Connects, Halts, IsChain, IsFork, IsNode, IsTree, LikeBack, Step, Turn, block_at, climb, entry_from, place_of, taken_back, tree_of, turn_at, turn_of, way}
+use Rattle.cb_chain.specs.Laws.{LeadsOver, PartAtOnce, active_hashes}
 use Rattle.cb_chain.specs.Plans.{change_at, hash_at}
-use Rattle.cb_chain.proofs.Nodes.{is_grown, length_tree, tree_grown, reverse_cons, same-refl, same-true}
+use Rattle.cb_chain.proofs.Nodes.{is_grown, length_tree, tree_grown, reverse_cons, reverse_push, same-refl, same-true}
+use Rattle.cb_chain.proofs.Roots.{AreRooted, known_placed, rooted}
 use Rattle.cb_chain.proofs.Tips.{known_best}
 use Rattle.cb_chain.proofs.Turning.{IsHalt, connects_join, connects_like, connects_outcome, connects_split, connects_taken, halts_outcome, outcome, outcome_more, unspent_climb}
 use Rattle.cb_chain.proofs.Steps.{Stands, all_drop, all_more, all_middle, branch_climb, height_climb, same_map, steps_kept, steps_stand}
-use Rattle.cb_chain.proofs.Partings.{agree, fork_back}
+use Rattle.cb_chain.proofs.Partings.{agree, fork_back, fork_parts}
 use Rattle.cb_chain.proofs.Ways.{active_way}
 
 -- what a call answers
@@ -175,31 +177,55 @@ pub joined_err : (old : Tree) (block : Block) (stop : Stop) → is_higher (block
 joined_err old block stop higher err = rw (higher, err) refl
 
 -- what is unspent after the lower part
-lower_outcome : (nodes : List Node) (block : Block) (path : List ℕ) (records : List (List Change)) (unspent : Unspent) (fork : ℕ) (branch : List ℕ) → (p : IsParted nodes block path records unspent fork branch)
+lower_outcome : (nodes : List Node) (block : Block) (path : List ℕ) (records : List (List Change)) (unspent : Unspent) (fork : ℕ) (branch : List ℕ) → IsRise nodes block path records unspent fork branch → (p : IsParted nodes block path records unspent fork branch)
     → unspent_after (block_entry block ∷ tree_of nodes) (block_hash block.header) ≡ outcome (Ok (taken_back unspent (reverse (drop fork records)))) p.upper
-lower_outcome nodes block path records unspent fork branch p =
+lower_outcome nodes block path records unspent fork branch is p =
     let u = taken_back unspent (reverse (drop fork records)) in
-    unspent_climb (block_entry block ∷ tree_of nodes) (block_hash block.header) ∙ ap (outcome (Ok finite.empty)) p.whole ∙ outcome_more (Ok finite.empty) p.lower p.upper
+    let rooted_new : AreRooted (block_entry block ∷ tree_of nodes) = (known_placed (tree_of nodes) block.header.prev is.parent is.known, rooted nodes is.tree) in
+    let known : is_known (block_entry block ∷ tree_of nodes) (block_hash block.header) ≡ true = rw (same-refl (block_hash block.header)) refl in
+    unspent_climb (block_entry block ∷ tree_of nodes) (block_hash block.header) rooted_new known ∙ ap (outcome (Ok finite.empty)) p.whole ∙ outcome_more (Ok finite.empty) p.lower p.upper
     ∙ ap (λ (r : Result Unspent Stop). outcome r p.upper) (connects_outcome finite.empty u p.lower (take fork records) p.low)
 
 pub changes_same : {off other : List Hash256} {on more : List Hash256} → off ≡ other → on ≡ more → ◌≡◌ {A = Answer} (record { off = off; on = on }) (record { off = other; on = more })
 changes_same {off} {other} {on} {more} e f = ap (λ (hs : List Hash256). record { off = hs; on = on }) e ∙ ap (λ (hs : List Hash256). record { off = other; on = hs }) f
 
--- what it changes
-pub change_is : (nodes : List Node) (block : Block) (path : List ℕ) (records : List (List Change)) (unspent : Unspent) (fork : ℕ) (branch : List ℕ) → IsRise nodes block path records unspent fork branch
-    → best (block_entry block ∷ tree_of nodes) ≡ block_hash block.header → change_of (tree_of nodes) (block_entry block ∷ tree_of nodes) ≡ change_at (tree_of nodes) block.header fork
-change_is nodes block path records unspent fork places is tip =
+-- a branch from the first block's header up
+abbrev branch_up : Tree → Hash256 → List Header
+branch_up tree hash = reverse (branch tree hash)
+
+-- the hashes of what comes on
+on_hashes : (tree : Tree) (prev : Hash256) (header : Header) (ones : List Header) (fork : ℕ) → ones ≡ genesis_header ∷ map (λ (s : Step). s.entry.header) (climb tree prev)
+    → map block_hash (drop (suc fork) ones ++ header ∷ []) ≡ map (λ (s : Step). block_hash s.entry.header) (drop fork (climb tree prev)) ++ block_hash header ∷ []
+on_hashes tree prev header ones fork ones_is =
+    let name : Step → Header = λ s. s.entry.header in
+    let high : drop (suc fork) ones ≡ map name (drop fork (climb tree prev)) = ap (drop (suc fork)) ones_is ∙ drop-map name fork (climb tree prev) in
+    ap (λ (hs : List Header). map block_hash (hs ++ header ∷ [])) high ∙ map-append block_hash (map name (drop fork (climb tree prev))) (header ∷ [])
+    ∙ ap (λ (hs : List Hash256). hs ++ block_hash header ∷ []) (map_map block_hash name (drop fork (climb tree prev)))
+
+-- the branch of its parent and the active chain, from the first block's header up
+record Beside (nodes : List Node) (block : Block) (fork : ℕ) (ones others : List Header) : Type 0 where
+  ones_is : ones ≡ genesis_header ∷ map (λ (s : Step). s.entry.header) (climb (tree_of nodes) block.header.prev)
+  others_is : others ≡ genesis_header ∷ map (λ (s : Step). s.entry.header) (climb (tree_of nodes) (best (tree_of nodes)))
+  first : agree ones others 0 ≡ true
+  some : 0 < length ones
+  low : fork < length others
+  short : length others ≤ length ones
+  above : above_branch (reverse ones) others ≡ drop (suc fork) others
+  new_is : best (block_entry block ∷ tree_of nodes) ≡ block_hash block.header → active (block_entry block ∷ tree_of nodes) ≡ ones ++ block.header ∷ []
+
+beside : (nodes : List Node) (block : Block) (path : List ℕ) (records : List (List Change)) (unspent : Unspent) (fork : ℕ) (branch : List ℕ) → IsRise nodes block path records unspent fork branch
+    → Beside nodes block fork (branch_up (tree_of nodes) block.header.prev) (active (tree_of nodes))
+beside nodes block path records unspent fork places is =
     let tree = tree_of nodes in
     let new = block_entry block ∷ tree in
     let header = block.header in
     let prev = header.prev in
     let known = known_best tree in
     let name : Step → Header = λ s. s.entry.header in
-    let ones = reverse (branch tree prev) in
+    let ones = branch_up tree prev in
     let others = active tree in
     let ones_is : ones ≡ genesis_header ∷ map name (climb tree prev) = branch_climb nodes prev is.parent is.tree is.known in
     let others_is : others ≡ genesis_header ∷ map name (climb tree (best tree)) = active_way nodes is.tree in
-    let first : agree ones others 0 ≡ true = rw (ones_is, others_is) (same-refl (block_hash genesis_header)) in
     let apart_is = apart new (block_hash header) (best tree) is.higher in
     let height_one : height_of new (block_hash header) ≡ Some (suc (length (climb tree prev))) = height_new (block_entry block) tree ∙ ap (option_map suc) (height_climb nodes prev is.parent is.tree is.known) in
     let height_tip : height_of new (best tree) ≡ Some (length (climb tree (best tree))) = height_other (block_entry block) tree (best tree) apart_is ∙ height_climb nodes (best tree) known.0 is.tree known.1 in
@@ -209,22 +235,76 @@ change_is nodes block path records unspent fork places is tip =
     let ones_long : length ones ≡ suc (length (climb tree prev)) = ap length ones_is ∙ ap suc (length-map (climb tree prev) name) in
     let others_long : length others ≡ suc (length (climb tree (best tree))) = ap length others_is ∙ ap suc (length-map (climb tree (best tree)) name) in
     let down : reverse ones ≡ branch tree prev = reverse-reverse (branch tree prev) in
-    let above : above_branch (reverse ones) others ≡ drop (suc fork) others = ap (λ (hs : List Header). above_branch hs others) down ∙ is.fork_is.above in
-    let both = fork_back ones others fork header first (omega (arith, ones_long)) is.fork_is.low (omega (arith, ones_long, others_long, lower)) above in
-    let branch_is : branch new (best new) ≡ header ∷ reverse ones = ap (branch new) tip ∙ branch_new (block_entry block) tree ∙ ap (λ (hs : List Header). header ∷ hs) (sym down) in
-    let active_is : active new ≡ ones ++ header ∷ [] = ap reverse branch_is ∙ reverse_cons (reverse ones) header ∙ ap (λ (hs : List Header). hs ++ header ∷ []) (reverse-reverse ones) in
+    record {
+      ones_is = ones_is;
+      others_is = others_is;
+      first = rw (ones_is, others_is) (same-refl (block_hash genesis_header));
+      some = omega (arith, ones_long);
+      low = is.fork_is.low;
+      short = omega (arith, ones_long, others_long, lower);
+      above = ap (λ (hs : List Header). above_branch hs others) down ∙ is.fork_is.above;
+      new_is = λ tip.
+          let branch_is : branch new (best new) ≡ header ∷ reverse ones = ap (branch new) tip ∙ branch_new (block_entry block) tree ∙ ap (λ (hs : List Header). header ∷ hs) (sym down) in
+          ap reverse branch_is ∙ reverse_cons (reverse ones) header ∙ ap (λ (hs : List Header). hs ++ header ∷ []) (reverse-reverse ones);
+    }
+
+-- what it changes
+pub change_is : (nodes : List Node) (block : Block) (path : List ℕ) (records : List (List Change)) (unspent : Unspent) (fork : ℕ) (branch : List ℕ) → IsRise nodes block path records unspent fork branch
+    → best (block_entry block ∷ tree_of nodes) ≡ block_hash block.header → change_of (tree_of nodes) (block_entry block ∷ tree_of nodes) ≡ change_at (tree_of nodes) block.header fork
+change_is nodes block path records unspent fork places is tip =
+    let tree = tree_of nodes in
+    let new = block_entry block ∷ tree in
+    let header = block.header in
+    let prev = header.prev in
+    let ones = branch_up tree prev in
+    let others = active tree in
+    let b = beside nodes block path records unspent fork places is in
+    let both = fork_back ones others fork header b.first b.some b.low b.short b.above in
+    let active_is : active new ≡ ones ++ header ∷ [] = b.new_is tip in
+    let branch_is : branch new (best new) ≡ header ∷ reverse ones = sym (reverse-reverse (branch new (best new))) ∙ ap reverse active_is ∙ reverse_push ones header in
     let old_is : branch tree (best tree) ≡ reverse others = sym (reverse-reverse (branch tree (best tree))) in
     let off : reverse (map block_hash (above_branch (branch new (best new)) others)) ≡ reverse (map block_hash (drop (suc fork) others)) =
     ap (λ (hs : List Header). reverse (map block_hash hs)) (ap (λ (hs : List Header). above_branch hs others) branch_is ∙ both.0) in
-    let high : drop (suc fork) ones ≡ map name (drop fork (climb tree prev)) = ap (drop (suc fork)) ones_is ∙ drop-map name fork (climb tree prev) in
     let on : map block_hash (above_branch (branch tree (best tree)) (active new)) ≡ map (λ (s : Step). block_hash s.entry.header) (drop fork (climb tree prev)) ++ block_hash header ∷ [] =
-    ap (map block_hash) (ap (λ (hs : List Header). above_branch hs (active new)) old_is ∙ ap (above_branch (reverse others)) active_is ∙ both.1 ∙ ap (λ (hs : List Header). hs ++ header ∷ []) high)
-    ∙ map-append block_hash (map name (drop fork (climb tree prev))) (header ∷ []) ∙ ap (λ (hs : List Hash256). hs ++ block_hash header ∷ []) (map_map block_hash name (drop fork (climb tree prev))) in
+    ap (map block_hash) (ap (λ (hs : List Header). above_branch hs (active new)) old_is ∙ ap (above_branch (reverse others)) active_is ∙ both.1) ∙ on_hashes tree prev header ones fork b.ones_is in
     changes_same off on
+
+-- both chains begin alike, and part where the branch leaves
+over_is : (nodes : List Node) (block : Block) (path : List ℕ) (records : List (List Change)) (unspent : Unspent) (fork : ℕ) (branch : List ℕ) → IsRise nodes block path records unspent fork branch
+    → best (block_entry block ∷ tree_of nodes) ≡ block_hash block.header
+    → LeadsOver (active_hashes (tree_of nodes)) (change_at (tree_of nodes) block.header fork) (active_hashes (block_entry block ∷ tree_of nodes))
+over_is nodes block path records unspent fork places is tip =
+    let tree = tree_of nodes in
+    let header = block.header in
+    let below = climb tree header.prev in
+    let old = climb tree (best tree) in
+    let name : Step → Header = λ s. s.entry.header in
+    let ones = branch_up tree header.prev in
+    let others = active tree in
+    let b = beside nodes block path records unspent fork places is in
+    let come = on_hashes tree header.prev header ones fork b.ones_is in
+    let low = take (suc fork) others in
+    let high = drop (suc fork) others in
+    let shared = map block_hash low in
+    let turned : reverse (reverse (map block_hash high)) ≡ map block_hash high = reverse-reverse (map block_hash high) in
+    let front : take (suc fork) ones ≡ low =
+    ap (take (suc fork)) b.ones_is ∙ ap (λ (hs : List Header). genesis_header ∷ hs) (take-map name fork below ∙ ap (map name) (is.fork_is.below is.kept) ∙ sym (take-map name fork old)) ∙ sym (ap (take (suc fork)) b.others_is) in
+    record {
+      shared = shared;
+      old_is = ap (map block_hash) (sym (take-append-drop (suc fork) others)) ∙ map-append block_hash low high ∙ ap (λ (hs : List Hash256). shared ++ hs) (sym turned);
+      new_is =
+          ap (map block_hash) (b.new_is tip ∙ ap (λ (hs : List Header). hs ++ header ∷ []) (sym (take-append-drop (suc fork) ones)) ∙ append_assoc (take (suc fork) ones) (drop (suc fork) ones) (header ∷ []))
+          ∙ map-append block_hash (take (suc fork) ones) (drop (suc fork) ones ++ header ∷ []) ∙ ap (λ (hs : List Header). map block_hash hs ++ map block_hash (drop (suc fork) ones ++ header ∷ [])) front
+          ∙ ap (λ (hs : List Hash256). shared ++ hs) come;
+      apart =
+          subst (λ (hs : List Hash256). PartAtOnce hs (map (λ (s : Step). block_hash s.entry.header) (drop fork below) ++ block_hash header ∷ [])) (sym turned)
+          (subst (PartAtOnce (map block_hash high)) come (fork_parts ones others fork header b.first b.some b.low b.short b.above));
+    }
 
 -- the chain with it
 pub record IsRisen (nodes : List Node) (block : Block) (path : List ℕ) (records : List (List Change)) (fork : ℕ) (branch : List ℕ) (others : List (List Change)) (after : Unspent) : Type 0 where
   pub joined_is : joined (tree_of nodes) block ≡ (Ok (change_at (tree_of nodes) block.header fork), block_entry block ∷ tree_of nodes)
+  pub over : LeadsOver (active_hashes (tree_of nodes)) (change_at (tree_of nodes) block.header fork) (active_hashes (block_entry block ∷ tree_of nodes))
   pub chain : IsChain (block_entry block ∷ tree_of nodes) (take (fork + 1) path ++ branch ++ length nodes ∷ []) (take fork records ++ others) after
 
 pub risen : (nodes : List Node) (block : Block) (path : List ℕ) (records : List (List Change)) (unspent : Unspent) (fork : ℕ) (branch : List ℕ) (others : List (List Change)) (after : Unspent)
@@ -236,12 +316,13 @@ risen nodes block path records unspent fork branch others after is connects =
     let u = taken_back unspent (reverse (drop fork records)) in
     let p = parted nodes block path records unspent fork branch is in
     let high : Connects u (map turn_of p.upper) others after = subst (λ (ts : List Turn). Connects u ts others after) (sym p.turns) connects in
-    let ok : unspent_after new hash ≡ Ok after = lower_outcome nodes block path records unspent fork branch p ∙ connects_outcome u after p.upper others high in
+    let ok : unspent_after new hash ≡ Ok after = lower_outcome nodes block path records unspent fork branch is p ∙ connects_outcome u after p.upper others high in
     let tip : best new ≡ hash = best_new (block_entry block) tree after ok is.higher in
     let way_is : climb new (best new) ≡ p.lower ++ p.upper = ap (climb new) tip ∙ p.whole in
     let turns_are : map turn_of p.lower ++ map turn_of p.upper ≡ map turn_of (climb new (best new)) = sym (map-append turn_of p.lower p.upper) ∙ ap (map turn_of) (sym way_is) in
     record {
       joined_is = joined_ok tree block after is.higher ok ∙ ap (λ (c : Answer). (Ok c, new)) (change_is nodes block path records unspent fork branch is tip);
+      over = over_is nodes block path records unspent fork branch is tip;
       chain = record {
         places = p.path_is ∙ ap (λ (ss : List Step). 0 ∷ map (λ (s : Step). s.place) ss) (sym way_is);
         ledger = subst (λ (ts : List Turn). Connects finite.empty ts (take fork records ++ others) after) turns_are (connects_join finite.empty u after (map turn_of p.lower) (map turn_of p.upper) (take fork records) others p.low high);
@@ -302,7 +383,7 @@ halted_at nodes block node path records unspent fork branch place fault is one e
     let new = block_entry block ∷ tree in
     let hash = block_hash block.header in
     let more = nodes ++ node ∷ [] in
-    let err : unspent_after new hash ≡ Err stop.stop = lower_outcome nodes block path records unspent fork branch p ∙ stop.result in
+    let err : unspent_after new hash ≡ Err stop.stop = lower_outcome nodes block path records unspent fork branch is p ∙ stop.result in
     let tip : best new ≡ best tree = best_other (block_entry block) tree stop.stop err in
     let way_is : climb new (best new) ≡ climb tree (best tree) = ap (climb new) tip ∙ climb_other (block_entry block) tree (best tree) (apart new hash (best tree) is.higher) in
     let grown : tree_of more ≡ new = tree_grown nodes node is.tree ∙ ap (λ (e : Entry). e ∷ tree) entry_is in

@@ -9,10 +9,11 @@ use Rattle.std.proofs.lemmas.List.Elements.{All-nil, All-cons, All-append, All-m
 use Rattle.cb_base.specs.declared.hash.Hash256.{Hash256}
 use Rattle.cb_ledger.specs.declared.undo.Change.{Change}
 use Rattle.cb_ledger.specs.Unspent.{Unspent}
-use Rattle.cb_chain.specs.Entries.{Entry, Tree, block_hash, genesis_hash, height_of, same}
+use Rattle.cb_chain.specs.Entries.{Entry, Tree, block_hash, genesis_hash, height_of, is_known, same}
 use Rattle.cb_chain.specs.Best.{best, is_higher, spend_block, stopped_at, then_spend, unspent_after}
 use Rattle.cb_chain.specs.Keeping.{Connects, IsChain, IsTree, Step, Turn, active_places, climb, place_of, tree_of, turn_of, way}
 use Rattle.cb_chain.specs.declared.node.Node.{Node}
+use Rattle.cb_chain.proofs.Roots.{AreRooted, known_behind, known_first}
 use Rattle.cb_chain.proofs.Nodes.{same-refl, chosen, found, length_tree, reverse_cons}
 
 -- ---- a new chain
@@ -100,10 +101,10 @@ no_turns before [] after h = h
 no_turns before (changes ∷ records) after h = absurd h
 
 -- what connects along a way is what is unspent after it
-pub connected : (tree : Tree) (hash : Hash256) (records : List (List Change)) (u : Unspent) → Connects finite.empty (map turn_of (climb tree hash)) records u → unspent_after tree hash ≡ Ok u
+pub connected : (tree : Tree) (hash : Hash256) (records : List (List Change)) (u : Unspent) → AreRooted tree → is_known tree hash ≡ true → Connects finite.empty (map turn_of (climb tree hash)) records u → unspent_after tree hash ≡ Ok u
 unfolding way unspent_after
-connected [] hash records u h = ap Ok (no_turns finite.empty records u h)
-connected (entry ∷ older) hash records u h =
+connected [] hash records u are known h = rw (known_first hash known) (ap Ok (no_turns finite.empty records u h))
+connected (entry ∷ older) hash records u are known h =
     elim (cases_Bool (same hash (block_hash entry.header))) [
       | inl is ↦
           let step : Step = record { place = suc (length older); entry = entry } in
@@ -111,11 +112,11 @@ connected (entry ∷ older) hash records u h =
           let whole : climb (entry ∷ older) hash ≡ below ++ step ∷ [] = rw is (reverse_cons (way older entry.header.prev) step) in
           let turns : map turn_of (climb (entry ∷ older) hash) ≡ map turn_of below ++ turn_of step ∷ [] = ap (map turn_of) whole ∙ map-append turn_of below (step ∷ []) in
           let parts = parted finite.empty (map turn_of below) (turn_of step) records u (subst (λ (ts : List Turn). Connects finite.empty ts records u) turns h) in
-          let front = connected older entry.header.prev parts.records parts.between parts.front in
+          let front = connected older entry.header.prev parts.records parts.between are.1 are.0 parts.front in
           rw is (ap (then_spend entry) front ∙ ap (stopped_at (block_hash entry.header)) parts.spends)
       | inr isnt ↦
           let same_way : climb (entry ∷ older) hash ≡ climb older hash = rw isnt refl in
-          rw isnt (connected older hash records u (subst (λ (steps : List Step). Connects finite.empty (map turn_of steps) records u) same_way h))
+          rw isnt (connected older hash records u are.1 (known_behind entry older hash isnt known) (subst (λ (steps : List Step). Connects finite.empty (map turn_of steps) records u) same_way h))
     ]
 
 -- ---- the places of a way are places among the nodes

@@ -1,5 +1,5 @@
 -- Blocks in turn: what is unspent after them, where they halt, and the records that take them back.
-use Rattle.std.proofs.Common.{◌≡◌, ℕ, zero, suc, List, [], ◌∷◌, ◌++◌, length, map, take, drop, Result, Ok, Err, refl, sym, ap, subst, ◌∙◌, inl, inr}
+use Rattle.std.proofs.Common.{◌≡◌, ℕ, zero, suc, true, List, [], ◌∷◌, ◌++◌, length, map, take, drop, Result, Ok, Err, refl, sym, ap, subst, ◌∙◌, inl, inr}
 use Rattle.std.specs.Prelude.{reverse}
 use Rattle.std.specs.FinMap as map
 use Rattle.std.proofs.lemmas.Bool.{cases_Bool}
@@ -8,10 +8,11 @@ use Rattle.cb_base.specs.declared.hash.Hash256.{Hash256}
 use Rattle.cb_ledger.specs.declared.undo.Change.{Change}
 use Rattle.cb_ledger.specs.Undo.{changed}
 use Rattle.cb_ledger.specs.Unspent.{Unspent}
-use Rattle.cb_chain.specs.Entries.{Tree, block_hash, same}
+use Rattle.cb_chain.specs.Entries.{Tree, block_hash, is_known, same}
 use Rattle.cb_chain.specs.Best.{Stop, stopped_at, then_spend, unspent_after}
 use Rattle.cb_chain.specs.Keeping.{Connects, Halts, LikeBack, Step, Turn, climb, taken_back, turn_of, way}
 use Rattle.cb_chain.proofs.Nodes.{reverse_cons}
+use Rattle.cb_chain.proofs.Roots.{AreRooted, known_behind, known_first}
 
 -- ---- what is unspent after steps from the lowest up
 
@@ -24,17 +25,17 @@ pub outcome_more : (result : Result Unspent Stop) (xs ys : List Step) → outcom
 outcome_more result [] ys = refl
 outcome_more result (x ∷ xs) ys = outcome_more (then_spend x.entry result) xs ys
 
-pub unspent_climb : (tree : Tree) (hash : Hash256) → unspent_after tree hash ≡ outcome (Ok map.empty) (climb tree hash)
+pub unspent_climb : (tree : Tree) (hash : Hash256) → AreRooted tree → is_known tree hash ≡ true → unspent_after tree hash ≡ outcome (Ok map.empty) (climb tree hash)
 unfolding unspent_after way
-unspent_climb [] hash = refl
-unspent_climb (entry ∷ older) hash =
+unspent_climb [] hash are known = rw (known_first hash known) refl
+unspent_climb (entry ∷ older) hash are known =
     elim (cases_Bool (same hash (block_hash entry.header))) [
       | inl is ↦
           let step : Step = record { place = suc (length older); entry = entry } in
           let last : outcome (Ok map.empty) (reverse (step ∷ way older entry.header.prev)) ≡ then_spend entry (outcome (Ok map.empty) (climb older entry.header.prev)) =
           ap (outcome (Ok map.empty)) (reverse_cons (way older entry.header.prev) step) ∙ outcome_more (Ok map.empty) (climb older entry.header.prev) (step ∷ []) in
-          rw is (ap (then_spend entry) (unspent_climb older entry.header.prev) ∙ sym last)
-      | inr isnt ↦ rw isnt (unspent_climb older hash)
+          rw is (ap (then_spend entry) (unspent_climb older entry.header.prev are.1 are.0) ∙ sym last)
+      | inr isnt ↦ rw isnt (unspent_climb older hash are.1 (known_behind entry older hash isnt known))
     ]
 
 pub connects_outcome : (u v : Unspent) (steps : List Step) (records : List (List Change)) → Connects u (map turn_of steps) records v → outcome (Ok u) steps ≡ Ok v

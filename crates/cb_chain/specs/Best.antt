@@ -31,9 +31,10 @@ abbrev pub then_spend : Entry → Result Unspent Stop → Result Unspent Stop
 then_spend entry (Ok u) = stopped_at (block_hash entry.header) (spend_block entry.block u)
 then_spend entry (Err stop) = Err stop
 
--- What is unspent after a block's whole path, or where the path stops. The outputs of the first block aren't unspent.
+-- What is unspent after a block's whole path, or where the path stops: at a hash that isn't known too. The outputs of the
+-- first block aren't unspent.
 unfoldable pub unspent_after : Tree → Hash256 → Result Unspent Stop
-unspent_after [] hash = Ok map.empty
+unspent_after [] hash = if same hash genesis_hash then Ok map.empty else stopped_at hash (Err NoParent)
 unspent_after (entry ∷ older) hash = if same hash (block_hash entry.header) then then_spend entry (unspent_after older entry.header.prev) else unspent_after older hash
 
 -- one known header stands higher than another

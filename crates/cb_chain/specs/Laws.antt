@@ -1,6 +1,6 @@
 -- What holds of each chain that a node keeps (Bitcoin's consensus): how its active headers are linked, what their blocks
--- leave unspent, and which of its blocks stands highest.
-use Rattle.std.specs.Prelude.{◌≡◌, ◌≤◌, ◌⊎◌, ℕ, true, List, [], ◌∷◌, ◌++◌, Option, Some, Ok, drop, map, option_and_then, unwrap_or}
+-- leave unspent, which of its blocks stands highest, and how a block changes it.
+use Rattle.std.specs.Prelude.{◌≡◌, ◌≢◌, ◌≤◌, ◌⊎◌, ⊤, ℕ, true, List, [], ◌∷◌, ◌++◌, Option, Some, Ok, drop, map, option_and_then, reverse, unwrap_or}
 use Rattle.std.specs.FinMap as finite
 use Rattle.cb_base.specs.declared.hash.Hash256.{Hash256}
 use Rattle.cb_block.specs.declared.header.Header.{Header}
@@ -9,6 +9,7 @@ use Rattle.cb_block.specs.Genesis.{genesis_header}
 use Rattle.cb_ledger.specs.Spend.{spend}
 use Rattle.cb_ledger.specs.Unspent.{Unspent}
 use Rattle.cb_tx.specs.declared.tx.Tx.{Tx}
+use Rattle.cb_chain.specs.declared.change.Change.{Change}
 use Rattle.cb_chain.specs.Entries.{Entry, Tree, block_hash, entry_of, height_of, is_kept}
 use Rattle.cb_chain.specs.Best.{active, best}
 
@@ -50,3 +51,21 @@ ComesAfter tree entry older =
     let hash = block_hash entry.header in
     (height_in (entry ∷ older) hash ≤ height_in tree (best tree))
     × (height_in (entry ∷ older) hash ≡ height_in tree (best tree) → (best tree ≡ hash) ⊎ (is_kept older (best tree) ≡ true))
+
+-- the hashes of the active chain, from the first block's up to the tip's
+abbrev pub active_hashes : Tree → List Hash256
+active_hashes tree = map block_hash (active tree)
+
+-- they differ from their first ones on
+abbrev pub PartAtOnce : List Hash256 → List Hash256 → Type 0
+PartAtOnce [] others = ⊤
+PartAtOnce (hash ∷ hashes) [] = ⊤
+PartAtOnce (hash ∷ hashes) (other ∷ others) = hash ≢ other
+
+-- A change leads from one active chain over to another: both begin alike, and where they part stand what was put off, turned
+-- round, and what came on.
+pub record LeadsOver (old : List Hash256) (change : Change) (new : List Hash256) : Type 0 where
+  pub shared : List Hash256
+  pub old_is : old ≡ shared ++ reverse change.off
+  pub new_is : new ≡ shared ++ change.on
+  pub apart : PartAtOnce (reverse change.off) change.on

@@ -1,10 +1,12 @@
 ghost use Rattle.std.specs.Prelude.{◌≡◌, ◌⊎◌, ◌∷◌, List, true, None, Some, Ok, Err, IfErr, IfOk, MatchResult, OnOk};
 ghost use Rattle.cb_base.specs.declared.fault.Fault.TheVariants.{Memory};
+ghost use Rattle.cb_block.specs.Work.{HasWork};
 ghost use Rattle.cb_chain.specs.Best.{best};
 ghost use Rattle.cb_chain.specs.Calls.{AcceptsBlock, AcceptsHeader, block_fault, header_fault, joined};
 ghost use Rattle.cb_chain.specs.Entries.{block_hash, is_kept};
 ghost use Rattle.cb_chain.specs.History.{BlockCall, Call, HeaderCall, IsHistoric, IsHistory};
 ghost use Rattle.cb_chain.specs.Keeping.{IsSpot, node_on, parent_fault};
+ghost use Rattle.cb_chain.specs.Laws.{LeadsOver, active_hashes};
 
 use crate::chain::Chain;
 use crate::change::{Change, Hashes};
@@ -119,6 +121,8 @@ impl Chain {
         ensures history { (calls : List Call) → IsHistory calls self.old
             → MatchResult result (λ _. IsHistory (HeaderCall header ∷ calls) self.new)
             (λ fault. ((fault ≡ Memory) × IsHistory calls self.new) ⊎ IsHistory (HeaderCall header ∷ calls) self.new) }
+        // Memory is wanted only of a header that nothing speaks against.
+        ensures unpaid { result ≡ Err Memory → HasWork header × (header_fault self.old header ≡ None) }
     {
         check_header(&header)?;
         let spot = self.header_spot(header)?;
@@ -134,15 +138,20 @@ impl Chain {
     /// its parent is marked bad, `Fault::NoParent` where its parent isn't kept, `Fault::TooMany` where its height would be
     /// above 1,000,000,000. Then what `check_block` tells: the header is kept, and marked bad. Then, where it is higher
     /// than the tip, the fault of the first block on its path that can't be connected: that block and all kept blocks
-    /// above it are marked bad, and the tip stays. `Fault::Memory` changes nothing.
+    /// above it are marked bad, and the tip stays. `Fault::Memory` changes nothing; it is told in place of a refusal that
+    /// keeps something, where there is no place for that.
     pub fn accept_block(&mut self, block: SoundBlock) -> Result<Change, Fault>
         ensures ok { IfOk result (λ change. AcceptsBlock self.old block (Ok change) self.new) }
+        // From the old active chain to the new one.
+        ensures moves { IfOk result (λ change. LeadsOver (active_hashes self.old) change (active_hashes self.new)) }
         ensures err { IfErr result (λ fault. ((fault ≡ Memory) × (self.new ≡ self.old))
             ⊎ AcceptsBlock self.old block (Err fault) self.new) }
         // What is kept is that of the calls so far with this one, or without it where memory was wanting.
         ensures history { (calls : List Call) → IsHistory calls self.old
             → MatchResult result (λ _. IsHistory (BlockCall block ∷ calls) self.new)
             (λ fault. ((fault ≡ Memory) × IsHistory calls self.new) ⊎ IsHistory (BlockCall block ∷ calls) self.new) }
+        // Memory is wanted only of a block whose header nothing speaks against.
+        ensures unpaid { result ≡ Err Memory → HasWork block.header × (block_fault self.old block.header ≡ None) }
     {
         let header = block.block().header;
         check_header(&header)?;
@@ -165,6 +174,7 @@ impl Chain {
         requires tip { is_kept self.old (best self.old) ≡ true }
         requires calls { IsHistoric (joined self.old kept).1 }
         ensures ok { IfOk result (λ change. (Ok change, self.new) ≡ joined self.old kept) }
+        ensures moves { IfOk result (λ change. LeadsOver (active_hashes self.old) change (active_hashes self.new)) }
         ensures err { IfErr result (λ fault. ((fault ≡ Memory) × (self.new ≡ self.old)) ⊎ ((Err fault, self.new) ≡ joined self.old kept)) }
     {
         if spot.height > self.tip_height() {

@@ -1,4 +1,4 @@
-ghost use Rattle.std.specs.Prelude.{◌≡◌, ◌<◌, suc, length, drop, take, IfOk, IfSome, IsOkUnless};
+ghost use Rattle.std.specs.Prelude.{◌≡◌, ◌<◌, suc, [], length, drop, take, IfOk, IfSome, IsOk, IsOkUnless};
 ghost use Rattle.cb_base.specs.declared.fault.Fault.TheVariants.{Memory};
 ghost use Rattle.cb_chain.specs.Best.{active};
 ghost use Rattle.cb_chain.specs.Following.{headers_above, headers_after, place_in, start_of, up_to};
@@ -26,6 +26,7 @@ fn headers_from(
     requires places { places.now ≡ active_places (tree_of tree.now.nodes) }
     requires height { height < length places.now }
     ensures exact { IfOk result (λ headers. headers.items ≡ drop (suc height) (active (tree_of tree.now.nodes))) }
+    ensures none { drop (suc height) (active (tree_of tree.now.nodes)) ≡ [] → IsOk result }
     ensures memory { IsOkUnless result Memory }
 {
     let mut headers = Vec::with_capacity(alloc, places.len() - height - 1)?;
@@ -47,6 +48,7 @@ fn headers_to(
     requires places { places.now ≡ active_places (tree_of tree.now.nodes) }
     requires height { height < length places.now }
     ensures exact { IfOk result (λ headers. headers.items ≡ take 2000 (up_to stop.now (drop (suc height) (active (tree_of tree.now.nodes))))) }
+    ensures none { take 2000 (up_to stop.now (drop (suc height) (active (tree_of tree.now.nodes)))) ≡ [] → IsOk result }
     ensures memory { IsOkUnless result Memory }
 {
     let mut headers = Vec::new(alloc);
@@ -93,9 +95,10 @@ impl Chain {
     /// The headers of the best chain after the first hash of the locator that stands on it, or after the first block's
     /// where none does: up to the stop and with it, where it is among them, and at most 2,000.
     ///
-    /// The only error is `Fault::Memory`.
+    /// The only error is `Fault::Memory`, and only where there are such headers.
     pub fn after(&self, locator: &[Hash256], stop: &Hash256) -> Result<Vec<Header>, Fault>
         ensures exact { IfOk result (λ headers. headers.items ≡ headers_after self.now locator.now stop.now) }
+        ensures none { headers_after self.now locator.now stop.now ≡ [] → IsOk result }
         ensures memory { IsOkUnless result Memory }
     {
         let start = self.tree.node(self.active[self.start(locator)]);
@@ -109,9 +112,10 @@ impl Chain {
     }
 
     /// The headers of the best chain above the place where it left the branch of a known header, up to the tip. Of an
-    /// unknown one there are none. The only error is `Fault::Memory`.
+    /// unknown one there are none. The only error is `Fault::Memory`, and only where there are such headers.
     pub fn path(&self, from: &Hash256) -> Result<Vec<Header>, Fault>
         ensures exact { IfOk result (λ headers. headers.items ≡ headers_above self.now from.now) }
+        ensures none { headers_above self.now from.now ≡ [] → IsOk result }
         ensures memory { IsOkUnless result Memory }
     {
         let Some(place) = self.tree.place(from) else {

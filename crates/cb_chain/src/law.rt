@@ -1,11 +1,16 @@
-//! What holds of every chain. Each law is the contract of a function that changes nothing. It looks up the tip and leaves
-//! the answer: from that call its proof has it that the nodes are a tree.
-ghost use Rattle.std.specs.Prelude.{◌≡◌, ◌≤◌, ◌∷◌, ◌++◌, IfSome, IsOk, Ok, false};
+//! What holds of every chain, and of every list of calls. Each law is the contract of a function that changes nothing. One
+//! that speaks of a chain looks up the tip and leaves the answer: from that call its proof has it that the nodes are a tree.
+ghost use Rattle.std.specs.Prelude.{◌≡◌, ◌≤◌, ◌∷◌, ◌++◌, Err, IfSome, IsErr, IsOk, List, Ok, Option, Result, false, true};
+ghost use Rattle.cb_base.specs.declared.fault.Fault.{Fault};
 ghost use Rattle.cb_base.specs.declared.hash.Hash256.{Hash256};
+ghost use Rattle.cb_block.specs.declared.block.Block.{Block};
+ghost use Rattle.cb_block.specs.declared.header.Header.{Header};
 ghost use Rattle.cb_ledger.specs.Unspent.{Unspent};
-ghost use Rattle.cb_chain.specs.Best.{active, best, unspent_after};
-ghost use Rattle.cb_chain.specs.Entries.{Entry, Tree, block_hash, is_kept};
-ghost use Rattle.cb_chain.specs.History.{IsHistoric};
+ghost use Rattle.cb_chain.specs.Best.{Stop, active, best, unspent_after};
+ghost use Rattle.cb_chain.specs.Calls.{AcceptsBlock, AcceptsHeader};
+ghost use Rattle.cb_chain.specs.Entries.{Entry, Tree, block_hash, is_kept, is_marked};
+ghost use Rattle.cb_chain.specs.History.{Call, IsHistoric, IsHistory};
+ghost use Rattle.cb_chain.specs.declared.change.Change.{Change};
 ghost use Rattle.cb_chain.specs.Laws.{ComesAfter, IsLeftBy, ReachesUp, height_in};
 
 use crate::chain::Chain;
@@ -40,6 +45,26 @@ pub fn none_higher(chain: &Chain)
 /// Every chain is what some list of calls leaves: headers and blocks that it was told of, from the network's first block on.
 pub fn has_history(chain: &Chain)
     ensures { IsHistoric chain.now }
+{
+    let _ = chain.tree.place(&chain.tip());
+}
+
+/// One list of calls leaves one tree, and to a call over a tree there is one answer.
+pub fn one_tree()
+    ensures tree { (calls : List Call) (one other : Tree) → IsHistory calls one → IsHistory calls other → one ≡ other }
+    ensures header { (old one other : Tree) (header : Header) (answer again : Option Fault)
+        → AcceptsHeader old header answer one → AcceptsHeader old header again other → answer ≡ again }
+    ensures block { (old one other : Tree) (block : Block) (answer again : Result Change Fault)
+        → AcceptsBlock old block answer one → AcceptsBlock old block again other → answer ≡ again }
+{}
+
+/// What can't be spent with its whole path: a block that is marked bad, and what isn't kept, be it a header alone or a hash
+/// that isn't known. Of the kept blocks whose paths stop just those are marked whose paths stop at a marked one.
+pub fn marked_is_never_spent(chain: &Chain)
+    ensures marked { (hash : Hash256) → is_marked chain.now hash ≡ true → IsErr (unspent_after chain.now hash) }
+    ensures unkept { (hash : Hash256) → is_kept chain.now hash ≡ false → IsErr (unspent_after chain.now hash) }
+    ensures stop { (hash : Hash256) (stop : Stop) → is_kept chain.now hash ≡ true → unspent_after chain.now hash ≡ Err stop
+        → is_marked chain.now hash ≡ is_marked chain.now stop.first }
 {
     let _ = chain.tree.place(&chain.tip());
 }

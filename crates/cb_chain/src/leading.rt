@@ -5,6 +5,7 @@ ghost use Rattle.cb_chain.specs.Calls.{block_entry, block_fault, joined, marked_
 ghost use Rattle.cb_chain.specs.Entries.{block_hash, is_kept};
 ghost use Rattle.cb_chain.specs.History.{IsHistoric};
 ghost use Rattle.cb_chain.specs.Keeping.{Connects, Halts, IsFork, IsNode, IsSpot, IsTree, LikeBack, active_places, block_at, climb, taken_back, tree_of, turn_at};
+ghost use Rattle.cb_chain.specs.Laws.{LeadsOver, active_hashes};
 ghost use Rattle.cb_chain.specs.Plans.{change_at, hash_at};
 ghost use Rattle.cb_chain.specs.declared.node.Node.{Node};
 
@@ -182,6 +183,7 @@ impl Chain {
         requires higher { is_higher (block_entry kept ∷ self.old) (block_hash kept.header) (best self.old) ≡ true }
         requires calls { IsHistoric (joined self.old kept).1 }
         ensures ok { IfOk result (λ change. (Ok change, self.new) ≡ joined self.old kept) }
+        ensures moves { IfOk result (λ change. LeadsOver (active_hashes self.old) change (active_hashes self.new)) }
         ensures err { IfErr result (λ fault. ((fault ≡ Memory) × (self.new ≡ self.old)) ⊎ ((Err fault, self.new) ≡ joined self.old kept)) }
     {
         self.tree.reserve()?;

@@ -16,7 +16,10 @@ pub use accepting::MOST_HEIGHT;
 pub use chain::Chain;
 pub use change::{Change, Hashes};
 pub use following::MOST_HEADERS;
-pub use law::{active_is_linked, has_history, kept_once, ledger_is_folded, none_higher};
+pub use law::{
+    active_is_linked, has_history, kept_once, ledger_is_folded, marked_is_never_spent, none_higher,
+    one_tree,
+};
 
 #[cfg(test)]
 mod tests;

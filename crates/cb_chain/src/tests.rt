@@ -1,10 +1,8 @@
 mod blocks;
-mod generated;
-mod growths;
+mod copies;
 mod readers;
 mod refusals;
 mod scene;
-mod slow;
 mod stories;
 
 use super::*;
@@ -37,6 +35,7 @@ const ROW_15: Story = Story {
     marked: &[5],
     lacking: &[6, 7],
     heights: &[(3, Some(1)), (4, Some(2)), (5, Some(3)), (6, None)],
+    ..NOTHING
 };
 
 #[test]
@@ -46,14 +45,13 @@ fn row_15(rt: HostRuntime) -> Result<(), Fail> {
 
 pub(crate) const GOOD_FORK: &[Step] = &[(Spender(4, 5, 3, 50), Ok((&[2, 1], &[3, 4, 5])))];
 
-const HAD_IT_BEEN_GOOD: Story = Story {
+pub(crate) const HAD_IT_BEEN_GOOD: Story = Story {
     parts: &[FORK, GOOD_FORK],
     tip: 3,
     unspent: &[4, 5],
     kept: &[0, 1, 2, 3, 4, 5],
-    marked: &[],
-    lacking: &[],
     heights: &[(5, Some(3))],
+    ..NOTHING
 };
 
 #[test]
@@ -72,9 +70,8 @@ const THERE_AND_BACK: Story = Story {
     tip: 4,
     unspent: &[1, 2, 6, 7],
     kept: &[0, 1, 2, 3, 4, 5, 6, 7],
-    marked: &[],
-    lacking: &[],
     heights: &[(6, Some(3)), (7, Some(4))],
+    ..NOTHING
 };
 
 #[test]
@@ -116,6 +113,7 @@ const FAULT_MARKS: Story = Story {
     marked: &[3, 4, 5, 7],
     lacking: &[13, 14, 18],
     heights: &[(7, Some(3)), (13, None), (14, None), (18, Some(2))],
+    ..NOTHING
 };
 
 // A fault deep in a branch marks that block and all kept blocks above it.
@@ -137,8 +135,8 @@ const FAULT_BETWEEN: Story = Story {
     unspent: &[3, 4, 7],
     kept: &[0, 1, 2, 3, 4, 7],
     marked: &[5, 6],
-    lacking: &[],
     heights: &[(5, Some(2)), (6, Some(3)), (7, Some(3))],
+    ..NOTHING
 };
 
 #[test]
@@ -159,8 +157,8 @@ const MADE_AGAIN: Story = Story {
     unspent: &[1],
     kept: &[0, 1],
     marked: &[2],
-    lacking: &[],
     heights: &[(2, Some(2))],
+    ..NOTHING
 };
 
 #[test]

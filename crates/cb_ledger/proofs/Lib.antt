@@ -1,4 +1,5 @@
 pub mod Changes
+pub mod FirstTouch
 pub mod Lengths
 pub mod Outpoints
 pub mod Spending

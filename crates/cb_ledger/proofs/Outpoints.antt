@@ -1,8 +1,8 @@
 -- Maps under outpoints: what a hash map has at each outpoint, as a finite map.
-use Rattle.std.proofs.Common.{◌≡◌, ℕ, Bool, true, cond, List, [], ◌∷◌, Some, None, refl, sym, ap, subst, ◌∙◌, inl, inr}
+use Rattle.std.proofs.Common.{◌≡◌, ℕ, Bool, true, false, cond, List, [], ◌∷◌, length, Some, None, is_some, refl, sym, ap, subst, ◌∙◌, inl, inr}
 use Rattle.std.specs.Cmp.{IsTotalOrder, eq_by_cmp_equiv, nat_cmp_total, tied_itself}
 use Rattle.std.specs.Cmp.Lexicographic.{slice_cmp, nat_list_cmp_total}
-use Rattle.std.specs.FinMap.{FinMap, from_entries, find, get, insert, remove, get-from_entries, get-insert, get-remove, same_map}
+use Rattle.std.specs.FinMap.{FinMap, empty, from_entries, find, get, insert, remove, get-empty, get-from_entries, get-insert, get-remove, same_map}
 use Rattle.std.specs.Map.{lookup}
 use Rattle.std.specs.Ordering.{nat_cmp, is_eq, eq_by_cmp}
 use Rattle.std.specs.declared.cmp.Ordering.{Ordering}
@@ -87,3 +87,13 @@ module _ {X : Type 0} where
   pub entries_remove : (es fs : List (OutPoint × X)) (k : OutPoint) → ((q : OutPoint) → lookup (same q) fs ≡ cond (same k q) None (lookup (same q) es)) → from_entries {R = outpoint_cmp} fs ≡ remove (from_entries es) k
   entries_remove es fs k h =
       maps_same _ _ (λ q. get_is fs q ∙ h q ∙ ap (λ b. cond b None (lookup (same q) es)) (flipped k q) ∙ ap (cond (is_same q k) None) (sym (get_is es q)) ∙ sym (get_remove (from_entries es) k q))
+
+  -- an entry is something
+  pub entries_none : (es : List (OutPoint × X)) → from_entries {R = outpoint_cmp} es ≡ empty → length es ≡ 0
+  entries_none [] e = refl
+  entries_none (entry ∷ es) e =
+      let here : get (from_entries {R = outpoint_cmp} (entry ∷ es)) entry.0 ≡ Some entry.1 =
+      get_insert (from_entries es) entry.0 entry.1 entry.0 ∙ ap (λ b. cond b (Some entry.1) (get (from_entries {R = outpoint_cmp} es) entry.0)) (is_same-refl entry.0)
+      in
+      let gone : Some entry.1 ≡ None = sym here ∙ ap (λ (m : FinMap outpoint_cmp X). get m entry.0) e ∙ get-empty outpoint_cmp entry.0 in
+      absurd (let z : true ≡ false = ap is_some gone in false≢true (sym z))

@@ -1,11 +1,16 @@
 -- Which outpoints transactions spend, and which they make.
-use Rattle.std.specs.Prelude.{◌≡◌, ◌<◌, ◌⊎◌, false, List, [], ◌∷◌, length}
+use Rattle.std.specs.Prelude.{◌≡◌, ◌<◌, ◌⊎◌, ◌≤ℤ◌, pos, true, false, List, [], ◌∷◌, length, Ok}
+use Rattle.std.specs.FinMap as map
+use Rattle.cb_base.specs.declared.hash.Hash256.{Hash256}
 use Rattle.cb_base.specs.DoubleHash.{double_hash}
 use Rattle.cb_tx.specs.declared.tx.OutPoint.{OutPoint}
 use Rattle.cb_tx.specs.declared.tx.TxIn.{TxIn}
+use Rattle.cb_tx.specs.declared.tx.TxOut.{TxOut}
 use Rattle.cb_tx.specs.declared.tx.Tx.{Tx}
+use Rattle.cb_tx.specs.Rules.{value_sum}
 use Rattle.cb_tx.specs.Text.{tx_text}
-use Rattle.cb_ledger.specs.Spend.{is_coinbase}
+use Rattle.cb_ledger.specs.Spend.{is_coinbase, spend_tx}
+use Rattle.cb_ledger.specs.Unspent.{Unspent}
 
 -- an input names it
 abbrev pub IsNamed : List TxIn → OutPoint → Type 0
@@ -21,3 +26,24 @@ IsSpent (tx ∷ txs) point = ((is_coinbase tx.inputs ≡ false) × IsNamed tx.in
 abbrev pub IsMade : List Tx → OutPoint → Type 0
 IsMade [] point = ⊥
 IsMade (tx ∷ txs) point = ((point.txid ≡ double_hash (tx_text tx)) × (point.index < length tx.outputs)) ⊎ IsMade txs point
+
+-- the first input names an unspent output
+abbrev pub SpendsFirst : Unspent → List TxIn → Type 0
+SpendsFirst u [] = ⊥
+SpendsFirst u (input ∷ inputs) = map.contains_key u input.prev ≡ true
+
+-- the first output isn't unspent yet
+abbrev pub MakesFirst : Unspent → Hash256 → List TxOut → Type 0
+MakesFirst u txid [] = ⊥
+MakesFirst u txid (output ∷ outputs) = map.contains_key u (record { txid = txid; index = 0 }) ≡ false
+
+-- A transaction spends or makes an outpoint before any fault of its own is met.
+pub data TouchesOne (u : Unspent) (tx : Tx) : Type 0 where
+  spends : is_coinbase tx.inputs ≡ false → SpendsFirst u tx.inputs → TouchesOne u tx
+  mints : is_coinbase tx.inputs ≡ true → MakesFirst u (double_hash (tx_text tx)) tx.outputs → TouchesOne u tx
+  makes : tx.inputs ≡ [] → value_sum tx.outputs ≤ℤ pos 0 → MakesFirst u (double_hash (tx_text tx)) tx.outputs → TouchesOne u tx
+
+-- One of the transactions does, before any fault is met.
+abbrev pub Touches : Unspent → List Tx → Type 0
+Touches u [] = ⊥
+Touches u (tx ∷ txs) = TouchesOne u tx ⊎ ((next : Unspent) × (spend_tx u tx ≡ Ok next) × Touches next txs)

@@ -1,10 +1,12 @@
-ghost use Rattle.std.specs.Prelude.{◌≡◌, ◌<◌, ◌^◌, length, All};
+ghost use Rattle.std.specs.Prelude.{◌≡◌, ◌≢◌, ◌⊎◌, ◌<◌, ◌^◌, length, All, Err};
+ghost use Rattle.cb_base.specs.declared.fault.Fault.TheVariants.{Memory};
 ghost use Rattle.cb_base.specs.DoubleHash.{double_hash};
 ghost use Rattle.cb_tx.specs.Rules.{value_sum};
 ghost use Rattle.cb_tx.specs.Text.{tx_text};
 ghost use Rattle.cb_block.specs.Blocks.{texts};
 ghost use Rattle.cb_block.specs.Soundness.{names};
 ghost use Rattle.cb_ledger.specs.Spend.{make_outputs as outputs_made, spend, spend_inputs as inputs_spent, spend_tx as tx_spent, Tells};
+ghost use Rattle.cb_ledger.specs.Touched.{MakesFirst, SpendsFirst, Touches, TouchesOne};
 ghost use Rattle.cb_ledger.specs.Undo.{changed};
 
 use crate::draft::Draft;
@@ -25,7 +27,8 @@ fn sum_of(outputs: &[TxOut]) -> i128
 
 // Spends the inputs in order, and adds up what they are worth.
 fn spend_inputs(ledger: &Ledger, draft: &mut Draft, inputs: &[TxIn]) -> Result<i128, Fault>
-    ensures { Tells (inputs_spent (changed ledger.now.unspent draft.old) inputs.now) (λ sum. (sum, changed ledger.now.unspent draft.new)) result }
+    ensures told { Tells (inputs_spent (changed ledger.now.unspent draft.old) inputs.now) (λ sum. (sum, changed ledger.now.unspent draft.new)) result }
+    ensures unpaid { SpendsFirst (changed ledger.now.unspent draft.old) inputs.now ⊎ ((draft.new ≡ draft.old) × (result ≢ Err Memory)) }
 {
     let mut sum = 0i128;
     for input in inputs {
@@ -48,7 +51,8 @@ fn make_outputs(
     outputs: &[TxOut],
 ) -> Result<(), Fault>
     requires { length outputs.now < 2 ^ 32 }
-    ensures { Tells (outputs_made (changed ledger.now.unspent draft.old) txid 0 outputs.now) (λ _. changed ledger.now.unspent draft.new) result }
+    ensures told { Tells (outputs_made (changed ledger.now.unspent draft.old) txid 0 outputs.now) (λ _. changed ledger.now.unspent draft.new) result }
+    ensures unpaid { MakesFirst (changed ledger.now.unspent draft.old) txid outputs.now ⊎ ((draft.new ≡ draft.old) × (result ≢ Err Memory)) }
 {
     let mut index = 0u32;
     for output in outputs {
@@ -66,7 +70,8 @@ fn make_outputs(
 fn spend_tx(ledger: &Ledger, draft: &mut Draft, txid: Hash256, tx: &Tx) -> Result<(), Fault>
     requires name { txid ≡ double_hash (tx_text tx.now) }
     requires few { length tx.now.outputs < 2 ^ 32 }
-    ensures { Tells (tx_spent (changed ledger.now.unspent draft.old) tx.now) (λ _. changed ledger.now.unspent draft.new) result }
+    ensures told { Tells (tx_spent (changed ledger.now.unspent draft.old) tx.now) (λ _. changed ledger.now.unspent draft.new) result }
+    ensures unpaid { TouchesOne (changed ledger.now.unspent draft.old) tx.now ⊎ ((draft.new ≡ draft.old) × (result ≢ Err Memory)) }
 {
     let outputs = tx.outputs.as_slice();
     if tx.is_coinbase() {
@@ -88,7 +93,8 @@ pub(crate) fn spend_txs(
 ) -> Result<(), Fault>
     requires named { txids.now ≡ names (texts txs.now) }
     requires few { All (λ tx. length tx.outputs < 2 ^ 32) txs.now }
-    ensures { Tells (spend (changed ledger.now.unspent draft.old) txs.now) (λ _. changed ledger.now.unspent draft.new) result }
+    ensures told { Tells (spend (changed ledger.now.unspent draft.old) txs.now) (λ _. changed ledger.now.unspent draft.new) result }
+    ensures unpaid { Touches (changed ledger.now.unspent draft.old) txs.now ⊎ ((draft.new ≡ draft.old) × (result ≢ Err Memory)) }
 {
     for place in 0..txs.len() {
         spend_tx(ledger, draft, txids[place], &txs[place])?;

@@ -1,6 +1,7 @@
-ghost use Rattle.std.specs.Prelude.{◌≡◌, ◌+◌, ◌<◌, ◌≤◌, ◌^◌, length, All, IfOk, IfErr, IsOk, IsOkUnless, OnOk, OnErr};
+ghost use Rattle.std.specs.Prelude.{◌≡◌, ◌≢◌, ◌⊎◌, ◌+◌, ◌<◌, ◌≤◌, ◌^◌, [], length, All, Err, IfOk, IfErr, IsOk, IsOkUnless, OnOk, OnErr};
 ghost use Rattle.cb_base.specs.declared.fault.Fault.TheVariants.{Memory};
 ghost use Rattle.cb_ledger.specs.Spend.{spend, Tells};
+ghost use Rattle.cb_ledger.specs.Touched.{Touches};
 ghost use Rattle.cb_ledger.specs.Undo.{LeadsBack, StandOnce, changed, values_of};
 ghost use Rattle.cb_ledger.specs.Unspent.{Unspent};
 
@@ -30,7 +31,8 @@ fn exchange_all(ledger: &mut Ledger, changes: &mut [Change])
 // What a block changes over the ledger, which stays as it is, or its first fault.
 fn changes_of(ledger: &Ledger, block: &SoundBlock) -> Result<Undo, Fault>
     requires { All (λ tx. length tx.outputs < 2 ^ 32) block.now.txs }
-    ensures { Tells (spend ledger.now.unspent block.now.txs) (λ changes. changed ledger.now.unspent changes) result }
+    ensures told { Tells (spend ledger.now.unspent block.now.txs) (λ changes. changed ledger.now.unspent changes) result }
+    ensures unpaid { Touches ledger.now.unspent block.now.txs ⊎ (IfOk result (λ changes. changes ≡ []) × (result ≢ Err Memory)) }
 {
     let mut draft = Draft::new(ledger.alloc);
     spend_txs(
@@ -46,6 +48,7 @@ fn changes_of(ledger: &Ledger, block: &SoundBlock) -> Result<Undo, Fault>
 // Room for the changes, for taking them back, and for so many more.
 fn places_for(changes: usize, more: usize) -> Result<usize, Fault>
     ensures places { IfOk result (λ places. places ≡ changes + changes + more) }
+    ensures none { changes ≡ 0 → IsOk result }
     ensures memory { IsOkUnless result Memory }
 {
     let Some(both) = changes.checked_add(changes) else {
@@ -79,6 +82,7 @@ impl Ledger {
         ensures kept { IfOk result (λ undo. places + length undo ≤ self.new.room) }
         ensures fits { IfOk result (λ undo. places + length undo < 2 ^ 64) }
         ensures room { OnErr result (self.old.room ≤ self.new.room) }
+        ensures unpaid { result ≡ Err Memory → Touches self.old.unspent block.now.txs ⊎ (self.old.room < places) }
     {
         let mut undo = changes_of(self, block)?;
         self.reserve(places_for(undo.changes.len(), places)?)?;
@@ -99,6 +103,8 @@ impl Ledger {
         ensures undo { IfOk result (λ undo. LeadsBack undo block.now.txs self.old.unspent self.new.unspent) }
         // There is room for taking the block back.
         ensures kept { IfOk result (λ undo. length undo ≤ self.new.room) }
+        // No memory is taken before an outpoint is spent or made.
+        ensures unpaid { result ≡ Err Memory → Touches self.old.unspent block.now.txs }
     {
         self.connect_with_room(block, 0)
     }

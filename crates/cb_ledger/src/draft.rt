@@ -1,4 +1,4 @@
-ghost use Rattle.std.specs.Prelude.{◌≡◌, ℕ, List, [], length, IfOk, IsOkUnless, OnOk};
+ghost use Rattle.std.specs.Prelude.{◌≡◌, ℕ, List, [], length, IfOk, IsOk, IsOkUnless, OnOk};
 ghost use Rattle.std.specs.FinMap as map;
 ghost use Rattle.cb_base.specs.declared.fault.Fault.TheVariants.{Memory};
 ghost use Rattle.cb_ledger.specs.Undo.{StandOnce, changed, set_at};
@@ -61,6 +61,7 @@ impl Draft {
     pub(crate) fn into_changes(self, alloc: Global) -> Result<Vec<Change>, Fault>
         ensures same { IfOk result (λ changes. changes.items ≡ self) }
         ensures once { IfOk result (λ changes. StandOnce changes.items) }
+        ensures none { self ≡ [] → IsOk result }
         ensures memory { IsOkUnless result Memory }
     {
         let mut changes = Vec::with_capacity(alloc, self.touched.len())?;

@@ -81,11 +81,15 @@ impl Ledger {
         }
     }
 
-    /// A ledger that equals it. The only error is `Fault::Memory`.
+    /// A ledger that equals it. The only error is `Fault::Memory`, and only where something is unspent.
     pub fn copy(&self) -> Result<Ledger, Fault>
         ensures same { IfOk result (λ copy. copy.unspent ≡ self.now.unspent) }
+        ensures none { self.now.unspent ≡ map.empty → IsOk result }
         ensures memory { IsOkUnless result Memory }
     {
+        if self.outputs.is_empty() {
+            return Ok(Ledger::new(self.alloc));
+        }
         let outputs = self.outputs.clone()?;
         Ok(Ledger {
             alloc: self.alloc,

@@ -1,4 +1,4 @@
-ghost use Rattle.std.specs.Prelude.{◌≡◌, ◌==◌, length, IfOk, IsOkUnless};
+ghost use Rattle.std.specs.Prelude.{◌≡◌, ◌==◌, [], length, IfOk, IsOk, IsOkUnless};
 ghost use Rattle.cb_base.specs.declared.fault.Fault.TheVariants.{Memory};
 
 use cb_base::Fault;
@@ -47,13 +47,15 @@ impl Undo {
         self.changes.is_empty()
     }
 
-    /// An undo record that equals it. The only error is `Fault::Memory`.
+    /// An undo record that equals it. The only error is `Fault::Memory`, and only where it has any.
     pub fn copy(&self, alloc: Global) -> Result<Undo, Fault>
         ensures same { IfOk result (λ copy. copy ≡ self.now) }
+        ensures none { self.now ≡ [] → IsOk result }
         ensures memory { IsOkUnless result Memory }
     {
-        Ok(Undo {
-            changes: Vec::from_slice(alloc, self.changes.as_slice())?,
-        })
+        let all = self.changes.as_slice();
+        let mut changes = Vec::with_capacity(alloc, all.len())?;
+        changes.extend_from_slice(all)?;
+        Ok(Undo { changes })
     }
 }

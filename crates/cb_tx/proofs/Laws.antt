@@ -56,7 +56,7 @@ unfolding input_text
 input_long x is =
     omega (arith, is.txid, script_long x.script, length-append x.prev.txid.0 (to_le_bytes w32 x.prev.index ++ (script_text x.script ++ to_le_bytes w32 x.sequence)), length-append (script_text x.script) (to_le_bytes w32 x.sequence))
 
-input_kind : IsKind TxIn input_text input_at IsInput 41
+pub input_kind : IsKind TxIn input_text input_at IsInput 41
 input_kind = record { takes = input_takes; again = input_again; long = input_long }
 
 -- ---- outputs
@@ -83,7 +83,7 @@ output_long : (x : TxOut) → IsOutput x → 9 ≤ length (output_text x)
 unfolding output_text
 output_long x is = omega (arith, script_long x.script, length-append (to_le_bytes w64 (cast_unsigned w64 x.value)) (script_text x.script))
 
-output_kind : IsKind TxOut output_text output_at IsOutput 9
+pub output_kind : IsKind TxOut output_text output_at IsOutput 9
 output_kind = record { takes = output_takes; again = output_again; long = output_long }
 
 -- ---- transactions

@@ -1,5 +1,5 @@
 -- Reading a transaction from the left, with the first fault that is met.
-use Rattle.std.specs.Prelude.{◌≡◌, ℕ, zero, suc, ◌*◌, ◌⊎◌, List, [], ◌∷◌, length, nat_lt, if◌then◌else◌, Result, Ok, Err}
+use Rattle.std.specs.Prelude.{◌≡◌, ℕ, zero, suc, ◌*◌, ◌<◌, ◌⊎◌, List, [], ◌∷◌, length, nat_lt, if◌then◌else◌, Result, Ok, Err}
 use Rattle.std.specs.Int.{w32, w64}
 use Rattle.cb_base.specs.declared.fault.Fault.{Fault}
 use Rattle.cb_base.specs.declared.fault.Fault.TheVariants.{Memory, Truncated}
@@ -70,6 +70,14 @@ unfoldable pub first_count_at : List ℕ → Read ℕ
 first_count_at bytes = do
   version ← signed_at w32 bytes
   count_at 41 version.1
+
+-- there is a count that can be read, and it isn't 0: memory is taken for the items
+abbrev pub CountsSome : ℕ → List ℕ → Type 0
+CountsSome least bytes = (n : ℕ × List ℕ) × (count_at least bytes ≡ Ok n) × (0 < n.0)
+
+-- reading a transaction takes memory: it begins with inputs, or with no inputs and then outputs
+abbrev pub TakesMemory : List ℕ → Type 0
+TakesMemory bytes = (n : ℕ × List ℕ) × (first_count_at bytes ≡ Ok n) × ((0 < n.0) ⊎ CountsSome 9 n.1)
 
 -- A part of a reader that takes memory answered as the definition does, or memory ran out. After a fault it may have
 -- any bytes.

@@ -1,4 +1,4 @@
-ghost use Rattle.std.specs.Prelude.{◌≡◌, IfOk, IsOkUnless};
+ghost use Rattle.std.specs.Prelude.{◌≡◌, [], IfOk, IsOk, IsOkUnless};
 ghost use Rattle.cb_base.specs.declared.fault.Fault.TheVariants.{Memory};
 
 use crate::tx::{Inputs, Outputs, Tx, TxIn, TxOut};
@@ -29,6 +29,7 @@ fn copy_output(alloc: Global, output: &TxOut) -> Result<TxOut, Fault>
 fn copy_inputs(alloc: Global, inputs: &[TxIn]) -> Result<Inputs, Fault>
     ensures same { IfOk result (λ copies. copies ≡ inputs.now) }
     ensures memory { IsOkUnless result Memory }
+    ensures unpaid { inputs.now ≡ [] → IsOk result }
 {
     let mut copies = Vec::with_capacity(alloc, inputs.len())?;
     for input in inputs {
@@ -40,6 +41,7 @@ fn copy_inputs(alloc: Global, inputs: &[TxIn]) -> Result<Inputs, Fault>
 fn copy_outputs(alloc: Global, outputs: &[TxOut]) -> Result<Outputs, Fault>
     ensures same { IfOk result (λ copies. copies ≡ outputs.now) }
     ensures memory { IsOkUnless result Memory }
+    ensures unpaid { outputs.now ≡ [] → IsOk result }
 {
     let mut copies = Vec::with_capacity(alloc, outputs.len())?;
     for output in outputs {
@@ -49,10 +51,11 @@ fn copy_outputs(alloc: Global, outputs: &[TxOut]) -> Result<Outputs, Fault>
 }
 
 impl Tx {
-    /// A transaction that equals it. The only error is `Fault::Memory`.
+    /// A transaction that equals it. The only error is `Fault::Memory`, and one with no inputs and no outputs takes none.
     pub fn copy(&self, alloc: Global) -> Result<Tx, Fault>
         ensures same { IfOk result (λ tx. tx ≡ self.now) }
         ensures memory { IsOkUnless result Memory }
+        ensures unpaid { self.now.inputs ≡ [] → self.now.outputs ≡ [] → IsOk result }
     {
         let inputs = copy_inputs(alloc, self.inputs.as_slice())?;
         let outputs = copy_outputs(alloc, self.outputs.as_slice())?;

@@ -1,16 +1,16 @@
-ghost use Rattle.std.specs.Prelude.{◌≡◌, ℕ, ◌<◌, ◌⊎◌, List, ◌++◌, slice_index, IfOk, MatchResult, Ok, Err};
+ghost use Rattle.std.specs.Prelude.{◌≡◌, ℕ, ◌<◌, ◌⊎◌, List, ◌++◌, slice_index, IfOk, IsOk, MatchResult, Ok, Err};
 ghost use Rattle.cb_base.specs.declared.fault.Fault.{Fault};
 ghost use Rattle.cb_base.specs.declared.fault.Fault.TheVariants.{Memory};
 ghost use Rattle.cb_base.specs.CompactSize.{Gives};
 ghost use Rattle.cb_base.specs.Reading.{ReadsInMemory};
-ghost use Rattle.cb_tx.specs.Reading.{GivesInMemory, count_at, first_count_at, hash_at, input_at, items_at, list_at, output_at, script_at, tx_at};
+ghost use Rattle.cb_tx.specs.Reading.{CountsSome, GivesInMemory, TakesMemory, count_at, first_count_at, hash_at, input_at, items_at, list_at, output_at, script_at, tx_at};
 ghost use Rattle.cb_tx.specs.Text.{IsTx, tx_text};
 ghost use Rattle.cb_tx.specs.declared.tx.Tx.{Tx};
 
 use crate::counting::read_count;
 use crate::script::Script;
 use crate::tx::{Inputs, OutPoint, Outputs, Tx, TxIn, TxOut};
-use cb_base::{Cursor, Fault, Hash256};
+use cb_base::{Cursor, Fault, Hash256, copy_bytes};
 use std::alloc::Global;
 
 #[tactic(auto, unfolding(crate::specs::Reading::script_at))]
@@ -19,7 +19,7 @@ fn read_script(alloc: Global, cursor: &mut Cursor) -> Result<Script, Fault>
 {
     let len = cursor.compact()?;
     let bytes = cursor.take(len as usize)?;
-    Ok(Script::new(Vec::from_slice(alloc, bytes)?))
+    Ok(Script::new(copy_bytes(alloc, bytes)?))
 }
 
 /// A hash: the next 32 bytes. After a fault the cursor may stand anywhere.
@@ -60,7 +60,8 @@ fn read_output(alloc: Global, cursor: &mut Cursor) -> Result<TxOut, Fault>
 
 // So many inputs, one after the other.
 fn inputs_of(alloc: Global, cursor: &mut Cursor, count: usize) -> Result<Inputs, Fault>
-    ensures { GivesInMemory (items_at input_at count cursor.old) result cursor.new }
+    ensures exact { GivesInMemory (items_at input_at count cursor.old) result cursor.new }
+    ensures unpaid { count ≡ 0 → IsOk result }
 {
     let mut inputs = Vec::with_capacity(alloc, count)?;
     for _ in 0..count {
@@ -71,7 +72,8 @@ fn inputs_of(alloc: Global, cursor: &mut Cursor, count: usize) -> Result<Inputs,
 
 // So many outputs, one after the other.
 fn outputs_of(alloc: Global, cursor: &mut Cursor, count: usize) -> Result<Outputs, Fault>
-    ensures { GivesInMemory (items_at output_at count cursor.old) result cursor.new }
+    ensures exact { GivesInMemory (items_at output_at count cursor.old) result cursor.new }
+    ensures unpaid { count ≡ 0 → IsOk result }
 {
     let mut outputs = Vec::with_capacity(alloc, count)?;
     for _ in 0..count {
@@ -84,6 +86,7 @@ fn outputs_of(alloc: Global, cursor: &mut Cursor, count: usize) -> Result<Output
 fn read_inputs(alloc: Global, cursor: &mut Cursor) -> Result<Inputs, Fault>
     ensures exact { GivesInMemory (list_at 41 input_at cursor.old) result cursor.new }
     ensures unpaid { (fault : Fault) → count_at 41 cursor.old ≡ Err fault → result ≡ Err fault }
+    ensures paid { result ≡ Err Memory → CountsSome 41 cursor.old }
 {
     let count = read_count(cursor, 41)?;
     inputs_of(alloc, cursor, count)
@@ -91,7 +94,8 @@ fn read_inputs(alloc: Global, cursor: &mut Cursor) -> Result<Inputs, Fault>
 
 #[tactic(auto, unfolding(crate::specs::Reading::list_at))]
 fn read_outputs(alloc: Global, cursor: &mut Cursor) -> Result<Outputs, Fault>
-    ensures { GivesInMemory (list_at 9 output_at cursor.old) result cursor.new }
+    ensures exact { GivesInMemory (list_at 9 output_at cursor.old) result cursor.new }
+    ensures paid { result ≡ Err Memory → CountsSome 9 cursor.old }
 {
     let count = read_count(cursor, 9)?;
     outputs_of(alloc, cursor, count)
@@ -101,6 +105,7 @@ fn read_outputs(alloc: Global, cursor: &mut Cursor) -> Result<Outputs, Fault>
 fn tx_or_fault(alloc: Global, cursor: &mut Cursor) -> Result<Tx, Fault>
     ensures exact { GivesInMemory (tx_at cursor.old) result cursor.new }
     ensures unpaid { (fault : Fault) → first_count_at cursor.old ≡ Err fault → result ≡ Err fault }
+    ensures paid { result ≡ Err Memory → TakesMemory cursor.old }
 {
     let version = cursor.i32()?;
     let inputs = read_inputs(alloc, cursor)?;
@@ -119,6 +124,7 @@ fn tx_of(alloc: Global, bytes: &[u8]) -> Result<(Tx, Cursor<'_>), Fault>
     ensures exact { MatchResult result (λ read. tx_at bytes.now ≡ Ok (read.0, read.1))
         (λ fault. (fault ≡ Memory) ⊎ (tx_at bytes.now ≡ Err fault)) }
     ensures unpaid { (fault : Fault) → first_count_at bytes.now ≡ Err fault → result ≡ Err fault }
+    ensures paid { result ≡ Err Memory → TakesMemory bytes.now }
     ensures bytes { (i : ℕ) → slice_index bytes.now i < 256 }
 {
     let mut cursor = Cursor::new(bytes);
@@ -140,6 +146,8 @@ pub fn read_tx<'a>(alloc: Global, cursor: &mut Cursor<'a>) -> Result<Tx, Fault>
         → (result ≡ Err Memory) ⊎ ((result ≡ Ok tx) × (cursor.new ≡ rest)) }
     // Up to the first count no memory is taken.
     ensures unpaid { (fault : Fault) → first_count_at cursor.old ≡ Err fault → result ≡ Err fault }
+    // Nor is any for a count of 0, or for a count of outputs that can't be read behind it.
+    ensures paid { result ≡ Err Memory → TakesMemory cursor.old }
 {
     let left = cursor.left();
     let bytes = cursor.take(left)?;

@@ -1,4 +1,4 @@
-ghost use Rattle.std.specs.Prelude.{◌≡◌, ◌<◌, ◌⊎◌, ◌↔◌, pos, ◌<ℤ◌, Any, IfOk, IsOkUnless, IsTrue, MatchOption, MatchResult, Err};
+ghost use Rattle.std.specs.Prelude.{◌≡◌, ◌<◌, ◌≤◌, ◌⊎◌, ◌↔◌, pos, ◌<ℤ◌, length, Any, IfOk, IsOk, IsOkUnless, IsTrue, MatchOption, MatchResult, Err};
 ghost use Rattle.cb_base.specs.Fault.{rule_number};
 ghost use Rattle.cb_base.specs.declared.fault.Fault.TheVariants.{BadTx, Memory};
 ghost use Rattle.cb_base.specs.declared.fault.TxRule.{TxRule};
@@ -51,7 +51,11 @@ fn has_bad_sum(outputs: &[TxOut]) -> bool
 fn spends_twice(alloc: Global, inputs: &[TxIn]) -> Result<bool, Fault>
     ensures ok { IfOk result (λ twice. IsTrue twice ↔ SpendsTwice inputs.now) }
     ensures memory { IsOkUnless result Memory }
+    ensures unpaid { length inputs.now < 2 → IsOk result }
 {
+    if inputs.len() < 2 {
+        return Ok(false);
+    }
     let mut spent = HashSet::with_capacity(alloc, inputs.len())?;
     for input in inputs {
         if !spent.insert(input.prev)? {
@@ -111,12 +115,15 @@ fn broken_coinbase(tx: &Tx) -> Option<TxRule>
 
 /// Whether the transaction meets the rules that stand by themselves: else `Fault::BadTx` with the first that it breaks.
 ///
-/// `Fault::Memory` only where the first five are met and there was no memory to look for an input that comes twice.
+/// `Fault::Memory` only where the first five are met and there was no memory to look for one of two inputs or more that
+/// comes twice.
 pub fn check_tx(alloc: Global, tx: &Tx) -> Result<(), Fault>
     ensures exact { MatchResult result (λ _. MeetsRules tx.now)
         (λ fault. (fault ≡ Memory) ⊎ ((rule : TxRule) × (fault ≡ BadTx rule) × IsLeastBroken tx.now rule)) }
     // The first five rules take no memory.
     ensures unpaid { (rule : TxRule) → rule_number rule < 6 → IsLeastBroken tx.now rule → result ≡ Err (BadTx rule) }
+    // Nor does the sixth, where there is one input.
+    ensures paid { result ≡ Err Memory → MeetsFirst tx.now × (2 ≤ length tx.now.inputs) }
 {
     if let Some(rule) = broken_size_or_value(tx) {
         return Err(Fault::BadTx(rule));

@@ -1,7 +1,7 @@
-ghost use Rattle.std.specs.Prelude.{◌≡◌, ◌==◌, length, IfOk, IsOkUnless};
+ghost use Rattle.std.specs.Prelude.{◌≡◌, ◌==◌, length, IfOk, IsOk, IsOkUnless};
 ghost use Rattle.cb_base.specs.declared.fault.Fault.TheVariants.{Memory};
 
-use cb_base::Fault;
+use cb_base::{Fault, copy_bytes};
 use std::alloc::Global;
 use std::marker::Model;
 
@@ -55,11 +55,12 @@ impl Script {
         self.bytes
     }
 
-    /// A script of the same bytes. The only error is `Fault::Memory`.
+    /// A script of the same bytes. The only error is `Fault::Memory`, and an empty script takes none.
     pub fn copy(&self, alloc: Global) -> Result<Script, Fault>
         ensures same { IfOk result (λ script. script ≡ self.now) }
         ensures memory { IsOkUnless result Memory }
+        ensures unpaid { length self.now ≡ 0 → IsOk result }
     {
-        Ok(Script::new(Vec::from_slice(alloc, self.bytes.as_slice())?))
+        Ok(Script::new(copy_bytes(alloc, self.bytes.as_slice())?))
     }
 }

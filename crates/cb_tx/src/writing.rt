@@ -1,6 +1,7 @@
-ghost use Rattle.std.specs.Prelude.{◌≡◌, ℕ, ◌^◌, ◌<◌, List, ◌++◌, length, min, All, OnOk, OnErr, IfOk, IsOkUnless};
-ghost use Rattle.cb_base.specs.declared.fault.Fault.TheVariants.{Memory};
+ghost use Rattle.std.specs.Prelude.{◌≡◌, ◌≢◌, ℕ, ◌+◌, ◌^◌, ◌<◌, ◌≤◌, List, [], ◌++◌, length, min, All, Err, OnOk, OnErr, IfOk, IsOkUnless, vec_capacity, vec_len};
+ghost use Rattle.cb_base.specs.declared.fault.Fault.TheVariants.{Memory, Truncated};
 ghost use Rattle.cb_base.specs.DoubleHash.{double_hash};
+ghost use Rattle.cb_tx.specs.Reading.{tx_at};
 ghost use Rattle.cb_tx.specs.Text.{IsInput, IsOutput, IsTx, input_text, list_text, output_text, script_text, tx_text};
 ghost use Rattle.cb_tx.specs.Writing.{Extends};
 ghost use Rattle.cb_tx.specs.declared.tx.Tx.{Tx};
@@ -15,6 +16,8 @@ fn put_script(out: &mut Vec<u8>, script: &Script) -> Result<(), Fault>
     ensures ok { OnOk result (out.new.items ≡ out.old.items ++ script_text script.now) }
     ensures err { OnErr result (Extends out.old.items out.new.items) }
     ensures memory { IsOkUnless result Memory }
+    ensures full { OnErr result (vec_capacity out.old < vec_len out.old + length (script_text script.now)) }
+    ensures capacity { vec_capacity out.old ≤ vec_capacity out.new }
     ensures fits { length script.now < 2 ^ 64 }
 {
     put_compact(out, script.len() as u64)?;
@@ -34,6 +37,8 @@ fn put_input(out: &mut Vec<u8>, input: &TxIn) -> Result<(), Fault>
     ensures ok { OnOk result (out.new.items ≡ out.old.items ++ input_text input.now) }
     ensures err { OnErr result (Extends out.old.items out.new.items) }
     ensures memory { IsOkUnless result Memory }
+    ensures full { OnErr result (vec_capacity out.old < vec_len out.old + length (input_text input.now)) }
+    ensures capacity { vec_capacity out.old ≤ vec_capacity out.new }
     ensures fits { OnOk result (IsInput input.now) }
 {
     out.extend_from_slice(hash_bytes(&input.prev.txid))?;
@@ -48,6 +53,8 @@ fn put_output(out: &mut Vec<u8>, output: &TxOut) -> Result<(), Fault>
     ensures ok { OnOk result (out.new.items ≡ out.old.items ++ output_text output.now) }
     ensures err { OnErr result (Extends out.old.items out.new.items) }
     ensures memory { IsOkUnless result Memory }
+    ensures full { OnErr result (vec_capacity out.old < vec_len out.old + length (output_text output.now)) }
+    ensures capacity { vec_capacity out.old ≤ vec_capacity out.new }
     ensures fits { OnOk result (IsOutput output.now) }
 {
     out.extend_from_slice(&output.value.to_le_bytes())?;
@@ -59,6 +66,8 @@ fn put_inputs(out: &mut Vec<u8>, inputs: &[TxIn]) -> Result<(), Fault>
     ensures ok { OnOk result (out.new.items ≡ out.old.items ++ list_text input_text inputs.now) }
     ensures err { OnErr result (Extends out.old.items out.new.items) }
     ensures memory { IsOkUnless result Memory }
+    ensures full { OnErr result (vec_capacity out.old < vec_len out.old + length (list_text input_text inputs.now)) }
+    ensures capacity { vec_capacity out.old ≤ vec_capacity out.new }
     ensures few { length inputs.now < 2 ^ 64 }
     ensures fits { OnOk result (All IsInput inputs.now) }
 {
@@ -74,6 +83,8 @@ fn put_outputs(out: &mut Vec<u8>, outputs: &[TxOut]) -> Result<(), Fault>
     ensures ok { OnOk result (out.new.items ≡ out.old.items ++ list_text output_text outputs.now) }
     ensures err { OnErr result (Extends out.old.items out.new.items) }
     ensures memory { IsOkUnless result Memory }
+    ensures full { OnErr result (vec_capacity out.old < vec_len out.old + length (list_text output_text outputs.now)) }
+    ensures capacity { vec_capacity out.old ≤ vec_capacity out.new }
     ensures few { length outputs.now < 2 ^ 64 }
     ensures fits { OnOk result (All IsOutput outputs.now) }
 {
@@ -89,6 +100,8 @@ fn put_tx(out: &mut Vec<u8>, tx: &Tx) -> Result<(), Fault>
     ensures ok { OnOk result (out.new.items ≡ out.old.items ++ tx_text tx.now) }
     ensures err { OnErr result (Extends out.old.items out.new.items) }
     ensures memory { IsOkUnless result Memory }
+    ensures full { OnErr result (vec_capacity out.old < vec_len out.old + length (tx_text tx.now)) }
+    ensures capacity { vec_capacity out.old ≤ vec_capacity out.new }
     ensures fits { OnOk result (IsTx tx.now) }
 {
     out.extend_from_slice(&tx.version.to_le_bytes())?;
@@ -103,6 +116,9 @@ pub fn write_tx(out: &mut Vec<u8>, tx: &Tx) -> Result<(), Fault>
     ensures ok { OnOk result (out.new.items ≡ out.old.items ++ tx_text tx.now) }
     ensures err { OnErr result (out.new.items ≡ out.old.items) }
     ensures memory { IsOkUnless result Memory }
+    // It comes only where the vector has no room for the text.
+    ensures full { OnErr result (vec_capacity out.old < vec_len out.old + length (tx_text tx.now)) }
+    ensures capacity { vec_capacity out.old ≤ vec_capacity out.new }
     // Each number is one of its field, and each hash has 32 bytes.
     ensures fits { OnOk result (IsTx tx.now) }
 {
@@ -130,4 +146,9 @@ impl Tx {
 /// One transaction has one text, and no text begins another.
 pub fn one_text()
     ensures { (a b : Tx) (x y : List ℕ) → IsTx a → IsTx b → tx_text a ++ x ≡ tx_text b ++ y → (a ≡ b) × (x ≡ y) }
+{}
+
+/// A strict beginning of a transaction's text is too short to be read: `Fault::Truncated`.
+pub fn beginning_of_tx_is_truncated()
+    ensures { (tx : Tx) (b c : List ℕ) → IsTx tx → tx_text tx ≡ b ++ c → c ≢ [] → tx_at b ≡ Err Truncated }
 {}

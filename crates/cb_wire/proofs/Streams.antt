@@ -198,11 +198,17 @@ reading_by (suc fuel) bytes (Whole n) le e =
 pub reading_of : (bytes : List ℕ) → Reading bytes
 reading_of bytes = reading_by (length bytes) bytes (front_at bytes) (omega arith) refl
 
--- what goes on from a rest has a reading that goes on from its items
-pub Extends-piece : (bytes piece : List ℕ) (items : List Item) (rest : List ℕ) → Stream bytes items rest None → Extends (bytes ++ piece) items
-Extends-piece bytes piece items rest s =
+-- more bytes have a reading that goes on from the items before
+pub reading_goes_on : (bytes piece : List ℕ) (items : List Item) (rest : List ℕ) (fault : Option Fault) → Stream bytes items rest fault → Extends (bytes ++ piece) items
+reading_goes_on bytes piece items rest None s =
     let tail = reading_of (rest ++ piece) in
     record { more = tail.items; rest = tail.rest; fault = tail.fault; stream = Stream-grows bytes piece items rest tail.items tail.rest tail.fault s tail.stream }
+reading_goes_on bytes piece items rest (Some why) s = record {
+  more = [];
+  rest = rest;
+  fault = Some why;
+  stream = subst (λ (is : List Item). Stream (bytes ++ piece) is rest (Some why)) (sym (append-nil items)) (Stream-broken bytes piece items rest why s);
+}
 
 -- ---- what the assembler keeps
 
@@ -261,17 +267,7 @@ feed-taken rest piece all after fault fault' used more none is left s bytes item
     let s'' : Stream (rest ++ piece) more after fault' = subst (λ (a : List ℕ). Stream a more after fault') is s' in
     Stream-grows bytes piece items rest more after fault' t' s''
 
--- a piece that was refused
-pub feed-refused : (rest piece : List ℕ) (fault : Option Fault) → is_some fault ≡ false → (bytes : List ℕ) (items : List Item) → Stream bytes items rest fault → Extends (bytes ++ piece) items
-feed-refused rest piece fault none bytes items t =
-    Extends-piece bytes piece items rest (subst (λ (o : Option Fault). Stream bytes items rest o) (none_is fault none) t)
-
 -- nothing stands at the front of nothing
 pub front_at-nil : front_at [] ≡ Partial
 unfolding front_at
 front_at-nil = refl
-
--- what holds anyway holds at an error
-pub on_err : {T E : Type 0} (r : Result T E) (P : Type 0) → P → OnErr r P
-on_err (Ok x) P h = tt
-on_err (Err e) P h = h

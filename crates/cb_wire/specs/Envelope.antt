@@ -13,7 +13,7 @@ use Rattle.cb_wire.specs.declared.item.Item.TheVariants.{Good, Damaged, Bad}
 use Rattle.cb_wire.specs.declared.envelope.Front.{Front}
 use Rattle.cb_wire.specs.declared.envelope.Front.TheVariants.{Partial, Broken, Whole}
 use Rattle.cb_wire.specs.Command.{known_command, command_field, command_in}
-use Rattle.cb_wire.specs.Grammar.{Spells, name_of, payload_text, payload_at}
+use Rattle.cb_wire.specs.Grammar.{HoldsNothing, Spells, name_of, payload_text, payload_at}
 
 -- the magic bytes of regtest
 abbrev pub magic : List ℕ
@@ -55,6 +55,12 @@ front_at bytes =
 abbrev pub outcome : Command → Result Message Fault → Item
 outcome command (Ok message) = Good message
 outcome command (Err fault) = Bad command fault
+
+-- an item that holds no memory of its own
+abbrev pub KeepsNothing : Item → Type 0
+KeepsNothing (Good message) = HoldsNothing message
+KeepsNothing Damaged = Unit {0}
+KeepsNothing (Bad command fault) = Unit {0}
 
 -- the item of a payload under a name
 abbrev pub item_under : Option Command → List ℕ → List ℕ → Item

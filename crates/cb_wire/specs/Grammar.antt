@@ -89,6 +89,20 @@ IsUnpaid (Some known.Block) bytes fault = blocks.first_count_at bytes ≡ Err fa
 IsUnpaid (Some command) bytes fault = payload_at command bytes ≡ Err fault
 IsUnpaid None bytes fault = ⊥
 
+-- Reading takes memory: that of a transaction or a block with items, or a command that isn't known, whose name is kept.
+abbrev pub IsPaid : Option Command → List ℕ → Type 0
+IsPaid (Some known.Tx) bytes = transactions.TakesMemory bytes
+IsPaid (Some known.Block) bytes = blocks.TakesMemory bytes
+IsPaid (Some command) bytes = ⊥
+IsPaid None bytes = Unit {0}
+
+-- The message holds no memory of its own, so that a copy takes none.
+abbrev pub HoldsNothing : Message → Type 0
+HoldsNothing (Tx tx) = (tx.inputs ≡ []) × (tx.outputs ≡ [])
+HoldsNothing (Block block) = block.txs ≡ []
+HoldsNothing (Unknown name payload) = ⊥
+HoldsNothing message = Unit {0}
+
 -- an answer that takes memory: the definition's, or that memory ran out
 abbrev pub Gives : {A : Type 0} → Result A Fault → Result A Fault → Type 0
 Gives read (Ok value) = read ≡ Ok value

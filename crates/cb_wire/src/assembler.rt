@@ -1,8 +1,10 @@
-ghost use Rattle.std.specs.Prelude.{◌≡◌, ℕ, ◌++◌, ◌≤◌, List, [], length, drop, IfOk, IsOkUnless, OnErr, IsOk, Some, None, vec_len};
+ghost use Rattle.std.specs.Prelude.{◌≡◌, ℕ, ◌<◌, ◌≤◌, ◌++◌, List, [], length, drop, IfOk, IsOkUnless, OnErr, IsOk, Err, Some, None, vec_len};
 ghost use Rattle.cb_base.specs.declared.fault.Fault.{Fault};
 ghost use Rattle.cb_base.specs.declared.fault.Fault.TheVariants.{Memory};
 ghost use Rattle.cb_wire.specs.declared.item.Item.{Item};
-ghost use Rattle.cb_wire.specs.Stream.{Stream, Extends};
+ghost use Rattle.cb_wire.specs.Stream.{Stream};
+ghost use Rattle.cb_wire.specs.declared.envelope.Front.TheVariants.{Partial};
+ghost use Rattle.cb_wire.specs.Envelope.{front_at};
 
 use crate::envelope::{Front, HEADER_LEN, front_of, item_of};
 use crate::item::Item;
@@ -63,7 +65,7 @@ impl Assembler {
     /// Takes the next piece of the stream.
     ///
     /// The only error is `Fault::Memory`, which changes nothing. After a fault of the stream each piece gives no item
-    /// and that fault, and takes no memory.
+    /// and that fault, and takes no memory. Nor does an empty piece.
     pub fn feed(&mut self, piece: &[u8]) -> Result<Fed, Fault>
         // However the stream was cut: what all bytes fed so far and this piece spell is the items so far and these.
         ensures stream { IfOk result (λ fed. (bytes : List ℕ) (items : List Item) →
@@ -73,9 +75,8 @@ impl Assembler {
         ensures broken { (why : Fault) → self.old.fault ≡ Some why → IsOk result }
         ensures memory { IsOkUnless result Memory }
         ensures err { OnErr result (self.new ≡ self.old) }
-        // A refused piece has a reading that goes on from the items so far.
-        ensures refused { OnErr result ((bytes : List ℕ) (items : List Item) →
-            Stream bytes items self.old.rest self.old.fault → Extends (bytes ++ piece.now) items) }
+        // An empty piece takes no memory.
+        ensures paid { result ≡ Err Memory → 0 < length piece.now }
     {
         if self.fault.is_some() {
             return Ok(Fed {
@@ -112,6 +113,7 @@ fn cut_items(alloc: Global, bytes: &[u8]) -> Result<Cut, Fault>
     ensures stream { IfOk result (λ cut. Stream bytes.now cut.items.items (drop cut.used bytes.now) cut.fault) }
     ensures within { IfOk result (λ cut. cut.used ≤ length bytes.now) }
     ensures memory { IsOkUnless result Memory }
+    ensures unpaid { front_at bytes.now ≡ Partial → IsOk result }
 {
     let mut items = Vec::with_capacity(alloc, count_whole(bytes))?;
     let mut rest = bytes;
@@ -143,7 +145,9 @@ fn cut_items(alloc: Global, bytes: &[u8]) -> Result<Cut, Fault>
 }
 
 /// How many whole envelopes stand at the front, so that the room for their items is made once.
-fn count_whole(bytes: &[u8]) -> usize {
+fn count_whole(bytes: &[u8]) -> usize
+    ensures { front_at bytes.now ≡ Partial → result ≡ 0 }
+{
     let mut count = 0usize;
     let mut rest = bytes;
     while let Front::Whole(size) = front_of(rest) {

@@ -6,7 +6,7 @@ ghost use Rattle.cb_tx.specs.Text.{IsTx, tx_text};
 ghost use Rattle.cb_wire.specs.Command.{IsCommand, known_command};
 ghost use Rattle.cb_wire.specs.declared.message.Message.{Message};
 ghost use Rattle.cb_wire.specs.declared.item.Item.TheVariants.{Good};
-ghost use Rattle.cb_wire.specs.Grammar.{message_at, payload_at, Gives, Spells, IsMessage, IsUnpaid, IsWithinLimits};
+ghost use Rattle.cb_wire.specs.Grammar.{message_at, payload_at, Gives, Spells, IsMessage, IsPaid, IsUnpaid, IsWithinLimits};
 ghost use Rattle.cb_wire.specs.Envelope.{envelope_text, text};
 ghost use Rattle.cb_wire.specs.Stream.{Stream};
 
@@ -36,6 +36,8 @@ pub fn decode(alloc: Global, command: &str, payload: &[u8]) -> Result<Message, F
     ensures exact { Gives (message_at command.now payload.now) result }
     // Up to the first count of a transaction or a block no memory is taken.
     ensures unpaid { (fault : Fault) → IsUnpaid (known_command command.now) payload.now fault → result ≡ Err fault }
+    // Nor is any for the numbers of the other known commands, or for a count of 0.
+    ensures paid { result ≡ Err Memory → IsPaid (known_command command.now) payload.now }
 {
     message_under(alloc, command, payload)
 }
@@ -45,6 +47,7 @@ fn message_under(alloc: Global, name: &str, payload: &[u8]) -> Result<Message, F
     requires { IsCommand name.now }
     ensures exact { Gives (message_at name.now payload.now) result }
     ensures unpaid { (fault : Fault) → IsUnpaid (known_command name.now) payload.now fault → result ≡ Err fault }
+    ensures paid { result ≡ Err Memory → IsPaid (known_command name.now) payload.now }
 {
     match Command::named(name) {
         Some(command) => read_payload(alloc, command, payload),
@@ -60,6 +63,7 @@ fn message_under(alloc: Global, name: &str, payload: &[u8]) -> Result<Message, F
 pub fn read_payload(alloc: Global, command: Command, payload: &[u8]) -> Result<Message, Fault>
     ensures exact { Gives (payload_at command payload.now) result }
     ensures unpaid { (fault : Fault) → IsUnpaid (Some command) payload.now fault → result ≡ Err fault }
+    ensures paid { result ≡ Err Memory → IsPaid (Some command) payload.now }
 {
     let mut cursor = Cursor::new(payload);
     let message = match command {

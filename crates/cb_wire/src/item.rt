@@ -1,4 +1,4 @@
-ghost use Rattle.std.specs.Prelude.{◌≡◌, IfOk, IsOkUnless};
+ghost use Rattle.std.specs.Prelude.{◌≡◌, IfOk, IsOk, IsOkUnless};
 ghost use Rattle.cb_base.specs.declared.fault.Fault.TheVariants.{Memory};
 
 use crate::command::Command;
@@ -18,10 +18,13 @@ pub enum Item {
 }
 
 impl Item {
-    /// An equal item. The only error is `Fault::Memory`.
+    ghost use Rattle.cb_wire.specs.Envelope.{KeepsNothing};
+
+    /// An equal item. The only error is `Fault::Memory`, and an item that holds no memory takes none.
     pub fn copy(&self, alloc: Global) -> Result<Item, Fault>
         ensures equal { IfOk result (λ copy. copy ≡ self.now) }
         ensures memory { IsOkUnless result Memory }
+        ensures unpaid { KeepsNothing self.now → IsOk result }
     {
         Ok(match self {
             Item::Good(message) => Item::Good(message.copy(alloc)?),

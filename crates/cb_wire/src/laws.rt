@@ -1,14 +1,14 @@
 //! What holds of every stream, whatever it was cut into: laws of the definitions that the contracts cite.
 //!
 //! Each is a function that does nothing and whose contract is the law.
-ghost use Rattle.std.specs.Prelude.{◌≡◌, ◌↔◌, ◌+◌, ◌<◌, ℕ, List, [], ◌∷◌, length, map, take, Option, Some, None};
+ghost use Rattle.std.specs.Prelude.{◌≡◌, ◌↔◌, ◌+◌, ◌<◌, ◌++◌, ℕ, List, [], ◌∷◌, length, map, take, Option, Some, None};
 ghost use Rattle.std.specs.List.{AllByRecursion};
 ghost use Rattle.cb_base.specs.declared.fault.Fault.{Fault};
 ghost use Rattle.cb_wire.specs.declared.message.Message.{Message};
 ghost use Rattle.cb_wire.specs.declared.item.Item.{Item};
 ghost use Rattle.cb_wire.specs.declared.item.Item.TheVariants.{Good};
 ghost use Rattle.cb_wire.specs.Grammar.{IsProper};
-ghost use Rattle.cb_wire.specs.Stream.{Stream, Reading, texts};
+ghost use Rattle.cb_wire.specs.Stream.{Extends, Stream, Reading, texts};
 ghost use Rattle.cb_wire.specs.declared.envelope.Front.TheVariants.{Whole};
 ghost use Rattle.cb_wire.specs.Command.{IsCommand, command_field, command_in};
 ghost use Rattle.cb_wire.specs.Envelope.{IsEnvelopeOf, front_at, item_at, text};
@@ -18,6 +18,11 @@ pub fn one_reading()
     ensures items { (bytes : List ℕ) (i j : List Item) (r s : List ℕ) (f g : Option Fault) → Stream bytes i r f → Stream bytes j s g → i ≡ j }
     ensures rest { (bytes : List ℕ) (i j : List Item) (r s : List ℕ) (f g : Option Fault) → Stream bytes i r f → Stream bytes j s g → r ≡ s }
     ensures fault { (bytes : List ℕ) (i j : List Item) (r s : List ℕ) (f g : Option Fault) → Stream bytes i r f → Stream bytes j s g → f ≡ g }
+{}
+
+/// What more bytes spell goes on from the items of those before: a piece never changes an item.
+pub fn readings_go_on()
+    ensures { (bytes more : List ℕ) (items : List Item) (rest : List ℕ) (fault : Option Fault) → Stream bytes items rest fault → Extends (bytes ++ more) items }
 {}
 
 /// Every byte string has a reading.

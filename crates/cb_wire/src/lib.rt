@@ -18,8 +18,8 @@ pub use codec::{decode, encode};
 pub use command::{Command, UnknownName};
 pub use item::Item;
 pub use laws::{
-    commands_are_names_and_zeros, good_items_are_envelopes, one_reading, some_reading,
-    texts_are_a_stream,
+    commands_are_names_and_zeros, good_items_are_envelopes, one_reading, readings_go_on,
+    some_reading, texts_are_a_stream,
 };
 pub use message::{BoundedMessage, Message, Payload};
 

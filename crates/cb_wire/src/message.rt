@@ -1,8 +1,8 @@
-ghost use Rattle.std.specs.Prelude.{◌≡◌, IsTrue, ◌↔◌, length, IfOk, IsOkUnless};
+ghost use Rattle.std.specs.Prelude.{◌≡◌, IsTrue, ◌↔◌, length, IfOk, IsOk, IsOkUnless};
 ghost use Rattle.cb_base.specs.declared.fault.Fault.TheVariants.{Memory};
 
 use crate::command::UnknownName;
-use cb_base::Fault;
+use cb_base::{Fault, copy_bytes};
 use cb_block::Block;
 use cb_tx::Tx;
 use std::alloc::Global;
@@ -58,13 +58,14 @@ impl Payload {
         self.bytes.is_empty()
     }
 
-    /// An equal payload. The only error is `Fault::Memory`.
+    /// An equal payload. The only error is `Fault::Memory`, and an empty payload takes none.
     pub fn copy(&self, alloc: Global) -> Result<Payload, Fault>
         ensures equal { IfOk result (λ copy. copy ≡ self.now) }
         ensures memory { IsOkUnless result Memory }
+        ensures unpaid { length self.now ≡ 0 → IsOk result }
     {
         Ok(Payload {
-            bytes: Vec::from_slice(alloc, self.bytes.as_slice())?,
+            bytes: copy_bytes(alloc, self.bytes.as_slice())?,
         })
     }
 }
@@ -87,12 +88,13 @@ pub enum Message {
 }
 
 impl Message {
-    ghost use Rattle.cb_wire.specs.Grammar.{IsWithinLimits};
+    ghost use Rattle.cb_wire.specs.Grammar.{HoldsNothing, IsWithinLimits};
 
-    /// An equal message. The only error is `Fault::Memory`.
+    /// An equal message. The only error is `Fault::Memory`, and a message that holds no memory takes none.
     pub fn copy(&self, alloc: Global) -> Result<Message, Fault>
         ensures equal { IfOk result (λ copy. copy ≡ self.now) }
         ensures memory { IsOkUnless result Memory }
+        ensures unpaid { HoldsNothing self.now → IsOk result }
     {
         Ok(match self {
             Message::Verack => Message::Verack,
@@ -138,7 +140,7 @@ impl Model for BoundedMessage {
 }
 
 impl BoundedMessage {
-    ghost use Rattle.cb_wire.specs.Grammar.{IsWithinLimits};
+    ghost use Rattle.cb_wire.specs.Grammar.{HoldsNothing, IsWithinLimits};
 
     /// Takes a message that is within the limits.
     pub fn new(message: Message) -> BoundedMessage
@@ -164,10 +166,11 @@ impl BoundedMessage {
         self.message
     }
 
-    /// An equal message. The only error is `Fault::Memory`.
+    /// An equal message. The only error is `Fault::Memory`, and a message that holds no memory takes none.
     pub fn copy(&self, alloc: Global) -> Result<BoundedMessage, Fault>
         ensures equal { IfOk result (λ copy. copy ≡ self.now) }
         ensures memory { IsOkUnless result Memory }
+        ensures unpaid { HoldsNothing self.now → IsOk result }
     {
         Ok(BoundedMessage {
             message: self.message.copy(alloc)?,

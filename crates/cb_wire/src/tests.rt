@@ -297,17 +297,15 @@ fn a_command_is_1_to_12_bytes_and_then_zeros(rt: HostRuntime) -> Result<(), Fail
 
 #[test]
 fn each_command_is_decoded(rt: HostRuntime) -> Result<(), Fail> {
-    let verack = decode(rt.alloc(), "verack", &[])?;
-    assert_eq!(rt; message_line(rt.alloc(), &verack)?.as_str(), "verack");
-    let ping = decode(rt.alloc(), "ping", &[1, 0, 0, 0, 0, 0, 0, 0])?;
-    assert_eq!(rt; message_line(rt.alloc(), &ping)?.as_str(), "ping 1");
-    let pong = decode(rt.alloc(), "pong", &[0, 1, 0, 0, 0, 0, 0, 0])?;
-    assert_eq!(rt; message_line(rt.alloc(), &pong)?.as_str(), "pong 256");
-    let other = decode(rt.alloc(), "hello", b"hello")?;
-    assert_eq!(rt;
-        message_line(rt.alloc(), &other)?.as_str(),
-        "unknown hello 5"
-    );
+    for (command, payload, expected) in [
+        ("verack", "", "verack"),
+        ("ping", "0100000000000000", "ping 1"),
+        ("pong", "0001000000000000", "pong 256"),
+        ("hello", "68656c6c6f", "unknown hello 5"),
+    ] {
+        let line = decoded_line(rt.alloc(), command, [payload].as_slice())?;
+        assert_eq!(rt; line.as_str(), expected);
+    }
     Ok(())
 }
 
@@ -437,28 +435,38 @@ fn messages_are_encoded(rt: HostRuntime) -> Result<(), Fail> {
     Ok(())
 }
 
+/// The lines of copies of items.
+fn copied_lines(alloc: Global, items: &[Item]) -> Result<String, Fail> {
+    let mut copies = Vec::new(alloc);
+    for item in items {
+        copies.push(item.copy(alloc)?)?;
+    }
+    lines(alloc, copies.as_slice())
+}
+
+#[test]
+fn copies_of_items(rt: HostRuntime) -> Result<(), Fail> {
+    let short_pong = header(rt.alloc(), b"pong\0\0\0\0\0\0\0\0", [0; 4], OF_NOTHING)?;
+    let mut assembler = Assembler::new(rt.alloc());
+    for (piece, expected) in [
+        (HELLO.as_slice(), "unknown hello 5\n"),
+        (PING.as_slice(), "ping 0\n"),
+        (DAMAGED.as_slice(), "damaged\n"),
+        (short_pong.as_slice(), "bad pong F2 Truncated\n"),
+    ] {
+        let fed = assembler.feed(piece)?;
+        let copied = copied_lines(rt.alloc(), fed.items.as_slice())?;
+        assert_eq!(rt; copied.as_str(), expected);
+    }
+    Ok(())
+}
+
 #[test]
 fn copies(rt: HostRuntime) -> Result<(), Fail> {
-    let mut bytes = Vec::from_slice(rt.alloc(), HELLO.as_slice())?;
-    bytes.extend_from_slice(PING.as_slice())?;
-    bytes.extend_from_slice(DAMAGED.as_slice())?;
-    let short_pong = header(rt.alloc(), b"pong\0\0\0\0\0\0\0\0", [0; 4], OF_NOTHING)?;
-    bytes.extend_from_slice(short_pong.as_slice())?;
-    let mut assembler = Assembler::new(rt.alloc());
-    let fed = assembler.feed(bytes.as_slice())?;
-    let mut copied = Vec::new(rt.alloc());
-    for item in &fed.items {
-        copied.push(item.copy(rt.alloc())?)?;
-    }
-    assert_eq!(rt;
-        lines(rt.alloc(), copied.as_slice())?.as_str(),
-        "unknown hello 5\nping 0\ndamaged\nbad pong F2 Truncated\n"
-    );
     let pong = Message::Pong(7).copy(rt.alloc())?;
     assert_eq!(rt; message_line(rt.alloc(), &pong)?.as_str(), "pong 7");
-    let bytes = Payload::new(Vec::from_slice(rt.alloc(), b"hello")?)
-        .copy(rt.alloc())?
-        .into_bytes();
+    let payload = Payload::new(Vec::from_slice(rt.alloc(), b"hello")?);
+    let bytes = payload.copy(rt.alloc())?.into_bytes();
     assert_eq!(rt; bytes.as_slice(), b"hello".as_slice());
     Ok(())
 }

@@ -32,7 +32,6 @@ const REFUSED_HEADERS: Story = Story {
     tip: 2,
     unspent: &[1, 2],
     kept: &[0, 1, 2, 3, 4],
-    marked: &[],
     lacking: &[5, 6, 7, 11, 13, 15, 16, 17, 18, 99],
     heights: &[
         (5, None),
@@ -42,6 +41,7 @@ const REFUSED_HEADERS: Story = Story {
         (15, None),
         (18, None),
     ],
+    ..NOTHING
 };
 
 #[test]
@@ -78,6 +78,7 @@ const REFUSED_BLOCKS: Story = Story {
     marked: &[8, 17],
     lacking: &[11, 12, 13, 14, 16],
     heights: &[(8, Some(3)), (11, None), (14, None), (17, Some(2))],
+    ..NOTHING
 };
 
 #[test]
@@ -101,9 +102,9 @@ const HEADER_FIRST: Story = Story {
     tip: 4,
     unspent: &[1, 2, 5, 6],
     kept: &[5, 8, 11],
-    marked: &[],
     lacking: &[6],
     heights: &[(5, Some(3)), (6, Some(4)), (11, Some(4))],
+    ..NOTHING
 };
 
 #[test]

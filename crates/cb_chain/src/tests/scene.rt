@@ -69,10 +69,12 @@ pub(crate) struct Scene {
 
 impl Scene {
     pub(crate) fn new(alloc: Global) -> Result<Scene, Fail> {
-        let chain = Chain::new(alloc)?;
-        let mut came = Vec::new(alloc);
-        came.push(came_with(genesis(alloc)?))?;
-        Ok(Scene { alloc, chain, came })
+        let came = vec![in alloc; came_with(genesis(alloc)?)]?;
+        Ok(Scene {
+            alloc,
+            chain: Chain::new(alloc)?,
+            came,
+        })
     }
 
     pub(crate) fn name(&self, step: usize) -> Hash256 {
@@ -108,29 +110,44 @@ impl Scene {
         true
     }
 
-    // Whether the chain gives the block of a hash, with a header of that hash.
-    pub(crate) fn shows_block(&self, hash: &Hash256) -> bool {
-        match self.chain.block(hash) {
-            Some(block) => name(block) == *hash,
-            None => false,
+    // The recipe of a block that comes.
+    fn recipe(&self, comes: Comes) -> Option<Recipe> {
+        let (on, mark, works, beside) = match comes {
+            Comes::Plain(on, mark) | Comes::PlainHead(on, mark) => (
+                on,
+                mark,
+                true,
+                Beside::Nothing,
+            ),
+            Comes::Workless(on, mark) => (on, mark, false, Beside::Nothing),
+            Comes::Coinbases(on, mark) => (on, mark, true, Beside::Coinbase),
+            Comes::Spender(on, mark, spent, value) => {
+                (on, mark, true, Beside::Spender(spent, value))
+            }
+            _ => return None,
+        };
+        let prev = self.name(on);
+        Some(Recipe {
+            prev,
+            mark,
+            works,
+            beside,
+        })
+    }
+
+    // The header that comes, where it isn't a block's.
+    fn header(&self, comes: Comes) -> Option<Header> {
+        match comes {
+            Comes::Head(on, byte) => { Some(header_on(self.name(on), Hash256([byte; 32]), true)) }
+            Comes::WorklessHead(on, byte) => {
+                Some(header_on(self.name(on), Hash256([byte; 32]), false))
+            }
+            Comes::HeadAgain(step) => self.came.get(step).map(|came| came.header),
+            _ => None,
         }
     }
 
-    // Whether the output of this mark's coinbase is unspent.
-    pub(crate) fn has(&self, mark: u32) -> Result<bool, Fail> {
-        Ok(self.chain.ledger().has(&made_by(self.alloc, mark)?))
-    }
-
-    // The names of all that came.
-    pub(crate) fn names(&self) -> Result<Vec<Hash256>, Fail> {
-        let mut names = Vec::new(self.alloc);
-        for came in &self.came {
-            names.push(came.header.hash())?;
-        }
-        Ok(names)
-    }
-
-    fn again(&self, step: usize) -> Result<SoundBlock, Fail> {
+    fn block_again(&self, step: usize) -> Result<SoundBlock, Fail> {
         match self.came.get(step) {
             Some(
                 Came {
@@ -142,45 +159,24 @@ impl Scene {
         }
     }
 
-    fn head_again(&self, step: usize) -> Result<Header, Fail> {
-        match self.came.get(step) {
-            Some(came) => Ok(came.header),
-            None => Err(Fail::from("no such header")),
+    fn block(&self, comes: Comes) -> Result<SoundBlock, Fail> {
+        if let Some(recipe) = self.recipe(comes) {
+            return made(self.alloc, &recipe);
+        }
+        match comes {
+            Comes::Again(step) => self.block_again(step),
+            _ => Err(Fail::from("no such block")),
         }
     }
 
-    fn plain_head(&self, on: usize, mark: u32) -> Result<Header, Fail> {
-        Ok(plain(self.alloc, self.name(on), mark)?.block().header)
-    }
-
-    pub(crate) fn spender(
-        &self,
-        on: usize,
-        mark: u32,
-        spent: u32,
-        value: i64,
-    ) -> Result<SoundBlock, Fail> {
-        let spent = made_by(self.alloc, spent)?;
-        spender(self.alloc, self.name(on), mark, spent, value)
-    }
-
     fn coming(&self, comes: Comes) -> Result<Came, Fail> {
+        if let Some(header) = self.header(comes) {
+            return Ok(came_alone(header));
+        }
+        let block = self.block(comes)?;
         Ok(match comes {
-            Comes::Plain(on, mark) => came_with(plain(self.alloc, self.name(on), mark)?),
-            Comes::Spender(on, mark, spent, value) => {
-                came_with(self.spender(on, mark, spent, value)?)
-            }
-            Comes::Coinbases(on, mark) => {
-                came_with(two_coinbases(self.alloc, self.name(on), mark)?)
-            }
-            Comes::Workless(on, mark) => came_with(workless(self.alloc, self.name(on), mark)?),
-            Comes::Again(step) => came_with(self.again(step)?),
-            Comes::Head(on, byte) => came_alone(header_on(self.name(on), Hash256([byte; 32]))),
-            Comes::WorklessHead(on, byte) => {
-                came_alone(workless_on(self.name(on), Hash256([byte; 32])))
-            }
-            Comes::HeadAgain(step) => came_alone(self.head_again(step)?),
-            Comes::PlainHead(on, mark) => came_alone(self.plain_head(on, mark)?),
+            Comes::PlainHead(..) => came_alone(block.block().header),
+            _ => came_with(block),
         })
     }
 
@@ -194,6 +190,53 @@ impl Scene {
             }),
         }
     }
+
+    // Whether these blocks went off and came on, and the last one is the tip.
+    fn has_changed(&self, tip: Hash256, change: &Change, off: &[usize], on: &[usize]) -> bool {
+        let next = match on.last() {
+            Some(step) => self.name(*step),
+            None => tip,
+        };
+        self.are(change.off.as_slice(), off)
+            && self.are(change.on.as_slice(), on)
+            && self.chain.tip() == next
+    }
+
+    // Whether the chain tells of what comes what it should, and has the tip that follows from that.
+    fn follows(&mut self, step: &Step) -> Result<bool, Fail> {
+        let came = self.coming(step.0)?;
+        let tip = self.chain.tip();
+        let told = self.takes(&came)?;
+        self.came.push(came)?;
+        match (told, step.1) {
+            (Ok(change), Ok((off, on))) => Ok(self.has_changed(tip, &change, off, on)),
+            (Err(Fault::Memory), _) => Err(Fail::from(Fault::Memory)),
+            (Err(fault), Err(expected)) => Ok(fault == expected && self.chain.tip() == tip),
+            (Err(fault), Ok(_)) => Err(Fail::from(fault)),
+            (Ok(_), Err(_)) => Ok(false),
+        }
+    }
+
+    // Whether a plain block comes on the tip: (its parent's name, and its mark).
+    fn grows_by(&mut self, on: usize, mark: u32) -> Result<bool, Fail> {
+        let came = self.coming(Comes::Plain(on, mark))?;
+        let tip = self.chain.tip();
+        let told = self.takes(&came)?;
+        self.came.push(came)?;
+        let change = told?;
+        Ok(self.has_changed(tip, &change, &[], [on.wrapping_add(1)].as_slice()))
+    }
+
+    // Whether plain blocks come on the first one, each on the one before it. They are named by their heights, and their
+    // marks are one less.
+    pub(crate) fn grows(&mut self, count: u32) -> Result<bool, Fail> {
+        for mark in 0..count {
+            if !self.grows_by(mark as usize, mark)? {
+                return Ok(false);
+            }
+        }
+        Ok(true)
+    }
 }
 
 fn unchanged(alloc: Global) -> Change {
@@ -203,73 +246,10 @@ fn unchanged(alloc: Global) -> Change {
     }
 }
 
-// These blocks went off and came on, and the last one is the tip.
-fn has_changed(
-    rt: &impl Abort,
-    scene: &Scene,
-    tip: Hash256,
-    change: &Change,
-    off: &[usize],
-    on: &[usize],
-) {
-    assert!(rt; scene.are(change.off.as_slice(), off));
-    assert!(rt; scene.are(change.on.as_slice(), on));
-    let next = match on.last() {
-        Some(step) => scene.name(*step),
-        None => tip,
-    };
-    assert_eq!(rt; scene.chain.tip(), next);
-}
-
-fn follows(rt: &impl Abort, scene: &mut Scene, step: &Step) -> Result<(), Fail> {
-    let came = scene.coming(step.0)?;
-    let tip = scene.chain.tip();
-    let told = scene.takes(&came)?;
-    scene.came.push(came)?;
-    match (told, step.1) {
-        (Ok(change), Ok((off, on))) => has_changed(rt, scene, tip, &change, off, on),
-        (Err(Fault::Memory), _) => return Err(Fail::from(Fault::Memory)),
-        (Err(fault), Err(expected)) => {
-            assert_eq!(rt; fault, expected);
-            assert_eq!(rt; scene.chain.tip(), tip);
-        }
-        (Err(fault), Ok(_)) => return Err(Fail::from(fault)),
-        (Ok(_), Err(_)) => return Err(Fail::from("it was taken")),
-    }
-    Ok(())
-}
-
 // Each step tells what the script says.
 pub(crate) fn plays(rt: &impl Abort, scene: &mut Scene, script: &[Step]) -> Result<(), Fail> {
     for step in script {
-        follows(rt, scene, step)?;
+        assert!(rt; scene.follows(step)?);
     }
     Ok(())
-}
-
-// The scene after a script.
-pub(crate) fn played(rt: &impl Abort, alloc: Global, script: &[Step]) -> Result<Scene, Fail> {
-    let mut scene = Scene::new(alloc)?;
-    plays(rt, &mut scene, script)?;
-    Ok(scene)
-}
-
-// A plain block on the tip.
-fn grows(rt: &impl Abort, scene: &mut Scene, mark: u32) -> Result<(), Fail> {
-    let block = plain(scene.alloc, scene.chain.tip(), mark)?;
-    let change = scene.chain.accept_block(block.copy(scene.alloc)?)?;
-    assert!(rt; change.off.as_slice().is_empty());
-    assert_eq!(rt; change.on.as_slice(), [name(&block)].as_slice());
-    assert_eq!(rt; scene.chain.tip(), name(&block));
-    scene.came.push(came_with(block))?;
-    Ok(())
-}
-
-// A chain of so many plain blocks. They are named by their heights.
-pub(crate) fn grown(rt: &impl Abort, alloc: Global, count: u32) -> Result<Scene, Fail> {
-    let mut scene = Scene::new(alloc)?;
-    for mark in 0..count {
-        grows(rt, &mut scene, mark)?;
-    }
-    Ok(scene)
 }

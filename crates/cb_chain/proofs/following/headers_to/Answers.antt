@@ -1,6 +1,6 @@
 use Rattle.std.proofs.Common.{◌≡◌, ◌+◌, List, length, Vec, Global, arith, ap, sym, subst, ◌∙◌}
 use Rattle.cb_block.specs.declared.header.Header.{Header}
-use Rattle.cb_chain.proofs.Heights.{Taken, followers, rest_within, taken_starts, taken_full, to_more, to_stop, to_all}
+use Rattle.cb_chain.proofs.Heights.{Taken, followers, rest_some, rest_within, taken_starts, taken_full, to_more, to_stop, to_all, up_to_none}
 use Rattle.cb_chain.proofs.following.headers_to.Goals as goal
 use Rattle.cb_chain.proofs.following.headers_to.Goals.{else-loop-place-test, then-loop-place-test+then-len-eq-MOST_HEADERS, then-loop-place-test+else-len-eq-MOST_HEADERS+in_ok-push+then-eq}
 
@@ -17,6 +17,11 @@ loop-place-preserved c =
     subst (λ (hs : List Header). Taken c.args.stop.now (followers nodes c.args.height) (c.loop-place.place-index + 1) hs) (sym c.in_ok-push.ensures.items)
     (to_more nodes c.args.places.now c.args.height c.loop-place.place-index c.node-node.result.now c.args.stop.now c.loop-place.headers.items c.requires.tree c.requires.places c.loop-place-test.true
     c.node-node.ensures.node c.loop-place.invariant room (sym c.eq.ensures ∙ c.if-eq.false))
+
+pub returns-in_err-push-clause-none : goal.returns-in_err-push-clause-none
+returns-in_err-push-clause-none c = λ none.
+    let nodes = c.args.tree.now.nodes in
+    absurd (rest_some nodes c.args.places.now c.args.height c.loop-place.place-index c.requires.tree c.requires.places c.loop-place-test.true (up_to_none c.args.stop.now (followers nodes c.args.height) none))
 
 pub returns-clause-exact : goal.returns-clause-exact
 returns-clause-exact c =

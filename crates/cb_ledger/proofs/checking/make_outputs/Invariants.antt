@@ -1,5 +1,6 @@
-use Rattle.std.proofs.Common.{◌≡◌, drop}
+use Rattle.std.proofs.Common.{◌≡◌, ◌⊎◌, drop}
 use Rattle.cb_ledger.specs.Spend.{make_outputs}
+use Rattle.cb_ledger.specs.Touched.{MakesFirst}
 use Rattle.cb_ledger.specs.Undo.{changed}
 use Rattle.cb_ledger.proofs.checking.make_outputs.Given as goal
 
@@ -7,4 +8,5 @@ abbrev pub invariant-loop-output : goal.invariant-loop-output
 invariant-loop-output l = record {
   place : l.index ≡ l.output-index;
   made : make_outputs (changed l.ledger.unspent l.draft) l.txid l.output-index (drop l.output-index l.outputs) ≡ make_outputs (changed l.ledger.unspent l.fn.draft) l.txid 0 l.outputs;
+  quiet : MakesFirst (changed l.ledger.unspent l.fn.draft) l.txid l.outputs ⊎ ((l.draft ≡ l.fn.draft) × (l.output-index ≡ 0));
 }

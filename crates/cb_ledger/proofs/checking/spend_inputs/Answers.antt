@@ -1,13 +1,14 @@
-use Rattle.std.proofs.Common.{◌≡◌, ◌∙◌, sym, inr, arith, to_z, of_z, ◌+ℤ◌, SFits, rules}
+use Rattle.std.proofs.Common.{◌≡◌, ◌∙◌, sym, inl, inr, arith, to_z, of_z, ◌+ℤ◌, SFits, rules}
 use Rattle.std.specs.Int.{w64, w128}
 use Rattle.std.proofs.lemmas.Int.{ints, to_z-of_z}
 use Rattle.cb_ledger.specs.Spend.{spend_inputs}
 use Rattle.cb_ledger.specs.Undo.{changed}
+use Rattle.cb_ledger.proofs.FirstTouch.{input_touched}
 use Rattle.cb_ledger.proofs.Spending.{inputs_more, inputs_refused, inputs_end}
 use Rattle.cb_ledger.proofs.checking.spend_inputs.Goals as goal
 
-pub returns-in-None : goal.returns-in-None
-returns-in-None c =
+pub returns-in-None-clause-told : goal.returns-in-None-clause-told
+returns-in-None-clause-told c =
     let u = c.args.ledger.now.unspent in
     inr (inputs_refused (changed u c.loop-input.draft) c.args.inputs.now c.loop-input.input-index c.input-item.result (to_z w128 c.loop-input.sum-bits) (spend_inputs (changed u c.args.draft.now) c.args.inputs.now) c.loop-input-test.true c.input-item.is (sym c.in-None.ensures) c.loop-input.invariant.spent)
 
@@ -22,9 +23,20 @@ loop-input-preserved c =
       spent = inputs_more (changed u c.loop-input.draft) (changed u c.note.new.self) c.args.inputs.now c.loop-input.input-index c.input-item.result sum value (spend_inputs (changed u c.args.draft.now) c.args.inputs.now) c.loop-input-test.true c.input-item.is (sym c.value.ensures ∙ c.in-Some.is) (c.in_ok-note-in-Some.ensures.ok u) c.loop-input.invariant.spent;
       least = omega (arith, ints);
       most = omega (arith, ints);
+      quiet = inl (input_touched u c.args.draft.now c.loop-input.draft c.args.inputs.now c.loop-input.input-index c.input-item.result value c.loop-input.invariant.quiet c.loop-input-test.true c.input-item.is (sym c.value.ensures ∙ c.in-Some.is));
     })
 
-pub returns : goal.returns
-returns c =
+pub returns-clause-told : goal.returns-clause-told
+returns-clause-told c =
     let u = c.args.ledger.now.unspent in
     inputs_end (changed u c.loop-input.draft) c.args.inputs.now c.loop-input.input-index (to_z w128 c.loop-input.sum-bits) (spend_inputs (changed u c.args.draft.now) c.args.inputs.now) c.loop-input-test.false c.loop-input.invariant.spent
+
+pub returns-in-None-clause-unpaid : goal.returns-in-None-clause-unpaid
+returns-in-None-clause-unpaid c = elim c.loop-input.invariant.quiet [ inl touched ↦ inl touched | inr first ↦ inr (first.0, λ e. absurd cc) ]
+
+pub returns-in_err-note-in-Some-clause-unpaid : goal.returns-in_err-note-in-Some-clause-unpaid
+returns-in_err-note-in-Some-clause-unpaid c =
+    inl (input_touched c.args.ledger.now.unspent c.args.draft.now c.loop-input.draft c.args.inputs.now c.loop-input.input-index c.input-item.result c.in-Some.value c.loop-input.invariant.quiet c.loop-input-test.true c.input-item.is (sym c.value.ensures ∙ c.in-Some.is))
+
+pub returns-clause-unpaid : goal.returns-clause-unpaid
+returns-clause-unpaid c = elim c.loop-input.invariant.quiet [ inl touched ↦ inl touched | inr first ↦ inr (first.0, λ e. absurd cc) ]

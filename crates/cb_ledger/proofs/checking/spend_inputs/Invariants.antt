@@ -1,5 +1,6 @@
-use Rattle.std.proofs.Common.{◌≡◌, ◌*◌, ◌^◌, drop, pos, neg_ℤ, ◌≤ℤ◌}
+use Rattle.std.proofs.Common.{◌≡◌, ◌⊎◌, ◌*◌, ◌^◌, drop, pos, neg_ℤ, ◌≤ℤ◌}
 use Rattle.cb_ledger.specs.Spend.{spend_inputs}
+use Rattle.cb_ledger.specs.Touched.{SpendsFirst}
 use Rattle.cb_ledger.specs.Undo.{changed}
 use Rattle.cb_ledger.proofs.Spending.{with_sum}
 use Rattle.cb_ledger.proofs.checking.spend_inputs.Given as goal
@@ -10,4 +11,5 @@ invariant-loop-input l = record {
   spent : with_sum l.sum (spend_inputs (changed l.ledger.unspent l.draft) (drop l.input-index l.inputs)) ≡ spend_inputs (changed l.ledger.unspent l.fn.draft) l.inputs;
   least : neg_ℤ (pos (2 ^ 63 * l.input-index)) ≤ℤ l.sum;
   most : l.sum ≤ℤ pos (2 ^ 63 * l.input-index);
+  quiet : SpendsFirst (changed l.ledger.unspent l.fn.draft) l.inputs ⊎ ((l.draft ≡ l.fn.draft) × (l.input-index ≡ 0));
 }

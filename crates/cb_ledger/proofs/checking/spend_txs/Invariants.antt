@@ -1,7 +1,12 @@
-use Rattle.std.proofs.Common.{◌≡◌, drop}
+use Rattle.std.proofs.Common.{◌≡◌, ◌⊎◌, drop}
 use Rattle.cb_ledger.specs.Spend.{spend}
+use Rattle.cb_ledger.specs.Touched.{Touches}
 use Rattle.cb_ledger.specs.Undo.{changed}
 use Rattle.cb_ledger.proofs.checking.spend_txs.Given as goal
 
 abbrev pub invariant-loop-place : goal.invariant-loop-place
-invariant-loop-place l = spend (changed l.ledger.unspent l.draft) (drop l.place l.txs) ≡ spend (changed l.ledger.unspent l.fn.draft) l.txs
+invariant-loop-place l = record {
+  spent : spend (changed l.ledger.unspent l.draft) (drop l.place l.txs) ≡ spend (changed l.ledger.unspent l.fn.draft) l.txs;
+  behind : Touches (changed l.ledger.unspent l.draft) (drop l.place l.txs) → Touches (changed l.ledger.unspent l.fn.draft) l.txs;
+  quiet : Touches (changed l.ledger.unspent l.fn.draft) l.txs ⊎ (l.draft ≡ l.fn.draft);
+}

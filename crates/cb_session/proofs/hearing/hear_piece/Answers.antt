@@ -1,4 +1,5 @@
 use Rattle.std.proofs.Common.{refl, sym, ap, ◌∙◌}
+use Rattle.cb_wire.proofs.Streams.{reading_goes_on}
 use Rattle.cb_session.specs.Session.{is_closed}
 use Rattle.cb_session.specs.Serving.{said}
 use Rattle.cb_session.proofs.Inputs.{pieced_broken, pieced_refused, pieced_took, settled_lost}
@@ -27,5 +28,5 @@ returns-else-is_closed g c =
 pub returns-in-Err : goal.returns-in-Err
 returns-in-Err g c =
     λ from bytes items s settled.
-    pieced_refused from (record { trace = c.args.trace.now; held = g.W.Sink.contents c.args.writer.now; failed = g.W.Sink.has_failed c.args.writer.now; journal = c.args.hall.now; badge = c.args.badge.now; written = c.args.written }) _ _ c.feed.new.self items (c.in-Err.ensures.refused bytes items s) c.lose.ensures.closed
+    pieced_refused from (record { trace = c.args.trace.now; held = g.W.Sink.contents c.args.writer.now; failed = g.W.Sink.has_failed c.args.writer.now; journal = c.args.hall.now; badge = c.args.badge.now; written = c.args.written }) _ _ c.feed.new.self items (reading_goes_on bytes c.args.piece.now items _ _ s) c.lose.ensures.closed
     (settled_lost from _ _ settled.missing (c.lose.ensures.accounts from (said items) settled.missing _ _ _ _ _ (λ h. absurd cc) settled.accounts) c.lose.ensures.lost)

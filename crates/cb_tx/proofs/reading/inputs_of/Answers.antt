@@ -5,8 +5,8 @@ use Rattle.cb_tx.specs.Reading.{input_at, items_at}
 use Rattle.cb_tx.proofs.Loop.{goes_on, ends, is_done}
 use Rattle.cb_tx.proofs.reading.inputs_of.Goals as goal
 
-pub returns-in_err-read_input : goal.returns-in_err-read_input
-returns-in_err-read_input c =
+pub returns-in_err-read_input-clause-exact : goal.returns-in_err-read_input-clause-exact
+returns-in_err-read_input-clause-exact c =
     let p = err_from_is_err_and c.from_residual-in_err-read_input.result c.from_residual-in_err-read_input.ensures.1 in
     rw (p.1, p.2) (ends TxIn input_at c.in_err-read_input.field-0.0 c.loop.inputs.items c.args.count c.loop.counter c.loop.cursor (items_at input_at c.args.count c.args.cursor.now) c.loop-test.true c.in_err-read_input.ensures c.loop.invariant)
 
@@ -15,5 +15,5 @@ loop-preserved c =
     let e : c.push.new.self.items ≡ c.loop.inputs.items ++ c.in_ok-read_input.field-0 ∷ [] = c.in_ok-push.ensures.items in
     rw e (goes_on TxIn input_at c.loop.inputs.items c.args.count c.loop.counter c.loop.cursor c.in_ok-read_input.field-0 c.read_input.new.cursor (items_at input_at c.args.count c.args.cursor.now) c.loop-test.true c.in_ok-read_input.ensures c.loop.invariant)
 
-pub returns : goal.returns
-returns c = rw c.new.ensures (is_done TxIn input_at c.loop.inputs.items c.args.count c.loop.counter c.loop.cursor (items_at input_at c.args.count c.args.cursor.now) c.loop-test.false c.loop.invariant)
+pub returns-clause-exact : goal.returns-clause-exact
+returns-clause-exact c = rw c.new.ensures (is_done TxIn input_at c.loop.inputs.items c.args.count c.loop.counter c.loop.cursor (items_at input_at c.args.count c.args.cursor.now) c.loop-test.false c.loop.invariant)

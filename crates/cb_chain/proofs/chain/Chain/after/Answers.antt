@@ -1,5 +1,5 @@
-use Rattle.std.proofs.Common.{◌≡◌, ℕ, suc, length, take, drop, Vec, Global, arith, ap, subst, ◌∙◌}
-use Rattle.std.specs.Prelude.{IfOk}
+use Rattle.std.proofs.Common.{◌≡◌, ℕ, suc, [], length, take, drop, Vec, Global, arith, ap, subst, ◌∙◌}
+use Rattle.std.specs.Prelude.{IfOk, IsOk}
 use Rattle.cb_block.specs.declared.header.Header.{Header}
 use Rattle.cb_chain.specs.Best.{active}
 use Rattle.cb_chain.specs.Entries.{Tree}
@@ -35,3 +35,12 @@ returns-clause-exact c =
     in
     subst (λ (t : Tree). IfOk c.headers_to.result (λ (headers : Vec Header Global). headers.items ≡ take 2000 (up_to stop (drop (suc (start_of (active c.args.self.now) c.args.locator.now)) (active t)))))
     c.self.view_is at_start
+
+pub returns-clause-none : goal.returns-clause-none
+returns-clause-none c =
+    let nodes = c.self.inside.tree.nodes in
+    let stop = c.args.stop.now in
+    let slot = slot_read nodes c.args.self.now c.self.inside.active.items c.start.result c.index.result.now c.self.view_is c.self.invariant.0.places c.start.ensures.low c.index.ensures in
+    let level = slot_level nodes c.start.result c.index.result.now c.node-start.result.now c.node-start.ensures.tree slot c.node-start.ensures.node in
+    let at_start = subst (λ (k : ℕ). take 2000 (up_to stop (drop (suc k) (active (tree_of nodes)))) ≡ [] → IsOk c.headers_to.result) (level ∙ c.start.ensures.height) c.headers_to.ensures.none in
+    subst (λ (t : Tree). take 2000 (up_to stop (drop (suc (start_of (active c.args.self.now) c.args.locator.now)) (active t))) ≡ [] → IsOk c.headers_to.result) c.self.view_is at_start

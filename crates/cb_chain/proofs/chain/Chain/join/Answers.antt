@@ -4,7 +4,7 @@ use Rattle.cb_chain.specs.Best.{best}
 use Rattle.cb_chain.specs.Calls.{block_entry, no_change}
 use Rattle.cb_chain.specs.Entries.{Entry}
 use Rattle.cb_chain.specs.Keeping.{IsNode, entry_from, tree_of}
-use Rattle.cb_chain.proofs.Aside.{Grows, Joins, block_node, entry_on, grows_chain, grows_tree, joined_aside, joins_aside, joins_higher, low_best}
+use Rattle.cb_chain.proofs.Aside.{Grows, Joins, block_node, entry_on, grows_chain, grows_tree, joined_aside, joins_aside, joins_higher, low_best, over_aside}
 use Rattle.cb_chain.proofs.Histories.{historic_after}
 use Rattle.cb_chain.proofs.chain.Chain.join.Goals as goal
 
@@ -44,3 +44,15 @@ returns-clause-ok c =
     sym (joined_aside c.args.self.now (tree_of c.add.new.self.nodes) c.args.kept (record { off = c.new-2.result; on = c.new-4.result }) low
     (grows_tree c.self.inside.tree.nodes c.reserve.new.self.nodes c.add.new.self.nodes c.args.self.now c.node.result grows c.add.ensures ∙ ap (λ (e : Entry). e ∷ c.args.self.now) entry)
     (rw (c.new-2.ensures, c.new.ensures.items, c.new-4.ensures, c.new-3.ensures.items) refl))
+
+pub returns-clause-moves : goal.returns-clause-moves
+returns-clause-moves c =
+    let joins : Joins c.args.self.now c.args.kept c.args.spot c.tip_height.result = record { spot_is = c.requires.spot; none = c.requires.none; kept = c.requires.tip; height = c.tip_height.ensures } in
+    let one : IsNode c.node.result c.args.self.now = subst (λ (n : Node). IsNode n c.args.self.now) (sym c.node.ensures) (block_node c.args.spot c.args.kept c.args.self.now c.requires.spot c.requires.none) in
+    let grows : Grows c.self.inside.tree.nodes c.reserve.new.self.nodes c.args.self.now c.node.result =
+    record { is = c.in_ok-reserve.ensures.tree; same = c.in_ok-reserve.ensures.same; view = c.self.view_is; one = one }
+    in
+    let entry : entry_from c.node.result ≡ block_entry c.args.kept = ap entry_from c.node.ensures ∙ entry_on c.args.spot c.args.kept c.requires.spot.header in
+    over_aside c.args.self.now (tree_of c.add.new.self.nodes) c.args.kept c.args.spot c.tip_height.result (record { off = c.new-2.result; on = c.new-4.result }) joins c.if-spot-tip_height.false
+    (grows_tree c.self.inside.tree.nodes c.reserve.new.self.nodes c.add.new.self.nodes c.args.self.now c.node.result grows c.add.ensures ∙ ap (λ (e : Entry). e ∷ c.args.self.now) entry)
+    (rw (c.new-2.ensures, c.new.ensures.items, c.new-4.ensures, c.new-3.ensures.items) refl)

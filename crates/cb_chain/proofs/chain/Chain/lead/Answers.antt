@@ -8,6 +8,7 @@ use Rattle.cb_chain.specs.Calls.{joined}
 use Rattle.cb_chain.specs.Entries.{Tree}
 use Rattle.cb_chain.specs.History.{IsHistoric}
 use Rattle.cb_chain.specs.Keeping.{Connects, Halts, taken_back, tree_of}
+use Rattle.cb_chain.specs.Laws.{LeadsOver, active_hashes}
 use Rattle.cb_chain.specs.Plans.{change_at}
 use Rattle.cb_chain.proofs.Ends.{fork_path, fork_records, kept_err, kept_ok, led, left, on_length, rise, rise_entry, rise_node, rise_places, spot_kept, stop_place}
 use Rattle.cb_chain.proofs.Histories.{historic_after, historic_either}
@@ -179,6 +180,30 @@ returns-clause-ok c =
     (c.put_on.ensures.active ∙ ap (λ (n : ℕ). take (plan.fork + 1) path ++ plan.branch.items ++ n ∷ []) c.len-last.ensures) (c.put_on.ensures.undos ∙ ap (λ (rs : List (List Change)). rs ++ on) c.switch_above-switched.ensures.below)
     (c.in_ok-fork.ensures.change ∙ ap (λ (h : Header). change_at (tree_of nodes) h plan.fork) c.requires.spot.header) in
     subst (λ (t : Tree). kept_ok plan.change (tree_of c.add.new.self.nodes) ≡ joined t block) (sym same) l.answer
+
+pub returns-clause-moves : goal.returns-clause-moves
+returns-clause-moves c =
+    let plan = c.in_ok-fork.field-0 in
+    let was = c.self.inside in
+    let nodes = c.reserve.new.self.nodes in
+    let path = c.reserve_all.new.active.items in
+    let records = c.reserve_all.new.undos.items in
+    let unspent = was.ledger.unspent in
+    let block = c.args.kept in
+    let is =
+    rise c.args.self.now was.tree.nodes nodes c.args.spot block was.active.items path was.undos.items records unspent plan.fork plan.branch.items c.self.view_is c.reserve.ensures.same c.reserve.ensures.tree c.self.invariant.0
+    c.reserve_all.ensures.active c.reserve_all.ensures.undos c.requires.spot c.requires.none c.requires.higher c.in_ok-fork.ensures.fork c.in_ok-fork.ensures.branch in
+    let same : c.args.self.now ≡ tree_of nodes = sym c.self.view_is ∙ ap tree_of (sym c.reserve.ensures.same) in
+    let on = c.in-Ok.on.items in
+    let after = c.switch_above-switched.new.ledger.unspent in
+    let connects : Connects (taken_back unspent (reverse (drop plan.fork records))) (upper_turns nodes block plan.branch.items) on after =
+    subst (λ (places : List ℕ). Connects (taken_back unspent (reverse (drop plan.fork records))) (upper_turns nodes block places) on after) c.as_slice-2.ensures.value c.in-Ok.ensures.ok in
+    let l =
+    led nodes c.add.new.self.nodes block c.node-2.result path c.put_on.new.active.items records c.put_on.new.undos.items unspent plan.fork plan.branch.items on after plan.change is
+    (rise_entry c.args.spot block c.node-2.result c.requires.spot.header c.node-2.ensures) connects c.add.ensures
+    (c.put_on.ensures.active ∙ ap (λ (n : ℕ). take (plan.fork + 1) path ++ plan.branch.items ++ n ∷ []) c.len-last.ensures) (c.put_on.ensures.undos ∙ ap (λ (rs : List (List Change)). rs ++ on) c.switch_above-switched.ensures.below)
+    (c.in_ok-fork.ensures.change ∙ ap (λ (h : Header). change_at (tree_of nodes) h plan.fork) c.requires.spot.header) in
+    subst (λ (t : Tree). LeadsOver (active_hashes t) plan.change (active_hashes (tree_of c.add.new.self.nodes))) (sym same) l.over
 
 pub returns-in-Err-clause-err : goal.returns-in-Err-clause-err
 returns-in-Err-clause-err c =

@@ -1,15 +1,11 @@
 use Rattle.std.proofs.Common.{sym, ap, subst, ◌∙◌, List, ℕ, drop}
 use Rattle.cb_wire.specs.Stream.{IsSettled}
-use Rattle.cb_wire.proofs.Streams.{feed-broken, feed-taken, feed-refused, Stream-settles, on_err}
+use Rattle.cb_wire.proofs.Streams.{feed-broken, feed-taken, Stream-settles}
 use Rattle.cb_wire.proofs.assembler.Assembler.feed.Goals as goal
 
 pub returns-then-is_some-clause-stream : goal.returns-then-is_some-clause-stream
 returns-then-is_some-clause-stream c =
     rw (← c.self.view_is) (feed-broken _ _ _ _ (sym c.is_some.ensures ∙ c.if-is_some.true) c.new.ensures.items)
-
-pub returns-in_err-extend_from_slice-clause-refused : goal.returns-in_err-extend_from_slice-clause-refused
-returns-in_err-extend_from_slice-clause-refused c =
-    rw (← c.self.view_is) (on_err _ _ (feed-refused _ _ _ (sym c.is_some.ensures ∙ c.if-is_some.false)))
 
 pub invariant_of-self-in-Ok : goal.invariant_of-self-in-Ok
 invariant_of-self-in-Ok c =
@@ -25,7 +21,3 @@ returns-in-Ok-clause-stream c =
     (c.as_slice.ensures.value ∙ c.in_ok-extend_from_slice.ensures.items)
     (c.drop_front.ensures ∙ ap (drop c.in-Ok.field-0.used) (sym c.as_slice.ensures.value))
     c.in-Ok.ensures.stream)
-
-pub returns-in-Err-clause-refused : goal.returns-in-Err-clause-refused
-returns-in-Err-clause-refused c =
-    rw (← c.self.view_is) (feed-refused _ _ _ (sym c.is_some.ensures ∙ c.if-is_some.false))

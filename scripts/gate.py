@@ -1,0 +1,40 @@
+"""Runs the gate `rt ci` and passes on what it prints; before its last line, says when each of its parts was through.
+
+Usage: scripts/gate.py ATTACKED, where ATTACKED is the last line of ./attack, told once more before the last line of `rt ci`.
+The status is that of `rt ci`.
+"""
+
+import re
+import subprocess
+import sys
+import time
+
+# what a line of the gate shows to be through, and the words for it
+PARTS = [
+    (r"rt: \w+ (NOT )?PROVED|rt: \w+ proved$", "proofs of the crates"),
+    (r"rt: \w+: its tests are (NOT )?(proved|PROVED)", "proofs of the tests"),
+    (r"rt: must-fail ", "must-fail edits"),
+    (r"rt: \w+: its tests (passed|FAILED)|rt: \w+ ran", "runs of tests and programs"),
+]
+
+
+def main():
+    began, through, last = time.monotonic(), {}, ""
+    gate = subprocess.Popen(["rt", "ci"], stdout=subprocess.PIPE, stderr=subprocess.STDOUT, text=True, errors="replace")
+    for line in gate.stdout:
+        print(last, end="", flush=True)
+        last = line
+        for pattern, name in PARTS:
+            if re.match(pattern, line):
+                through[name] = time.monotonic() - began
+    status = gate.wait()
+    for name, seconds in through.items():
+        print(f"test: gate: {name} through after {seconds:.0f} s")
+    print(f"test: the gate: {time.monotonic() - began:.0f} s")
+    print(f"./attack: {sys.argv[1]}")
+    print(last, end="", flush=True)
+    return status
+
+
+if __name__ == "__main__":
+    sys.exit(main())

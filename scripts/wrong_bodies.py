@@ -1,0 +1,249 @@
+"""Wrong bodies as edits: where each changes the source, which function it is of, and what a check says of that function."""
+
+import difflib
+import re
+from dataclasses import dataclass, field
+from enum import Enum
+from pathlib import Path
+
+FUNCTION = re.compile(r"^(\s*)(?:pub(?:\([^)]*\))?\s+)?(?:(?:const|unsafe)\s+)*fn\s+(\w+)")
+IMPL = re.compile(r"^(?:unsafe\s+)?impl\b(.*)")
+
+
+@dataclass(frozen=True)
+class Function:
+    """A function's place in a source file: lines from `first` to before `end`, counted from 0."""
+
+    module: tuple
+    owner: str
+    name: str
+    first: int
+    end: int
+
+    @property
+    def key(self):
+        return self.module, self.owner, self.name
+
+    def is_at(self, path):
+        """Returns whether a path that the prover prints below the crate is this function's or one of its closures'.
+
+        A method stands at its type's module, as `chain::Chain::tip`; a closure is `envelope::fn::are_command_bytes::all`.
+        """
+        places = [f"{it}{self.name}" for it in ("", "fn::")]
+        own, closure = [f"{self.owner}::{it}" if self.owner else "::".join((*self.module, it)) for it in places]
+        if self.owner:
+            own, closure, path = f"::{own}", f"::{closure}", f"::{path}"
+            return path.endswith(own) or f"{closure}::" in path
+        return path == own or path.startswith(f"{closure}::")
+
+
+def module_of(file):
+    """Returns the module of a source file below src/, as ("sim", "read") for src/sim/read.rt."""
+    parts = Path(file).with_suffix("").parts[1:]
+    return () if parts in (("lib",), ("main",)) else parts
+
+
+def owner_of(header):
+    """Returns how the prover names the impl with this header: `Type`, or type, trait and the trait's arguments together, as `FaultFromAllocError`."""
+    header = re.sub(r"\bwhere\b.*", "", re.sub(r"^\s*<[^>]*>", "", header))
+    trait, _, type_name = header.rpartition(" for ")
+    words = [*re.findall(r"\w+", re.sub(r"<.*", "", type_name))[-1:], *re.findall(r"\w+", re.sub(r"'\w+|\w+::", "", trait))]
+    return "".join(words)
+
+
+def functions_of(file, text):
+    """Returns a source file's functions, by the layout that rt fmt gives it: a body ends at a brace as far in as its `fn`."""
+    found, owner, lines = [], "", text.split("\n")
+    for place, line in enumerate(lines):
+        if line.startswith("}"):
+            owner = ""
+        begins = IMPL.match(line)
+        if begins:
+            owner = owner_of(" ".join(lines[place : place + 4]).split("{")[0].partition("impl")[2])
+        found_here = FUNCTION.match(line)
+        if found_here:
+            indent, name = found_here.groups()
+            first = place
+            while first and lines[first - 1].lstrip().startswith(("#[", "//")):
+                first -= 1
+            found.append(Function(module_of(file), owner if indent else "", name, first, end_of(lines, place, indent)))
+    return found
+
+
+def end_of(lines, first, indent):
+    if lines[first].rstrip().endswith("}") and lines[first].count("{") == lines[first].count("}"):
+        return first + 1
+    for place in range(first + 1, len(lines)):
+        if lines[place].rstrip() == indent + "}":
+            return place + 1
+        other = FUNCTION.match(lines[place])
+        if other and len(other[1]) <= len(indent):
+            return place
+    return len(lines)
+
+
+@dataclass(frozen=True)
+class Hunk:
+    """Lines of a file, from `first` to before `end`, and what stands in their place."""
+
+    file: str
+    first: int
+    end: int
+    lines: tuple
+
+    def meets(self, other):
+        return self.file == other.file and self.first <= other.end and other.first <= self.end
+
+
+class BadEdit(Exception):
+    """Why an edit can't be applied."""
+
+
+@dataclass(eq=False)
+class Edit:
+    """A wrong body: hunks of the crate's source, and the functions that they lie in (none where they lie between functions)."""
+
+    path: Path
+    hunks: list = field(default_factory=list)
+    functions: set = field(default_factory=set)
+    paths: set = field(default_factory=set)
+    tries: int = 0
+
+    @property
+    def name(self):
+        return self.path.name
+
+
+def read_edit(path, folder):
+    """Reads an edit: lines `file: src/F.rt`, and pairs `old: TEXT` and `new: TEXT`, each old text standing once in what the pairs before it made."""
+    texts, made, file, old = {}, {}, None, None
+    for line in path.read_text(encoding="utf-8").split("\n"):
+        if line.startswith("file: "):
+            file = line[len("file: ") :].strip()
+            if not re.fullmatch(r"src/[\w/]+\.rt", file) or not (folder / file).is_file():
+                raise BadEdit(f"there is no source file {file}")
+            texts.setdefault(file, (folder / file).read_text(encoding="utf-8"))
+            made.setdefault(file, texts[file])
+        elif line.startswith("old: "):
+            old = line[len("old: ") :]
+        elif line.startswith("new:"):
+            if file is None or not old:
+                raise BadEdit("a line 'new:' stands before any 'file:' or 'old:' line")
+            times = made[file].count(old)
+            if times != 1:
+                raise BadEdit(f"its old text stands {times} times in {file}, and not once: {old}")
+            made[file], old = made[file].replace(old, line[len("new:") :].removeprefix(" ")), None
+    edit = Edit(path)
+    for file, text in texts.items():
+        edit.hunks += hunks_of(file, text.split("\n"), made[file].split("\n"))
+        functions = functions_of(file, text)
+        for hunk in edit.hunks:
+            if hunk.file == file:
+                edit.functions |= {it.key for it in functions if it.first <= hunk.first and max(hunk.end, hunk.first + 1) <= it.end}
+    if not edit.hunks:
+        raise BadEdit("it changes nothing")
+    return edit
+
+
+def hunks_of(file, old, new):
+    matcher = difflib.SequenceMatcher(None, old, new, autojunk=False)
+    return [Hunk(file, i, j, tuple(new[k:m])) for tag, i, j, k, m in matcher.get_opcodes() if tag != "equal"]
+
+
+def applied(edits, folder):
+    """Returns the texts of the files that these edits, which don't meet, change together."""
+    texts = {}
+    for file in sorted({hunk.file for edit in edits for hunk in edit.hunks}):
+        lines = (folder / file).read_text(encoding="utf-8").split("\n")
+        hunks = [hunk for edit in edits for hunk in edit.hunks if hunk.file == file]
+        for hunk in sorted(hunks, key=lambda it: -it.first):
+            lines[hunk.first : hunk.end] = hunk.lines
+        texts[file] = "\n".join(lines)
+    return texts
+
+
+class Verdict(Enum):
+    REFUSED = "refused"
+    PROVED = "still proved"
+    NAMES = "refused only because a proof file names what it took away"
+    UNREAD = "the prover can't read it"
+    SILENT = "its own function isn't refused"
+
+
+# An error at a place of a file; the label, where there is one, is the declaration that antt refused.
+PLACED = re.compile(r"^(?P<note>note: )?(?:\./)?(?P<file>\S+?):(?P<line>\d+):\d+: (?P<said>.*)")
+NAMES = re.compile(r"has no field|is not in scope|has no `|was not admitted")
+UNREAD = re.compile(r"is not in scope|has no field|is no name|operand is missing|expected the end|cannot continue")
+WAITS = re.compile(r"it calls (.*), which (?:is|are) not proved")
+
+
+class Outcome:
+    """What one check said: of each function, and at which places."""
+
+    def __init__(self, said, texts):
+        self.texts = texts
+        lines = said.split("\n")
+        self.functions = dict(re.findall(r"^fn \w+::(\S+): (.*)$", said, re.M))
+        self.placed = [found.groupdict() for found in map(PLACED.match, lines) if found]
+        self.is_proved = bool(re.search(r"^logic=proved ", said, re.M))
+        self.has_verdict = bool(re.search(r"^logic=", said, re.M))
+        self.last = next((it for it in reversed(lines) if it.strip()), "nothing was said")
+
+    def calls(self):
+        """Returns, of each function that waits, the functions that it waits for."""
+        waits = {path: WAITS.search(said) for path, said in self.functions.items()}
+        return {path: set(re.findall(r"`\w+::([^`]+)`", found[1])) for path, found in waits.items() if found}
+
+    def unread(self):
+        """Returns the places in the source that the prover could not read."""
+        found = []
+        for it in self.placed:
+            said = re.match(r"error(?:\[[^\]]*\])?: (?:(`[^`]*`): )?(.*)", it["said"])
+            if said and it["file"].startswith("src/") and (not said[1] or UNREAD.search(re.sub(r"`[^`]*`", "", said[2]))):
+                found.append((it["file"], int(it["line"]) - 1, f"{it['file']}:{it['line']}: {it['said']}"))
+        return found
+
+    def spans(self, edit):
+        """Returns the edit's functions with their files, where they stand in the texts that were checked."""
+        return [(file, it) for file, text in self.texts.items() for it in functions_of(file, text) if it.key in edit.functions]
+
+    def paths(self, edit):
+        """Returns the paths under which the prover names the edit's functions."""
+        return {path for path in self.functions if any(span.is_at(path) for _, span in self.spans(edit))}
+
+    def goals_in(self, spans, paths):
+        """Returns what the check names within these functions: goals in the source, and refusals in the functions' own files of proofs/."""
+        goals = [
+            it["said"]
+            for it in self.placed
+            if it["note"] and "it is not proved" in it["said"]
+            if any(file == it["file"] and span.first < int(it["line"]) <= span.end for file, span in spans)
+        ]
+        answers = [
+            it["said"] for it in self.placed if not it["note"] and it["said"].startswith("error") and "::".join(Path(it["file"]).parts[1:-1]) in paths
+        ]
+        return goals, answers
+
+    def judge(self, edit):
+        """Returns the verdict on an edit of this check, and words on it."""
+        where = self.unread()
+        if where and not self.functions:
+            return Verdict.UNREAD, where[0][2]
+        if not self.has_verdict:
+            return Verdict.SILENT, f"the check gave no verdict: {self.last}"
+        spans = self.spans(edit)
+        paths = self.paths(edit)
+        goals, answers = self.goals_in(spans, paths)
+        told = [it for it in answers if not NAMES.search(it)]
+        said = [self.functions[path] for path in paths]
+        waits = any(WAITS.search(text) for text in said)
+        goals += [it for it in said if "did not prove" in it]
+        if goals or (told and not waits):
+            return Verdict.REFUSED, (goals or told)[0]
+        if not edit.functions and not self.is_proved:
+            return Verdict.REFUSED, "it lies in no function"
+        if answers and not told and not waits:
+            return Verdict.NAMES, answers[0]
+        if self.is_proved or (said and all(text.startswith("proved") for text in said)):
+            return Verdict.PROVED, ""
+        return Verdict.SILENT, said[0] if said else "the check doesn't name it"
