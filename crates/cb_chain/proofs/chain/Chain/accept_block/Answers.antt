@@ -35,7 +35,7 @@ returns-in_err-spot-clause-history c =
     (refused (subst HasWork header has) c.in_err-spot.field-0.0 (subst (λ (h : Header). block_fault c.args.self.now h ≡ Some c.in_err-spot.field-0.0) header none) refl refl)
 
 pub new-requires : goal.new-requires
-new-requires c = λ k d lt. few_outputs (slice_index_or c.args.block.txs k d) (c.in-Ok.ensures.txs k d lt)
+new-requires c = λ k d lt. few_outputs (slice_index_or c.args.block.txs k d) (c.in-Ok.ensures.exact.txs k d lt)
 
 pub join-requires-clause-calls : goal.join-requires-clause-calls
 join-requires-clause-calls c =
@@ -43,7 +43,7 @@ join-requires-clause-calls c =
     let has : HasWork c.block-2.result.now.header = c.in_ok-check_header.ensures in
     let none : block_fault c.args.self.now c.block-2.result.now.header ≡ None = c.in_ok-spot.ensures.none in
     subst (λ (b : Block). IsHistoric (joined c.args.self.now b).1) (sym c.new.ensures)
-    (historic_joined c.args.self.now c.args.block (subst HasWork header has) (subst (λ (h : Header). block_fault c.args.self.now h ≡ None) header none) c.in-Ok.ensures
+    (historic_joined c.args.self.now c.args.block (subst HasWork header has) (subst (λ (h : Header). block_fault c.args.self.now h ≡ None) header none) c.in-Ok.ensures.exact
     (subst IsHistoric c.self.view_is c.self.invariant.1))
 
 pub returns-in-Ok-clause-history : goal.returns-in-Ok-clause-history
@@ -51,7 +51,7 @@ returns-in-Ok-clause-history c =
     let header : c.block-2.result.now.header ≡ c.args.block.header = ap (λ (b : Block). b.header) c.block-2.ensures.same in
     let has : HasWork c.block-2.result.now.header = c.in_ok-check_header.ensures in
     let none : block_fault c.args.self.now c.block-2.result.now.header ≡ None = c.in_ok-spot.ensures.none in
-    history_joined c.args.self.now c.join.new.self c.args.block c.join.result (subst HasWork header has) (subst (λ (h : Header). block_fault c.args.self.now h ≡ None) header none) c.in-Ok.ensures
+    history_joined c.args.self.now c.join.new.self c.args.block c.join.result (subst HasWork header has) (subst (λ (h : Header). block_fault c.args.self.now h ≡ None) header none) c.in-Ok.ensures.exact
     (subst (λ (b : Block). IfOk c.join.result (λ change. (Ok change, c.join.new.self) ≡ joined c.args.self.now b)) c.new.ensures c.join.ensures.ok)
     (subst (λ (b : Block). IfErr c.join.result (λ fault. ((fault ≡ Memory) × (c.join.new.self ≡ c.args.self.now)) ⊎ ((Err fault, c.join.new.self) ≡ joined c.args.self.now b))) c.new.ensures c.join.ensures.err)
 
@@ -73,7 +73,7 @@ invariant_of-self-in-Err-2 c =
     in
     let other : ¬ c.in-Err.fault ≡ Memory = search rules in
     let told : AcceptsBlock c.args.self.now c.args.block (Err c.in-Err.fault) (tree_of c.add.new.self.nodes) =
-    told_broken c.args.self.now (tree_of c.add.new.self.nodes) c.args.block c.in-Err.fault (subst HasWork header has) (subst (λ (h : Header). block_fault c.args.self.now h ≡ None) header none) other c.in-Err.ensures
+    told_broken c.args.self.now (tree_of c.add.new.self.nodes) c.args.block c.in-Err.fault (subst HasWork header has) (subst (λ (h : Header). block_fault c.args.self.now h ≡ None) header none) other c.in-Err.ensures.exact
     grown
     in (
       grows_chain c.self.inside.tree.nodes c.reserve.new.self.nodes c.add.new.self.nodes c.args.self.now c.node.result c.self.inside.active.items c.self.inside.undos.items c.self.inside.ledger.unspent
@@ -99,7 +99,7 @@ returns c =
     in
     let other : ¬ c.in-Err.fault ≡ Memory = search rules in
     let told : AcceptsBlock c.args.self.now c.args.block (Err c.in-Err.fault) (tree_of c.add.new.self.nodes) =
-    told_broken c.args.self.now (tree_of c.add.new.self.nodes) c.args.block c.in-Err.fault (subst HasWork header has) (subst (λ (h : Header). block_fault c.args.self.now h ≡ None) header none) other c.in-Err.ensures
+    told_broken c.args.self.now (tree_of c.add.new.self.nodes) c.args.block c.in-Err.fault (subst HasWork header has) (subst (λ (h : Header). block_fault c.args.self.now h ≡ None) header none) other c.in-Err.ensures.exact
     grown
     in
     record {
