@@ -1,9 +1,9 @@
 #!/usr/bin/env python3
 """Measures the chain: headers and blocks accepted per second at two heights, questions, reorganisations, and memory.
 
-Usage: bench/chain.py [PROGRAM]. It needs the built program crates/bench_chain/out/bench_chain (as `rt run < stdin` leaves it
-there) and python3, and takes about a minute. Times are of the processor. What a play takes is the difference of two runs, with
-it and without it, and of some such differences the median; plays whose times are compared take turns.
+It needs the built program crates/bench_chain/out/bench_chain (as `rt run < stdin` leaves it there) and python3, and takes
+about a minute. Times are of the processor. What a play takes is the difference of two runs, with it and without it, and of some
+such differences the median; plays whose times are compared take turns.
 """
 
 import os
@@ -13,7 +13,7 @@ import subprocess
 import sys
 import tempfile
 
-from bench import RUNS, built, compact_size, hash_twice, merkle_root
+from bench import RUNS, built, compact_size, hash_twice, merkle_root, usage
 
 GENESIS = bytes.fromhex("06226e46111a0b59caaf126043eb5bbf28c34f3a5e332a1fc7b2b73cf188910f")
 TARGET = bytes(29) + bytes.fromhex("ffff7f")
@@ -209,7 +209,8 @@ def memory(runs):
 
 
 def main():
-    program = built(1, "bench_chain")
+    words = usage(__doc__, program="the program, if not crates/bench_chain/out/bench_chain").parse_args()
+    program = built(words.program, "bench_chain")
     with tempfile.TemporaryDirectory() as folder:
         runs = Runs(program, folder)
         both = AtBoth(runs)

@@ -1,9 +1,9 @@
 #!/usr/bin/env python3
 """Runs the built program on random and mutated byte strings, cut at random, and compares what it prints.
 
-Usage: bench/fuzz.py [COUNT [SEED [PROGRAM]]]. Without words 10,000 strings from seed 1, in about a minute. It needs the
-program (crates/cbrelay/out/cbrelay, as `rt run` leaves it) and python3. Each string goes through `decode` and `serve`;
-what they print and their statuses have to be those of the short reader below, which was written apart from the program.
+Without words 10,000 strings from seed 1, in about a minute. It needs the program (crates/cbrelay/out/cbrelay, as `rt run`
+leaves it) and python3. Each string goes through `decode` and `serve`; what they print and their statuses have to be those of
+the short reader below, which was written apart from the program. First a word that isn't UTF-8 has to be refused.
 """
 
 import concurrent.futures
@@ -14,7 +14,8 @@ import struct
 import subprocess
 import sys
 
-ROOT = os.path.dirname(os.path.dirname(os.path.abspath(__file__)))
+from bench import built, usage
+
 MAGIC = bytes.fromhex("fabfb5da")
 NAMES = {1: "Memory", 2: "Truncated", 3: "NotShortest", 12: "BadMagic", 13: "Oversize", 14: "Trailing"}
 
@@ -314,13 +315,22 @@ def serve(program, pieces):
     return process.returncode, written, errors
 
 
+def foreign_words(program):
+    """The differences of command lines that have a word which isn't UTF-8: one line on standard error, and status 1."""
+    wanted = (1, b"", b"error: a word of the command line isn't UTF-8\n")
+    found = []
+    for words in ([b"\xff"], [b"decode", b"\xc3("], [b"--help", b"\xed\xa0\x80"]):
+        ran = subprocess.run([os.fsencode(program)] + words, input=b"", capture_output=True, timeout=60)
+        if (ran.returncode, ran.stdout, ran.stderr) != wanted:
+            found.append(f"words {words!r}: status {ran.returncode}, {ran.stdout!r}, {ran.stderr!r}")
+    return found
+
+
 def main():
-    count = int(sys.argv[1]) if len(sys.argv) > 1 else 10_000
-    first = int(sys.argv[2]) if len(sys.argv) > 2 else 1
-    program = os.path.abspath(sys.argv[3]) if len(sys.argv) > 3 else os.path.join(ROOT, "crates/cbrelay/out/cbrelay")
-    if not os.access(program, os.X_OK):
-        sys.exit(f"{program} isn't built: cd crates/cbrelay && rt run < ../../examples/first.hex")
-    differences = []
+    words = usage(__doc__, count="how many strings", seed="the first one's seed", program="the program, if not crates/cbrelay/out/cbrelay").parse_args()
+    count, first = int(words.count or 10_000), int(words.seed or 1)
+    program = built(words.program, "cbrelay")
+    differences = foreign_words(program)
     with concurrent.futures.ThreadPoolExecutor(max_workers=os.cpu_count()) as workers:
         for found in workers.map(lambda seed: one(program, seed), range(first, first + count)):
             differences += found

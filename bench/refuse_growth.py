@@ -1,10 +1,10 @@
 #!/usr/bin/env python3
 """Refuses each growth of memory in turn, and looks at how the built programs end.
 
-Usage: bench/refuse_growth.py. It needs the programs (crates/NAME/out/NAME of cbrelay, bench_sound and bench_chain, as
-`rt run` leaves them), a C compiler as `cc`, and python3, and takes a few seconds. A small library that is loaded before the
-C library makes the Nth growth fail; N goes up until a run makes fewer. Each run has to end with status 4 after a beginning of what it prints
-with ample memory, or wholly as with ample memory, where it could do without that growth.
+It needs the programs (crates/NAME/out/NAME of cbrelay, bench_sound and bench_chain, as `rt run` leaves them), a C compiler
+as `cc`, and python3, and takes a few seconds. A small library that is loaded before the C library makes the Nth growth fail; N
+goes up until a run makes fewer. Each run has to end with status 4 after a beginning of what it prints with ample memory, or
+wholly as with ample memory, where it could do without that growth.
 """
 
 import os
@@ -12,7 +12,7 @@ import subprocess
 import sys
 import tempfile
 
-from bench import block
+from bench import block, usage
 from calls import told_play
 from chain import careful_play
 
@@ -125,6 +125,7 @@ def in_turn(told, crate, words, data, library):
 
 
 def main():
+    usage(__doc__).parse_args()
     for crate in ("cbrelay", "bench_sound", "bench_chain"):
         if not os.access(os.path.join(ROOT, "crates", crate, "out", crate), os.X_OK):
             sys.exit(f"{crate} isn't built: cd crates/{crate} && rt run < stdin")

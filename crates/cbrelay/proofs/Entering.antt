@@ -1,7 +1,7 @@
 -- The command that the words of a command line enter.
 use Rattle.std.proofs.Common.{◌≡◌, ◌⊎◌, inl, inr, ℕ, Bool, true, false, List, [], ◌∷◌, codes, Option, Some, None, Result, Ok, Err, IfOk, refl}
 use Rattle.std.specs.Prelude.{option_map}
-use Rattle.clap.specs.Words.{is_simple, takes, subcommand_name_of, subcommand_rows_of}
+use Rattle.clap.specs.Words.{is_simple, is_simple_and_free, takes, subcommand_name_of, subcommand_rows_of}
 use Rattle.clap.specs.declared.parser.matches.ArgMatches.{ArgMatches}
 use Rattle.clap.proofs.OnLiterals.{clap_on_literals}
 use Rattle.cbrelay.specs.Words.{program, task_in}
@@ -10,6 +10,10 @@ use Rattle.cbrelay.specs.declared.command.Task.TheVariants.{Decode, Serve, Sim}
 pub program_is_simple : is_simple program ≡ true
 unfolding clap_on_literals
 program_is_simple = refl
+
+pub program_is_free : is_simple_and_free program ≡ true
+unfolding clap_on_literals
+program_is_free = refl
 
 mapped_twice : {A B C : Type 0} (f : A → B) (g : B → C) (o : Option A) → option_map (λ a. g (f a)) o ≡ option_map g (option_map f o)
 mapped_twice f g None = refl

@@ -11,7 +11,7 @@ ghost use Rattle.cbrelay.specs.Ending.{halt_status, halt_line};
 ghost use Rattle.cbrelay.specs.Peer.{WasServed};
 ghost use Rattle.cbrelay.specs.SimInput.{SimulatesKnown};
 ghost use Rattle.cbrelay.specs.Words.{ByTask, program, task_in, task_named};
-ghost use Rattle.clap.specs.Words.{app_of, kind_of, takes};
+ghost use Rattle.clap.specs.Words.{app_of, fault_of, kind_of, takes};
 ghost use Rattle.clap.specs.declared.error.kind.ErrorKind.TheVariants.{OutOfMemory};
 
 use crate::decode::decode;
@@ -40,7 +40,7 @@ const VERSION: &str = "0.1.0";
 
 /// What `--help` tells below the commands.
 const USE: &str = "\
-Without a command it is decode. All input is standard input. The network is Bitcoin's regression
+Without a command `decode` runs. All input is standard input. The network is Bitcoin's regression
 test network (regtest).
 
 Exit status:
@@ -65,16 +65,16 @@ pub fn command<R: Source, W: Sink, E: Sink>(
     errors: &mut E,
 ) -> u8
     // The words were refused, which they are only where clap doesn't take them; or the run ended early; or the command that
-    // the words name came to its end.
+    // the words name came to its end, which is only where clap finds no fault in them.
     ensures ran { ((takes program (map string_bytes words.items) ≡ false) × (result ≡ 1) × (reader.new ≡ reader.old) × (writer.new ≡ writer.old))
         ⊎ (Halts (E.contents errors.old) (E.contents errors.new) (E.has_failed errors.new) result
-        ⊎ ByTask (task_in (map string_bytes words.items))
+        ⊎ ((fault_of program (map string_bytes words.items) ≡ []) × ByTask (task_in (map string_bytes words.items))
         (PrintsReport (R.remaining reader.old) (W.contents writer.old) (W.contents writer.new) result × (errors.new ≡ errors.old))
         ((reason : CloseReason)
         × (WasServed (R.remaining reader.old) (R.remaining reader.new) (R.has_failed reader.new) (W.contents writer.old) (W.contents writer.new) (W.has_failed writer.new) reason
         ⊎ ((reason ≡ reasons.Memory) × (reader.new ≡ reader.old) × (writer.new ≡ writer.old)))
         × TellsPeer (R.has_failed reader.new) (W.has_failed writer.new) (E.contents errors.old) (E.contents errors.new) (E.has_failed errors.new) result reason)
-        (SimulatesKnown (R.remaining reader.old) (W.contents writer.old) (W.contents writer.new) result × (errors.new ≡ errors.old))) }
+        (SimulatesKnown (R.remaining reader.old) (W.contents writer.old) (W.contents writer.new) result × (errors.new ≡ errors.old)))) }
     // The commands by their words.
     ensures named { (name : List ℕ) → (task_in (name ∷ []) ≡ Task.Decode) × (task_in (name ∷ codes "decode" ∷ []) ≡ Task.Decode)
         × (task_in (name ∷ codes "serve" ∷ []) ≡ Task.Serve) × (task_in (name ∷ codes "sim" ∷ []) ≡ Task.Sim) }
@@ -165,6 +165,7 @@ fn command_line<'a>(alloc: Global) -> Result<Command<'a>, AllocError>
 /// The task that the words name: `decode` where they name none.
 fn task_of(alloc: Global, words: &[String]) -> Result<Task, clap::Error>
     ensures task { IfOk result (λ task. task ≡ task_in (map string_bytes words.now)) }
+    ensures kinds { IfOk result (λ task. fault_of program (map string_bytes words.now) ≡ []) }
     ensures passes { IfErr result (λ error. takes program (map string_bytes words.now) ≡ true → kind_of error ≡ OutOfMemory) }
 {
     let line = command_line(alloc)?;

@@ -317,13 +317,11 @@ fn the_version_is_told(rt: HostRuntime) -> Result<(), Fail> {
 #[test]
 fn help_tells_how_to_use_it(rt: HostRuntime) -> Result<(), Fail> {
     let ran = run(rt.alloc(), &["--help"], ROW_19)?;
-    let Ok(text) = str::from_utf8(ran.errors.as_slice()) else {
-        return Err(Fail);
-    };
+    let text = str::from_utf8(ran.errors.as_slice())?;
     for part in [
         "Usage: cbrelay [COMMAND]\n",
         "  decode  Print the items of a stream of hex pieces\n",
-        "Without a command it is decode. All input is standard input.",
+        "Without a command `decode` runs. All input is standard input.",
         "(regtest)",
         "\n  2  sim: an act was refused\n",
         "\nExample:\n  echo fabfb5da76657261636b000000000000000000005df6e0e2 | cbrelay decode\n",

@@ -1,8 +1,8 @@
-use Rattle.std.proofs.Common.{◌≡◌, ap, map, ◌∙◌}
+use Rattle.std.proofs.Common.{◌≡◌, ap, sym, map, ◌∙◌}
 use Rattle.std.specs.Prelude.{option_map, string_bytes}
-use Rattle.clap.specs.Words.{App, app_of, is_simple, subcommand_of, takes}
+use Rattle.clap.specs.Words.{App, app_of, fault_of, is_simple, is_simple_and_free, subcommand_of, takes}
 use Rattle.cbrelay.specs.Words.{program, task_named}
-use Rattle.cbrelay.proofs.Entering.{name_of_rows, program_is_simple}
+use Rattle.cbrelay.proofs.Entering.{name_of_rows, program_is_free, program_is_simple}
 use Rattle.cbrelay.proofs.command.task_of.Goals as goal
 
 pub returns-in-Ok-clause-task : goal.returns-in-Ok-clause-task
@@ -15,3 +15,8 @@ returns-in-Ok-clause-task c =
 pub returns-in-Err-clause-passes : goal.returns-in-Err-clause-passes
 returns-in-Err-clause-passes c = λ taken.
     c.in-Err.ensures.passes (ap (λ (a : App). takes a (map string_bytes c.args.words.now)) c.in_ok-line.ensures ∙ taken)
+
+pub returns-in-Ok-clause-kinds : goal.returns-in-Ok-clause-kinds
+returns-in-Ok-clause-kinds c =
+    let whole : app_of c.in_ok-line.line ≡ program = c.in_ok-line.ensures in
+    sym (ap (λ (a : App). fault_of a (map string_bytes c.args.words.now)) whole) ∙ c.in-Ok.ensures.kinds (ap is_simple_and_free whole ∙ program_is_free)
