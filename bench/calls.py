@@ -2,7 +2,7 @@
 """Plays generated headers and blocks into the proved chain, and compares what it answers with a plain chain in Python.
 
 Usage: bench/calls.py [COUNT [SEED [PROGRAM]]]. Without words 2,000 calls from seed 1, in some seconds. It needs the built
-program crates/bench_chain/out/bench_chain (as `rt run < stdin` leaves it) and python3. The plain chain was written apart
+program crates/bench_chain/out/bench_chain (as ./build bench_chain leaves it) and python3. The plain chain was written apart
 from the program, from the rules in docs/PROTOCOL.md: it keeps what came, and finds the best chain and what is unspent anew
 for each answer. After each call the tip, the locator and what is drawn are compared, now and then all that came.
 """
