@@ -1,7 +1,7 @@
 #!/usr/bin/env python3
 """Measures the processor time of the built program beside `openssl dgst -sha256`, and prints ratios.
 
-It needs the program (crates/cbrelay/out/cbrelay, as `rt run` leaves it), the program that tells whether a block is sound
+It needs the program (crates/cbrelay/out/cbrelay, as ./build leaves it), the program that tells whether a block is sound
 (crates/bench_sound/out/bench_sound, likewise), openssl and python3, and takes some five minutes. Of each time the program's
 start-up, and openssl's own, is taken off. Each measurement lasts 200 ms at least: what takes less is run several times in a row.
 What is compared takes turns.
@@ -184,10 +184,10 @@ def usage(doc, **arguments):
 
 
 def built(path, crate):
-    """The path of a program that was built: the one given, or where `rt run` leaves it."""
+    """The path of a program that was built: the one given, or where ./build leaves it."""
     path = os.path.abspath(path or os.path.join(ROOT, f"crates/{crate}/out/{crate}"))
     if not os.access(path, os.X_OK):
-        sys.exit(f"{path} isn't built: cd crates/{crate} && rt run < stdin")
+        sys.exit(f"{path} isn't built: ./build {crate}")
     return path
 
 

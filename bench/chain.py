@@ -1,7 +1,7 @@
 #!/usr/bin/env python3
 """Measures the chain: headers and blocks accepted per second at two heights, questions, reorganisations, and memory.
 
-It needs the built program crates/bench_chain/out/bench_chain (as `rt run < stdin` leaves it there) and python3, and takes
+It needs the built program crates/bench_chain/out/bench_chain (as ./build bench_chain leaves it there) and python3, and takes
 about a minute. Times are of the processor. What a play takes is the difference of two runs, with it and without it, and of some
 such differences the median; plays whose times are compared take turns.
 """

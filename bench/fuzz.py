@@ -1,7 +1,7 @@
 #!/usr/bin/env python3
 """Runs the built program on random and mutated byte strings, cut at random, and compares what it prints.
 
-Without words 10,000 strings from seed 1, in about a minute. It needs the program (crates/cbrelay/out/cbrelay, as `rt run`
+Without words 10,000 strings from seed 1, in about a minute. It needs the program (crates/cbrelay/out/cbrelay, as ./build
 leaves it) and python3. Each string goes through `decode` and `serve`; what they print and their statuses have to be those of
 the short reader below, which was written apart from the program. First a word that isn't UTF-8 has to be refused.
 """

@@ -1,7 +1,7 @@
 #!/usr/bin/env python3
 """Refuses each growth of memory in turn, and looks at how the built programs end.
 
-It needs the programs (crates/NAME/out/NAME of cbrelay, bench_sound and bench_chain, as `rt run` leaves them), a C compiler
+It needs the programs (crates/NAME/out/NAME of cbrelay, bench_sound and bench_chain, as ./build --all leaves them), a C compiler
 as `cc`, and python3, and takes a few seconds. A small library that is loaded before the C library makes the Nth growth fail; N
 goes up until a run makes fewer. Each run has to end with status 4 after a beginning of what it prints with ample memory, or
 wholly as with ample memory, where it could do without that growth.
@@ -128,7 +128,7 @@ def main():
     usage(__doc__).parse_args()
     for crate in ("cbrelay", "bench_sound", "bench_chain"):
         if not os.access(os.path.join(ROOT, "crates", crate, "out", crate), os.X_OK):
-            sys.exit(f"{crate} isn't built: cd crates/{crate} && rt run < stdin")
+            sys.exit(f"{crate} isn't built: ./build {crate}")
     with tempfile.TemporaryDirectory() as folder:
         library = build(folder)
         failures = sum(in_turn(*what, library) for what in RUNS)

@@ -1,5 +1,5 @@
 -- A strict beginning of a header's or a block's text is too short to be read.
-use Rattle.std.proofs.Common.{◌≡◌, ℕ, ℤ, ◌<◌, ◌^◌, List, [], ◌++◌, length, Ok, Err, arith, ◌≢◌}
+use Rattle.std.proofs.Common.{◌≡◌, ℕ, ℤ, ◌<◌, ◌^◌, List, [], ◌++◌, length, Err, ◌≢◌}
 use Rattle.std.specs.Int.{w32, to_le_bytes, cast_unsigned}
 use Rattle.std.proofs.lemmas.List.Elements.{recursion_from_All}
 use Rattle.cb_base.specs.declared.fault.Fault.TheVariants.{Truncated}

@@ -141,13 +141,9 @@ pub fn write_block(out: &mut Vec<u8>, block: &Block) -> Result<(), Fault>
     // Each number is one of its field, and each hash has 32 bytes.
     ensures fits { OnOk result (IsBlock block.now) }
 {
+    // With room for the whole text no growth behind this is refused.
     out.reserve(block.size() as usize)?;
-    let len = out.len();
-    let put = put_block(out, block);
-    if put.is_err() {
-        out.truncate(len);
-    }
-    put
+    put_block(out, block)
 }
 
 #[tactic(auto, unfolding(cb_tx::specs::Text::list_text))]

@@ -1,12 +1,11 @@
 -- A strict beginning of a transaction's text is too short to be read.
-use Rattle.std.proofs.Common.{◌≡◌, ℕ, suc, ◌*◌, ◌<◌, ◌^◌, Bool, true, false, cond, ltb, ℤ, List, [], ◌∷◌, ◌++◌, length, SFits, Result, Ok, Err, refl, sym, ap, ◌∙◌, append_assoc, arith, ◌≢◌}
+use Rattle.std.proofs.Common.{◌≡◌, ℕ, ◌*◌, ◌<◌, ◌^◌, Bool, true, false, cond, ltb, ℤ, List, [], ◌∷◌, ◌++◌, length, SFits, Ok, Err, refl, sym, ap, ◌∙◌, arith, ◌≢◌}
 use Rattle.std.specs.List.{flat_map, AllByRecursion}
 use Rattle.std.specs.Int.{Width, w32, w64, byte_len, to_le_bytes, cast_unsigned}
 use Rattle.std.proofs.lemmas.Bool.{lt-ltb}
-use Rattle.std.proofs.lemmas.List.{append-nil, length-append}
+use Rattle.std.proofs.lemmas.List.{length-append}
 use Rattle.std.proofs.lemmas.List.Concat.{flat_map-cons}
 use Rattle.std.proofs.lemmas.List.Elements.{recursion_from_All}
-use Rattle.cb_base.specs.declared.fault.Fault.{Fault}
 use Rattle.cb_base.specs.declared.fault.Fault.TheVariants.{Truncated}
 use Rattle.cb_base.specs.declared.hash.Hash256.{Hash256}
 use Rattle.cb_base.specs.CompactSize.{compact_text, compact_at}
@@ -19,7 +18,7 @@ use Rattle.cb_tx.specs.declared.tx.Tx.{Tx}
 use Rattle.cb_tx.specs.Text.{script_text, input_text, output_text, list_text, tx_text, IsInput, IsOutput, IsTx}
 use Rattle.cb_tx.specs.Reading.{hash_at, script_at, count_at, items_at, list_at, input_at, output_at, tx_at}
 use Rattle.cb_tx.proofs.Parts.{IsSigned, signed32, signed64, signed_again, hash_again, script_again, IsKind, list_again}
-use Rattle.cb_tx.proofs.Laws.{input_kind, output_kind, tx_again}
+use Rattle.cb_tx.proofs.Laws.{input_kind, output_kind}
 
 signed_short : (w : Width) (bytes : List ℕ) → length bytes < byte_len w → signed_at w bytes ≡ Err Truncated
 signed_short w bytes lt = let e : ltb (length bytes) (byte_len w) ≡ true = lt-ltb _ _ lt in rw e refl

@@ -122,13 +122,9 @@ pub fn write_tx(out: &mut Vec<u8>, tx: &Tx) -> Result<(), Fault>
     // Each number is one of its field, and each hash has 32 bytes.
     ensures fits { OnOk result (IsTx tx.now) }
 {
+    // With room for the whole text no growth behind this is refused.
     out.reserve(tx.size() as usize)?;
-    let len = out.len();
-    let put = put_tx(out, tx);
-    if put.is_err() {
-        out.truncate(len);
-    }
-    put
+    put_tx(out, tx)
 }
 
 impl Tx {
