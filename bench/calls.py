@@ -1,10 +1,10 @@
 #!/usr/bin/env python3
 """Plays generated headers and blocks into the proved chain, and compares what it answers with a plain chain in Python.
 
-Usage: bench/calls.py [COUNT [SEED [PROGRAM]]]. Without words 2,000 calls from seed 1, in some seconds. It needs the built
-program crates/bench_chain/out/bench_chain (as ./build bench_chain leaves it) and python3. The plain chain was written apart
-from the program, from the rules in docs/PROTOCOL.md: it keeps what came, and finds the best chain and what is unspent anew
-for each answer. After each call the tip, the locator and what is drawn are compared, now and then all that came.
+Without words 2,000 calls from seed 1, in some seconds. It needs the built program crates/bench_chain/out/bench_chain (as
+./build bench_chain leaves it) and python3. The plain chain was written apart from the program, from the rules in
+docs/PROTOCOL.md: it keeps what came, and finds the best chain and what is unspent anew for each answer. After each call the
+tip, the locator and what is drawn are compared, now and then all that came.
 """
 
 import os
@@ -14,7 +14,7 @@ import subprocess
 import sys
 from collections import Counter
 
-from bench import built, compact_size, hash_twice, merkle_root
+from bench import built, compact_size, hash_twice, merkle_root, usage
 from chain import GENESIS, TARGET, record
 
 # So many calls go to one chain; after so many of them all that came is compared.
@@ -418,12 +418,9 @@ def told_play(count):
 
 
 def main():
-    if "--help" in sys.argv:
-        print(__doc__.strip())
-        return
-    count = int(sys.argv[1]) if len(sys.argv) > 1 else 2_000
-    first = int(sys.argv[2]) if len(sys.argv) > 2 else 1
-    program = built(3, "bench_chain")
+    words = usage(__doc__, count="how many calls", seed="the first one's seed", program="the program, if not crates/bench_chain/out/bench_chain").parse_args()
+    count, first = int(words.count or 2_000), int(words.seed or 1)
+    program = built(words.program, "bench_chain")
     ended, deepest, answers, differences = Counter(), 0, 0, []
     for seed in range(first, first + -(-count // CALLS)):
         play = Play(seed)
