@@ -101,11 +101,16 @@ class BadEdit(Exception):
 
 @dataclass(eq=False)
 class Edit:
-    """A wrong body: hunks of the crate's source, and the functions that they lie in (none where they lie between functions)."""
+    """A wrong body: hunks of the crate's source, and the functions that they lie in.
+
+    Where a hunk lies between functions, as of a constant or a type, it may change what other edits mean.
+    """
 
     path: Path
     hunks: list = field(default_factory=list)
     functions: set = field(default_factory=set)
+    is_within_functions: bool = True
+    # what the checks told so far: the functions' paths, and how often no verdict came
     paths: set = field(default_factory=set)
     tries: int = 0
 
@@ -135,11 +140,12 @@ def read_edit(path, folder):
             made[file], old = made[file].replace(old, line[len("new:") :].removeprefix(" ")), None
     edit = Edit(path)
     for file, text in texts.items():
-        edit.hunks += hunks_of(file, text.split("\n"), made[file].split("\n"))
         functions = functions_of(file, text)
-        for hunk in edit.hunks:
-            if hunk.file == file:
-                edit.functions |= {it.key for it in functions if it.first <= hunk.first and max(hunk.end, hunk.first + 1) <= it.end}
+        for hunk in hunks_of(file, text.split("\n"), made[file].split("\n")):
+            around = {it.key for it in functions if it.first <= hunk.first and max(hunk.end, hunk.first + 1) <= it.end}
+            edit.hunks.append(hunk)
+            edit.functions |= around
+            edit.is_within_functions &= bool(around)
     if not edit.hunks:
         raise BadEdit("it changes nothing")
     return edit
