@@ -27,6 +27,9 @@ def prove(workshop, crate, jobs):
     with workshop.room(crate) as room:
         # a program is linked only by a run, here on no input; what it prints is compared by the gate
         verb = ["run"] if crate.is_program else ["lib"]
+        # what an earlier build left would pass for this one's, were the proof refused
+        for old in (room / "out").glob(f"{crate.name}*") if crate.is_program else ():
+            old.unlink()
         status, said = workshop.call(["rt", *verb, "--jobs", str(jobs)], room)
         is_proved = (room / "out" / crate.name).is_file() if crate.is_program else status == 0
         if (room / "out").is_dir():
