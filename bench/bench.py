@@ -1,29 +1,42 @@
 #!/usr/bin/env python3
-"""Measures the processor time of the built program beside `openssl dgst -sha256`, and prints ratios.
+"""Measures the time and the memory of the built programs, beside `openssl dgst -sha256` and beside programs of before.
 
 It needs the program (crates/cbrelay/out/cbrelay, as ./build leaves it), the program that tells whether a block is sound
-(crates/bench_sound/out/bench_sound, likewise), openssl and python3, and takes some five minutes. Of each time the program's
-start-up, and openssl's own, is taken off. Each measurement lasts 200 ms at least: what takes less is run several times in a row.
-What is compared takes turns.
+(crates/bench_sound/out/bench_sound, likewise), openssl, python3 and Linux, and takes some five minutes. First it prints a table of
+time and memory, with `--before` for both sets of programs and how they compare; then what a block takes in memory, and then how
+the time grows and compares with openssl's.
+
+Times are of the processor; memory is what a run has at its greatest. Of both the program's start-up, and openssl's own, is taken
+off. What is compared takes turns, the more the shorter it is; the least time of all turns counts, and the memory in the middle.
 """
 
 import argparse
+import ctypes
 import hashlib
 import os
+import statistics
 import struct
 import subprocess
 import sys
 import tempfile
+from typing import NamedTuple
 
 ROOT = os.path.dirname(os.path.dirname(os.path.abspath(__file__)))
 MAGIC = bytes.fromhex("fabfb5da")
-RUNS = 5
-# The least time of a measurement, in seconds.
-LEAST = 0.2
+# How often what is compared takes turns: as often as these seconds allow, of the table and of all else, within these bounds.
+TABLE_SECONDS, SECONDS = 16, 3
+RUNS, MOST_RUNS = 5, 100
 TRACE_PINGS = 32_767
+# The length of a stream's pieces where nothing else is said.
+PIECE = 65_536
 # How much openssl hashes when it is measured: it hashes any bytes of a length in the same time.
 HASHED = 600_000_000
 OPENSSL = ["openssl", "dgst", "-sha256"]
+# The width of the table's names.
+NAMES = 56
+# A process begins with the memory of the one that started it counted as its own. So a small program starts each run, and ends.
+STARTER = ["setsid", "--fork"]
+PR_SET_CHILD_SUBREAPER = 36
 
 
 def envelope(command, payload):
@@ -54,11 +67,19 @@ def compact_size(number):
     return b"\xfe" + struct.pack("<I", number)
 
 
-def transaction(number, script_len):
-    """A transaction with one input and one output, whose script has this length."""
-    spent = hashlib.sha256(struct.pack("<Q", number)).digest() + struct.pack("<I", 0)
-    paid = struct.pack("<q", 1) + compact_size(script_len) + bytes(script_len)
-    return struct.pack("<i", 1) + b"\x01" + spent + b"\x00" + b"\xff" * 4 + b"\x01" + paid + struct.pack("<I", 0)
+def script(length):
+    return compact_size(length) + bytes(length)
+
+
+def some_name(number):
+    """A name for a transaction that isn't there."""
+    return hashlib.sha256(struct.pack("<Q", number)).digest()
+
+
+def transaction(spent, script_len, signed_len=0, outputs=1):
+    """A transaction that spends the first output of another, with outputs whose scripts have this length: 60 bytes where it is 0."""
+    made = (struct.pack("<q", 1) + script(script_len)) * outputs
+    return struct.pack("<i", 1) + b"\x01" + spent + bytes(4) + script(signed_len) + b"\xff" * 4 + compact_size(outputs) + made + bytes(4)
 
 
 def merkle_root(level):
@@ -69,12 +90,26 @@ def merkle_root(level):
     return level[0]
 
 
-def block(count, script_len):
-    """A block of so many transactions, with its true root."""
-    texts = [transaction(number, script_len) for number in range(count)]
+def block_of(texts):
+    """A block of these transactions, with its true root."""
     root = merkle_root([hash_twice(text) for text in texts])
     header = struct.pack("<i", 1) + bytes(32) + root + struct.pack("<III", 0, 0x207F_FFFF, 0)
-    return header + compact_size(count) + b"".join(texts)
+    return header + compact_size(len(texts)) + b"".join(texts)
+
+
+def block(count, script_len):
+    """A block of so many transactions with one input and one output."""
+    return block_of([transaction(some_name(number), script_len) for number in range(count)])
+
+
+def bare_block(count):
+    """A block of so many transactions of 10 bytes, which have no inputs and no outputs."""
+    return block_of([struct.pack("<i", 1) + bytes(6)] * count)
+
+
+def usual_block(count):
+    """A block of so many transactions of 250 bytes: an input with signatures, and two outputs that pay to a hash."""
+    return block_of([transaction(some_name(number), 25, 131, 2) for number in range(count)])
 
 
 def acts(count):
@@ -89,13 +124,25 @@ def as_lines(stream, piece):
     return b"\n".join(text[i : i + 2 * piece] for i in range(0, len(text), 2 * piece)) + b"\n"
 
 
+class Cost(NamedTuple):
+    """What a run takes: seconds of the processor, and bytes of memory at its greatest."""
+
+    seconds: float
+    memory: int
+
+
+def adopt():
+    """From now on a process that another one started and left is this one's child."""
+    if ctypes.CDLL(None, use_errno=True).prctl(PR_SET_CHILD_SUBREAPER, 1, 0, 0, 0) != 0:
+        sys.exit(f"prctl: {os.strerror(ctypes.get_errno())}")
+
+
 def once(command, path):
-    """The processor time of one run with this file as standard input, and its exit status."""
+    """What one run with this file as standard input takes, and its exit status. `adopt` has to come before."""
     with open(path, "rb") as source:
-        process = subprocess.Popen(command, stdin=source, stdout=subprocess.DEVNULL, stderr=subprocess.DEVNULL)
-        _, ended, used = os.wait4(process.pid, 0)
-    process.returncode = os.waitstatus_to_exitcode(ended)
-    return used.ru_utime + used.ru_stime, process.returncode
+        subprocess.run(STARTER + command, stdin=source, stdout=subprocess.DEVNULL, stderr=subprocess.DEVNULL, check=True)
+    _, ended, used = os.wait3(0)
+    return Cost(used.ru_utime + used.ru_stime, used.ru_maxrss * 1024), os.waitstatus_to_exitcode(ended)
 
 
 def ended(command, path, wanted):
@@ -105,16 +152,12 @@ def ended(command, path, wanted):
         sys.exit(f"{' '.join(command)} ended with status {status}, and not with {wanted}")
 
 
-def times_of(command, path):
-    """How often a command is run in a row, so that a measurement lasts long enough."""
-    return int(LEAST / max(once(command, path)[0], 0.0005)) + 1
-
-
-def in_turns(*runs):
-    """The least processor time of a run of each of these commands with their files, which take turns."""
-    times = [times_of(*run) for run in runs]
-    turns = [[sum(once(*run)[0] for _ in range(count)) / count for run, count in zip(runs, times)] for _ in range(RUNS)]
-    return [min(took) for took in zip(*turns)]
+def in_turns(*runs, seconds=SECONDS):
+    """What a run of each of these commands with their files takes: the least time, and the memory in the middle."""
+    took = [[once(*run)[0] for run in runs]]
+    turns = int(seconds / sum(cost.seconds for cost in took[0]))
+    took += [[once(*run)[0] for run in runs] for _ in range(1, min(max(RUNS, turns), MOST_RUNS))]
+    return [Cost(min(cost.seconds for cost in costs), statistics.median(cost.memory for cost in costs)) for costs in zip(*took)]
 
 
 def sha_instructions():
@@ -125,22 +168,41 @@ def sha_instructions():
     return ", ".join(found) if found else "none"
 
 
-class Bench:
-    def __init__(self, program, sound, folder):
+class Programs:
+    """Programs that were built, and what each of their commands takes of no input."""
+
+    def __init__(self, program, sound, empty):
         self.program = program
         self.sound = sound
-        self.folder = folder
-        empty = self.write("empty", b"")
         words = ("decode", "serve", "sim", "sound")
         self.starts = dict(zip(words, in_turns(*((self.command(word), empty) for word in words))))
+
+    def command(self, word):
+        """A command of the program, or the program that looks at a block."""
+        return [self.sound] if word == "sound" else [self.program, word]
+
+    def beyond(self, word, cost):
+        """What a run took behind its start."""
+        return Cost(cost.seconds - self.starts[word].seconds, cost.memory - self.starts[word].memory)
+
+
+class Bench:
+    """What is measured in one run: the programs, and the programs of before where they are given."""
+
+    def __init__(self, programs, before, folder):
+        self.folder = folder
+        empty = self.write("empty", b"")
+        self.programs = Programs(*programs, empty)
+        self.sets = [self.programs] + ([Programs(*before, empty)] if before else [])
         self.zeros = self.write("zeros", b"")
         os.truncate(self.zeros, HASHED)
-        self.openssl_start, hashed = in_turns((OPENSSL, empty), (OPENSSL, self.zeros))
-        rate = HASHED / (hashed - self.openssl_start)
+        start, hashed = in_turns((OPENSSL, empty), (OPENSSL, self.zeros))
+        self.openssl_start = start.seconds
+        rate = HASHED / (hashed.seconds - self.openssl_start)
         print(f"SHA instructions of the processor: {sha_instructions()}")
         print(f"openssl dgst -sha256: {self.openssl_start * 1000:.1f} ms of start-up, and then {rate / 1e6:.0f} MB a second")
-        starts = ", ".join(f"{word} {start * 1000:.1f}" for word, start in self.starts.items())
-        print(f"start-up in ms: {starts}")
+        starts = ", ".join(f"{word} {start.seconds * 1000:.1f}" for word, start in self.programs.starts.items())
+        print(f"start-up in ms: {starts}", flush=True)
 
     def write(self, name, data):
         path = os.path.join(self.folder, name)
@@ -148,27 +210,32 @@ class Bench:
             file.write(data)
         return path
 
-    def command(self, word):
-        """A command of the program, or the program that looks at a block."""
-        return [self.sound] if word == "sound" else [self.program, word]
+    def costs(self, word, data, seconds):
+        """What an input takes in each set of programs; each run has to end with status 0."""
+        path = self.write("first", data)
+        for programs in self.sets:
+            ended(programs.command(word), path, 0)
+        costs = in_turns(*((programs.command(word), path) for programs in self.sets), seconds=seconds)
+        return [programs.beyond(word, cost) for programs, cost in zip(self.sets, costs)]
 
     def run(self, word, name, data):
         """A command with its input, which has to end with status 0."""
         path = self.write(name, data)
-        ended(self.command(word), path, 0)
-        return self.command(word), path
+        ended(self.programs.command(word), path, 0)
+        return self.programs.command(word), path
 
     def speed(self, name, word, data, stream):
         took, zeros = in_turns(self.run(word, "first", data), (OPENSSL, self.zeros))
-        took -= self.starts[word]
-        hashed = (zeros - self.openssl_start) * len(stream) / HASHED
-        rate = len(stream) / took / 1e6
-        print(f"{name}: {took * 1000:.0f} ms, {rate:.1f} MB of stream a second; {took / hashed:.1f} times the time of openssl dgst -sha256", flush=True)
+        seconds = self.programs.beyond(word, took).seconds
+        hashed = (zeros.seconds - self.openssl_start) * len(stream) / HASHED
+        rate = len(stream) / seconds / 1e6
+        print(f"{name}: {seconds * 1000:.0f} ms, {rate:.1f} MB of stream a second; "
+              f"{seconds / hashed:.1f} times the time of openssl dgst -sha256", flush=True)
 
     def compare(self, word, first, second):
         """The times of two inputs."""
-        one, two = in_turns(self.run(word, "first", first), self.run(word, "second", second))
-        return one - self.starts[word], two - self.starts[word]
+        took = in_turns(self.run(word, "first", first), self.run(word, "second", second))
+        return [self.programs.beyond(word, cost).seconds for cost in took]
 
     def growth(self, name, word, first, second):
         one, two = self.compare(word, first, second)
@@ -183,54 +250,117 @@ def usage(doc, **arguments):
     return parser
 
 
-def built(path, crate):
-    """The path of a program that was built: the one given, or where ./build leaves it."""
-    path = os.path.abspath(path or os.path.join(ROOT, f"crates/{crate}/out/{crate}"))
+def built(path, crate, top=ROOT):
+    """The path of a program that was built: the one given, or where ./build leaves it below this folder."""
+    path = os.path.abspath(path or os.path.join(top, f"crates/{crate}/out/{crate}"))
     if not os.access(path, os.X_OK):
         sys.exit(f"{path} isn't built: ./build {crate}")
     return path
 
 
-def blocks(bench):
-    """The times of blocks near a million bytes, and of the trees over many transactions."""
+def cases():
+    """What the table tells of: a name, the command, and its input."""
+    yield "decode, 1,000,000 pings", "decode", as_lines(pings(1_000_000), PIECE)
+    yield f"serve, {TRACE_PINGS:,} pings", "serve", pings(TRACE_PINGS)
+    large = [
+        ("10 unknown commands of 4,000,000 bytes", unknown(10)),
+        ("20 blocks of 4,000 transactions of 250 bytes", envelope(b"block", usual_block(4_000)) * 20),
+        ("50 blocks of 4,000 transactions of 60 bytes", envelope(b"block", block(4_000, 0)) * 50),
+        ("10 blocks of 100,000 transactions of 10 bytes", envelope(b"block", bare_block(100_000)) * 10),
+    ]
+    for name, stream in large:
+        yield f"decode, {name}", "decode", as_lines(stream, PIECE)
+        yield f"serve, {name}", "serve", stream
+    yield "sound, 16,000 transactions of 60 bytes", "sound", block(16_000, 0)
+
+
+def table(bench):
+    """Time and memory of each case; with programs of before theirs, and how they compare."""
+    two = len(bench.sets) == 2
+    columns = ["ms", "before", "ratio", "MB", "before", "ratio"] if two else ["ms", "MB"]
+    print("\ntime and memory behind those of no input")
+    print(" " * NAMES + "".join(f"{column:>9}" for column in columns))
+    for name, word, data in cases():
+        costs = bench.costs(word, data, TABLE_SECONDS if two else SECONDS)
+        figures = []
+        for parts, unit in zip(zip(*costs), (1e-3, 1e6)):
+            figures += [f"{part / unit:9.1f}" for part in parts] + ([f"{parts[0] / parts[1]:9.2f}"] if two else [])
+        print(f"{name:<{NAMES}}" + "".join(figures), flush=True)
+    print()
+
+
+def densities(bench, block, count):
+    """What a block takes in memory for each byte of its text, in each set of programs: `serve` keeps what comes."""
+    message = envelope(b"block", block)
+    some, twice = (bench.costs("serve", message * kept, 0) for kept in (count, 2 * count))
+    return [(more.memory - less.memory) / (count * len(block)) for less, more in zip(some, twice)]
+
+
+def kept_blocks(bench):
+    usual, bare = densities(bench, usual_block(4_000), 20), densities(bench, bare_block(100_000), 10)
+    for told, *each in zip(("memory of a block", "memory of a block before"), usual, bare):
+        print("{}: {:.2f} bytes for each byte of its text at transactions of 250 bytes, {:.2f} at 10".format(told, *each), flush=True)
+
+
+def block_speeds(bench):
+    """The times of blocks near a million bytes, and of a tree over many transactions."""
     small, large = envelope(b"block", block(4_000, 188)), envelope(b"block", block(10, 99_930))
     for name, message in (("4,000 transactions", small), ("10 transactions", large)):
-        bench.speed(f"decode, a block of 1,000,000 bytes with {name}, fifty times", "decode", as_lines(message, 65_536) * 50, message * 50)
-    small, large = envelope(b"block", block(30_000, 0)), envelope(b"block", block(60_000, 0))
-    bench.growth("decode, a block of 30,000 small transactions, twenty times", "decode", as_lines(small, 65_536) * 20, as_lines(large, 65_536) * 20)
+        bench.speed(f"decode, a block of 1,000,000 bytes with {name}, fifty times", "decode", as_lines(message, PIECE) * 50, message * 50)
     many = block(16_000, 0)
     bench.speed("sound, 16,000 transactions", "sound", many, many)
-    bench.growth("sound, 200,000 transactions", "sound", block(200_000, 0), block(400_000, 0))
 
 
-def messages(bench):
-    """The times of small and of large messages, and of pieces."""
+def message_speeds(bench):
+    """The times of small and of large messages."""
     many = pings(1_000_000)
-    bench.speed("decode, pings in pieces of 65,536 bytes", "decode", as_lines(many, 65_536), many)
+    bench.speed("decode, pings in pieces of 65,536 bytes", "decode", as_lines(many, PIECE), many)
     bench.speed("decode, one ping a line", "decode", as_lines(many, 32), many)
     large = unknown(20)
     bench.speed("decode, unknown commands of 4,000,000 bytes, one a line", "decode", as_lines(large, 4_000_024), large)
-    bench.speed("decode, the same in pieces of 65,536 bytes", "decode", as_lines(large, 65_536), large)
+    bench.speed("decode, the same in pieces of 65,536 bytes", "decode", as_lines(large, PIECE), large)
+    served = pings(TRACE_PINGS)
+    bench.speed(f"serve, {TRACE_PINGS} pings", "serve", served, served)
+
+
+def block_growths(bench):
+    """What twice as large blocks and twice as many take."""
+    small, large = envelope(b"block", block(30_000, 0)), envelope(b"block", block(60_000, 0))
+    bench.growth("decode, ten blocks of 30,000 small transactions, then of 60,000", "decode", as_lines(small, PIECE) * 10, as_lines(large, PIECE) * 10)
+    bench.growth("decode, ten blocks of 30,000 small transactions, then twenty", "decode", as_lines(small, PIECE) * 10, as_lines(small, PIECE) * 20)
+    bench.growth("serve, ten blocks of 30,000 small transactions, then of 60,000", "serve", small * 10, large * 10)
+    bench.growth("serve, ten blocks of 30,000 small transactions, then twenty", "serve", small * 10, small * 20)
+    bench.growth("sound, 100,000 transactions", "sound", block(100_000, 0), block(200_000, 0))
+
+
+def message_growths(bench):
+    """What twice as many messages and twice as large ones take, and small pieces."""
+    many = pings(1_000_000)
     first, second = many[: len(many) // 2], many
-    bench.growth("decode, pings in pieces of 65,536 bytes", "decode", as_lines(first, 65_536), as_lines(second, 65_536))
-    bench.growth("decode, all pings in one line", "decode", as_lines(first, len(first)), as_lines(second, len(second)))
-    bench.growth("decode, pieces of one byte", "decode", as_lines(many[:6_400_000], 1), as_lines(many[:12_800_000], 1))
-    whole, one = bench.compare("decode", as_lines(many[:12_800_000], 65_536), as_lines(many[:12_800_000], 1))
+    bench.growth("decode, 500,000 pings in pieces of 65,536 bytes", "decode", as_lines(first, PIECE), as_lines(second, PIECE))
+    bench.growth("decode, the same in one line", "decode", as_lines(first, len(first)), as_lines(second, len(second)))
+    bench.growth(f"serve, {TRACE_PINGS // 2} pings", "serve", pings(TRACE_PINGS // 2), pings(TRACE_PINGS // 2 * 2))
+    bench.growth("decode, 100,000 pings in pieces of one byte", "decode", as_lines(many[:3_200_000], 1), as_lines(many[:6_400_000], 1))
+    whole, one = bench.compare("decode", as_lines(many[:6_400_000], PIECE), as_lines(many[:6_400_000], 1))
     print(f"decode, pieces of one byte beside pieces of 65,536: {one / whole:.1f} times as long")
-    bench.growth("decode, five unknown commands of 2,000,000 bytes in pieces of one byte", "decode",
-                 as_lines(envelope(b"filler", bytes(2_000_000)) * 5, 1), as_lines(envelope(b"filler", bytes(4_000_000)) * 5, 1))
+    small, large = envelope(b"filler", bytes(2_000_000)), envelope(b"filler", bytes(4_000_000))
+    bench.growth("decode, ten unknown commands of 2,000,000 bytes, then of 4,000,000", "decode", as_lines(small * 10, PIECE), as_lines(large * 10, PIECE))
+    bench.growth("decode, two of 2,000,000 bytes in pieces of one byte, then of 4,000,000", "decode", as_lines(small * 2, 1), as_lines(large * 2, 1))
+    bench.growth("serve, ten unknown commands of 2,000,000 bytes, then of 4,000,000", "serve", small * 10, large * 10)
+    bench.growth("serve, ten unknown commands of 4,000,000 bytes, then twenty", "serve", large * 10, large * 20)
 
 
 def main():
-    words = usage(__doc__, program="the program, if not crates/cbrelay/out/cbrelay", sound="bench_sound, if not the one in its crate").parse_args()
-    program, sound = built(words.program, "cbrelay"), built(words.sound, "bench_sound")
+    reader = usage(__doc__, program="the program, if not crates/cbrelay/out/cbrelay", sound="bench_sound, if not the one in its crate")
+    reader.add_argument("--before", metavar="FOLDER", help="programs to compare with: its crates/NAME/out/NAME of cbrelay and bench_sound")
+    words = reader.parse_args()
+    programs = built(words.program, "cbrelay"), built(words.sound, "bench_sound")
+    before = words.before and [built(None, crate, words.before) for crate in ("cbrelay", "bench_sound")]
+    adopt()
     with tempfile.TemporaryDirectory() as folder:
-        bench = Bench(program, sound, folder)
-        blocks(bench)
-        messages(bench)
-        served = pings(TRACE_PINGS)
-        bench.speed(f"serve, {TRACE_PINGS} pings", "serve", served, served)
-        bench.growth(f"serve, {TRACE_PINGS // 2} pings", "serve", pings(TRACE_PINGS // 2), pings(TRACE_PINGS // 2 * 2))
+        bench = Bench(programs, before, folder)
+        for part in (table, kept_blocks, block_speeds, message_speeds, block_growths, message_growths):
+            part(bench)
         bench.growth("sim, 4,000,000 acts", "sim", acts(4_000_000), acts(8_000_000))
 
 

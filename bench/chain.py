@@ -13,7 +13,7 @@ import subprocess
 import sys
 import tempfile
 
-from bench import RUNS, built, compact_size, hash_twice, merkle_root, usage
+from bench import RUNS, adopt, built, compact_size, ended, hash_twice, in_turns, merkle_root, usage
 
 GENESIS = bytes.fromhex("06226e46111a0b59caaf126043eb5bbf28c34f3a5e332a1fc7b2b73cf188910f")
 TARGET = bytes(29) + bytes.fromhex("ffff7f")
@@ -21,12 +21,6 @@ LOW, HIGH = 100, 10_000
 # Each question, and how often it is asked.
 QUESTIONS = [("tip and tip_height", 100_000_000), ("height", 5_000_000), ("has", 5_000_000), ("block", 5_000_000), ("locator", 2_000_000)]
 BLOCKS, HEADERS, SWITCHES = 5_000, 20_000, 1_000
-# A process begins with the memory of the one that started it counted as its own, so a small one starts the program.
-MEMORY = """
-import resource, subprocess, sys
-subprocess.run(sys.argv[1:], stdout=subprocess.DEVNULL, check=True)
-print(resource.getrusage(resource.RUSAGE_CHILDREN).ru_maxrss * 1024)
-"""
 
 
 def header(prev, root):
@@ -71,6 +65,11 @@ def question(number, count):
     return record(b"q", struct.pack("<BI", number, count))
 
 
+def copies(original, count, block=b""):
+    """So many copies: of the chain for 0, of this block for 1, of a message that holds it for 2."""
+    return record(b"y", struct.pack("<BI", original, count) + block)
+
+
 class Marks:
     """Numbers, each given once."""
 
@@ -108,6 +107,14 @@ def careful_play():
             + record(b"h", after))
 
 
+def copying_play():
+    """Copies of a chain of three blocks, of a block that spends, and of a message that holds it."""
+    marks = Marks()
+    blocks = branch(marks, GENESIS, 2)
+    blocks.append(Made(blocks[-1].name, marks.take(), [blocks[0].made]))
+    return as_records(blocks) + copies(0, 1) + b"".join(copies(original, 1, blocks[-1].text) for original in (1, 2))
+
+
 class Runs:
     """Runs of the program."""
 
@@ -140,10 +147,11 @@ class Runs:
         return [statistics.median(times) for times in zip(*took)]
 
     def memory(self, data):
-        """The most memory of a run, in bytes."""
-        with open(self.write("whole", data), "rb") as source:
-            told = subprocess.run([sys.executable, "-c", MEMORY, self.program], stdin=source, capture_output=True, check=True)
-        return int(told.stdout)
+        """The memory of a run at its greatest, in bytes."""
+        path = self.write("whole", data)
+        ended([self.program], path, 0)
+        [cost] = in_turns(([self.program], path))
+        return cost.memory
 
 
 class Ground:
@@ -211,6 +219,7 @@ def memory(runs):
 def main():
     words = usage(__doc__, program="the program, if not crates/bench_chain/out/bench_chain").parse_args()
     program = built(words.program, "bench_chain")
+    adopt()
     with tempfile.TemporaryDirectory() as folder:
         runs = Runs(program, folder)
         both = AtBoth(runs)

@@ -2,23 +2,25 @@
 """Refuses each growth of memory in turn, and looks at how the built programs end.
 
 It needs the programs (crates/NAME/out/NAME of cbrelay, bench_sound and bench_chain, as ./build --all leaves them), a C compiler
-as `cc`, and python3, and takes a few seconds. A small library that is loaded before the C library makes the Nth growth fail; N
-goes up until a run makes fewer. Each run has to end with status 4 after a beginning of what it prints with ample memory, or
-wholly as with ample memory, where it could do without that growth.
+as `cc`, and python3, and takes a few seconds. A small library that is loaded before the C library counts growths and makes the Nth
+fail; N goes up until a run makes fewer. Each run has to end with status 4 after a beginning of what it prints with ample memory,
+or wholly as with ample memory, where it could do without that growth.
 """
 
 import os
+import struct
 import subprocess
 import sys
 import tempfile
+from typing import NamedTuple
 
 from bench import block, usage
 from calls import told_play
-from chain import careful_play
+from chain import careful_play, copying_play
 
 ROOT = os.path.dirname(os.path.dirname(os.path.abspath(__file__)))
 
-REFUSAL = r"""
+COUNTER = r"""
 #include <stddef.h>
 #include <stdlib.h>
 #include <unistd.h>
@@ -27,25 +29,26 @@ extern void *__libc_malloc(size_t);
 extern void *__libc_realloc(void *, size_t);
 
 static long made = 0;
+static long bytes = 0;
 static long refused = -1;
 
-static int is_refused(void) {
+static int is_refused(size_t size) {
     if (refused < 0) {
         const char *text = getenv("REFUSED_GROWTH");
         refused = text ? atol(text) : 0;
     }
     made = made + 1;
+    bytes = bytes + (long)size;
     return made == refused;
 }
 
-void *malloc(size_t size) { return is_refused() ? NULL : __libc_malloc(size); }
+void *malloc(size_t size) { return is_refused(size) ? NULL : __libc_malloc(size); }
 
-void *realloc(void *old, size_t size) { return is_refused() ? NULL : __libc_realloc(old, size); }
+void *realloc(void *old, size_t size) { return is_refused(size) ? NULL : __libc_realloc(old, size); }
 
 __attribute__((destructor)) static void tell(void) {
-    if (refused > 0 && made < refused) {
-        (void)!write(9, "fewer", 5);
-    }
+    long told[] = {made, bytes};
+    (void)!write(9, told, sizeof told);
 }
 """
 
@@ -67,20 +70,28 @@ RUNS = [
     ("sound, a block of 5 transactions", "bench_sound", [], block(5, 10)),
     ("chain, a block at the tip and three blocks for two", "bench_chain", [], careful_play()),
     ("chain, calls that are told and questions", "bench_chain", [], told_play(10)),
+    ("chain, copies of it, of a block and of a message", "bench_chain", [], copying_play()),
 ]
 
 
+class Growths(NamedTuple):
+    """How many growths a run tried to make, and of how many bytes together."""
+
+    count: int
+    bytes: int
+
+
 def build(folder):
-    source = os.path.join(folder, "refusal.c")
-    library = os.path.join(folder, "refusal.so")
+    source = os.path.join(folder, "counter.c")
+    library = os.path.join(folder, "counter.so")
     with open(source, "w") as file:
-        file.write(REFUSAL)
+        file.write(COUNTER)
     subprocess.run(["cc", "-O1", "-shared", "-fPIC", "-o", library, source], check=True)
     return library
 
 
 def run(command, data, library, place):
-    """One run in which this growth is refused: its status, its output, and whether it made fewer growths."""
+    """One run in which this growth is refused, or none for 0: its status and output, and its growths."""
     reading, writing = os.pipe()
     os.dup2(writing, 9)
     os.close(writing)
@@ -89,7 +100,8 @@ def run(command, data, library, place):
     os.close(9)
     told = os.read(reading, 16)
     os.close(reading)
-    return ran, told == b"fewer"
+    # A run that was killed tells nothing.
+    return ran, Growths(*struct.unpack("ll", told)) if told else Growths(place, 0)
 
 
 def is_refusal(ran, ample):
@@ -106,8 +118,8 @@ def in_turn(told, crate, words, data, library):
     refused, spared, failures = 0, 0, 0
     place = 1
     while True:
-        ran, fewer = run(command, data, library, place)
-        if fewer:
+        ran, growths = run(command, data, library, place)
+        if growths.count < place:
             break
         if is_refusal(ran, ample):
             refused += 1

@@ -1,8 +1,10 @@
 //! Plays headers and blocks from standard input into a chain, and tells how it stands. Its time and memory are what
-//! bench/chain.py measures, and bench/refuse_growth.py refuses its memory; the node has no part in it.
+//! bench/chain.py measures, bench/count_growth.py counts its growths of memory, and bench/refuse_growth.py refuses them;
+//! the node has no part in it.
 #![tactic(auto)]
 
 mod asking;
+mod copying;
 mod player;
 mod records;
 mod telling;

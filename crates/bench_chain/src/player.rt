@@ -2,8 +2,9 @@ ghost use Rattle.std.specs.Prelude.{◌≡◌};
 ghost use Rattle.bench_chain.specs.Playing.{GoesOn};
 
 use crate::asking::{Question, answer_sizes};
+use crate::copying::copy_sizes;
 use crate::telling::{answer_line, block_line, header_line, name_line, tip_line, value_line};
-use cb_base::{Cursor, Fault, Hash256};
+use cb_base::{Cursor, Fault, Hash256, Shared};
 use cb_block::{Header, SoundBlock, read_block, read_header, sound};
 use cb_chain::{Chain, Change};
 use cb_tx::OutPoint;
@@ -49,8 +50,9 @@ impl Player {
     }
 
     /// Plays a record: `h` and a header, `b` and a block, `s` and a block that is only judged by itself, `q` with a
-    /// question's number and how often it is asked, `c`, from which on each call is made beside a copy, `t`, from which
-    /// on each call tells in a line how it ended, or a question that is answered by a line (`answer_line`).
+    /// question's number and how often it is asked, `y` and what is copied how often (`copy_sizes`), `c`, from which on
+    /// each call is made beside a copy, `t`, from which on each call tells in a line how it ended, or a question that is
+    /// answered by a line (`answer_line`).
     ///
     /// The chain has had the calls of before, and then some more.
     #[tactic(auto, using(crate::proofs::Goings::goes_on))]
@@ -77,6 +79,7 @@ impl Player {
                 let count = cursor.u32()?;
                 self.ask(number, count)
             }
+            b'y' => self.copy_often(&mut cursor),
             b'c' => {
                 self.careful = true;
                 Ok(())
@@ -108,6 +111,15 @@ impl Player {
             return Err(Fault::NotEnabled);
         };
         let sizes = answer_sizes(&self.chain, question, count)?;
+        self.answered = self.answered.wrapping_add(sizes);
+        Ok(())
+    }
+
+    // Makes copies.
+    fn copy_often<'a>(&mut self, cursor: &mut Cursor<'a>) -> Result<(), Fault>
+        ensures { self.new.chain ≡ self.old.chain }
+    {
+        let sizes = copy_sizes(self.alloc, &self.chain, cursor)?;
         self.answered = self.answered.wrapping_add(sizes);
         Ok(())
     }
@@ -196,7 +208,7 @@ impl Player {
         self.names.push(block.block().header.hash())?;
         push_points(&mut self.points, block.txids())?;
         let before = self.chain.copy()?;
-        let again = block.copy(self.alloc)?;
+        let again = block.copy()?;
         let mut ended = put_block(&mut self.chain, block);
         if ended.is_err() {
             self.compare(&before);
@@ -301,7 +313,7 @@ fn push_points(points: &mut Vec<OutPoint>, txids: &[Hash256]) -> Result<(), Faul
 
 fn read_sound<'a>(alloc: Global, cursor: &mut Cursor<'a>) -> Result<SoundBlock, Fault> {
     let block = read_block(alloc, cursor)?;
-    match sound(alloc, block) {
+    match sound(alloc, Shared::new(alloc, block)?) {
         Ok(block) => Ok(block),
         Err((_, fault)) => Err(fault),
     }

@@ -6,7 +6,7 @@ ghost use Rattle.cb_block.specs.Text.{block_text};
 ghost use Rattle.cb_block.specs.Blocks.{IsSoundBlock};
 ghost use Rattle.cb_block.specs.declared.block.Block.{Block};
 
-use cb_base::{Cursor, Fault};
+use cb_base::{Cursor, Fault, Shared};
 use cb_block::{read_block, sound};
 use std::alloc::Global;
 use std::io::{ErrorKind, Read};
@@ -21,7 +21,7 @@ fn count_sound(alloc: Global, bytes: &[u8]) -> Result<usize, Fault>
     if cursor.left() > 0 {
         return Err(Fault::Trailing);
     }
-    match sound(alloc, block) {
+    match sound(alloc, Shared::new(alloc, block)?) {
         Ok(sound) => Ok(sound.block().txs.as_slice().len()),
         Err((_, fault)) => Err(fault),
     }

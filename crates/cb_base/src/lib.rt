@@ -6,12 +6,14 @@ mod copying;
 mod cursor;
 mod fault;
 mod hash;
+mod shared;
 
 pub use compact_size::{one_spelling, put_compact};
 pub use copying::copy_bytes;
 pub use cursor::Cursor;
 pub use fault::{Fault, TxRule};
 pub use hash::{Hash256, dsha, sha};
+pub use shared::Shared;
 
 #[cfg(test)]
 mod tests;

@@ -115,3 +115,21 @@ fn compact_size_at_each_limit(rt: HostRuntime) -> Result<(), Fail> {
     );
     Ok(())
 }
+
+#[test]
+fn shared_values(rt: HostRuntime) -> Result<(), Fail> {
+    let alloc = rt.alloc();
+    let list = Vec::from_slice(alloc, [1u8, 2].as_slice())?;
+    let one = Shared::new(alloc, list)?;
+    let two = one.clone()?;
+    assert_eq!(rt; two.as_slice(), one.as_slice());
+    let Err(two) = two.into_value() else {
+        return Err(Fail::from("the value has one owner"));
+    };
+    drop(one);
+    let Ok(list) = two.into_value() else {
+        return Err(Fail::from("the value has two owners"));
+    };
+    assert_eq!(rt; list.len(), 2);
+    Ok(())
+}

@@ -1,13 +1,14 @@
 ghost use Rattle.std.specs.Prelude.{◌≡◌, length};
 
 use crate::header::Header;
+use cb_base::Shared;
 use cb_tx::Tx;
 use std::marker::Model;
 
-/// The transactions of a block. They are seen as their list.
+/// The transactions of a block, each of which may have other owners. They are seen as their list.
 #[derive(Debug, Drop)]
 pub struct Txs {
-    list: Vec<Tx>,
+    list: Vec<Shared<Tx>>,
 }
 
 impl Model for Txs {
@@ -21,21 +22,21 @@ impl Model for Txs {
 
 impl Txs {
     /// The list as the transactions of a block.
-    pub fn new(list: Vec<Tx>) -> Txs
+    pub fn new(list: Vec<Shared<Tx>>) -> Txs
         ensures { result ≡ list.items }
     {
         Txs { list }
     }
 
     /// The transactions in order.
-    pub fn as_slice(&self) -> &[Tx]
+    pub fn as_slice(&self) -> &[Shared<Tx>]
         ensures { result.now ≡ self.now }
     {
         self.list.as_slice()
     }
 
     /// Their list, given out.
-    pub fn into_vec(self) -> Vec<Tx>
+    pub fn into_vec(self) -> Vec<Shared<Tx>>
         ensures { result.items ≡ self }
     {
         self.list

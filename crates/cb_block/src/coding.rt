@@ -11,7 +11,7 @@ ghost use Rattle.cb_block.specs.declared.block.Block.{Block};
 
 use crate::block::{Block, Txs};
 use crate::header::{Header, read_header};
-use cb_base::{Cursor, Fault, put_compact};
+use cb_base::{Cursor, Fault, Shared, put_compact};
 use cb_tx::{Tx, compact_size, read_count, read_tx, write_tx};
 use std::alloc::Global;
 
@@ -22,7 +22,7 @@ fn txs_of(alloc: Global, cursor: &mut Cursor, count: usize) -> Result<Txs, Fault
 {
     let mut txs = Vec::with_capacity(alloc, count)?;
     for _ in 0..count {
-        txs.push(read_tx(alloc, cursor)?)?;
+        txs.push(Shared::new(alloc, read_tx(alloc, cursor)?)?)?;
     }
     Ok(Txs::new(txs))
 }
@@ -93,7 +93,7 @@ pub fn read_block<'a>(alloc: Global, cursor: &mut Cursor<'a>) -> Result<Block, F
 }
 
 #[tactic(auto, unfolding(cb_tx::specs::Text::list_text), using(cb_tx::proofs::Appends::appends))]
-fn put_txs(out: &mut Vec<u8>, txs: &[Tx]) -> Result<(), Fault>
+fn put_txs(out: &mut Vec<u8>, txs: &[Shared<Tx>]) -> Result<(), Fault>
     ensures ok { OnOk result (out.new.items ≡ out.old.items ++ list_text tx_text txs.now) }
     ensures err { OnErr result (Extends out.old.items out.new.items) }
     ensures memory { IsOkUnless result Memory }
@@ -147,7 +147,7 @@ pub fn write_block(out: &mut Vec<u8>, block: &Block) -> Result<(), Fault>
 }
 
 #[tactic(auto, unfolding(cb_tx::specs::Text::list_text))]
-fn txs_size(txs: &[Tx]) -> u64
+fn txs_size(txs: &[Shared<Tx>]) -> u64
     ensures { result ≡ min (length (list_text tx_text txs.now)) (2 ^ 64 - 1) }
 {
     let mut size = compact_size(txs.len() as u64);
@@ -167,7 +167,9 @@ impl Block {
         txs_size(self.txs.as_slice()).saturating_add(header)
     }
 
-    /// A block that equals it. The only error is `Fault::Memory`, and one with no transactions takes none.
+    /// A block that equals it, of the same transactions: only their list takes memory.
+    ///
+    /// The only error is `Fault::Memory`, and one with no transactions takes none.
     pub fn copy(&self, alloc: Global) -> Result<Block, Fault>
         ensures same { IfOk result (λ block. block ≡ self.now) }
         ensures memory { IsOkUnless result Memory }
@@ -175,7 +177,7 @@ impl Block {
     {
         let mut txs = Vec::with_capacity(alloc, self.txs.as_slice().len())?;
         for tx in self.txs.as_slice() {
-            txs.push(tx.copy(alloc)?)?;
+            txs.push(tx.clone()?)?;
         }
         Ok(Block {
             header: self.header,

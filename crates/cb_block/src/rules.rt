@@ -6,11 +6,11 @@ ghost use Rattle.cb_block.specs.Blocks.{AsksMemory, BreaksFirst, HasOneCoinbase,
 ghost use Rattle.cb_block.specs.Text.{block_text};
 
 use crate::soundness::SoundBlock;
-use cb_base::Fault;
+use cb_base::{Fault, Shared};
 use cb_tx::{Tx, check_tx};
 use std::alloc::Global;
 
-fn has_one_coinbase(txs: &[Tx]) -> bool
+fn has_one_coinbase(txs: &[Shared<Tx>]) -> bool
     ensures { IsTrue result ↔ HasOneCoinbase txs.now }
 {
     match txs {
@@ -20,7 +20,7 @@ fn has_one_coinbase(txs: &[Tx]) -> bool
 }
 
 // Whether each transaction meets its rules: else the first fault of the first that doesn't.
-fn check_txs(alloc: Global, txs: &[Tx]) -> Result<(), Fault>
+fn check_txs(alloc: Global, txs: &[Shared<Tx>]) -> Result<(), Fault>
     ensures exact { MatchResult result (λ _. All MeetsRules txs.now)
         (λ fault. (fault ≡ Memory) ⊎ ((rule : TxRule) × (fault ≡ BadTx rule) × BreaksFirst txs.now rule)) }
     ensures paid { result ≡ Err Memory → AsksMemory txs.now }

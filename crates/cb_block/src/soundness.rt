@@ -10,7 +10,7 @@ use crate::block::{Block, Txs};
 use crate::first::first_tx;
 use crate::header::{BITS, Header};
 use crate::tree::tree;
-use cb_base::{Fault, Hash256, dsha};
+use cb_base::{Fault, Hash256, Shared, dsha};
 use cb_tx::{Tx, write_tx};
 use std::alloc::Global;
 use std::marker::Model;
@@ -20,8 +20,8 @@ use std::marker::Model;
 /// It isn't empty, none of its transactions has 64 bytes, its tree isn't mutated, and its header has the tree's root.
 #[derive(Debug, Drop)]
 pub struct SoundBlock {
-    block: Block,
-    txids: Vec<Hash256>,
+    block: Shared<Block>,
+    txids: Shared<Vec<Hash256>>,
 }
 
 impl Model for SoundBlock {
@@ -48,7 +48,7 @@ impl SoundBlock {
     }
 
     /// The block, given out.
-    pub fn into_block(self) -> Block
+    pub fn into_block(self) -> Shared<Block>
         ensures same { result ≡ self }
         ensures sound { IsSoundBlock self }
     {
@@ -66,25 +66,26 @@ impl SoundBlock {
 }
 
 impl SoundBlock {
-    /// A sound block that equals it. The only error is `Fault::Memory`.
-    pub fn copy(&self, alloc: Global) -> Result<SoundBlock, Fault>
+    /// The same sound block once more, which takes no memory. The only error is `Fault::Memory`, where a count of owners is
+    /// full.
+    pub fn copy(&self) -> Result<SoundBlock, Fault>
         ensures same { IfOk result (λ copy. copy ≡ self.now) }
         ensures memory { IsOkUnless result Memory }
     {
-        let txids = Vec::from_slice(alloc, self.txids())?;
-        let block = self.block.copy(alloc)?;
+        let block = self.block.clone()?;
+        let txids = self.txids.clone()?;
         Ok(SoundBlock { block, txids })
     }
 }
 
-fn has_size_64(txs: &[Tx]) -> bool
+fn has_size_64(txs: &[Shared<Tx>]) -> bool
     ensures { IsTrue result ↔ Any (λ tx. length (tx_text tx) ≡ 64) txs.now }
 {
     txs.iter().any(|tx| tx.size() == 64)
 }
 
 // The txids, each by one hashing of the transaction's text, which is written to one buffer.
-fn txids_of(alloc: Global, txs: &[Tx]) -> Result<Vec<Hash256>, Fault>
+fn txids_of(alloc: Global, txs: &[Shared<Tx>]) -> Result<Vec<Hash256>, Fault>
     ensures names { IfOk result (λ txids. txids.items ≡ names (map tx_text txs.now)) }
     ensures fits { IfOk result (λ _. All IsTx txs.now) }
     ensures memory { IsOkUnless result Memory }
@@ -100,7 +101,7 @@ fn txids_of(alloc: Global, txs: &[Tx]) -> Result<Vec<Hash256>, Fault>
 }
 
 // The txids of a sound block: else the first reason why it isn't sound.
-fn sound_txids(alloc: Global, block: &Block) -> Result<Vec<Hash256>, Fault>
+fn sound_txids(alloc: Global, block: &Block) -> Result<Shared<Vec<Hash256>>, Fault>
     ensures sound { IfOk result (λ _. IsSoundBlock block.now) }
     ensures names { IfOk result (λ txids. txids.items ≡ names (texts block.now.txs)) }
     ensures fits { IfOk result (λ _. All IsTx block.now.txs) }
@@ -122,7 +123,7 @@ fn sound_txids(alloc: Global, block: &Block) -> Result<Vec<Hash256>, Fault>
     if root != block.header.root {
         return Err(Fault::BadRoot);
     }
-    Ok(txids)
+    Ok(Shared::new(alloc, txids)?)
 }
 
 /// Tells whether the block is sound: it has transactions, none of them has 64 bytes (CVE-2017-12842), its tree isn't
@@ -130,7 +131,7 @@ fn sound_txids(alloc: Global, block: &Block) -> Result<Vec<Hash256>, Fault>
 ///
 /// Else the block comes back with the first of `Fault::Empty`, `Fault::Size64`, `Fault::Mutated` and `Fault::BadRoot` that
 /// holds, or with `Fault::Memory` where there was no memory for the tree.
-pub fn sound(alloc: Global, block: Block) -> Result<SoundBlock, (Block, Fault)>
+pub fn sound(alloc: Global, block: Shared<Block>) -> Result<SoundBlock, (Shared<Block>, Fault)>
     ensures ok { IfOk result (λ sound. (sound ≡ block) × IsSoundBlock block) }
     ensures err { IfErr result (λ back. (back.0 ≡ block) × ((back.1 ≡ Memory) ⊎ IsUnsound block back.1)) }
     // The first two reasons are told without memory.
@@ -155,7 +156,7 @@ pub fn genesis(alloc: Global) -> Result<SoundBlock, Fault>
     ensures memory { IsOkUnless result Memory }
 {
     let mut txs = Vec::with_capacity(alloc, 1)?;
-    txs.push(first_tx(alloc)?)?;
+    txs.push(Shared::new(alloc, first_tx(alloc)?)?)?;
     let txids = txids_of(alloc, txs.as_slice())?;
     let header = Header {
         version: 1,
@@ -167,7 +168,7 @@ pub fn genesis(alloc: Global) -> Result<SoundBlock, Fault>
     };
     let txs = Txs::new(txs);
     Ok(SoundBlock {
-        block: Block { header, txs },
-        txids,
+        block: Shared::new(alloc, Block { header, txs })?,
+        txids: Shared::new(alloc, txids)?,
     })
 }

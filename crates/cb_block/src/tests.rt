@@ -1,5 +1,5 @@
 use super::*;
-use cb_base::{Cursor, Fault, Hash256, TxRule, dsha};
+use cb_base::{Cursor, Fault, Hash256, Shared, TxRule, dsha};
 use cb_tx::{Tx, read_tx};
 use hex::FromHex;
 use std::alloc::Global;
@@ -49,7 +49,7 @@ fn header_with(root: Hash256) -> Header {
     }
 }
 
-fn block_with(root: Hash256, txs: Vec<Tx>) -> Block {
+fn block_with(root: Hash256, txs: Vec<Shared<Tx>>) -> Block {
     Block {
         header: header_with(root),
         txs: Txs::new(txs),
@@ -57,8 +57,11 @@ fn block_with(root: Hash256, txs: Vec<Tx>) -> Block {
 }
 
 // Why a block isn't sound. The block comes back with the root that it had.
-fn refusal(rt: &impl Abort, alloc: Global, root: Hash256, txs: Vec<Tx>) -> Option<Fault> {
-    match sound(alloc, block_with(root, txs)) {
+fn refusal(rt: &impl Abort, alloc: Global, root: Hash256, txs: Vec<Shared<Tx>>) -> Option<Fault> {
+    let Ok(block) = Shared::new(alloc, block_with(root, txs)) else {
+        return Some(Fault::Memory);
+    };
+    match sound(alloc, block) {
         Ok(_) => None,
         Err((block, fault)) => {
             assert_eq!(rt; block.header, header_with(root));
@@ -78,21 +81,21 @@ fn spend(alloc: Global, index: u8) -> Result<Tx, Fail> {
 }
 
 // Payments that spend the outputs of these numbers.
-fn payments(alloc: Global, indexes: &[u8]) -> Result<Vec<Tx>, Fail> {
+fn payments(alloc: Global, indexes: &[u8]) -> Result<Vec<Shared<Tx>>, Fail> {
     let mut txs = Vec::new(alloc);
     for index in indexes {
         let tx = spend(alloc, *index)?;
-        txs.push(tx)?;
+        txs.push(Shared::new(alloc, tx)?)?;
     }
     Ok(txs)
 }
 
 // The transactions of these texts.
-fn txs_of(alloc: Global, texts: &[&str]) -> Result<Vec<Tx>, Fail> {
+fn txs_of(alloc: Global, texts: &[&str]) -> Result<Vec<Shared<Tx>>, Fail> {
     let mut txs = Vec::new(alloc);
     for text in texts {
         let tx = tx_of(alloc, text)?;
-        txs.push(tx)?;
+        txs.push(Shared::new(alloc, tx)?)?;
     }
     Ok(txs)
 }
@@ -241,7 +244,7 @@ fn published_block(rt: HostRuntime) -> Result<(), Fail> {
     let hash = hash_of("00000000d1145790a8694403d4063f323d499e655c83426834d4ce2f8dd4a2ee")?;
     assert_eq!(rt; block.header.hash(), hash);
     assert_eq!(rt; check_header(&block.header), Err(Fault::BadWork));
-    let Ok(whole) = sound(alloc, block) else {
+    let Ok(whole) = sound(alloc, Shared::new(alloc, block)?) else {
         return Err(Fail::from("the block is sound"));
     };
     assert_eq!(rt; check_block(alloc, &whole), Ok(()));
@@ -283,16 +286,23 @@ fn copies(rt: HostRuntime) -> Result<(), Fail> {
 fn copies_of_a_sound_block(rt: HostRuntime) -> Result<(), Fail> {
     let alloc = rt.alloc();
     let first = genesis(alloc)?;
-    let copy = first.copy(alloc)?;
+    let copy = first.copy()?;
     assert_eq!(rt; copy.txids(), first.txids());
     assert_eq!(rt; copy.block().header, first.block().header);
-    let txs = copy.into_block().txs.into_vec();
-    assert_eq!(rt; txs.len(), 1);
+    // The first is an owner too, until it is dropped.
+    let Err(block) = copy.into_block().into_value() else {
+        return Err(Fail::from("the block has one owner"));
+    };
+    drop(first);
+    let Ok(block) = block.into_value() else {
+        return Err(Fail::from("the block has two owners"));
+    };
+    assert_eq!(rt; block.txs.into_vec().len(), 1);
     Ok(())
 }
 
 // What `check_block` says of the sound block of these transactions.
-fn verdict(alloc: Global, txs: Vec<Tx>) -> Result<Option<Fault>, Fail> {
+fn verdict(alloc: Global, txs: Vec<Shared<Tx>>) -> Result<Option<Fault>, Fail> {
     let mut txids = Vec::new(alloc);
     for tx in &txs {
         txids.push(tx.txid(alloc)?)?;
@@ -301,21 +311,21 @@ fn verdict(alloc: Global, txs: Vec<Tx>) -> Result<Option<Fault>, Fail> {
         return Err(Fail::from("no transactions"));
     }
     let root = root(alloc, txids.as_slice())?;
-    match sound(alloc, block_with(root, txs)) {
+    match sound(alloc, Shared::new(alloc, block_with(root, txs))?) {
         Ok(block) => Ok(check_block(alloc, &block).err()),
         Err(_) => Err(Fail::from("the block isn't sound")),
     }
 }
 
 // A transaction of 1,000,000 bytes and more.
-fn large(alloc: Global) -> Result<Vec<Tx>, Fail> {
+fn large(alloc: Global) -> Result<Vec<Shared<Tx>>, Fail> {
     let mut bytes = hex::decode(alloc, LARGE)?;
     let len = bytes.len();
     bytes.resize(len + 1_000_004, 0)?;
     let mut cursor = Cursor::new(bytes.as_slice());
     let tx = read_tx(alloc, &mut cursor)?;
     let mut txs = Vec::new(alloc);
-    txs.push(tx)?;
+    txs.push(Shared::new(alloc, tx)?)?;
     Ok(txs)
 }
 

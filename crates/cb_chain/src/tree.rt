@@ -148,7 +148,7 @@ impl Tree {
     {
         let mut nodes = Vec::with_capacity(self.alloc, self.nodes.len())?;
         for node in &self.nodes {
-            nodes.push(copy_node(self.alloc, node)?)?;
+            nodes.push(copy_node(node)?)?;
         }
         let places = self.places.clone()?;
         Ok(Tree {
@@ -184,20 +184,20 @@ fn mark_from(nodes: &mut [Node], first: usize)
     }
 }
 
-fn copy_kept(alloc: Global, kept: &Kept) -> Result<Kept, Fault>
+fn copy_kept(kept: &Kept) -> Result<Kept, Fault>
     ensures same { IfOk result (λ copy. copy ≡ kept.now) }
     ensures memory { IsOkUnless result Memory }
 {
-    let block = kept.block().copy(alloc)?;
+    let block = kept.block().copy()?;
     Ok(Kept::new(block))
 }
 
-fn copy_node(alloc: Global, node: &Node) -> Result<Node, Fault>
+fn copy_node(node: &Node) -> Result<Node, Fault>
     ensures same { IfOk result (λ copy. copy ≡ node.now) }
     ensures memory { IsOkUnless result Memory }
 {
     let kept = match &node.kept {
-        Some(kept) => Some(copy_kept(alloc, kept)?),
+        Some(kept) => Some(copy_kept(kept)?),
         None => None,
     };
     Ok(Node {

@@ -11,7 +11,7 @@ ghost use Rattle.cb_ledger.specs.Undo.{changed};
 
 use crate::draft::Draft;
 use crate::ledger::Ledger;
-use cb_base::{Fault, Hash256};
+use cb_base::{Fault, Hash256, Shared};
 use cb_tx::{OutPoint, Tx, TxIn, TxOut};
 
 // The values of the outputs, added up.
@@ -88,7 +88,7 @@ fn spend_tx(ledger: &Ledger, draft: &mut Draft, txid: Hash256, tx: &Tx) -> Resul
 pub(crate) fn spend_txs(
     ledger: &Ledger,
     draft: &mut Draft,
-    txs: &[Tx],
+    txs: &[Shared<Tx>],
     txids: &[Hash256],
 ) -> Result<(), Fault>
     requires named { txids.now ≡ names (texts txs.now) }

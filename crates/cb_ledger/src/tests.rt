@@ -1,7 +1,7 @@
 ghost use Rattle.std.specs.Prelude.{◌<◌, ◌^◌, ◌↔◌, length, All, IsTrue};
 
 use super::*;
-use cb_base::{Fault, Hash256};
+use cb_base::{Fault, Hash256, Shared};
 use cb_block::{BITS, Block, Header, SoundBlock, Txs, root, sound};
 use cb_tx::{Inputs, OutPoint, Outputs, Script, Tx, TxIn, TxOut};
 use std::alloc::Global;
@@ -75,7 +75,7 @@ struct Case {
     told: Result<&'static [Option<i64>], Fault>,
 }
 
-fn made_of(alloc: Global, txs: &[Tx], made: &Made) -> Result<Tx, Fail> {
+fn made_of(alloc: Global, txs: &[Shared<Tx>], made: &Made) -> Result<Tx, Fail> {
     if made.spends.is_empty() {
         return coinbase(alloc, made.mark, made.values);
     }
@@ -89,18 +89,19 @@ fn made_of(alloc: Global, txs: &[Tx], made: &Made) -> Result<Tx, Fail> {
     tx_of(alloc, spent.as_slice(), made.values, made.mark)
 }
 
-fn txs_of(alloc: Global, case: &Case) -> Result<Vec<Tx>, Fail> {
+fn txs_of(alloc: Global, case: &Case) -> Result<Vec<Shared<Tx>>, Fail> {
     let mut txs = Vec::new(alloc);
-    txs.push(coinbase(alloc, 1, case.first)?)?;
+    let first = coinbase(alloc, 1, case.first)?;
+    txs.push(Shared::new(alloc, first)?)?;
     for made in case.made {
         let tx = made_of(alloc, txs.as_slice(), made)?;
-        txs.push(tx)?;
+        txs.push(Shared::new(alloc, tx)?)?;
     }
     Ok(txs)
 }
 
 // All outputs of the transactions.
-fn points_of(alloc: Global, txs: &[Tx]) -> Result<Vec<OutPoint>, Fail> {
+fn points_of(alloc: Global, txs: &[Shared<Tx>]) -> Result<Vec<OutPoint>, Fail> {
     let mut points = Vec::new(alloc);
     for tx in txs {
         let txid = tx.txid(alloc)?;
@@ -126,7 +127,7 @@ fn values_at(
 }
 
 // A block of these transactions, which differ from one another, in this order.
-fn block_of(alloc: Global, txs: &[Tx], order: &[usize]) -> Result<SoundBlock, Fail> {
+fn block_of(alloc: Global, txs: &[Shared<Tx>], order: &[usize]) -> Result<SoundBlock, Fail> {
     let mut list = Vec::new(alloc);
     let mut txids = Vec::new(alloc);
     for place in order {
@@ -134,7 +135,7 @@ fn block_of(alloc: Global, txs: &[Tx], order: &[usize]) -> Result<SoundBlock, Fa
             return Err(Fail::from("no such transaction"));
         };
         txids.push(tx.txid(alloc)?)?;
-        list.push(tx.copy(alloc)?)?;
+        list.push(tx.clone()?)?;
     }
     if txids.is_empty() {
         return Err(Fail::from("no transactions"));
@@ -148,7 +149,7 @@ fn block_of(alloc: Global, txs: &[Tx], order: &[usize]) -> Result<SoundBlock, Fa
         nonce: 0,
     };
     let txs = Txs::new(list);
-    match sound(alloc, Block { header, txs }) {
+    match sound(alloc, Shared::new(alloc, Block { header, txs })?) {
         Ok(block) => Ok(block),
         Err((_, fault)) => Err(Fail::from(fault)),
     }

@@ -1,5 +1,5 @@
 -- The grammar of messages: the one spelling of each, and reading from the left.
-use Rattle.std.specs.Prelude.{◌≡◌, ℕ, ◌≤◌, ◌<◌, ◌^◌, ◌⊎◌, List, [], ◌∷◌, length, codes, Option, Some, None, Result, Ok, Err}
+use Rattle.std.specs.Prelude.{◌≡◌, ℕ, ◌≤◌, ◌<◌, ◌^◌, ◌⊎◌, List, [], ◌∷◌, length, codes, Option, Some, None, Result, Ok, Err, IsOk}
 use Rattle.std.specs.Int.{w64, to_le_bytes}
 use Rattle.cb_base.specs.declared.fault.Fault.{Fault}
 use Rattle.cb_base.specs.declared.fault.Fault.TheVariants.{Memory, Trailing}
@@ -89,17 +89,18 @@ IsUnpaid (Some known.Block) bytes fault = blocks.first_count_at bytes ≡ Err fa
 IsUnpaid (Some command) bytes fault = payload_at command bytes ≡ Err fault
 IsUnpaid None bytes fault = ⊥
 
--- Reading takes memory: that of a transaction or a block with items, or a command that isn't known, whose name is kept.
+-- Reading takes memory: that of a transaction or a block with items or of a whole one, or that of a command that isn't
+-- known, whose name is kept.
 abbrev pub IsPaid : Option Command → List ℕ → Type 0
-IsPaid (Some known.Tx) bytes = transactions.TakesMemory bytes
-IsPaid (Some known.Block) bytes = blocks.TakesMemory bytes
+IsPaid (Some known.Tx) bytes = transactions.TakesMemory bytes ⊎ IsOk (payload_at known.Tx bytes)
+IsPaid (Some known.Block) bytes = blocks.TakesMemory bytes ⊎ IsOk (payload_at known.Block bytes)
 IsPaid (Some command) bytes = ⊥
 IsPaid None bytes = Unit {0}
 
 -- The message holds no memory of its own, so that a copy takes none.
 abbrev pub HoldsNothing : Message → Type 0
-HoldsNothing (Tx tx) = (tx.inputs ≡ []) × (tx.outputs ≡ [])
-HoldsNothing (Block block) = block.txs ≡ []
+HoldsNothing (Tx tx) = ⊥
+HoldsNothing (Block block) = ⊥
 HoldsNothing (Unknown name payload) = ⊥
 HoldsNothing message = Unit {0}
 

@@ -1,4 +1,4 @@
-ghost use Rattle.std.specs.Prelude.{◌≡◌, ℕ, ◌<◌, ◌≤◌, ◌++◌, List, [], length, drop, IfOk, IsOkUnless, OnErr, IsOk, Err, Some, None, vec_len};
+ghost use Rattle.std.specs.Prelude.{◌≡◌, ℕ, ◌<◌, ◌≤◌, ◌++◌, List, [], length, drop, IfOk, IsOkUnless, OnErr, IsOk, Err, Some, None};
 ghost use Rattle.cb_base.specs.declared.fault.Fault.{Fault};
 ghost use Rattle.cb_base.specs.declared.fault.Fault.TheVariants.{Memory};
 ghost use Rattle.cb_wire.specs.declared.item.Item.{Item};
@@ -8,6 +8,7 @@ ghost use Rattle.cb_wire.specs.Envelope.{front_at};
 
 use crate::envelope::{Front, HEADER_LEN, front_of, item_of};
 use crate::item::Item;
+use bytes::BytesMut;
 use cb_base::Fault;
 use std::alloc::Global;
 use std::marker::Model;
@@ -27,7 +28,7 @@ pub struct Fed {
 #[derive(Debug, Drop)]
 pub struct Assembler {
     alloc: Global,
-    rest: Vec<u8>,
+    rest: BytesMut,
     fault: Option<Fault>,
 }
 
@@ -50,7 +51,7 @@ impl Assembler {
     {
         Assembler {
             alloc,
-            rest: Vec::new(alloc),
+            rest: BytesMut::new(alloc),
             fault: None,
         }
     }
@@ -88,7 +89,7 @@ impl Assembler {
         self.rest.extend_from_slice(piece)?;
         match cut_items(self.alloc, self.rest.as_slice()) {
             Ok(Cut { items, used, fault }) => {
-                drop_front(&mut self.rest, used);
+                cut_front(&mut self.rest, used);
                 self.fault = fault;
                 Ok(Fed { items, fault })
             }
@@ -158,14 +159,14 @@ fn count_whole(bytes: &[u8]) -> usize
     count
 }
 
-/// Drops the first n bytes: what is left moves to the front. Nothing is done where n is 0.
-fn drop_front(bytes: &mut Vec<u8>, n: usize)
-    requires { n ≤ vec_len bytes.old }
+/// Cuts the first n bytes off. No byte is moved; where none is left, the whole block is room again.
+fn cut_front(bytes: &mut BytesMut, n: usize)
+    requires { n ≤ length bytes.old.items }
     ensures { bytes.new.items ≡ drop n bytes.old.items }
 {
-    if n > 0 {
-        let len = bytes.len();
-        bytes.copy_within(n..len, 0);
-        bytes.truncate(len - n);
+    if n == bytes.len() {
+        bytes.clear();
+    } else {
+        bytes.advance(n);
     }
 }

@@ -6,14 +6,14 @@ ghost use Rattle.cb_tx.specs.Text.{IsTx, tx_text};
 ghost use Rattle.cb_wire.specs.Command.{IsCommand, known_command};
 ghost use Rattle.cb_wire.specs.declared.message.Message.{Message};
 ghost use Rattle.cb_wire.specs.declared.item.Item.TheVariants.{Good};
-ghost use Rattle.cb_wire.specs.Grammar.{message_at, payload_at, Gives, Spells, IsMessage, IsPaid, IsUnpaid, IsWithinLimits};
+ghost use Rattle.cb_wire.specs.Grammar.{message_at, payload_at, Gives, Spells, IsMessage, IsPaid, IsUnpaid, IsWithinLimits, whole};
 ghost use Rattle.cb_wire.specs.Envelope.{envelope_text, text};
 ghost use Rattle.cb_wire.specs.Stream.{Stream};
 
 use crate::command::{Command, UnknownName};
 use crate::envelope::{COMMAND_LEN, HEADER_LEN, MAGIC};
 use crate::message::{Message, Payload};
-use cb_base::{Cursor, Fault, dsha};
+use cb_base::{Cursor, Fault, Shared, dsha};
 use cb_block::{Block, read_block, write_block};
 use cb_tx::{Tx, read_tx, write_tx};
 use std::alloc::Global;
@@ -36,7 +36,7 @@ pub fn decode(alloc: Global, command: &str, payload: &[u8]) -> Result<Message, F
     ensures exact { Gives (message_at command.now payload.now) result }
     // Up to the first count of a transaction or a block no memory is taken.
     ensures unpaid { (fault : Fault) → IsUnpaid (known_command command.now) payload.now fault → result ≡ Err fault }
-    // Nor is any for the numbers of the other known commands, or for a count of 0.
+    // Nor is any for the numbers of the other known commands, or for a count of 0 where bytes are left over.
     ensures paid { result ≡ Err Memory → IsPaid (known_command command.now) payload.now }
 {
     message_under(alloc, command, payload)
@@ -66,17 +66,29 @@ pub fn read_payload(alloc: Global, command: Command, payload: &[u8]) -> Result<M
     ensures paid { result ≡ Err Memory → IsPaid (Some command) payload.now }
 {
     let mut cursor = Cursor::new(payload);
-    let message = match command {
-        Command::Verack => Message::Verack,
-        Command::Ping => Message::Ping(cursor.u64()?),
-        Command::Pong => Message::Pong(cursor.u64()?),
-        Command::Tx => Message::Tx(read_tx(alloc, &mut cursor)?),
-        Command::Block => Message::Block(read_block(alloc, &mut cursor)?),
-    };
+    match command {
+        Command::Verack => whole(Message::Verack, &cursor),
+        Command::Ping => whole(Message::Ping(cursor.u64()?), &cursor),
+        Command::Pong => whole(Message::Pong(cursor.u64()?), &cursor),
+        Command::Tx => {
+            let tx = whole(read_tx(alloc, &mut cursor)?, &cursor)?;
+            Ok(Message::Tx(Shared::new(alloc, tx)?))
+        }
+        Command::Block => {
+            let block = whole(read_block(alloc, &mut cursor)?, &cursor)?;
+            Ok(Message::Block(Shared::new(alloc, block)?))
+        }
+    }
+}
+
+/// A value that was read from all of the bytes: `Fault::Trailing` where some are left over.
+fn whole<T: Drop>(value: T, cursor: &Cursor) -> Result<T, Fault>
+    ensures { result ≡ whole (value, cursor.now) }
+{
     if cursor.left() > 0 {
         return Err(Fault::Trailing);
     }
-    Ok(message)
+    Ok(value)
 }
 
 /// Writes a message with its envelope: the one text of the message.

@@ -2,7 +2,7 @@ ghost use Rattle.std.specs.Prelude.{◌≡◌, IsTrue, ◌↔◌, length, IfOk, 
 ghost use Rattle.cb_base.specs.declared.fault.Fault.TheVariants.{Memory};
 
 use crate::command::UnknownName;
-use cb_base::{Fault, copy_bytes};
+use cb_base::{Fault, Shared, copy_bytes};
 use cb_block::Block;
 use cb_tx::Tx;
 use std::alloc::Global;
@@ -80,9 +80,9 @@ pub enum Message {
     /// `pong` (BIP 31), with the nonce of the ping that it answers.
     Pong(u64),
     /// `tx`: a transaction.
-    Tx(Tx),
+    Tx(Shared<Tx>),
     /// `block`: a header, and transactions of which nothing says that they belong to it.
-    Block(Block),
+    Block(Shared<Block>),
     /// Any other command, with its payload as it came.
     Unknown(UnknownName, Payload),
 }
@@ -90,7 +90,9 @@ pub enum Message {
 impl Message {
     ghost use Rattle.cb_wire.specs.Grammar.{HoldsNothing, IsWithinLimits};
 
-    /// An equal message. The only error is `Fault::Memory`, and a message that holds no memory takes none.
+    /// An equal message, which shares its transaction or block with this one: only an unknown command takes memory.
+    ///
+    /// The only error is `Fault::Memory`, and a message that holds no memory takes none.
     pub fn copy(&self, alloc: Global) -> Result<Message, Fault>
         ensures equal { IfOk result (λ copy. copy ≡ self.now) }
         ensures memory { IsOkUnless result Memory }
@@ -100,8 +102,8 @@ impl Message {
             Message::Verack => Message::Verack,
             Message::Ping(nonce) => Message::Ping(*nonce),
             Message::Pong(nonce) => Message::Pong(*nonce),
-            Message::Tx(tx) => Message::Tx(tx.copy(alloc)?),
-            Message::Block(block) => Message::Block(block.copy(alloc)?),
+            Message::Tx(tx) => Message::Tx(tx.clone()?),
+            Message::Block(block) => Message::Block(block.clone()?),
             Message::Unknown(name, payload) => {
                 Message::Unknown(name.copy(alloc)?, payload.copy(alloc)?)
             }

@@ -157,6 +157,40 @@ fn lines_of_pieces(alloc: Global, bytes: &[u8], size: usize) -> Result<String, F
     Ok(text)
 }
 
+/// The envelope of an unknown command whose payload is so many bytes 07.
+fn filler(alloc: Global, size: usize) -> Result<Vec<u8>, Fail> {
+    let mut payload = Vec::new(alloc);
+    payload.resize(size, 7)?;
+    let name = UnknownName::new(alloc, "filler")?;
+    encoded(alloc, &Message::Unknown(name, Payload::new(payload)))
+}
+
+/// What a stream brings that comes in pieces of this size: for each piece with items how many before it had none, its
+/// length and its lines, and at the end how many bytes are left over.
+fn lines_and_quiet_pieces(alloc: Global, bytes: &[u8], size: usize) -> Result<String, Fail>
+    requires { 0 < size }
+{
+    let mut assembler = Assembler::new(alloc);
+    let mut text = String::new(alloc);
+    let mut quiet = 0u32;
+    for piece in bytes.chunks(size) {
+        let fed = assembler.feed(piece)?;
+        if fed.items.is_empty() {
+            quiet = quiet.saturating_add(1);
+        } else {
+            let items = lines(alloc, fed.items.as_slice())?;
+            write!(
+                text,
+                "{quiet} without, then of {} bytes: {items}",
+                piece.len()
+            )?;
+            quiet = 0;
+        }
+    }
+    write!(text, "rest {}", assembler.rest_len())?;
+    Ok(text)
+}
+
 /// An envelope's first 24 bytes.
 fn header(
     alloc: Global,
@@ -226,6 +260,19 @@ fn row_3(rt: HostRuntime) -> Result<(), Fail> {
     assert_eq!(rt; fed.items.len(), 0);
     assert_eq!(rt; fed.fault, None);
     assert_eq!(rt; assembler.rest_len(), 24);
+    Ok(())
+}
+
+/// A payload of the most bytes, in pieces of 65,536: the 62nd has what is missing.
+#[test]
+fn row_a_of_large_pieces(rt: HostRuntime) -> Result<(), Fail> {
+    let bytes = filler(rt.alloc(), 4_000_000)?;
+    assert_eq!(rt; bytes.len(), 4_000_024);
+    let text = lines_and_quiet_pieces(rt.alloc(), bytes.as_slice(), 65_536)?;
+    assert_eq!(rt;
+        text.as_str(),
+        "61 without, then of 2328 bytes: unknown filler 4000000\nrest 0"
+    );
     Ok(())
 }
 

@@ -14,6 +14,7 @@ use crate::ending::{Halt, Status};
 use crate::output::write_all;
 use cb_session::{CloseReason, Hall, Settings, Sink, Source, State, serve};
 use std::alloc::Global;
+use std::mem::forget;
 
 /// What the session is given: it is the peer's connection, and all else is fixed, so that a run can be made again.
 const SETTINGS: Settings = Settings {
@@ -56,7 +57,12 @@ fn connection<R: Source, W: Sink>(alloc: Global, reader: &mut R, writer: &mut W)
         return CloseReason::Memory;
     };
     match serve(alloc, reader, writer, &mut hall, &mut badge, SETTINGS) {
-        Ok(served) => reason_of(served.trace.state()),
+        Ok(served) => {
+            let reason = reason_of(served.trace.state());
+            // The run ends next, and the system takes all of the memory back at once.
+            forget(served);
+            reason
+        }
         Err(_) => CloseReason::Memory,
     }
 }

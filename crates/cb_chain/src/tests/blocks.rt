@@ -1,4 +1,4 @@
-use cb_base::Hash256;
+use cb_base::{Hash256, Shared};
 use cb_block::{BITS, Block, Header, SoundBlock, Txs, check_header, root, sound};
 use cb_tx::{Inputs, OutPoint, Outputs, Script, Tx, TxIn, TxOut};
 use std::alloc::Global;
@@ -81,15 +81,16 @@ fn tx_beside(alloc: Global, mark: u32, beside: Beside) -> Result<Option<Tx>, Fai
     }
 }
 
-fn txs_of(alloc: Global, recipe: &Recipe) -> Result<Vec<Tx>, Fail> {
-    let mut txs = vec![in alloc; coinbase(alloc, recipe.mark)?]?;
+fn txs_of(alloc: Global, recipe: &Recipe) -> Result<Vec<Shared<Tx>>, Fail> {
+    let first = coinbase(alloc, recipe.mark)?;
+    let mut txs = vec![in alloc; Shared::new(alloc, first)?]?;
     if let Some(tx) = tx_beside(alloc, recipe.mark, recipe.beside)? {
-        txs.push(tx)?;
+        txs.push(Shared::new(alloc, tx)?)?;
     }
     Ok(txs)
 }
 
-fn root_of(alloc: Global, txs: &[Tx]) -> Result<Hash256, Fail> {
+fn root_of(alloc: Global, txs: &[Shared<Tx>]) -> Result<Hash256, Fail> {
     let mut txids = Vec::new(alloc);
     for tx in txs {
         txids.push(tx.txid(alloc)?)?;
@@ -119,9 +120,9 @@ pub(crate) fn header_on(prev: Hash256, root: Hash256, works: bool) -> Header {
     header
 }
 
-fn sound_block(alloc: Global, header: Header, txs: Vec<Tx>) -> Result<SoundBlock, Fail> {
+fn sound_block(alloc: Global, header: Header, txs: Vec<Shared<Tx>>) -> Result<SoundBlock, Fail> {
     let txs = Txs::new(txs);
-    match sound(alloc, Block { header, txs }) {
+    match sound(alloc, Shared::new(alloc, Block { header, txs })?) {
         Ok(block) => Ok(block),
         Err((_, fault)) => Err(Fail::from(fault)),
     }

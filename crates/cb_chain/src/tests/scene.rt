@@ -154,7 +154,7 @@ impl Scene {
                     block: Some(block),
                     ..
                 },
-            ) => Ok(block.copy(self.alloc)?),
+            ) => Ok(block.copy()?),
             _ => Err(Fail::from("no such block")),
         }
     }
@@ -183,7 +183,7 @@ impl Scene {
     // What the chain tells of it.
     fn takes(&mut self, came: &Came) -> Result<Result<Change, Fault>, Fail> {
         match &came.block {
-            Some(block) => Ok(self.chain.accept_block(block.copy(self.alloc)?)),
+            Some(block) => Ok(self.chain.accept_block(block.copy()?)),
             None => Ok(match self.chain.accept_header(came.header) {
                 Ok(()) => Ok(unchanged(self.alloc)),
                 Err(fault) => Err(fault),

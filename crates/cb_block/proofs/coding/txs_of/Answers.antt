@@ -1,4 +1,4 @@
-use Rattle.std.proofs.Common.{◌≡◌, ◌++◌, ◌∷◌, []}
+use Rattle.std.proofs.Common.{◌≡◌, ◌∙◌, ◌++◌, ◌∷◌, [], ap}
 use Rattle.std.proofs.lemmas.Result.{err_from_is_err_and}
 use Rattle.cb_tx.specs.declared.tx.Tx.{Tx}
 use Rattle.cb_tx.specs.Reading.{tx_at, items_at}
@@ -12,8 +12,8 @@ returns-in_err-read_tx-clause-exact c =
 
 pub loop-preserved : goal.loop-preserved
 loop-preserved c =
-    let e : c.push.new.self.items ≡ c.loop.txs.items ++ c.in_ok-read_tx.field-0 ∷ [] = c.in_ok-push.ensures.items in
+    let e : c.push.new.self.items ≡ c.loop.txs.items ++ c.in_ok-read_tx.field-0 ∷ [] = c.in_ok-push.ensures.items ∙ ap (λ tx. c.loop.txs.items ++ tx ∷ []) c.in_ok-new.ensures.same in
     rw e (goes_on Tx tx_at c.loop.txs.items c.args.count c.loop.counter c.loop.cursor c.in_ok-read_tx.field-0 c.read_tx.new.cursor (items_at tx_at c.args.count c.args.cursor.now) c.loop-test.true c.in_ok-read_tx.ensures.exact c.loop.invariant)
 
 pub returns-clause-exact : goal.returns-clause-exact
-returns-clause-exact c = rw c.new.ensures (is_done Tx tx_at c.loop.txs.items c.args.count c.loop.counter c.loop.cursor (items_at tx_at c.args.count c.args.cursor.now) c.loop-test.false c.loop.invariant)
+returns-clause-exact c = rw c.new-2.ensures (is_done Tx tx_at c.loop.txs.items c.args.count c.loop.counter c.loop.cursor (items_at tx_at c.args.count c.args.cursor.now) c.loop-test.false c.loop.invariant)

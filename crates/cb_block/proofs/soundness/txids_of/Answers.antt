@@ -1,5 +1,5 @@
 -- One transaction more.
-use Rattle.std.proofs.Common.{◌≡◌, ◌++◌, ◌∷◌, [], ◌∙◌, ap, arith}
+use Rattle.std.proofs.Common.{◌≡◌, ◌++◌, ◌∷◌, [], ◌∙◌, ap, subst, arith}
 use Rattle.std.proofs.lemmas.Grind.{common_steps}
 use Rattle.std.proofs.lemmas.List.Elements.{All-more}
 use Rattle.cb_base.specs.DoubleHash.{double_hash}
@@ -13,5 +13,5 @@ loop-tx-preserved c =
     let named : c.dsha.result ≡ double_hash (tx_text c.tx-item.result) = c.dsha.ensures ∙ ap double_hash (c.as_slice.ensures.value ∙ written) in
     let pushed : c.push.new.self.items ≡ c.loop-tx.txids.items ++ c.dsha.result ∷ [] = c.in_ok-push.ensures.items in (
       pushed ∙ names_more c.args.txs.now c.loop-tx.tx-index c.tx-item.result c.loop-tx.txids.items c.dsha.result c.loop-tx-test.true c.tx-item.is c.loop-tx.invariant.0 named,
-      All-more IsTx c.args.txs.now c.loop-tx.tx-index c.tx-item.result c.loop-tx-test.true c.loop-tx.invariant.1 (rw (← c.tx-item.is) c.in_ok-write_tx.ensures.fits),
+      All-more IsTx c.args.txs.now c.loop-tx.tx-index c.tx-item.result c.loop-tx-test.true c.loop-tx.invariant.1 (rw (← c.tx-item.is) (subst IsTx c.deref.ensures c.in_ok-write_tx.ensures.fits)),
     )

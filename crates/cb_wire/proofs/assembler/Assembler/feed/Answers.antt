@@ -10,7 +10,7 @@ returns-then-is_some-clause-stream c =
 pub invariant_of-self-in-Ok : goal.invariant_of-self-in-Ok
 invariant_of-self-in-Ok c =
     subst (λ (rest : List ℕ). IsSettled rest c.in-Ok.field-0.fault)
-    (sym (c.drop_front.ensures ∙ ap (drop c.in-Ok.field-0.used) (sym c.as_slice.ensures.value)))
+    (sym (c.cut_front.ensures ∙ ap (drop c.in-Ok.field-0.used) (sym c.as_slice.ensures)))
     (Stream-settles _ _ _ _ c.in-Ok.ensures.stream)
 
 pub returns-in-Ok-clause-stream : goal.returns-in-Ok-clause-stream
@@ -18,6 +18,6 @@ returns-in-Ok-clause-stream c =
     rw (← c.self.view_is)
     (feed-taken c.self.inside.rest.items c.args.piece.now c.as_slice.result.now _ c.self.inside.fault _ c.in-Ok.field-0.used _
     (sym c.is_some.ensures ∙ c.if-is_some.false)
-    (c.as_slice.ensures.value ∙ c.in_ok-extend_from_slice.ensures.items)
-    (c.drop_front.ensures ∙ ap (drop c.in-Ok.field-0.used) (sym c.as_slice.ensures.value))
+    (c.as_slice.ensures ∙ c.in_ok-extend_from_slice.ensures.ok)
+    (c.cut_front.ensures ∙ ap (drop c.in-Ok.field-0.used) (sym c.as_slice.ensures))
     c.in-Ok.ensures.stream)

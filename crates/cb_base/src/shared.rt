@@ -1,0 +1,71 @@
+ghost use Rattle.std.specs.Prelude.{◌≡◌, IfOk, IfErr};
+
+use std::alloc::{AllocError, AllocFailed, Global};
+use std::marker::Model;
+use std::ops::Deref;
+use std::sync::Arc;
+
+/// A value on the heap with several owners, which lives as long as its last owner. It is seen as the value itself.
+#[derive(Debug, Drop)]
+pub struct Shared<T> {
+    owner: Arc<T, Global>,
+}
+
+impl<T> Model for Shared<T> {
+    ghost use Rattle.std.specs.Arc.{arc_value};
+
+    ghost Value = { T };
+
+    ghost view = { λ shared. arc_value shared.owner };
+}
+
+impl<T> Shared<T> {
+    /// The value with one owner. Where memory lacks, the value comes back.
+    pub fn new(alloc: Global, value: T) -> Result<Shared<T>, AllocFailed<T>>
+        ensures same { IfOk result (λ shared. shared ≡ value) }
+        ensures back { IfErr result (λ failed. failed.value ≡ value) }
+    {
+        match Arc::new(alloc, value) {
+            Ok(owner) => Ok(Shared { owner }),
+            Err(failed) => Err(failed),
+        }
+    }
+
+    /// The value, given out where this is its only owner; else this owner comes back.
+    pub fn into_value(self) -> Result<T, Shared<T>>
+        ensures value { IfOk result (λ value. value ≡ self) }
+        ensures back { IfErr result (λ shared. shared ≡ self) }
+    {
+        match Arc::try_unwrap(self.owner) {
+            Ok(value) => Ok(value),
+            Err(owner) => Err(Shared { owner }),
+        }
+    }
+}
+
+impl<T: Drop> Clone for Shared<T> {
+    ghost is_clone = { λ shared clone. clone ≡ shared };
+
+    /// One more owner of the same value, which takes no memory.
+    ///
+    /// It is refused only where the count of owners is full, at 2^63 of them; that is told as want of memory.
+    fn clone(&self) -> Result<Shared<T>, AllocError>
+        ensures { IfOk result (λ clone. clone ≡ self.now) }
+    {
+        let owner = Arc::try_clone(&self.owner)?;
+        Ok(Shared { owner })
+    }
+}
+
+impl<T> Deref for Shared<T> {
+    type Target = T;
+
+    ghost deref_gives = { λ shared value. value ≡ shared };
+
+    /// The value.
+    fn deref(&self) -> &T
+        ensures { result.now ≡ self.now }
+    {
+        &*self.owner
+    }
+}
