@@ -18,6 +18,7 @@ use Rattle.cb_session.specs.declared.hall.Question.{Question}
 use Rattle.cb_session.specs.declared.hall.Answer.{Answer}
 use Rattle.cb_session.specs.declared.hall.Answer.TheVariants.{Go}
 use Rattle.cb_session.specs.Session.{SessionState, Stepped, opening, is_closed, stays, step_of, closes, asks, told, processed, open_step, matter_of, standing_question, takes_no_memory}
+use Rattle.cb_session.specs.Serving.{EachPrompt, begins, is_input, is_tick}
 use Rattle.cb_session.specs.Trace.{Account, account_step, first_account, account_of, session_of, entry_step, next_step, EachOpen, IsTrace, TraceView, Answers, Grows, TraceSteps, RanOut, IsOpen, state_of, ends_at_once}
 
 -- ---- a number more
@@ -51,6 +52,14 @@ EachOpen_fold account (other ∷ entries) entry each going = (each.0, EachOpen_f
 pub EachOpen_more : (settings : Settings) (entries : List TraceEntry) (entry : TraceEntry) → EachOpen (first_account settings) entries → is_closed (session_of settings entries).state ≡ false → EachOpen (first_account settings) (entries ++ entry ∷ [])
 unfolding account_of
 EachOpen_more settings entries entry each going = EachOpen_fold (first_account settings) entries entry each going
+
+EachPrompt_fold : (account : Account) (entries : List TraceEntry) (entry : TraceEntry) → EachPrompt account entries → (begins entry.event ≡ true → (fold account_step account entries).session.standing ≡ None) → EachPrompt account (entries ++ entry ∷ [])
+EachPrompt_fold account [] entry each free = (free, tt)
+EachPrompt_fold account (other ∷ entries) entry each free = (each.0, EachPrompt_fold (account_step account other) entries entry each.1 free)
+
+pub EachPrompt_more : (settings : Settings) (entries : List TraceEntry) (entry : TraceEntry) → EachPrompt (first_account settings) entries → (begins entry.event ≡ true → (session_of settings entries).standing ≡ None) → EachPrompt (first_account settings) (entries ++ entry ∷ [])
+unfolding account_of
+EachPrompt_more settings entries entry each free = EachPrompt_fold (first_account settings) entries entry each free
 
 -- ---- what a step makes, as a table
 
@@ -123,6 +132,73 @@ ends_open s events.WriteFault e = refl
 pub entry_ends : (count : ℕ) (s : SessionState) (entry : TraceEntry) → is_closed s.state ≡ false → ends_at_once entry.event ≡ true → is_closed (entry_step count s entry).session.state ≡ true
 entry_ends count s entry going e =
     entry_cases (λ made. is_closed made.session.state ≡ true) count s entry going (λ _. refl) (λ _ _. refl) (λ _ _. ends_open s entry.event e)
+
+-- ---- what stands after a step
+
+-- the question of a step is the one that stands after it, unless the session is over
+abbrev pub Waiting : Stepped → Type 0
+Waiting made = is_closed made.session.state ≡ false → standing_question made.session.standing ≡ made.question
+
+-- no question stands after a step, unless the session is over
+abbrev pub IsFree : Stepped → Type 0
+IsFree made = is_closed made.session.state ≡ false → made.session.standing ≡ None
+
+asks_waiting : (standing : Option Matter) (s : SessionState) (matter : Matter) → standing ≡ None → Waiting (asks standing s matter)
+asks_waiting None s matter e going = refl
+asks_waiting (Some other) s matter e going = absurd cc
+
+-- an input of a session at which no question stands
+pub waiting_input : (s : SessionState) (event : Event) → is_input event ≡ true → s.standing ≡ None → Waiting (open_step s event)
+waiting_input s (events.Said item) input e going = asks_waiting s.standing s (matter_of item) e going
+waiting_input s (events.Broken fault) input e going = absurd cc
+waiting_input s events.Tick input e going = absurd cc
+waiting_input s (events.Told answer) input e going = absurd cc
+waiting_input s events.ReaderEnd input e going = absurd cc
+waiting_input s events.NoMemory input e going = absurd cc
+waiting_input s events.HallFull input e going = absurd cc
+waiting_input s events.WriteFault input e going = absurd cc
+
+processed_free : (s : SessionState) (matter : Matter) → s.standing ≡ None → IsFree (processed s matter)
+processed_free s Pass e going = e
+processed_free s (AnswerPing nonce) e going = e
+processed_free s Refuse e going = absurd cc
+
+told_free : (standing : Option Matter) (s : SessionState) (answer : Answer) → standing ≡ s.standing → IsFree (told standing s answer)
+told_free None s Go e going = sym e
+told_free (Some matter) s Go e going = processed_free (record { settings = s.settings; state = s.state; standing = None }) matter refl going
+
+-- an answer, or an event that ends the session
+pub free_after : (s : SessionState) (event : Event) → is_input event ≡ false → is_tick event ≡ false → IsFree (open_step s event)
+free_after s (events.Said item) input tick going = absurd cc
+free_after s (events.Broken fault) input tick going = absurd cc
+free_after s events.Tick input tick going = absurd cc
+free_after s (events.Told answer) input tick going = told_free s.standing s answer refl going
+free_after s events.ReaderEnd input tick going = absurd cc
+free_after s events.NoMemory input tick going = absurd cc
+free_after s events.HallFull input tick going = absurd cc
+free_after s events.WriteFault input tick going = absurd cc
+
+processed_asks : (s : SessionState) (matter : Matter) → (processed s matter).question ≡ None
+processed_asks s Pass = refl
+processed_asks s (AnswerPing nonce) = refl
+processed_asks s Refuse = refl
+
+told_asks : (standing : Option Matter) (s : SessionState) (answer : Answer) → (told standing s answer).question ≡ None
+told_asks None s Go = refl
+told_asks (Some matter) s Go = processed_asks (record { settings = s.settings; state = s.state; standing = None }) matter
+
+asks_none_after : (s : SessionState) (event : Event) → is_input event ≡ false → is_tick event ≡ false → (open_step s event).question ≡ None
+asks_none_after s (events.Said item) input tick = absurd cc
+asks_none_after s (events.Broken fault) input tick = absurd cc
+asks_none_after s events.Tick input tick = absurd cc
+asks_none_after s (events.Told answer) input tick = told_asks s.standing s answer
+asks_none_after s events.ReaderEnd input tick = absurd cc
+asks_none_after s events.NoMemory input tick = refl
+asks_none_after s events.HallFull input tick = refl
+asks_none_after s events.WriteFault input tick = refl
+
+pub waiting_after : (s : SessionState) (event : Event) → is_input event ≡ false → is_tick event ≡ false → Waiting (open_step s event)
+waiting_after s event input tick going = ap standing_question (free_after s event input tick going) ∙ sym (asks_none_after s event input tick)
 
 -- the 65,536th entry ends the session
 pub entry_full : (count : ℕ) (s : SessionState) (entry : TraceEntry) → is_closed s.state ≡ false → is_closed (entry_step count s entry).session.state ≡ false → count + 1 ≢ 65536
@@ -216,6 +292,13 @@ state_more old new event starved g =
     ap (λ (es : List TraceEntry). (session_of new.settings es).state) g.entries
     ∙ ap (λ (s : Settings). (session_of s (old.entries ++ record { event = event; starved = starved } ∷ [])).state) g.settings
     ∙ ap (λ (a : Account). a.session.state) (account_of_more old.settings old.entries (record { event = event; starved = starved }))
+
+-- what stands after one more entry
+pub standing_more : (old new : TraceView) (event : Event) (starved : Bool) → Grows old new event starved → (session_of new.settings new.entries).standing ≡ (next_step old (record { event = event; starved = starved })).session.standing
+standing_more old new event starved g =
+    ap (λ (es : List TraceEntry). (session_of new.settings es).standing) g.entries
+    ∙ ap (λ (s : Settings). (session_of s (old.entries ++ record { event = event; starved = starved } ∷ [])).standing) g.settings
+    ∙ ap (λ (a : Account). a.session.standing) (account_of_more old.settings old.entries (record { event = event; starved = starved }))
 
 -- an event that ends a trace at once has ended it
 pub ended : (old new : TraceView) (event : Event) (starved : Bool) → IsOpen old → ends_at_once event ≡ true → Grows old new event starved → is_closed (state_of new) ≡ true

@@ -161,8 +161,12 @@ pieced_refused from before now bytes assembled items e closed s =
     }
 
 -- an end by which messages are lost settles what is missing
-pub settled_lost : (from : Origin) (now : Progress) (inputs : List Event) (missing : List ℕ) → Accounts from now inputs missing → has_event loses now.trace.entries ≡ true → Settled from now inputs
-settled_lost from now inputs missing a lost = record { missing = missing; accounts = a; whole = λ h. absurd (let clash = sym lost ∙ h in cc) }
+pub settled_lost : (from : Origin) (now : Progress) (inputs : List Event) (missing : List ℕ) → Accounts from now inputs missing → has_event loses now.trace.entries ≡ true → is_closed (state_of now.trace) ≡ true → Settled from now inputs
+settled_lost from now inputs missing a lost closed =
+    record {
+      sent = record { missing = missing; accounts = a; whole = λ h. absurd (let clash = sym lost ∙ h in cc); told = λ h. inr lost };
+      answered = λ h. absurd (let clash = sym h ∙ closed in cc);
+    }
 
 -- ---- reading
 
@@ -310,12 +314,12 @@ no_end inputs later items fault e =
 pub in_order_stopped : (from : Origin) (now : Progress) (inputs later : List Event) (items : List Item) (fault : Option Fault) → inputs ++ later ≡ said items ++ broken fault → Settled from now inputs
     → IsInOrder (queue items fault ends.Stopped) now.trace × (has_event is_reader_end now.trace.entries ≡ false)
 in_order_stopped from now inputs later items fault e s =
-    let is : inputs_of now.trace.entries ≡ inputs = s.accounts.inputs_are in
+    let is : inputs_of now.trace.entries ≡ inputs = s.sent.accounts.inputs_are in
     let none : has_event is_reader_end now.trace.entries ≡ false = end_is_input now.trace.entries ∙ ap (list_any is_reader_end) is ∙ no_end inputs later items fault e in (
       record {
         later = later;
         beginning = ap (λ (x : List Event). x ++ later) is ∙ e ∙ ap (λ (x : List Event). said items ++ x) (sym (append-nil (broken fault)));
-        none_after = s.accounts.each;
+        none_after = s.sent.accounts.each;
         all_at_bye = λ bye. absurd (let end = bye_ended now.trace bye in let clash = sym none ∙ end in cc);
       },
       none,
@@ -325,7 +329,7 @@ in_order_stopped from now inputs later items fault e s =
 pub in_order_ended : (from : Origin) (now : Progress) (inputs : List Event) (items : List Item) (fault : Option Fault) (end : ReadEnd) → end_mark end ≡ events.ReaderEnd ∷ [] → inputs ≡ said items ++ broken fault
     → (g : Gave from now inputs events.ReaderEnd) → IsInOrder (queue items fault end) now.trace
 in_order_ended from now inputs items fault end mark e g =
-    let is : inputs_of now.trace.entries ≡ g.given = g.settled.accounts.inputs_are in
+    let is : inputs_of now.trace.entries ≡ g.given = g.settled.sent.accounts.inputs_are in
     let all : said items ++ (broken fault ++ end_mark end) ≡ inputs ++ events.ReaderEnd ∷ [] =
     ap (λ (x : List Event). said items ++ (broken fault ++ x)) mark ∙ sym (append_assoc (said items) (broken fault) (events.ReaderEnd ∷ [])) ∙ ap (λ (x : List Event). x ++ events.ReaderEnd ∷ []) (sym e) in
     elim g.which [
@@ -333,14 +337,14 @@ in_order_ended from now inputs items fault end mark e g =
           record {
             later = [];
             beginning = append-nil (inputs_of now.trace.entries) ∙ is ∙ given ∙ sym all;
-            none_after = g.settled.accounts.each;
+            none_after = g.settled.sent.accounts.each;
             all_at_bye = λ _. is ∙ given ∙ sym all;
           }
       | inr given ↦
           record {
             later = events.ReaderEnd ∷ [];
             beginning = ap (λ (x : List Event). x ++ events.ReaderEnd ∷ []) (is ∙ given.0) ∙ sym all;
-            none_after = g.settled.accounts.each;
+            none_after = g.settled.sent.accounts.each;
             all_at_bye = λ bye.
                 absurd (
                 let end = bye_ended now.trace bye in

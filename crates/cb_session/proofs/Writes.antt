@@ -1,5 +1,7 @@
 -- What went out of a text, write by write and message by message.
-use Rattle.std.proofs.Common.{◌≡◌, ℕ, ◌+◌, ◌-◌, ◌^◌, ◌<◌, ◌≤◌, min, List, [], ◌∷◌, ◌++◌, length, get_or, take, drop, Option, sym, ap, ◌∙◌, append_assoc, arith, Bool, true, false, ◌||◌}
+use Rattle.std.proofs.Common.{◌≡◌, ℕ, ◌+◌, ◌-◌, ◌^◌, ◌<◌, ◌≤◌, min, List, [], ◌∷◌, ◌++◌, length, get_or, take, drop, Option, sym, ap, ◌∙◌, append_assoc, arith, Bool, true, false, eqb, ◌||◌, ◌≢◌}
+use Rattle.std.specs.Prelude.{◌&&◌, ◌==◌, nat_lt}
+use Rattle.std.proofs.lemmas.Bool.Decides.{nat_tests}
 use Rattle.std.proofs.lemmas.List.{append-nil, length-append, length-take, length-drop, take-append-drop, take_more}
 use Rattle.std.proofs.lemmas.Grind.{flat_map-append}
 use Rattle.std.specs.Io.KnownBytes.{Appends}
@@ -96,3 +98,8 @@ whole_more a b c messages i n k m message bytes w lt is t f e =
 pub or_stays : (a b c : Bool) → c ≡ (a || b) → a ≡ true → c ≡ true
 or_stays true b c e h = e
 or_stays false b c e h = absurd cc
+
+-- a write that took some bytes hasn't failed
+pub unfailed_more : (before after : Bool) (taken left : ℕ) → after ≡ (before || (taken == 0 && nat_lt 0 left)) → taken ≢ 0 → after ≡ before
+unfailed_more true after taken left e some = e
+unfailed_more false after taken left e some = (let none : eqb taken 0 ≡ false = grind (arith, nat_tests) in e ∙ ap (λ b. b && nat_lt 0 left) none)

@@ -1,5 +1,5 @@
 -- Serving one connection: what has come in, what was asked and told, and what went out, at any moment and in the end.
-use Rattle.std.specs.Prelude.{◌≡◌, ℕ, ◌≤◌, ◌^◌, ◌⊎◌, Bool, true, false, List, [], ◌∷◌, ◌++◌, length, map, filter, Option, Some, None}
+use Rattle.std.specs.Prelude.{◌≡◌, ℕ, ◌+◌, ◌≤◌, ◌^◌, ◌⊎◌, ◌||◌, Bool, true, false, List, [], ◌∷◌, ◌++◌, length, map, filter, Option, Some, None}
 use Rattle.std.specs.Io.KnownBytes.{Consumes, IsAtEnd}
 use Rattle.cb_base.specs.declared.fault.Fault.{Fault}
 use Rattle.cb_wire.specs.declared.item.Item.{Item}
@@ -11,13 +11,14 @@ use Rattle.cb_session.specs.declared.event.Event.{Event}
 use Rattle.cb_session.specs.declared.event.Event.TheVariants as events
 use Rattle.cb_session.specs.declared.trace.TraceEntry.{TraceEntry}
 use Rattle.cb_session.specs.declared.hall.Question.{Question}
+use Rattle.cb_session.specs.declared.session.Matter.{Matter}
 use Rattle.cb_session.specs.declared.hall.Entry.{Entry}
 use Rattle.cb_session.specs.declared.hall.Entry.TheVariants.{Asked}
 use Rattle.cb_session.specs.declared.reading.ReadEnd.{ReadEnd}
 use Rattle.cb_session.specs.declared.reading.ReadEnd.TheVariants as ends
-use Rattle.cb_session.specs.Hall.{BadgeState, answer_to}
+use Rattle.cb_session.specs.Hall.{BadgeState, IsFull, answer_to}
 use Rattle.cb_session.specs.Session.{is_closed, standing_question}
-use Rattle.cb_session.specs.Trace.{TraceView, Reply, EachOpen, first_account, sends, replies, session_of, state_of, has_event}
+use Rattle.cb_session.specs.Trace.{Account, TraceView, Reply, EachOpen, account_step, first_account, sends, replies, session_of, state_of, has_event}
 use Rattle.cb_session.specs.Writing.{Wrote}
 
 -- ---- tests of events
@@ -94,6 +95,34 @@ is_reader_end events.NoMemory = false
 is_reader_end events.HallFull = false
 is_reader_end events.WriteFault = false
 
+-- ---- promptness
+
+-- what begins something new: what comes of the peer, or a tick
+abbrev pub begins : Event → Bool
+begins event = is_input event || is_tick event
+
+-- no question stood before each entry that begins something new
+abbrev pub EachPrompt : Account → List TraceEntry → Type 0
+EachPrompt account [] = Unit {0}
+EachPrompt account (entry ∷ entries) = (begins entry.event ≡ true → account.session.standing ≡ None) × EachPrompt (account_step account entry) entries
+
+-- no question stands, unless the session is over
+abbrev pub NoneStands : TraceView → Type 0
+NoneStands trace = is_closed (state_of trace) ≡ false → (session_of trace.settings trace.entries).standing ≡ None
+
+-- every item got its answers before the next thing came, and none was left waiting
+pub record IsPrompt (trace : TraceView) : Type 0 where
+  pub each : EachPrompt (first_account trace.settings) trace.entries
+  pub done : NoneStands trace
+
+-- how many answers what stands still needs
+abbrev pub questions_left : Option Matter → ℕ
+questions_left None = 0
+questions_left (Some matter) = 1
+
+abbrev pub answers_left : TraceView → ℕ
+answers_left trace = questions_left (session_of trace.settings trace.entries).standing
+
 -- ---- what was processed, and what was to be
 
 -- the inputs that a trace was given, in order
@@ -138,13 +167,20 @@ abbrev pub AreAnswers : List Entry → ℕ → List Reply → Type 0
 AreAnswers journal peer [] = Unit {0}
 AreAnswers journal peer (reply ∷ replies) = (reply.answer ≡ answer_to journal (asked_by peer reply)) × AreAnswers (journal ++ asked_by peer reply ∷ []) peer replies
 
+-- the journal or the badge is full, and the badge is marked
+abbrev pub IsMarkedFull : List Entry → BadgeState → Type 0
+IsMarkedFull journal badge = (badge.full ≡ true) × IsFull journal badge
+
 -- ---- one connection
 
--- where serving began: the settings, whose badge it is, what the sink held, and the journal
+-- where serving began: the settings, whose badge it is and what it counted, what the sink held and
+-- whether it had failed, and the journal
 pub record Origin : Type 0 where
   pub settings : Settings
   pub peer : ℕ
+  pub count : ℕ
   pub held : Option (List ℕ)
+  pub failed : Bool
   pub journal : List Entry
 
 -- how far serving is: the trace, what the sink holds and whether it has failed, the journal, the badge, the bytes written
@@ -163,20 +199,30 @@ pub record Accounts (from : Origin) (now : Progress) (inputs : List Event) (miss
   pub wrote : Wrote from.held now.held (texts (sends now.trace.settings now.trace.entries)) now.written missing
   pub inputs_are : inputs_of now.trace.entries ≡ inputs
   pub each : EachOpen (first_account now.trace.settings) now.trace.entries
+  pub prompt : EachPrompt (first_account now.trace.settings) now.trace.entries
   -- the journal grew by the questions of the fold that were granted, and the fold was told the hall's answers
   pub journal : now.journal ≡ from.journal ++ map (asked_by from.peer) (replies now.trace.settings now.trace.entries)
   pub answers : AreAnswers from.journal from.peer (replies now.trace.settings now.trace.entries)
   pub peer : now.badge.peer ≡ from.peer
+  -- the badge counted each reply
+  pub count : now.badge.count ≡ from.count + length (replies now.trace.settings now.trace.entries)
   -- each cause is true
   pub write_fault : has_event is_write_fault now.trace.entries ≡ true → now.failed ≡ true
-  pub hall_full : has_event is_hall_full now.trace.entries ≡ true → now.badge.full ≡ true
+  pub hall_full : has_event is_hall_full now.trace.entries ≡ true → IsMarkedFull now.journal now.badge
   pub no_tick : has_event is_tick now.trace.entries ≡ false
 
 -- the account with nothing on its way: all that was sent went out, unless a write failed or memory ran out
-pub record Settled (from : Origin) (now : Progress) (inputs : List Event) : Type 0 where
+pub record Sent (from : Origin) (now : Progress) (inputs : List Event) : Type 0 where
   pub missing : List ℕ
   pub accounts : Accounts from now inputs missing
   pub whole : has_event loses now.trace.entries ≡ false → missing ≡ []
+  -- a write that failed was told, and ended the session
+  pub told : now.failed ≡ true → (from.failed ≡ true) ⊎ (has_event loses now.trace.entries ≡ true)
+
+-- the same where no answer is waited for
+pub record Settled (from : Origin) (now : Progress) (inputs : List Event) : Type 0 where
+  pub sent : Sent from now inputs
+  pub answered : NoneStands now.trace
 
 -- an input was given, or there was no room for it and the session ended
 pub record Gave (from : Origin) (now : Progress) (inputs : List Event) (event : Event) : Type 0 where
@@ -198,6 +244,10 @@ progress trace held failed journal badge written = record { trace = trace; held 
 -- the question that was asked is the one that stands
 abbrev pub Stands : TraceView → Option Question → Type 0
 Stands trace asked = (question : Question) → asked ≡ Some question → standing_question (session_of trace.settings trace.entries).standing ≡ Some question
+
+-- the question that stands is the one that was asked, unless the session is over
+abbrev pub Waits : TraceView → Option Question → Type 0
+Waits trace asked = is_closed (state_of trace) ≡ false → standing_question (session_of trace.settings trace.entries).standing ≡ asked
 
 -- an event that is no input, no answer and no tick, and says nothing of the hall
 pub record IsQuiet (event : Event) : Type 0 where
@@ -260,6 +310,8 @@ pub record Serves (from : Origin) (input remaining : Option (List ℕ)) (read_fa
   pub stream : Stream read items rest fault
   -- the items were processed in order, each once, none after the session's end
   pub in_order : IsInOrder (queue items fault end) now.trace
+  -- each had its answers before the next came
+  pub prompt : IsPrompt now.trace
   -- what was written, asked and told
   pub settled : Settled from now (inputs_of now.trace.entries)
   -- why reading ended; where it was stopped, the session was over by itself

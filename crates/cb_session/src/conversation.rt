@@ -1,12 +1,12 @@
 //! One event of a connection at a time: the session is given it, what it sends is written, what it asks is asked.
-ghost use Rattle.std.specs.Prelude.{◌≡◌, true, Bool, List, ℕ, [], Option, Some};
+ghost use Rattle.std.specs.Prelude.{◌≡◌, ◌<◌, true, Bool, List, ℕ, [], Option, Some};
 ghost use Rattle.cb_wire.specs.Stream.{texts};
 ghost use Rattle.cb_session.specs.declared.event.Event.{Event};
 ghost use Rattle.cb_session.specs.declared.hall.Entry.{Entry};
 ghost use Rattle.cb_session.specs.Hall.{BadgeState};
 ghost use Rattle.cb_session.specs.Session.{is_closed, standing_question};
 ghost use Rattle.cb_session.specs.Trace.{IsOpen, ends_at_once, has_event, session_of, state_of};
-ghost use Rattle.cb_session.specs.Serving.{Accounts, Gave, IsQuiet, Origin, Settled, Stands, is_input, is_write_fault, loses, progress};
+ghost use Rattle.cb_session.specs.Serving.{Accounts, Gave, IsQuiet, Origin, Sent, Settled, Stands, Waits, answers_left, is_input, is_write_fault, loses, progress};
 ghost use Rattle.cb_session.specs.Writing.{IsOfSink};
 
 use crate::event::Event;
@@ -63,6 +63,8 @@ fn converse<W: Sink>(
     ensures stays { is_closed (state_of trace.old) ≡ true → is_closed (state_of trace.new) ≡ true }
     ensures settled { (from : Origin) (inputs : List Event) →
         Accounts from (progress trace.old (W.contents writer.old) (W.has_failed writer.old) hall.old badge.old written) inputs (texts messages.items) →
+        Waits trace.old question →
+        (W.has_failed writer.old ≡ true → from.failed ≡ true) →
         Settled from (progress trace.new (W.contents writer.new) (W.has_failed writer.new) hall.new badge.new result) inputs }
 {
     let mut total = send(alloc, trace, writer, messages.as_slice(), written);
@@ -96,6 +98,8 @@ fn ask(
         Accounts from (progress trace.old held failed hall.old badge.old written) inputs [] →
         Accounts from (progress trace.new held failed hall.new badge.new written) inputs (texts result.0.items) }
     ensures stands { Stands trace.new result.1 }
+    ensures waits { Waits trace.new result.1 }
+    ensures fewer { IsOpen trace.new → answers_left trace.new < answers_left trace.old }
     ensures silent { is_closed (state_of trace.new) ≡ true → result.0.items ≡ [] }
 {
     if !trace.ready() {
@@ -120,7 +124,8 @@ pub fn send<W: Sink>(
     requires silent { is_closed (state_of trace.old) ≡ true → messages.now ≡ [] }
     ensures accounts { (from : Origin) (inputs : List Event) (journal : List Entry) (badge : BadgeState) →
         Accounts from (progress trace.old (W.contents writer.old) (W.has_failed writer.old) journal badge written) inputs (texts messages.now) →
-        Settled from (progress trace.new (W.contents writer.new) (W.has_failed writer.new) journal badge result) inputs }
+        (W.has_failed writer.old ≡ true → from.failed ≡ true) →
+        Sent from (progress trace.new (W.contents writer.new) (W.has_failed writer.new) journal badge result) inputs }
     ensures kept { IsOpen trace.new → trace.new.entries ≡ trace.old.entries }
     ensures stays { is_closed (state_of trace.old) ≡ true → is_closed (state_of trace.new) ≡ true }
     ensures settings { trace.new.settings ≡ trace.old.settings }

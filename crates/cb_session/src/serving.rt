@@ -44,7 +44,7 @@ pub fn serve<R: Source, W: Sink>(
     badge: &mut Badge,
     settings: Settings,
 ) -> Result<Served, Fault>
-    ensures served { IfOk result (λ served. Serves (record { settings = settings; peer = badge.old.peer; held = W.contents writer.old; journal = hall.old })
+    ensures served { IfOk result (λ served. Serves (record { settings = settings; peer = badge.old.peer; count = badge.old.count; held = W.contents writer.old; failed = W.has_failed writer.old; journal = hall.old })
         (R.remaining reader.old) (R.remaining reader.new) (R.has_failed reader.new)
         (progress served.trace (W.contents writer.new) (W.has_failed writer.new) hall.new badge.new served.written) served.read) }
     ensures memory { IsOkUnless result Memory }

@@ -44,6 +44,8 @@ pub fn write_out<W: Sink>(
     // A fault of the sink comes only where the sink has failed.
     ensures failed { IfErr result (λ end. IsOfSink end.fault → W.has_failed writer.new ≡ true) }
     ensures stays { W.has_failed writer.old ≡ true → W.has_failed writer.new ≡ true }
+    // All went out only where the sink didn't fail in this call.
+    ensures unfailed { IfOk result (λ _. W.has_failed writer.new ≡ W.has_failed writer.old) }
     ensures nothing { messages.now ≡ [] → IsOk result }
 {
     let mut written = 0u64;
@@ -74,6 +76,7 @@ fn write_bytes<W: Sink>(writer: &mut W, bytes: &[u8]) -> Result<(), (usize, Writ
     ensures failed { IfErr result (λ end. W.has_failed writer.new ≡ true) }
     ensures kinds { IfErr result (λ end. IsOfSink end.1) }
     ensures stays { W.has_failed writer.old ≡ true → W.has_failed writer.new ≡ true }
+    ensures unfailed { IfOk result (λ _. W.has_failed writer.new ≡ W.has_failed writer.old) }
 {
     let mut rest = bytes;
     while !rest.is_empty() {

@@ -15,24 +15,26 @@ use Rattle.cbrelay.specs.declared.ending.Halt.TheVariants.{ReadFailed, WriteFail
 use Rattle.cbrelay.specs.Ending.{reason_status}
 
 -- where serving begins: the peer's settings, the one peer 0, and an empty journal
-abbrev pub peer_origin : Option (List ℕ) → Origin
-peer_origin held =
+abbrev pub peer_origin : Option (List ℕ) → Bool → Origin
+peer_origin held failed =
     record {
       settings = record { inbound = true; nonce = 1; time = pos 0; height = pos 0; salt = 0 };
       peer = 0;
+      count = 0;
       held = held;
+      failed = failed;
       journal = [];
     }
 
 -- The connection was served to its end, from its source as it was (input) to its source as it is (remaining), and from
--- what the writer held to what it holds; its session is closed for this reason.
-pub record WasServed (input remaining : Option (List ℕ)) (read_failed : Bool) (held holds : Option (List ℕ)) (write_failed : Bool) (reason : CloseReason) : Type 0 where
+-- what the writer held to what it holds, which had failed before or not; its session is closed for this reason.
+pub record WasServed (input remaining : Option (List ℕ)) (read_failed : Bool) (held holds : Option (List ℕ)) (had_failed write_failed : Bool) (reason : CloseReason) : Type 0 where
   pub trace : TraceView
   pub journal : List Entry
   pub badge : BadgeState
   pub written : ℕ
   pub end : ReadEnd
-  pub serves : Serves (peer_origin held) input remaining read_failed (progress trace holds write_failed journal badge written) end
+  pub serves : Serves (peer_origin held had_failed) input remaining read_failed (progress trace holds write_failed journal badge written) end
   pub closed : state_of trace ≡ Closed reason
 
 -- the line on standard error

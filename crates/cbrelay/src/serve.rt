@@ -36,7 +36,7 @@ pub fn serve_peer<R: Source, W: Sink, E: Sink>(
 ) -> Result<Status, Halt>
     // The connection was served whole; or there was no memory before the first read, and nothing was read or written.
     // In both cases its end is told.
-    ensures { (reason : CloseReason) × (WasServed (R.remaining reader.old) (R.remaining reader.new) (R.has_failed reader.new) (W.contents writer.old) (W.contents writer.new) (W.has_failed writer.new) reason
+    ensures { (reason : CloseReason) × (WasServed (R.remaining reader.old) (R.remaining reader.new) (R.has_failed reader.new) (W.contents writer.old) (W.contents writer.new) (W.has_failed writer.old) (W.has_failed writer.new) reason
         ⊎ ((reason ≡ reasons.Memory) × (reader.new ≡ reader.old) × (writer.new ≡ writer.old)))
         × PeerEnds (R.has_failed reader.new) (W.has_failed writer.new) (E.contents errors.old) (E.contents errors.new) (E.has_failed errors.new) reason result }
 {
@@ -47,7 +47,7 @@ pub fn serve_peer<R: Source, W: Sink, E: Sink>(
 
 /// Serves the connection with a hall of its own. Want of memory before the first read closes it as later.
 fn connection<R: Source, W: Sink>(alloc: Global, reader: &mut R, writer: &mut W) -> CloseReason
-    ensures { WasServed (R.remaining reader.old) (R.remaining reader.new) (R.has_failed reader.new) (W.contents writer.old) (W.contents writer.new) (W.has_failed writer.new) result
+    ensures { WasServed (R.remaining reader.old) (R.remaining reader.new) (R.has_failed reader.new) (W.contents writer.old) (W.contents writer.new) (W.has_failed writer.old) (W.has_failed writer.new) result
         ⊎ ((result ≡ reasons.Memory) × (reader.new ≡ reader.old) × (writer.new ≡ writer.old)) }
 {
     let Ok((mut hall, mut badges)) = Hall::new(alloc, 1) else {

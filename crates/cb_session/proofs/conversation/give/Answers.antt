@@ -1,5 +1,5 @@
 use Rattle.std.proofs.Common.{◌++◌, ◌∷◌, [], refl, inl}
-use Rattle.cb_session.proofs.Accounts.{accounts_input, gave_none, room_open, stands_more}
+use Rattle.cb_session.proofs.Accounts.{accounts_input, gave_none, open_told, room_open, stands_more, waits_input}
 use Rattle.cb_session.proofs.Folds.{ended}
 use Rattle.cb_session.proofs.conversation.give.Goals as goal
 
@@ -19,7 +19,9 @@ returns-clause-gave g c =
       settled =
           c.converse.ensures.settled from (inputs ++ c.args.event ∷ [])
           (accounts_input from c.args.trace.now c.ready.new.self c.step-messages.new.self _ _ c.args.hall.now c.args.badge.now c.args.written inputs c.args.event _ _
-          c.requires.going c.if-not-ready.ensures.readied c.requires.input c.step-messages.ensures s);
+          c.requires.going c.if-not-ready.ensures.readied c.requires.input c.step-messages.ensures s)
+          (waits_input c.args.trace.now c.ready.new.self c.step-messages.new.self c.args.event _ _ c.requires.going c.if-not-ready.ensures.readied c.requires.input s.answered c.step-messages.ensures)
+          (open_told from _ inputs s.sent c.requires.going);
       which = inl refl;
     }
 

@@ -29,4 +29,4 @@ pub returns-in-Err : goal.returns-in-Err
 returns-in-Err g c =
     λ from bytes items s settled.
     pieced_refused from (record { trace = c.args.trace.now; held = g.W.Sink.contents c.args.writer.now; failed = g.W.Sink.has_failed c.args.writer.now; journal = c.args.hall.now; badge = c.args.badge.now; written = c.args.written }) _ _ c.feed.new.self items (reading_goes_on bytes c.args.piece.now items _ _ s) c.lose.ensures.closed
-    (settled_lost from _ _ settled.missing (c.lose.ensures.accounts from (said items) settled.missing _ _ _ _ _ (λ h. absurd cc) settled.accounts) c.lose.ensures.lost)
+    (settled_lost from _ _ settled.sent.missing (c.lose.ensures.accounts from (said items) settled.sent.missing _ _ _ _ _ (λ h. absurd cc) settled.sent.accounts) c.lose.ensures.lost c.lose.ensures.closed)

@@ -8,6 +8,7 @@ invariant-loop-rest g l = record {
   shorter : length l.rest ≤ length l.bytes;
   front : SentFront (g.W.Sink.contents l.fn.writer) (g.W.Sink.contents l.writer) l.bytes l.rest (length l.bytes - length l.rest);
   stays : g.W.Sink.has_failed l.fn.writer ≡ true → g.W.Sink.has_failed l.writer ≡ true;
+  same : g.W.Sink.has_failed l.writer ≡ g.W.Sink.has_failed l.fn.writer;
 }
 
 abbrev pub decreases-loop-rest : goal.decreases-loop-rest

@@ -8,4 +8,5 @@ abbrev pub invariant-loop-message : goal.invariant-loop-message
 invariant-loop-message g l = record {
   wrote : Wrote (g.W.Sink.contents l.fn.writer) (g.W.Sink.contents l.writer) (texts (take l.message-index l.messages)) l.written [];
   stays : g.W.Sink.has_failed l.fn.writer ≡ true → g.W.Sink.has_failed l.writer ≡ true;
+  same : g.W.Sink.has_failed l.writer ≡ g.W.Sink.has_failed l.fn.writer;
 }
