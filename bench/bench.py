@@ -266,6 +266,7 @@ def cases():
         ("10 unknown commands of 4,000,000 bytes", unknown(10)),
         ("20 blocks of 4,000 transactions of 250 bytes", envelope(b"block", usual_block(4_000)) * 20),
         ("50 blocks of 4,000 transactions of 60 bytes", envelope(b"block", block(4_000, 0)) * 50),
+        ("6 blocks of 60,000 transactions of 60 bytes", envelope(b"block", block(60_000, 0)) * 6),
         ("10 blocks of 100,000 transactions of 10 bytes", envelope(b"block", bare_block(100_000)) * 10),
     ]
     for name, stream in large:
