@@ -21,7 +21,7 @@ use Rattle.cb_session.specs.declared.hall.Entry.TheVariants.{Asked}
 use Rattle.cb_session.specs.declared.hall.Answer.{Answer}
 use Rattle.cb_session.specs.declared.session.Matter.{Matter}
 use Rattle.cb_session.specs.Hall.{BadgeState, Grants, IsFull, answer_to}
-use Rattle.cb_session.specs.Session.{Stepped, is_closed, standing_question, stays, closes, open_step}
+use Rattle.cb_session.specs.Session.{SessionState, Stepped, is_closed, standing_question, stays, closes, open_step}
 use Rattle.cb_session.specs.Trace.{Account, account_step, TraceView, Reply, EachOpen, first_account, account_of, sends, replies, replies_to, session_of, state_of, has_event, next_step, IsOpen, Grows, TraceSteps, HasRoom, RanOut, ends_at_once}
 use Rattle.cb_session.specs.Writing.{counted, Wrote}
 use Rattle.cb_session.specs.Serving.{Accounts, AreAnswers, EachPrompt, Gave, answers_left, NoneStands, Origin, Progress, Sent, Settled, Stands, Waits, asked_by, inputs_of, is_hall_full, is_input, is_tick, is_told, is_write_fault, loses, progress, questions_left, IsMarkedFull, IsQuiet}
@@ -220,10 +220,13 @@ no_input event e = ap (λ b. cond b (event ∷ []) []) e
 one_input : (event : Event) → is_input event ≡ true → inputs_in event ≡ event ∷ []
 one_input event e = ap (λ b. cond b (event ∷ []) []) e
 
+-- the same entries leave the same session
+session_kept : (trace trace' : TraceView) → trace'.settings ≡ trace.settings → trace'.entries ≡ trace.entries → session_of trace'.settings trace'.entries ≡ session_of trace.settings trace.entries
+session_kept trace trace' s e = ap (λ (x : Settings). session_of x trace'.entries) s ∙ ap (λ (es : List TraceEntry). session_of trace.settings es) e
+
 -- a trace that is open after room was made
 pub room_open : (trace trace' : TraceView) → HasRoom trace trace' → IsOpen trace → IsOpen trace'
-room_open trace trace' r going =
-    ap (λ (s : Settings). is_closed (session_of s trace'.entries).state) r.settings ∙ ap (λ (es : List TraceEntry). is_closed (session_of trace.settings es).state) r.entries ∙ going
+room_open trace trace' r going = ap (λ (s : SessionState). is_closed s.state) (session_kept trace trace' r.settings r.entries) ∙ going
 
 -- a trace that ended for want of memory
 pub accounts_ran : (from : Origin) (trace trace' : TraceView) (held : Option (List ℕ)) (failed : Bool) (journal : List Entry) (badge : BadgeState) (written : ℕ) (inputs : List Event) (missing : List ℕ)
@@ -424,21 +427,16 @@ open_told from now inputs s going failed =
     elim (s.told failed) [ inl before ↦ before | inr lost ↦ absurd (let none = open_lost now.trace s.accounts.each going in let clash = sym none ∙ lost in cc) ]
 
 pub stands_kept : (trace trace' : TraceView) (asked : Option Question) → trace'.settings ≡ trace.settings → trace'.entries ≡ trace.entries → Stands trace asked → Stands trace' asked
-stands_kept trace trace' asked s e h question is =
-    ap (λ (x : Settings). standing_question (session_of x trace'.entries).standing) s ∙ ap (λ (es : List TraceEntry). standing_question (session_of trace.settings es).standing) e ∙ h question is
+stands_kept trace trace' asked s e h question is = ap (λ (x : SessionState). standing_question x.standing) (session_kept trace trace' s e) ∙ h question is
 
 -- what stands is kept
 free_kept : (trace trace' : TraceView) → trace'.settings ≡ trace.settings → trace'.entries ≡ trace.entries → (session_of trace.settings trace.entries).standing ≡ None → (session_of trace'.settings trace'.entries).standing ≡ None
-free_kept trace trace' s e h =
-    ap (λ (x : Settings). (session_of x trace'.entries).standing) s ∙ ap (λ (es : List TraceEntry). (session_of trace.settings es).standing) e ∙ h
+free_kept trace trace' s e h = ap (λ (x : SessionState). x.standing) (session_kept trace trace' s e) ∙ h
 
 pub waits_kept : (trace trace' : TraceView) (asked : Option Question) → trace'.settings ≡ trace.settings → (IsOpen trace' → trace'.entries ≡ trace.entries) → Waits trace asked → Waits trace' asked
 waits_kept trace trace' asked s e h going =
-    let es = e going in
-    let state : state_of trace' ≡ state_of trace =
-    ap (λ (x : Settings). (session_of x trace'.entries).state) s ∙ ap (λ (y : List TraceEntry). (session_of trace.settings y).state) es in
-    ap (λ (x : Settings). standing_question (session_of x trace'.entries).standing) s ∙ ap (λ (y : List TraceEntry). standing_question (session_of trace.settings y).standing) es
-    ∙ h (ap is_closed (sym state) ∙ going)
+    let same = session_kept trace trace' s (e going) in
+    ap (λ (x : SessionState). standing_question x.standing) same ∙ h (ap (λ (x : SessionState). is_closed x.state) (sym same) ∙ going)
 
 -- the question that a step asks is the one that stands after it
 waits_step : (trace trace' : TraceView) (event : Event) (sent : List Message) (asked : Option Question) → IsOpen trace → Waiting (open_step (session_of trace.settings trace.entries) event) → TraceSteps trace trace' event sent asked → Waits trace' asked
@@ -472,12 +470,9 @@ fewer_left (Some matter) after question stands e = let z : questions_left after 
 pub left_less : (before mid after : TraceView) (n : ℕ) → after.settings ≡ mid.settings → (IsOpen after → after.entries ≡ mid.entries) → (IsOpen mid → answers_left mid < answers_left before)
     → answers_left before + n ≤ 6 → IsOpen after → answers_left after + (n + 1) ≤ 6
 left_less before mid after n s e less few going =
-    let es = e going in
-    let state : state_of after ≡ state_of mid =
-    ap (λ (x : Settings). (session_of x after.entries).state) s ∙ ap (λ (y : List TraceEntry). (session_of mid.settings y).state) es in
-    let same : answers_left after ≡ answers_left mid =
-    ap (λ (x : Settings). questions_left (session_of x after.entries).standing) s ∙ ap (λ (y : List TraceEntry). questions_left (session_of mid.settings y).standing) es in
-    let fewer = less (ap is_closed (sym state) ∙ going) in
+    let kept = session_kept mid after s (e going) in
+    let same : answers_left after ≡ answers_left mid = ap (λ (x : SessionState). questions_left x.standing) kept in
+    let fewer = less (ap (λ (x : SessionState). is_closed x.state) (sym kept) ∙ going) in
     omega (arith, same, fewer, few)
 
 pub few_left : (standing : Option Matter) → questions_left standing + 0 ≤ 6

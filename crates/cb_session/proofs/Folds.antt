@@ -286,19 +286,18 @@ fed_is place s event going one other =
     entry_cases (λ made. made ≡ step_of s event) (place - 1) s (record { event = event; starved = false }) going
     (λ full. absurd (other (omega arith))) (λ _ starved. absurd (let e : false ≡ true = starved in cc)) (λ _ _. sym same)
 
--- the state after one more entry
-pub state_more : (old new : TraceView) (event : Event) (starved : Bool) → Grows old new event starved → state_of new ≡ (next_step old (record { event = event; starved = starved })).session.state
-state_more old new event starved g =
-    ap (λ (es : List TraceEntry). (session_of new.settings es).state) g.entries
-    ∙ ap (λ (s : Settings). (session_of s (old.entries ++ record { event = event; starved = starved } ∷ [])).state) g.settings
-    ∙ ap (λ (a : Account). a.session.state) (account_of_more old.settings old.entries (record { event = event; starved = starved }))
+-- the session after one more entry
+pub session_more : (old new : TraceView) (event : Event) (starved : Bool) → Grows old new event starved → session_of new.settings new.entries ≡ (next_step old (record { event = event; starved = starved })).session
+session_more old new event starved g =
+    ap (λ (es : List TraceEntry). session_of new.settings es) g.entries
+    ∙ ap (λ (s : Settings). session_of s (old.entries ++ record { event = event; starved = starved } ∷ [])) g.settings
+    ∙ ap (λ (a : Account). a.session) (account_of_more old.settings old.entries (record { event = event; starved = starved }))
 
--- what stands after one more entry
+pub state_more : (old new : TraceView) (event : Event) (starved : Bool) → Grows old new event starved → state_of new ≡ (next_step old (record { event = event; starved = starved })).session.state
+state_more old new event starved g = ap (λ (s : SessionState). s.state) (session_more old new event starved g)
+
 pub standing_more : (old new : TraceView) (event : Event) (starved : Bool) → Grows old new event starved → (session_of new.settings new.entries).standing ≡ (next_step old (record { event = event; starved = starved })).session.standing
-standing_more old new event starved g =
-    ap (λ (es : List TraceEntry). (session_of new.settings es).standing) g.entries
-    ∙ ap (λ (s : Settings). (session_of s (old.entries ++ record { event = event; starved = starved } ∷ [])).standing) g.settings
-    ∙ ap (λ (a : Account). a.session.standing) (account_of_more old.settings old.entries (record { event = event; starved = starved }))
+standing_more old new event starved g = ap (λ (s : SessionState). s.standing) (session_more old new event starved g)
 
 -- an event that ends a trace at once has ended it
 pub ended : (old new : TraceView) (event : Event) (starved : Bool) → IsOpen old → ends_at_once event ≡ true → Grows old new event starved → is_closed (state_of new) ≡ true

@@ -94,11 +94,6 @@ whole_more a b c messages i n k m message bytes w lt is t f e =
       count = counted_more w.sent f.sent n k m w.count f.count e;
     }
 
--- what has failed stays failed
-pub or_stays : (a b c : Bool) → c ≡ (a || b) → a ≡ true → c ≡ true
-or_stays true b c e h = e
-or_stays false b c e h = absurd cc
-
 -- a write that took some bytes hasn't failed
 pub unfailed_more : (before after : Bool) (taken left : ℕ) → after ≡ (before || (taken == 0 && nat_lt 0 left)) → taken ≢ 0 → after ≡ before
 unfailed_more true after taken left e some = e

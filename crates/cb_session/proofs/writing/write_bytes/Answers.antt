@@ -1,5 +1,5 @@
 use Rattle.std.proofs.Common.{◌∙◌, length, arith, refl}
-use Rattle.cb_session.proofs.Writes.{front_more, or_stays, unfailed_more}
+use Rattle.cb_session.proofs.Writes.{front_more, unfailed_more}
 use Rattle.cb_session.proofs.writing.write_bytes.Goals as goal
 
 pub loop-rest-preserved : goal.loop-rest-preserved
@@ -9,6 +9,5 @@ loop-rest-preserved g c =
     record {
       shorter = omega arith;
       front = front_more _ _ _ _ _ _ _ c.in-Some.taken _ c.loop-rest.invariant.front c.in-Some.ensures.bytes c.in-Some.ensures.taken c.split_at.ensures.back refl;
-      stays = λ h. or_stays _ _ _ c.in-Some.ensures.failed (c.loop-rest.invariant.stays h);
       same = unfailed_more _ _ c.in-Some.taken (length c.loop-rest.rest.now) c.in-Some.ensures.failed c.if-taken-eq0.false ∙ c.loop-rest.invariant.same;
     }

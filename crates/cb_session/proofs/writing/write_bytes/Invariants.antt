@@ -1,4 +1,4 @@
-use Rattle.std.proofs.Common.{◌≡◌, ◌-◌, ◌≤◌, length, true}
+use Rattle.std.proofs.Common.{◌≡◌, ◌-◌, ◌≤◌, length}
 use Rattle.cb_session.specs.Writing.{SentFront}
 use Rattle.cb_session.proofs.writing.write_bytes.Given as goal
 
@@ -7,7 +7,6 @@ abbrev pub invariant-loop-rest : goal.invariant-loop-rest
 invariant-loop-rest g l = record {
   shorter : length l.rest ≤ length l.bytes;
   front : SentFront (g.W.Sink.contents l.fn.writer) (g.W.Sink.contents l.writer) l.bytes l.rest (length l.bytes - length l.rest);
-  stays : g.W.Sink.has_failed l.fn.writer ≡ true → g.W.Sink.has_failed l.writer ≡ true;
   same : g.W.Sink.has_failed l.writer ≡ g.W.Sink.has_failed l.fn.writer;
 }
 

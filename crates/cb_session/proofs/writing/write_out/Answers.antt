@@ -21,6 +21,5 @@ loop-message-preserved g c =
           (c.as_slice.ensures.value ∙ c.in-Ok.ensures.text ∙ ap text c.message.ensures.message)
           (subst (λ (k : ℕ). SentFront (g.W.Sink.contents c.loop-message.writer) (g.W.Sink.contents c.write_bytes.new.writer) c.as_slice.result.now [] k) (sym len) c.in-Ok-write_bytes.ensures.ok)
           c.saturating_add-written.ensures;
-      stays = λ h. c.in-Ok-write_bytes.ensures.stays (c.loop-message.invariant.stays h);
       same = c.in-Ok-write_bytes.ensures.unfailed ∙ c.loop-message.invariant.same;
     }
