@@ -1,6 +1,6 @@
 -- The text of a message is a stream of that one message, whatever stands behind it.
-use Rattle.std.proofs.Common.{◌≡◌, ℕ, ◌+◌, ◌-◌, ◌^◌, ◌<◌, ◌≤◌, true, false, not, cond, List, [], ◌∷◌, ◌++◌, length, take, drop, replicate, Option, Some, None, Result, Ok, Err, refl, sym, ap, subst, ◌∙◌, append_assoc, arith}
-use Rattle.std.specs.Prelude.{IfOk, map}
+use Rattle.std.proofs.Common.{◌≡◌, ℕ, ◌+◌, ◌-◌, ◌^◌, ◌<◌, ◌≤◌, true, false, not, cond, List, [], ◌∷◌, ◌++◌, length, take, drop, replicate, Option, Some, None, Ok, refl, sym, ap, subst, ◌∙◌, append_assoc, arith}
+use Rattle.std.specs.Prelude.{map}
 use Rattle.std.specs.List.{AllByRecursion}
 use Rattle.std.specs.Int.{w32, to_le_bytes, from_le_bytes}
 use Rattle.std.specs.Str.{bytes_eq}
@@ -28,11 +28,11 @@ use Rattle.cb_wire.proofs.Streams.{Stream-one, IsWhole, front_at-whole, front_at
 -- ---- writing
 
 -- six pieces, put behind one another
-pub appended : (a m b n c p d l e k f payload g : List ℕ) → a ≡ [] → b ≡ a ++ m → c ≡ b ++ n → d ≡ c ++ p → e ≡ d ++ l → f ≡ e ++ k → g ≡ f ++ payload
-    → g ≡ m ++ ((n ++ p) ++ (l ++ (k ++ payload)))
-appended a m b n c p d l e k f payload g z h1 h2 h3 h4 h5 h6 =
-    let b' : b ≡ m = h1 ∙ ap (λ (x : List ℕ). x ++ m) z in
-    let f' : f ≡ (((m ++ n) ++ p) ++ l) ++ k =
+pub appended : (old a m b n c p d l e k f payload g : List ℕ) → a ≡ old → b ≡ a ++ m → c ≡ b ++ n → d ≡ c ++ p → e ≡ d ++ l → f ≡ e ++ k → g ≡ f ++ payload
+    → g ≡ old ++ (m ++ ((n ++ p) ++ (l ++ (k ++ payload))))
+appended old a m b n c p d l e k f payload g z h1 h2 h3 h4 h5 h6 =
+    let b' : b ≡ old ++ m = h1 ∙ ap (λ (x : List ℕ). x ++ m) z in
+    let f' : f ≡ ((((old ++ m) ++ n) ++ p) ++ l) ++ k =
     h5 ∙ ap (λ (x : List ℕ). x ++ k) (h4 ∙ ap (λ (x : List ℕ). x ++ l) (h3 ∙ ap (λ (x : List ℕ). x ++ p) (h2 ∙ ap (λ (x : List ℕ). x ++ n) b'))) in
     h6 ∙ ap (λ (x : List ℕ). x ++ payload) f' ∙ simp append_assoc
 
@@ -41,12 +41,11 @@ pub padding : (n : ℕ) (zeros p : List ℕ) → zeros ≡ replicate 12 0 → p 
 padding n zeros p z e = e ∙ ap (take (12 - n)) z ∙ take-replicate (12 - n) 12 0 (omega arith)
 
 -- the pieces are those of an envelope
-pub envelope_is : (name payload m n p l k g : List ℕ) → g ≡ m ++ ((n ++ p) ++ (l ++ (k ++ payload)))
-    → m ≡ magic → n ≡ name → p ≡ replicate (12 - length name) 0 → l ≡ to_le_bytes w32 (length payload) → k ≡ checksum payload → g ≡ envelope_text name payload
+pub envelope_is : (name payload m n p l k : List ℕ) → m ≡ magic → n ≡ name → p ≡ replicate (12 - length name) 0 → l ≡ to_le_bytes w32 (length payload) → k ≡ checksum payload
+    → m ++ ((n ++ p) ++ (l ++ (k ++ payload))) ≡ envelope_text name payload
 unfolding envelope_text
-envelope_is name payload m n p l k g e a b c d f =
-    e
-    ∙ ap (λ (x : List ℕ). x ++ ((n ++ p) ++ (l ++ (k ++ payload)))) a
+envelope_is name payload m n p l k a b c d f =
+    ap (λ (x : List ℕ). x ++ ((n ++ p) ++ (l ++ (k ++ payload)))) a
     ∙ ap (λ (x : List ℕ). magic ++ ((x ++ p) ++ (l ++ (k ++ payload)))) b
     ∙ ap (λ (x : List ℕ). magic ++ ((name ++ x) ++ (l ++ (k ++ payload)))) c
     ∙ ap (λ (x : List ℕ). magic ++ (command_field name ++ (x ++ (k ++ payload)))) d
@@ -192,10 +191,8 @@ text-alone message h limit =
     subst (λ (bytes : List ℕ). Stream bytes (Good message ∷ []) [] None) (append-nil (text message)) (text-stream message [] [] [] None h limit empty)
 
 -- the same of what was written
-pub again_lem : {V E : Type 0} (message : Message) (items : V → List ℕ) (r : Result V E) → IfOk r (λ _. IsMessage message) → IsWithinLimits message → IfOk r (λ v. items v ≡ text message)
-    → IfOk r (λ v. Stream (items v) (Good message ∷ []) [] None)
-again_lem message items (Ok v) h limit e = subst (λ (bytes : List ℕ). Stream bytes (Good message ∷ []) [] None) (sym e) (text-alone message h limit)
-again_lem message items (Err f) h limit e = tt
+pub again_lem : (message : Message) (bytes : List ℕ) → IsMessage message → IsWithinLimits message → bytes ≡ text message → Stream bytes (Good message ∷ []) [] None
+again_lem message bytes h limit e = subst (λ (b : List ℕ). Stream b (Good message ∷ []) [] None) (sym e) (text-alone message h limit)
 
 -- the texts of messages are a stream of these messages
 pub texts-stream : (messages : List Message) → AllByRecursion IsProper messages → Stream (texts messages) (map (λ message. Good message) messages) [] None

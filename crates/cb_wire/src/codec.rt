@@ -1,4 +1,4 @@
-ghost use Rattle.std.specs.Prelude.{◌≡◌, ◌⊎◌, ◌≤◌, [], ◌∷◌, length, codes, Ok, Err, Some, None, IfOk, IsOkUnless};
+ghost use Rattle.std.specs.Prelude.{◌≡◌, ◌⊎◌, ◌≤◌, [], ◌∷◌, ◌++◌, length, codes, Ok, Err, Some, None, IfOk, OnOk, OnErr, IsOkUnless};
 ghost use Rattle.cb_base.specs.declared.fault.Fault.{Fault};
 ghost use Rattle.cb_base.specs.declared.fault.Fault.TheVariants.{Memory};
 ghost use Rattle.cb_block.specs.Text.{IsBlock, block_text};
@@ -103,68 +103,78 @@ pub fn encode(alloc: Global, message: &Message) -> Result<Vec<u8>, Fault>
     // What was written is this one message as a stream, and nothing is left over: so no other message has this text.
     ensures again { IfOk result (λ bytes. Stream bytes.items (Good message.now ∷ []) [] None) }
 {
-    write_text(alloc, message)
+    let mut bytes = Vec::new(alloc);
+    encode_into(alloc, &mut bytes, message)?;
+    Ok(bytes)
 }
 
-/// The text of a message: one arm for each.
-fn write_text(alloc: Global, message: &Message) -> Result<Vec<u8>, Fault>
+/// Writes a message with its envelope at the end of a buffer: one arm for each.
+///
+/// The only error is `Fault::Memory`, which leaves the buffer as it was.
+pub fn encode_into(alloc: Global, buffer: &mut Vec<u8>, message: &Message) -> Result<(), Fault>
     requires { IsWithinLimits message.now }
-    ensures text { IfOk result (λ bytes. bytes.items ≡ text message.now) }
+    ensures text { OnOk result (buffer.new.items ≡ buffer.old.items ++ text message.now) }
+    ensures err { OnErr result (buffer.new.items ≡ buffer.old.items) }
     ensures memory { IsOkUnless result Memory }
-    ensures kept { IfOk result (λ _. IsMessage message.now) }
+    // Each number of what is written is one of its field, and each hash has 32 bytes.
+    ensures kept { OnOk result (IsMessage message.now) }
 {
     match message {
-        Message::Verack => envelope(alloc, "verack", &[]),
-        Message::Ping(nonce) => envelope(alloc, "ping", nonce.to_le_bytes().as_slice()),
-        Message::Pong(nonce) => envelope(alloc, "pong", nonce.to_le_bytes().as_slice()),
-        Message::Tx(tx) => envelope_of_tx(alloc, tx),
-        Message::Block(block) => envelope_of_block(alloc, block),
-        Message::Unknown(name, payload) => envelope(alloc, name.as_str(), payload.as_slice()),
+        Message::Verack => put_envelope(buffer, "verack", &[]),
+        Message::Ping(nonce) => put_envelope(buffer, "ping", nonce.to_le_bytes().as_slice()),
+        Message::Pong(nonce) => put_envelope(buffer, "pong", nonce.to_le_bytes().as_slice()),
+        Message::Tx(tx) => put_tx(alloc, buffer, tx),
+        Message::Block(block) => put_block(alloc, buffer, block),
+        Message::Unknown(name, payload) => put_envelope(buffer, name.as_str(), payload.as_slice()),
     }
 }
 
 /// The envelope of a transaction.
-fn envelope_of_tx(alloc: Global, tx: &Tx) -> Result<Vec<u8>, Fault>
+fn put_tx(alloc: Global, buffer: &mut Vec<u8>, tx: &Tx) -> Result<(), Fault>
     requires { length (tx_text tx.now) ≤ 4000000 }
-    ensures text { IfOk result (λ bytes. bytes.items ≡ envelope_text (codes "tx") (tx_text tx.now)) }
+    ensures text { OnOk result (buffer.new.items ≡ buffer.old.items ++ envelope_text (codes "tx") (tx_text tx.now)) }
+    ensures err { OnErr result (buffer.new.items ≡ buffer.old.items) }
     ensures memory { IsOkUnless result Memory }
-    ensures fits { IfOk result (λ _. IsTx tx.now) }
+    ensures fits { OnOk result (IsTx tx.now) }
 {
     let mut payload = Vec::new(alloc);
     write_tx(&mut payload, tx)?;
-    envelope(alloc, "tx", payload.as_slice())
+    put_envelope(buffer, "tx", payload.as_slice())
 }
 
 /// The envelope of a block.
-fn envelope_of_block(alloc: Global, block: &Block) -> Result<Vec<u8>, Fault>
+fn put_block(alloc: Global, buffer: &mut Vec<u8>, block: &Block) -> Result<(), Fault>
     requires { length (block_text block.now) ≤ 4000000 }
-    ensures text { IfOk result (λ bytes. bytes.items ≡ envelope_text (codes "block") (block_text block.now)) }
+    ensures text { OnOk result (buffer.new.items ≡ buffer.old.items ++ envelope_text (codes "block") (block_text block.now)) }
+    ensures err { OnErr result (buffer.new.items ≡ buffer.old.items) }
     ensures memory { IsOkUnless result Memory }
-    ensures fits { IfOk result (λ _. IsBlock block.now) }
+    ensures fits { OnOk result (IsBlock block.now) }
 {
     let mut payload = Vec::new(alloc);
     write_block(&mut payload, block)?;
-    envelope(alloc, "block", payload.as_slice())
+    put_envelope(buffer, "block", payload.as_slice())
 }
 
 /// The envelope of a payload, in one growth: magic, the command and zeros up to twelve bytes, the length, the checksum,
-/// and the payload.
-fn envelope(alloc: Global, name: &str, payload: &[u8]) -> Result<Vec<u8>, Fault>
+/// and the payload. The only error is `Fault::Memory`, which leaves the buffer as it was.
+fn put_envelope(buffer: &mut Vec<u8>, name: &str, payload: &[u8]) -> Result<(), Fault>
     requires name { IsCommand name.now }
     requires limit { length payload.now ≤ 4000000 }
-    ensures text { IfOk result (λ bytes. bytes.items ≡ envelope_text name.now payload.now) }
+    ensures text { OnOk result (buffer.new.items ≡ buffer.old.items ++ envelope_text name.now payload.now) }
+    ensures err { OnErr result (buffer.new.items ≡ buffer.old.items) }
     ensures memory { IsOkUnless result Memory }
 {
-    let mut bytes = Vec::with_capacity(alloc, HEADER_LEN + payload.len())?;
     let hash = dsha(payload);
     let (checksum, _) = hash.0.split_at(4);
     let zeros = [0u8; COMMAND_LEN];
     let (padding, _) = zeros.split_at(COMMAND_LEN - name.len());
-    bytes.extend_from_slice(MAGIC.as_slice())?;
-    bytes.extend_from_slice(name.as_bytes())?;
-    bytes.extend_from_slice(padding)?;
-    bytes.extend_from_slice((payload.len() as u32).to_le_bytes().as_slice())?;
-    bytes.extend_from_slice(checksum)?;
-    bytes.extend_from_slice(payload)?;
-    Ok(bytes)
+    // With room for the whole envelope no growth behind this is refused.
+    buffer.reserve(HEADER_LEN + payload.len())?;
+    buffer.extend_from_slice(MAGIC.as_slice())?;
+    buffer.extend_from_slice(name.as_bytes())?;
+    buffer.extend_from_slice(padding)?;
+    buffer.extend_from_slice((payload.len() as u32).to_le_bytes().as_slice())?;
+    buffer.extend_from_slice(checksum)?;
+    buffer.extend_from_slice(payload)?;
+    Ok(())
 }

@@ -1,7 +1,7 @@
 //! Messages of Bitcoin's peer-to-peer protocol, their envelopes, and the stream that they come in.
 //!
 //! A command is added by one row in each of these: `Command` and `Message` name it, `Command::named` and
-//! `Command::name` hold its text, `read_payload` reads it, `write_text` writes it, and `Message::copy` and
+//! `Command::name` hold its text, `read_payload` reads it, `encode_into` writes it, and `Message::copy` and
 //! `Message::is_within_limits` have its arm. The definitions in specs/ have the same rows.
 #![tactic(auto)]
 
@@ -14,7 +14,7 @@ mod laws;
 mod message;
 
 pub use assembler::{Assembler, Fed};
-pub use codec::{decode, encode};
+pub use codec::{decode, encode, encode_into};
 pub use command::{Command, UnknownName};
 pub use item::Item;
 pub use laws::{
