@@ -1,13 +1,14 @@
 -- Cutting lines: where the first LF stands, and what `lines` makes of it.
-use Rattle.std.proofs.Common.{◌≡◌, ℕ, suc, ◌+◌, ◌<◌, ◌==◌, Bool, true, false, not, cond, List, [], ◌∷◌, ◌++◌, length, take, drop, Option, Some, None, refl, sym, ap, subst, ◌∙◌, arith, append_assoc, position, slice_index}
+use Rattle.std.proofs.Common.{◌≡◌, ℕ, suc, ◌+◌, ◌-◌, ◌^◌, ◌<◌, ◌==◌, Bool, true, false, not, cond, List, [], ◌∷◌, ◌++◌, length, take, drop, Option, Some, None, refl, sym, ap, subst, ◌∙◌, arith, append_assoc, position, slice_index}
 use Rattle.std.proofs.lemmas.Grind.{common_steps}
 use Rattle.std.proofs.Math.Seq.{drop-cons}
 use Rattle.std.proofs.lemmas.Bool.{eqb-true, ne_eqb}
-use Rattle.std.proofs.lemmas.List.{append-nil, take-append-drop, length-take, length-drop, get_or-take, drop-drop}
+use Rattle.std.proofs.lemmas.List.{append-nil, take-append-drop, length-append, length-take, length-drop, get_or-take, drop-drop}
 use Rattle.std.proofs.lemmas.List.Elements.{All-append, All-from_get_or}
 use Rattle.std.proofs.lemmas.List.Quantifiers.{position-Some}
 use Rattle.std.proofs.lemmas.List.Sums.{fails_before_first}
 use Rattle.std.proofs.lemmas.List.Splits.{slice_split_none, slice_split_at, length-slice_split}
+use Rattle.std.specs.Bool.{OnTrue}
 use Rattle.std.specs.List.{slice_split}
 use Rattle.std.specs.Str.Lines.{lines, lines_of_parts, strip_carriage_return}
 use Rattle.std.specs.Io.KnownBytes.{prepend_known, Keeps, Consumes, IsAtEnd}
@@ -81,6 +82,19 @@ lines-feed front rest h =
 lines-last : (byte : ℕ) (bytes : List ℕ) → HasNoFeed (byte ∷ bytes) → lines (byte ∷ bytes) ≡ (byte ∷ bytes) ∷ []
 lines-last byte bytes h =
     ap lines_of_parts (slice_split_none is_feed (byte ∷ bytes) h) ∙ ap (λ (none : Bool). cond none [] ((byte ∷ bytes) ∷ [])) (ne_eqb (length (byte ∷ bytes)) 0 (λ z. omega arith))
+
+-- ---- the room of a line
+
+-- a block that came leaves less room
+pub grown : (old moved new : Cutting) (found more : Bool) → Moves found old moved → found ≡ false → length moved.line < 2 ^ 63 → new.line ≡ moved.line
+    → OnTrue more (0 < length new.ahead) → more ≡ true
+    → 2 ^ 63 - (length new.line + length new.ahead) < 2 ^ 63 - (length old.line + length old.ahead)
+grown old moved new true more m f room l a e = absurd (let z : true ≡ false = f in cc)
+grown old moved new false false m f room l a e = absurd (let z : false ≡ true = e in cc)
+grown old moved new false true m f room l a e =
+    let moved_to : length moved.line ≡ length old.line + length old.ahead = ap length m.2 ∙ length-append old.line old.ahead in
+    let kept : length new.line ≡ length moved.line = ap length l in
+    omega (arith, moved_to, kept, room, a)
 
 -- ---- a step of the reader over known bytes
 

@@ -1,10 +1,12 @@
 -- The command that the words of a command line enter.
-use Rattle.std.proofs.Common.{◌≡◌, ◌⊎◌, inl, inr, ℕ, Bool, true, false, List, [], ◌∷◌, codes, Option, Some, None, Result, Ok, Err, IfOk, refl}
+use Rattle.std.proofs.Common.{◌≡◌, ◌≢◌, ◌⊎◌, inl, inr, ℕ, Bool, true, false, List, [], ◌∷◌, codes, Option, Some, None, Result, Ok, Err, IfOk, refl, subst}
 use Rattle.std.specs.Prelude.{option_map}
-use Rattle.clap.specs.Words.{is_simple, is_simple_and_free, takes, subcommand_name_of, subcommand_rows_of}
+use Rattle.clap.specs.Words.{IsAmong, fault_of, is_simple, is_simple_and_free, takes, subcommand_name_of, subcommand_rows_of}
+use Rattle.clap.specs.declared.error.kind.ErrorKind.{ErrorKind}
+use Rattle.clap.specs.declared.error.kind.ErrorKind.TheVariants.{OutOfMemory}
 use Rattle.clap.specs.declared.parser.matches.ArgMatches.{ArgMatches}
 use Rattle.clap.proofs.OnLiterals.{clap_on_literals}
-use Rattle.cbrelay.specs.Words.{program, task_in}
+use Rattle.cbrelay.specs.Words.{AreRefused, program, task_in}
 use Rattle.cbrelay.specs.declared.command.Task.TheVariants.{Decode, Serve, Sim}
 
 pub program_is_simple : is_simple program ≡ true
@@ -37,11 +39,26 @@ pub if_ok_more : {T E : Type 0} {P Q : T → Type 0} (r : Result T E) → ((t : 
 if_ok_more (Ok t) f p = f t p
 if_ok_more (Err e) f p = p
 
--- words that clap takes halt; others are refused or halt
-pub refused : {One Halted : Type 0} (taken : Bool) → (taken ≡ true → Halted) → One ⊎ Halted → ((taken ≡ false) × One) ⊎ Halted
-refused true halts ends = inr (halts refl)
-refused false halts ends =
-    elim ends [
-      | inl one ↦ inl (refl, one)
-      | inr halted ↦ inr halted
+-- ---- words on which a parse failed
+
+decided : (b : Bool) → (b ≡ true) ⊎ (b ≡ false)
+decided true = inl refl
+decided false = inr refl
+
+some_kind : (kind : ErrorKind) (kinds : List ErrorKind) → IsAmong kind kinds → kinds ≢ []
+some_kind kind kinds among none = subst (IsAmong kind) none among
+
+-- memory ran out, or the words are refused
+pub failed_parse : {Refused Lacked : Type 0} (parsed words : List (List ℕ)) (kind : ErrorKind) → parsed ≡ words → (takes program parsed ≡ true → kind ≡ OutOfMemory)
+    → (kind ≡ OutOfMemory) ⊎ IsAmong kind (fault_of program parsed) → (kind ≡ OutOfMemory → Lacked) → Refused ⊎ Lacked → (AreRefused words × Refused) ⊎ Lacked
+failed_parse parsed words kind same passes kinds lacks ends =
+    elim (decided (takes program parsed)) [
+      | inl taken ↦ inr (lacks (passes taken))
+      | inr not_taken ↦ elim kinds [
+        | inl memory ↦ inr (lacks memory)
+        | inr among ↦ elim ends [
+          | inl refused ↦ inl (subst AreRefused same (not_taken, some_kind kind (fault_of program parsed) among), refused)
+          | inr lacked ↦ inr lacked
+        ]
+      ]
     ]

@@ -1,3 +1,4 @@
+pub mod Counting
 pub mod Cutting
 pub mod Entering
 pub mod Reporting

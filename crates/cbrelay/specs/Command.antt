@@ -3,10 +3,10 @@ use Rattle.std.specs.Prelude.{◌≡◌, ℕ, Bool, true, false, ◌⊎◌, List
 use Rattle.std.specs.Io.KnownBytes.{Appends}
 use Rattle.cb_session.specs.declared.state.CloseReason.{CloseReason}
 use Rattle.cbrelay.specs.declared.ending.Status.{Status}
-use Rattle.cbrelay.specs.declared.ending.Status.TheVariants.{BadInput}
+use Rattle.cbrelay.specs.declared.ending.Status.TheVariants.{Usage, BadInput}
 use Rattle.cbrelay.specs.declared.ending.Halt.{Halt}
 use Rattle.cbrelay.specs.declared.ending.Halt.TheVariants.{ReadFailed, WriteFailed}
-use Rattle.cbrelay.specs.Ending.{status_code, halt_status, halt_line, reason_status}
+use Rattle.cbrelay.specs.Ending.{HasCause, status_code, halt_status, halt_line, reason_status}
 use Rattle.cbrelay.specs.Report.{ReportsKnown}
 use Rattle.cbrelay.specs.Peer.{closed_text}
 
@@ -20,9 +20,14 @@ abbrev pub EndsEarly : Option (List ℕ) → Option (List ℕ) → Bool → ℕ 
 EndsEarly told tells errors_failed code halt =
     (Appends told tells (halt_line halt) ⊎ (errors_failed ≡ true)) × (code ≡ status_code (halt_status halt))
 
--- The same for some halt.
-abbrev pub Halts : Option (List ℕ) → Option (List ℕ) → Bool → ℕ → Type 0
-Halts told tells errors_failed code = (halt : Halt) × EndsEarly told tells errors_failed code halt
+-- The same for some halt that has a cause: in the input as it was, or in a read or a write that failed.
+abbrev pub Halts : Option (List ℕ) → Bool → Bool → Option (List ℕ) → Option (List ℕ) → Bool → ℕ → Type 0
+Halts input read_failed write_failed told tells errors_failed code =
+    (halt : Halt) × HasCause input read_failed write_failed halt × EndsEarly told tells errors_failed code halt
+
+-- The status of words that are refused; or standard error failed, which was to be told why.
+abbrev pub Refuses : Bool → ℕ → Type 0
+Refuses errors_failed code = (code ≡ status_code Usage) ⊎ ((errors_failed ≡ true) × (code ≡ status_code BadInput))
 
 -- `decode` printed its report, and the status is the report's.
 abbrev pub PrintsReport : Option (List ℕ) → Option (List ℕ) → Option (List ℕ) → ℕ → Type 0

@@ -1,11 +1,12 @@
 -- How a run ends: the exit status, and what standard error gets.
-use Rattle.std.specs.Prelude.{ℕ, List, [], codes}
+use Rattle.std.specs.Prelude.{◌≡◌, ℕ, Bool, true, List, [], codes, ⊤, Option}
 use Rattle.cb_session.specs.declared.state.CloseReason.{CloseReason}
 use Rattle.cb_session.specs.declared.state.CloseReason.TheVariants as reasons
 use Rattle.cbrelay.specs.declared.ending.Status.{Status}
 use Rattle.cbrelay.specs.declared.ending.Status.TheVariants.{Success, Usage, Refused, BadInput, NoMemory}
 use Rattle.cbrelay.specs.declared.ending.Halt.{Halt}
-use Rattle.cbrelay.specs.declared.ending.Halt.TheVariants.{Memory, ReadFailed, WriteFailed}
+use Rattle.cbrelay.specs.declared.ending.Halt.TheVariants.{Memory, TooManyLines, ReadFailed, WriteFailed}
+use Rattle.cbrelay.specs.Lines.{HasManyLines}
 
 -- the number that the process ends with
 abbrev pub status_code : Status → ℕ
@@ -17,14 +18,23 @@ status_code NoMemory = 4
 
 abbrev pub halt_status : Halt → Status
 halt_status Memory = NoMemory
+halt_status TooManyLines = BadInput
 halt_status ReadFailed = BadInput
 halt_status WriteFailed = BadInput
 
 -- the line on standard error; none for want of memory, which the status tells
 abbrev pub halt_line : Halt → List ℕ
 halt_line Memory = []
+halt_line TooManyLines = codes "too many lines\n"
 halt_line ReadFailed = codes "read failed\n"
 halt_line WriteFailed = codes "write failed\n"
+
+-- What stands behind a halt: of the input as it was, and of whether a read and a write failed.
+abbrev pub HasCause : Option (List ℕ) → Bool → Bool → Halt → Type 0
+HasCause input read_failed write_failed Memory = ⊤
+HasCause input read_failed write_failed TooManyLines = HasManyLines input
+HasCause input read_failed write_failed ReadFailed = read_failed ≡ true
+HasCause input read_failed write_failed WriteFailed = write_failed ≡ true
 
 -- the status of a run of `serve` whose session was closed for this reason
 abbrev pub reason_status : CloseReason → Status

@@ -1,5 +1,5 @@
 -- Cutting what a source gives into lines.
-use Rattle.std.specs.Prelude.{◌≡◌, ℕ, ◌==◌, Bool, true, false, List, [], ◌∷◌, ◌++◌, All, Option, Some, None}
+use Rattle.std.specs.Prelude.{◌≡◌, ℕ, ◌-◌, ◌^◌, ◌≤◌, ◌==◌, Bool, true, false, List, [], ◌∷◌, ◌++◌, length, All, Option, Some, None}
 use Rattle.std.specs.Str.Lines.{lines}
 
 -- a line reader: the line that it found, and what it read ahead
@@ -24,3 +24,8 @@ NextLine found None new line = Unit {0}
 NextLine found (Some bytes) None line = ⊥
 NextLine true (Some bytes) (Some rest) line = lines bytes ≡ line ∷ lines rest
 NextLine false (Some bytes) (Some rest) line = (bytes ≡ []) × (rest ≡ [])
+
+-- the known bytes have as many lines as a run takes, or more
+abbrev pub HasManyLines : Option (List ℕ) → Type 0
+HasManyLines None = Unit {0}
+HasManyLines (Some bytes) = 2 ^ 64 - 2 ≤ length (lines bytes)

@@ -1,7 +1,7 @@
 -- What the words of a command line ask for.
-use Rattle.std.specs.Prelude.{ℕ, true, if◌then◌else◌, List, codes, Option, Some, None, option_map}
+use Rattle.std.specs.Prelude.{◌≡◌, ◌≢◌, ℕ, true, false, if◌then◌else◌, List, [], codes, Option, Some, None, option_map}
 use Rattle.std.specs.Str.{bytes_eq}
-use Rattle.clap.specs.Words.{App, new_app, subcommand_of, with_subcommand}
+use Rattle.clap.specs.Words.{App, fault_of, new_app, subcommand_of, takes, with_subcommand}
 use Rattle.cbrelay.specs.declared.command.Task.{Task}
 use Rattle.cbrelay.specs.declared.command.Task.TheVariants.{Decode, Serve, Sim}
 
@@ -26,6 +26,10 @@ task_named (Some name) = if bytes_eq name (codes "serve") then Serve else if byt
 -- the task that the words ask for
 abbrev pub task_in : List (List ℕ) → Task
 task_in words = task_named (entered words)
+
+-- clap doesn't take the words, and finds a fault in them
+abbrev pub AreRefused : List (List ℕ) → Type 0
+AreRefused words = (takes program words ≡ false) × (fault_of program words ≢ [])
 
 -- one of three statements, by the task
 abbrev pub ByTask : Task → Type 0 → Type 0 → Type 0 → Type 0

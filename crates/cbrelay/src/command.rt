@@ -1,17 +1,17 @@
 //! The command line.
 
-ghost use Rattle.std.specs.Prelude.{◌≡◌, ◌⊎◌, ℕ, true, false, IsErr, List, [], ◌∷◌, codes, map, option_map, string_bytes, IfOk, IfErr, MatchResult};
+ghost use Rattle.std.specs.Prelude.{◌≡◌, ◌⊎◌, ℕ, true, false, IsErrOf, List, [], ◌∷◌, codes, map, option_map, string_bytes, IfOk, IfErr, MatchResult};
 ghost use Rattle.std.specs.Io.KnownBytes.{Appends};
 ghost use Rattle.cb_session.specs.declared.state.CloseReason.{CloseReason};
 ghost use Rattle.cb_session.specs.declared.state.CloseReason.TheVariants as reasons;
 ghost use Rattle.cbrelay.specs.declared.ending.Halt.TheVariants.{Memory, WriteFailed};
 ghost use Rattle.cbrelay.specs.declared.ending.Status.TheVariants.{Usage};
-ghost use Rattle.cbrelay.specs.Command.{PrintsReport, EndsEarly, Halts, TellsPeer, code_of};
+ghost use Rattle.cbrelay.specs.Command.{PrintsReport, EndsEarly, Halts, Refuses, TellsPeer, code_of};
 ghost use Rattle.cbrelay.specs.Ending.{halt_status, halt_line};
 ghost use Rattle.cbrelay.specs.Peer.{WasServed};
 ghost use Rattle.cbrelay.specs.SimInput.{SimulatesKnown};
-ghost use Rattle.cbrelay.specs.Words.{ByTask, program, task_in, task_named};
-ghost use Rattle.clap.specs.Words.{app_of, fault_of, kind_of, takes};
+ghost use Rattle.cbrelay.specs.Words.{AreRefused, ByTask, program, task_in, task_named};
+ghost use Rattle.clap.specs.Words.{FailsBy, app_of, fault_of, kind_of, takes};
 ghost use Rattle.clap.specs.declared.error.kind.ErrorKind.TheVariants.{OutOfMemory};
 
 use crate::decode::decode;
@@ -64,17 +64,21 @@ pub fn command<R: Source, W: Sink, E: Sink>(
     writer: &mut W,
     errors: &mut E,
 ) -> u8
-    // The words were refused, which they are only where clap doesn't take them; or the run ended early; or the command that
-    // the words name came to its end, which is only where clap finds no fault in them.
-    ensures ran { ((takes program (map string_bytes words.items) ≡ false) × (result ≡ 1) × (reader.new ≡ reader.old) × (writer.new ≡ writer.old))
-        ⊎ (Halts (E.contents errors.old) (E.contents errors.new) (E.has_failed errors.new) result
+    // Over every reader, writer and standard error: where the status is 1, clap refuses the words.
+    ensures refused { result ≡ 1 → AreRefused (map string_bytes words.items) × (reader.new ≡ reader.old) × (writer.new ≡ writer.old) }
+    // The words were refused; or memory ran out before their command began; or clap finds no fault in them, and their
+    // command came to its end, or ended early for a cause.
+    ensures ran { (AreRefused (map string_bytes words.items) × Refuses (E.has_failed errors.new) result × (reader.new ≡ reader.old) × (writer.new ≡ writer.old))
+        ⊎ ((EndsEarly (E.contents errors.old) (E.contents errors.new) (E.has_failed errors.new) result Memory × (reader.new ≡ reader.old) × (writer.new ≡ writer.old))
         ⊎ ((fault_of program (map string_bytes words.items) ≡ []) × ByTask (task_in (map string_bytes words.items))
-        (PrintsReport (R.remaining reader.old) (W.contents writer.old) (W.contents writer.new) result × (errors.new ≡ errors.old))
+        ((PrintsReport (R.remaining reader.old) (W.contents writer.old) (W.contents writer.new) result × (errors.new ≡ errors.old))
+        ⊎ Halts (R.remaining reader.old) (R.has_failed reader.new) (W.has_failed writer.new) (E.contents errors.old) (E.contents errors.new) (E.has_failed errors.new) result)
         ((reason : CloseReason)
         × (WasServed (R.remaining reader.old) (R.remaining reader.new) (R.has_failed reader.new) (W.contents writer.old) (W.contents writer.new) (W.has_failed writer.old) (W.has_failed writer.new) reason
         ⊎ ((reason ≡ reasons.Memory) × (reader.new ≡ reader.old) × (writer.new ≡ writer.old)))
         × TellsPeer (R.has_failed reader.new) (W.has_failed writer.new) (E.contents errors.old) (E.contents errors.new) (E.has_failed errors.new) result reason)
-        (SimulatesKnown (R.remaining reader.old) (W.contents writer.old) (W.contents writer.new) result × (errors.new ≡ errors.old)))) }
+        ((SimulatesKnown (R.remaining reader.old) (W.contents writer.old) (W.contents writer.new) result × (errors.new ≡ errors.old))
+        ⊎ Halts (R.remaining reader.old) (R.has_failed reader.new) (W.has_failed writer.new) (E.contents errors.old) (E.contents errors.new) (E.has_failed errors.new) result))) }
     // The commands by their words.
     ensures named { (name : List ℕ) → (task_in (name ∷ []) ≡ Task.Decode) × (task_in (name ∷ codes "decode" ∷ []) ≡ Task.Decode)
         × (task_in (name ∷ codes "serve" ∷ []) ≡ Task.Serve) × (task_in (name ∷ codes "sim" ∷ []) ≡ Task.Sim) }
@@ -119,8 +123,8 @@ fn answer_peer<R: Source, W: Sink, E: Sink>(
 
 /// Says why the command line was refused, or gives the help that it asked for.
 fn settle_refusal<E: Sink>(alloc: Global, error: &clap::Error, errors: &mut E) -> u8
-    ensures ends { (result ≡ 1) ⊎ Halts (E.contents errors.old) (E.contents errors.new) (E.has_failed errors.new) result }
-    ensures memory { kind_of error.now ≡ OutOfMemory → Halts (E.contents errors.old) (E.contents errors.new) (E.has_failed errors.new) result }
+    ensures ends { Refuses (E.has_failed errors.new) result ⊎ EndsEarly (E.contents errors.old) (E.contents errors.new) (E.has_failed errors.new) result Memory }
+    ensures memory { kind_of error.now ≡ OutOfMemory → EndsEarly (E.contents errors.old) (E.contents errors.new) (E.has_failed errors.new) result Memory }
 {
     let ended = refuse(alloc, error, errors);
     settle(code_of(ended), errors)
@@ -165,7 +169,7 @@ fn command_line<'a>(alloc: Global) -> Result<Command<'a>, AllocError>
 /// The task that the words name: `decode` where they name none.
 fn task_of(alloc: Global, words: &[String]) -> Result<Task, clap::Error>
     ensures task { IfOk result (λ task. task ≡ task_in (map string_bytes words.now)) }
-    ensures kinds { IfOk result (λ task. fault_of program (map string_bytes words.now) ≡ []) }
+    ensures kinds { FailsBy (fault_of program (map string_bytes words.now)) result }
     ensures passes { IfErr result (λ error. takes program (map string_bytes words.now) ≡ true → kind_of error ≡ OutOfMemory) }
 {
     let line = command_line(alloc)?;
@@ -190,7 +194,7 @@ fn task_named(name: Option<&str>) -> Task
 fn refuse<E: Sink>(alloc: Global, error: &clap::Error, errors: &mut E) -> Result<Status, Halt>
     ensures usage { IfOk result (λ status. status ≡ Usage) }
     ensures err { IfErr result (λ halt. ((halt ≡ Memory) × (errors.new ≡ errors.old)) ⊎ ((halt ≡ WriteFailed) × (E.has_failed errors.new ≡ true))) }
-    ensures memory { kind_of error.now ≡ OutOfMemory → IsErr result }
+    ensures memory { kind_of error.now ≡ OutOfMemory → IsErrOf result Memory }
 {
     if error.kind() == ErrorKind::OutOfMemory {
         return Err(Halt::Memory);

@@ -1,9 +1,10 @@
 //! The command `decode`: a stream's items, one line each.
 
-ghost use Rattle.std.specs.Prelude.{◌≡◌, ℕ, List, [], ◌++◌, ◌%◌, length, ⊤, IsOk, IfOk, IsOkUnless, OnOk, MatchOption, None, string_bytes, Ok, false};
+ghost use Rattle.std.specs.Prelude.{◌≡◌, ◌⊎◌, ℕ, List, [], ◌++◌, ◌%◌, length, ⊤, IsOk, IfOk, IfErr, IsOkUnless, OnOk, MatchOption, None, string_bytes, Ok, true, false};
 ghost use Rattle.std.specs.Io.KnownBytes.{Appends};
 ghost use Rattle.hex.specs.Hex.{decode_of};
-ghost use Rattle.cbrelay.specs.declared.ending.Halt.TheVariants.{Memory};
+ghost use Rattle.cbrelay.specs.declared.ending.Halt.TheVariants.{Memory, WriteFailed};
+ghost use Rattle.cbrelay.specs.Ending.{HasCause};
 ghost use Rattle.cbrelay.specs.Report.{Decodes, IsNotHex, ReportsKnown, rest_text, not_hex_text, stream_status};
 
 use crate::ending::{Halt, Status};
@@ -27,7 +28,10 @@ pub fn decode<R: Source, W: Sink>(
     writer: &mut W,
 ) -> Result<Status, Halt>
     // Over a reader and a writer that tell their bytes: what is printed for the whole input, and the status.
-    ensures { IfOk result (ReportsKnown (R.remaining reader.old) (W.contents writer.old) (W.contents writer.new)) }
+    ensures report { IfOk result (ReportsKnown (R.remaining reader.old) (W.contents writer.old) (W.contents writer.new)) }
+    // Over every reader and writer: the status, and why a run ends early.
+    ensures status { IfOk result (λ status. (status ≡ Status.Success) ⊎ (status ≡ Status.BadInput)) }
+    ensures halts { IfErr result (HasCause (R.remaining reader.old) (R.has_failed reader.new) (W.has_failed writer.new)) }
 {
     let mut lines = LineReader::new(alloc)?;
     let mut decoding = Decoding::new(alloc);
@@ -44,12 +48,13 @@ pub fn decode<R: Source, W: Sink>(
             }
         }
     }
-    Err(Halt::ReadFailed)
+    Err(Halt::TooManyLines)
 }
 
 /// Prints how many bytes are left over.
 fn print_rest<W: Sink>(alloc: Global, rest: usize, writer: &mut W) -> Result<(), Halt>
-    ensures { OnOk result (Appends (W.contents writer.old) (W.contents writer.new) (rest_text rest)) }
+    ensures text { OnOk result (Appends (W.contents writer.old) (W.contents writer.new) (rest_text rest)) }
+    ensures err { IfErr result (λ halt. (halt ≡ Memory) ⊎ ((halt ≡ WriteFailed) × (W.has_failed writer.new ≡ true))) }
 {
     let text = format!(in alloc; "rest {rest}\n")?;
     write_all(writer, text.as_bytes())
@@ -57,7 +62,8 @@ fn print_rest<W: Sink>(alloc: Global, rest: usize, writer: &mut W) -> Result<(),
 
 /// Prints that a line isn't hex.
 fn print_not_hex<W: Sink>(alloc: Global, number: u64, writer: &mut W) -> Result<(), Halt>
-    ensures { OnOk result (Appends (W.contents writer.old) (W.contents writer.new) (not_hex_text number)) }
+    ensures text { OnOk result (Appends (W.contents writer.old) (W.contents writer.new) (not_hex_text number)) }
+    ensures err { IfErr result (λ halt. (halt ≡ Memory) ⊎ ((halt ≡ WriteFailed) × (W.has_failed writer.new ≡ true))) }
 {
     let text = format!(in alloc; "line {number} not hex\n")?;
     write_all(writer, text.as_bytes())

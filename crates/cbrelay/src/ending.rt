@@ -42,6 +42,8 @@ impl Status {
 pub enum Halt {
     /// Memory ran out.
     Memory,
+    /// The input has more lines than are counted.
+    TooManyLines,
     /// A read failed.
     ReadFailed,
     /// A write failed, or took nothing.
@@ -69,7 +71,7 @@ impl Halt {
     {
         match self {
             Halt::Memory => Status::NoMemory,
-            Halt::ReadFailed | Halt::WriteFailed => Status::BadInput,
+            Halt::TooManyLines | Halt::ReadFailed | Halt::WriteFailed => Status::BadInput,
         }
     }
 
@@ -79,6 +81,7 @@ impl Halt {
     {
         match self {
             Halt::Memory => "",
+            Halt::TooManyLines => "too many lines\n",
             Halt::ReadFailed => "read failed\n",
             Halt::WriteFailed => "write failed\n",
         }

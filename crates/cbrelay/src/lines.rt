@@ -1,9 +1,9 @@
 //! Cutting what a source gives into lines.
 
-ghost use Rattle.std.specs.Prelude.{◌≡◌, ◌⊎◌, ◌<◌, [], vec_len, IsOkUnless, IfOk, IfErr, position, ◌==◌};
+ghost use Rattle.std.specs.Prelude.{◌≡◌, ◌⊎◌, ◌<◌, ◌^◌, true, [], length, vec_len, IsOkUnless, IfOk, IfErr, OnErr, position, ◌==◌};
 ghost use Rattle.std.specs.Io.KnownBytes.{prepend_known, Consumes, IsAtEnd};
 ghost use Rattle.std.specs.Str.Lines.{strip_carriage_return};
-ghost use Rattle.std.specs.Bool.{OnFalse};
+ghost use Rattle.std.specs.Bool.{OnFalse, OnTrue};
 ghost use Rattle.cbrelay.specs.Lines.{Cutting, Moves, NextLine};
 ghost use Rattle.cbrelay.specs.declared.ending.Halt.TheVariants.{Memory, ReadFailed};
 
@@ -14,9 +14,6 @@ use std::marker::Model;
 
 /// How many bytes are asked of a source at once.
 const BLOCK_LEN: usize = 65_536;
-
-/// The most reads that are made for one line.
-const READS: u64 = 1 << 40;
 
 /// Cuts what a source gives into lines. It reads whole blocks, and keeps what it read ahead.
 ///
@@ -69,19 +66,17 @@ impl LineReader {
     pub fn advance<R: Source>(&mut self, source: &mut R) -> Result<bool, Halt>
         ensures next { IfOk result (λ found. NextLine found
             (prepend_known self.old.ahead (R.remaining source.old)) (prepend_known self.new.ahead (R.remaining source.new)) self.new.line) }
-        ensures err { IfErr result (λ halt. (halt ≡ Memory) ⊎ (halt ≡ ReadFailed)) }
+        ensures err { IfErr result (λ halt. (halt ≡ Memory) ⊎ ((halt ≡ ReadFailed) × (R.has_failed source.new ≡ true))) }
     {
         self.start_line();
-        for _ in 0..READS {
-            if self.take_ahead()? {
-                self.end_line();
-                return Ok(true);
-            }
+        // Each block that comes makes the line longer, until memory lacks.
+        while !self.take_ahead()? {
             if !self.read_ahead(source)? {
                 return Ok(!self.line.is_empty());
             }
         }
-        Err(Halt::ReadFailed)
+        self.end_line();
+        Ok(true)
     }
 
     /// Begins the next line.
@@ -104,6 +99,7 @@ impl LineReader {
     /// Moves what was read ahead to the line, up to the first LF; whether there was one.
     fn take_ahead(&mut self) -> Result<bool, Halt>
         ensures moves { IfOk result (λ found. Moves found self.old self.new) }
+        ensures room { IfOk result (λ found. length self.new.line < 2 ^ 63) }
         ensures memory { IsOkUnless result Memory }
     {
         let (filled, _) = self.block.split_at(self.filled);
@@ -128,8 +124,10 @@ impl LineReader {
         requires { self.old.ahead ≡ [] }
         ensures read { IfOk result (λ more. Consumes (R.remaining source.old) (R.remaining source.new) self.new.ahead) }
         ensures line { self.new.line ≡ self.old.line }
+        ensures more { IfOk result (λ more. OnTrue more (0 < length self.new.ahead)) }
         ensures end { IfOk result (λ more. OnFalse more ((self.new.ahead ≡ []) × IsAtEnd (R.remaining source.new))) }
         ensures failed { IsOkUnless result ReadFailed }
+        ensures marked { OnErr result (R.has_failed source.new ≡ true) }
     {
         match source.read(self.block.as_mut_slice()) {
             Some(count) => {

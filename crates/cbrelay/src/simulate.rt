@@ -1,7 +1,9 @@
 //! The command `sim`: a run of the crew's core, a line for each act.
 
-ghost use Rattle.std.specs.Prelude.{◌≡◌, IfOk, OnOk};
+ghost use Rattle.std.specs.Prelude.{◌≡◌, ◌⊎◌, true, IfOk, IfErr, OnOk};
 ghost use Rattle.std.specs.Io.KnownBytes.{Appends};
+ghost use Rattle.cbrelay.specs.declared.ending.Halt.TheVariants.{Memory, WriteFailed};
+ghost use Rattle.cbrelay.specs.Ending.{HasCause};
 ghost use Rattle.cbrelay.specs.SimInput.{SimulatesKnown};
 ghost use Rattle.cbrelay.specs.SimRun.{final_text, status_of};
 
@@ -22,11 +24,14 @@ pub fn simulate<R: Source, W: Sink>(
     writer: &mut W,
 ) -> Result<u8, Halt>
     // Over a reader and a writer that tell their bytes: what is printed for the whole input, and the status.
-    ensures { IfOk result (SimulatesKnown (R.remaining reader.old) (W.contents writer.old) (W.contents writer.new)) }
+    ensures report { IfOk result (SimulatesKnown (R.remaining reader.old) (W.contents writer.old) (W.contents writer.new)) }
+    // Over every reader and writer: the status, and why a run ends early.
+    ensures status { IfOk result (λ status. (status ≡ 0) ⊎ ((status ≡ 2) ⊎ (status ≡ 3))) }
+    ensures halts { IfErr result (HasCause (R.remaining reader.old) (R.has_failed reader.new) (W.has_failed writer.new)) }
 {
     let mut lines = LineReader::new(alloc)?;
     let mut simulation = Simulation::new(alloc);
-    for _ in 0..u64::MAX {
+    for _ in 1..u64::MAX {
         if !lines.advance(reader)? {
             return report(alloc, simulation, writer);
         }
@@ -39,13 +44,14 @@ pub fn simulate<R: Source, W: Sink>(
             return report(alloc, simulation, writer);
         }
     }
-    Err(Halt::ReadFailed)
+    Err(Halt::TooManyLines)
 }
 
 /// Prints how the run stands at its end, and answers the exit status.
 fn report<W: Sink>(alloc: Global, simulation: Simulation, writer: &mut W) -> Result<u8, Halt>
     ensures text { OnOk result (Appends (W.contents writer.old) (W.contents writer.new) (final_text simulation.stage)) }
     ensures status { IfOk result (λ status. status ≡ status_of simulation.stage simulation.refused) }
+    ensures err { IfErr result (λ halt. (halt ≡ Memory) ⊎ ((halt ≡ WriteFailed) × (W.has_failed writer.new ≡ true))) }
 {
     let mut text = String::new(alloc);
     let status = simulation.finish(&mut text).map_err(Halt::of_memory)?;

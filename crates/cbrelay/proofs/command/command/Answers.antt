@@ -1,8 +1,7 @@
-use Rattle.std.proofs.Common.{ap, map, refl, inl, inr, ◌∙◌}
+use Rattle.std.proofs.Common.{◌≡◌, ap, map, refl, sym, inl, inr, ◌∙◌, arith}
 use Rattle.std.specs.Prelude.{string_bytes}
-use Rattle.clap.specs.Words.{takes}
-use Rattle.cbrelay.specs.Words.{program}
-use Rattle.cbrelay.proofs.Entering.{named, refused, taken}
+use Rattle.clap.specs.Words.{kind_of}
+use Rattle.cbrelay.proofs.Entering.{failed_parse, named, taken}
 use Rattle.cbrelay.proofs.command.command.Goals as goal
 
 pub returns-in-Ok-Decode-clause-named : goal.returns-in-Ok-Decode-clause-named
@@ -31,9 +30,14 @@ returns-clause-taken g c = taken
 
 pub returns-clause-ran : goal.returns-clause-ran
 returns-clause-ran g c =
-    let same = ap (λ words. takes program (map string_bytes words)) c.as_slice.ensures.value in
-    let ends = refused (takes program (map string_bytes c.args.words.items)) (λ taken. c.settle_refusal.ensures.memory (c.in-Err.ensures.passes (same ∙ taken))) c.settle_refusal.ensures.ends in
-    elim ends [
-      | inl one ↦ inl (one.0, one.1, refl, refl)
-      | inr halted ↦ inr (inl halted)
+    elim (failed_parse _ _ (kind_of c.in-Err.error) (ap (map string_bytes) c.as_slice.ensures.value) c.in-Err.ensures.passes c.in-Err.ensures.kinds c.settle_refusal.ensures.memory c.settle_refusal.ensures.ends) [
+      | inl refused ↦ inl (refused.0, refused.1, refl, refl)
+      | inr lacked ↦ inr (inl (lacked, refl, refl))
+    ]
+
+pub returns-clause-refused : goal.returns-clause-refused
+returns-clause-refused g c = λ one.
+    elim (failed_parse _ _ (kind_of c.in-Err.error) (ap (map string_bytes) c.as_slice.ensures.value) c.in-Err.ensures.passes c.in-Err.ensures.kinds c.settle_refusal.ensures.memory c.settle_refusal.ensures.ends) [
+      | inl refused ↦ (refused.0, refl, refl)
+      | inr lacked ↦ absurd (let four : 4 ≡ 1 = (sym lacked.1) ∙ one in omega (arith, four))
     ]
