@@ -26,7 +26,7 @@ MAGIC = bytes.fromhex("fabfb5da")
 # How often what is compared takes turns: as often as these seconds allow, of the table and of all else, within these bounds.
 TABLE_SECONDS, SECONDS = 16, 3
 RUNS, MOST_RUNS = 5, 100
-TRACE_PINGS = 32_767
+SERVED_PINGS = 100_000
 # The length of a stream's pieces where nothing else is said.
 PIECE = 65_536
 # How much openssl hashes when it is measured: it hashes any bytes of a length in the same time.
@@ -261,7 +261,7 @@ def built(path, crate, top=ROOT):
 def cases():
     """What the table tells of: a name, the command, and its input."""
     yield "decode, 1,000,000 pings", "decode", as_lines(pings(1_000_000), PIECE)
-    yield f"serve, {TRACE_PINGS:,} pings", "serve", pings(TRACE_PINGS)
+    yield f"serve, {SERVED_PINGS:,} pings", "serve", pings(SERVED_PINGS)
     large = [
         ("10 unknown commands of 4,000,000 bytes", unknown(10)),
         ("20 blocks of 4,000 transactions of 250 bytes", envelope(b"block", usual_block(4_000)) * 20),
@@ -291,14 +291,14 @@ def table(bench):
 
 
 def densities(bench, block, count):
-    """What a block takes in memory for each byte of its text, in each set of programs: `serve` keeps what comes."""
+    """What a block takes in memory for each byte of its text, in each set of programs: `serve` keeps what comes, up to 8,000,000 bytes."""
     message = envelope(b"block", block)
     some, twice = (bench.costs("serve", message * kept, 0) for kept in (count, 2 * count))
     return [(more.memory - less.memory) / (count * len(block)) for less, more in zip(some, twice)]
 
 
 def kept_blocks(bench):
-    usual, bare = densities(bench, usual_block(4_000), 20), densities(bench, bare_block(100_000), 10)
+    usual, bare = densities(bench, usual_block(4_000), 3), densities(bench, bare_block(100_000), 3)
     for told, *each in zip(("memory of a block", "memory of a block before"), usual, bare):
         print("{}: {:.2f} bytes for each byte of its text at transactions of 250 bytes, {:.2f} at 10".format(told, *each), flush=True)
 
@@ -320,8 +320,8 @@ def message_speeds(bench):
     large = unknown(20)
     bench.speed("decode, unknown commands of 4,000,000 bytes, one a line", "decode", as_lines(large, 4_000_024), large)
     bench.speed("decode, the same in pieces of 65,536 bytes", "decode", as_lines(large, PIECE), large)
-    served = pings(TRACE_PINGS)
-    bench.speed(f"serve, {TRACE_PINGS} pings", "serve", served, served)
+    served = pings(SERVED_PINGS)
+    bench.speed(f"serve, {SERVED_PINGS} pings", "serve", served, served)
 
 
 def block_growths(bench):
@@ -340,7 +340,7 @@ def message_growths(bench):
     first, second = many[: len(many) // 2], many
     bench.growth("decode, 500,000 pings in pieces of 65,536 bytes", "decode", as_lines(first, PIECE), as_lines(second, PIECE))
     bench.growth("decode, the same in one line", "decode", as_lines(first, len(first)), as_lines(second, len(second)))
-    bench.growth(f"serve, {TRACE_PINGS // 2} pings", "serve", pings(TRACE_PINGS // 2), pings(TRACE_PINGS // 2 * 2))
+    bench.growth(f"serve, {SERVED_PINGS // 2} pings", "serve", pings(SERVED_PINGS // 2), pings(SERVED_PINGS // 2 * 2))
     bench.growth("decode, 100,000 pings in pieces of one byte", "decode", as_lines(many[:3_200_000], 1), as_lines(many[:6_400_000], 1))
     whole, one = bench.compare("decode", as_lines(many[:6_400_000], PIECE), as_lines(many[:6_400_000], 1))
     print(f"decode, pieces of one byte beside pieces of 65,536: {one / whole:.1f} times as long")

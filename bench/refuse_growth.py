@@ -14,7 +14,7 @@ import sys
 import tempfile
 from typing import NamedTuple
 
-from bench import block, usage
+from bench import block, pings, unknown, usage
 from calls import told_play
 from chain import careful_play, copying_play
 
@@ -67,6 +67,7 @@ RUNS = [
     ("serve mixed.bin", "cbrelay", ["serve"], example("mixed.bin")),
     ("decode blocks.hex", "cbrelay", ["decode"], example("blocks.hex")),
     ("serve blocks.bin", "cbrelay", ["serve"], example("blocks.bin")),
+    ("serve, a checkpoint between three large messages and a ping", "cbrelay", ["serve"], unknown(3) + pings(1)),
     ("sound, a block of 5 transactions", "bench_sound", [], block(5, 10)),
     ("chain, a block at the tip and three blocks for two", "bench_chain", [], careful_play()),
     ("chain, calls that are told and questions", "bench_chain", [], told_play(10)),

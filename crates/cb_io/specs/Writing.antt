@@ -1,8 +1,11 @@
--- What of a text went out.
+-- What of a text went out, and why no more did.
 use Rattle.std.specs.Prelude.{◌≡◌, ℕ, ◌-◌, ◌^◌, min, List, ◌++◌, length, Option}
 use Rattle.std.specs.Io.KnownBytes.{Appends}
-use Rattle.cb_session.specs.declared.writing.WriteFault.{WriteFault}
-use Rattle.cb_session.specs.declared.writing.WriteFault.TheVariants.{Io, Zero, Memory}
+use Rattle.cb_io.specs.declared.sink.SinkFailure.{SinkFailure}
+use Rattle.cb_io.specs.declared.sink.SinkFailure.TheVariants as failures
+use Rattle.cb_io.specs.declared.writing.WriteFault.{WriteFault}
+use Rattle.cb_io.specs.declared.writing.WriteFault.TheVariants.{Io, Zero, Memory}
+use Rattle.cb_io.specs.Bytes.{first}
 
 -- a number of bytes, as a u64 counts it
 abbrev pub counted : List ℕ → ℕ
@@ -26,13 +29,9 @@ IsOfSink Io = Unit {0}
 IsOfSink Zero = Unit {0}
 IsOfSink Memory = ⊥
 
--- so many of the bytes were taken, from the first on, and these are left
-pub record SentFront (old new : Option (List ℕ)) (bytes rest : List ℕ) (taken : ℕ) : Type 0 where
-  pub sent : List ℕ
-  pub parts : bytes ≡ sent ++ rest
-  pub appended : Appends old new sent
-  pub count : taken ≡ length sent
-
-pub record SentPart (old new : Option (List ℕ)) (bytes : List ℕ) (taken : ℕ) : Type 0 where
-  pub rest : List ℕ
-  pub front : SentFront old new bytes rest taken
+-- Writing ended by this fault: what the sink first failed by is that failure if it hadn't failed before; for want of
+-- memory it stays.
+abbrev pub EndsBy : Option SinkFailure → Option SinkFailure → WriteFault → Type 0
+EndsBy old new Io = new ≡ first old failures.Io
+EndsBy old new Zero = new ≡ first old failures.Zero
+EndsBy old new Memory = new ≡ old

@@ -1,12 +1,25 @@
-ghost use Rattle.std.specs.Prelude.{◌≡◌, ℕ, ◌≤◌, ◌||◌, Bool, List, Option, IfSome, length, false};
-ghost use Rattle.cb_session.specs.Bytes.{SinkTakes, is_refusal};
+ghost use Rattle.std.specs.Prelude.{◌≡◌, ℕ, ◌≤◌, ◌||◌, Bool, List, Option, None, IfSome, length, is_some, refl};
+ghost use Rattle.cb_io.specs.Bytes.{SinkTakes, failure_after, is_refusal, refusal};
+ghost use Rattle.cb_io.specs.declared.sink.SinkFailure.{SinkFailure};
 
 use std::io::{ErrorKind, Write};
+use thiserror::Error;
 
 /// How often a write or a read that was interrupted is made again.
 pub const TRIES: u64 = 1 << 40;
 
-/// What messages are written to: a writer that also tells whether it has failed.
+/// How a sink failed.
+#[derive(Clone, Copy, Debug, PartialEq, Eq, Error)]
+pub enum SinkFailure {
+    /// A write failed.
+    #[error("a write failed")]
+    Io,
+    /// A write took no byte of a piece that isn't empty.
+    #[error("a write took no byte")]
+    Zero,
+}
+
+/// What bytes are written to: a writer that also tells whether it has failed.
 pub trait Sink {
     /// The bytes that the sink holds, where they are known.
     ghost contents: { Self → Option (List ℕ) };
@@ -14,33 +27,40 @@ pub trait Sink {
     /// Whether a write has failed.
     ghost has_failed: { Self → Bool };
 
+    /// What it first failed by, if it has.
+    ghost failure: { Self → Option SinkFailure };
+
     /// Writes a piece, and answers how many of its bytes were taken, from the first on; None where the write failed.
     fn write(&mut self, piece: &[u8]) -> Option<usize>
         ensures taken { IfSome result (λ n. n ≤ length piece.now) }
         ensures bytes { SinkTakes (contents self.old) (contents self.new) result piece.now }
-        ensures failed { has_failed self.new ≡ (has_failed self.old || is_refusal result piece.now) };
+        ensures failed { has_failed self.new ≡ (has_failed self.old || is_refusal result piece.now) }
+        ensures cause { failure self.new ≡ failure_after (failure self.old) result piece.now };
 
     /// Whether a write answered None, or took none of a piece that isn't empty.
     fn failed(&self) -> bool
         ensures { result ≡ has_failed self.now };
+
+    /// It has failed just where it failed by something.
+    ghost agrees: { (sink : Self) → has_failed sink ≡ is_some (failure sink) };
 }
 
 /// A sink over any writer. A write that was interrupted is made again.
 #[derive(Debug, Drop)]
 pub struct Out<W> {
     writer: W,
-    failed: bool,
+    failure: Option<SinkFailure>,
 }
 
 impl<W> Out<W> {
     /// A sink that hasn't failed.
     pub fn new(writer: W) -> Out<W>
         ensures writer { result.writer ≡ writer }
-        ensures failed { result.failed ≡ false }
+        ensures unfailed { result.failure ≡ None }
     {
         Out {
             writer,
-            failed: false,
+            failure: None,
         }
     }
 
@@ -48,7 +68,7 @@ impl<W> Out<W> {
     pub fn into_inner(self) -> W
         ensures { result ≡ self.writer }
     {
-        let Out { writer, failed: _ } = self;
+        let Out { writer, failure: _ } = self;
         writer
     }
 }
@@ -56,18 +76,33 @@ impl<W> Out<W> {
 impl<W: Write> Sink for Out<W> {
     ghost contents = { λ out. W.contents out.writer };
 
-    ghost has_failed = { λ out. out.failed };
+    ghost has_failed = { λ out. is_some out.failure };
+
+    ghost failure = { λ out. out.failure };
+
+    ghost agrees = { λ out. refl };
 
     fn write(&mut self, piece: &[u8]) -> Option<usize> {
         let taken = write_again(&mut self.writer, piece);
-        if taken.is_none() || (taken == Some(0) && !piece.is_empty()) {
-            self.failed = true;
+        if self.failure.is_none() {
+            self.failure = failure_of(taken, piece);
         }
         taken
     }
 
     fn failed(&self) -> bool {
-        self.failed
+        self.failure.is_some()
+    }
+}
+
+/// How the sink failed that answered this to a piece, if it did.
+fn failure_of(taken: Option<usize>, piece: &[u8]) -> Option<SinkFailure>
+    ensures { result ≡ refusal taken piece.now }
+{
+    match taken {
+        None => Some(SinkFailure::Io),
+        Some(0) if !piece.is_empty() => Some(SinkFailure::Zero),
+        Some(_) => None,
     }
 }
 

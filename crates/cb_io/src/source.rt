@@ -1,5 +1,5 @@
 ghost use Rattle.std.specs.Prelude.{◌≡◌, ℕ, ◌≤◌, ◌||◌, Bool, List, Option, IfSome, length, false, is_none};
-ghost use Rattle.cb_session.specs.Bytes.{SourceGives};
+ghost use Rattle.cb_io.specs.Bytes.{SourceGives};
 
 use crate::sink::TRIES;
 use std::io::{ErrorKind, Read};

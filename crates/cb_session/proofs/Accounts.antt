@@ -1,7 +1,6 @@
--- The account of a connection, one entry of its trace at a time.
-use Rattle.std.proofs.Common.{◌≡◌, ℕ, ◌+◌, ◌<◌, ◌≤◌, ◌^◌, min, Bool, true, false, cond, ◌||◌, List, [], ◌∷◌, ◌++◌, length, Option, Some, None, Result, Ok, Err, refl, sym, ap, subst, ◌∙◌, append_assoc, arith, inl, inr, ◌⊎◌}
-use Rattle.std.specs.Prelude.{◌-◌, map, filter, fold, ◌==◌, IsOk}
-use Rattle.cb_session.specs.declared.state.CloseReason.TheVariants as reasons
+-- The account of a conversation, one entry of its trace at a time.
+use Rattle.std.proofs.Common.{◌≡◌, ℕ, ◌+◌, ◌-◌, ◌<◌, ◌≤◌, ◌^◌, min, Bool, true, false, cond, ◌||◌, List, [], ◌∷◌, ◌++◌, length, Option, Some, None, Result, Ok, Err, refl, sym, ap, subst, ◌∙◌, append_assoc, arith, inl, inr, ◌⊎◌}
+use Rattle.std.specs.Prelude.{map, filter, fold, IsOk}
 use Rattle.std.proofs.lemmas.List.{append-nil, length-append, map-append}
 use Rattle.std.proofs.lemmas.List.Elements.{filter-append}
 use Rattle.std.proofs.lemmas.List.Folds.{list_any-append}
@@ -9,29 +8,37 @@ use Rattle.std.proofs.lemmas.Grind.{flat_map-append}
 use Rattle.cb_wire.specs.declared.message.Message.{Message}
 use Rattle.cb_wire.specs.Envelope.{text}
 use Rattle.cb_wire.specs.Stream.{texts}
-use Rattle.cb_base.specs.declared.fault.Fault.{Fault}
-use Rattle.cb_base.specs.declared.fault.Fault.TheVariants.{JournalFull, Memory}
-use Rattle.cb_session.specs.declared.settings.Settings.{Settings}
-use Rattle.cb_session.specs.declared.event.Event.{Event}
-use Rattle.cb_session.specs.declared.event.Event.TheVariants as events
-use Rattle.cb_session.specs.declared.trace.TraceEntry.{TraceEntry}
-use Rattle.cb_session.specs.declared.hall.Question.{Question}
-use Rattle.cb_session.specs.declared.hall.Entry.{Entry}
-use Rattle.cb_session.specs.declared.hall.Entry.TheVariants.{Asked}
-use Rattle.cb_session.specs.declared.hall.Answer.{Answer}
-use Rattle.cb_session.specs.declared.session.Matter.{Matter}
-use Rattle.cb_session.specs.Hall.{BadgeState, Grants, IsFull, answer_to}
-use Rattle.cb_session.specs.Session.{SessionState, Stepped, is_closed, standing_question, stays, closes, open_step}
-use Rattle.cb_session.specs.Trace.{Account, account_step, TraceView, Reply, EachOpen, first_account, account_of, sends, replies, replies_to, session_of, state_of, has_event, next_step, IsOpen, Grows, TraceSteps, HasRoom, RanOut, ends_at_once}
-use Rattle.cb_session.specs.Writing.{counted, Wrote}
-use Rattle.cb_session.specs.Serving.{Accounts, AreAnswers, EachPrompt, Gave, answers_left, NoneStands, Origin, Progress, Sent, Settled, Stands, Waits, asked_by, inputs_of, is_hall_full, is_input, is_tick, is_told, is_write_fault, loses, progress, questions_left, IsMarkedFull, IsQuiet}
-use Rattle.cb_session.proofs.Known.{Appends-then}
-use Rattle.cb_session.proofs.Folds.{account_of_more, EachOpen_more, EachPrompt_more, entry_cases, entry_step_shaped, entry_ends, ended, free_after, standing_more, state_more, waiting_after, waiting_input, IsFree, IsShaped, Waiting}
+use Rattle.cb_io.specs.Writing.{counted, Wrote}
+use Rattle.cb_io.proofs.Known.{Appends-then}
+use Rattle.cb_hall.specs.declared.hall.Question.{Question}
+use Rattle.cb_hall.specs.declared.hall.Answer.{Answer}
+use Rattle.cb_hall.specs.Hall.{BadgeState}
+use Rattle.cb_hall.specs.Histories.{Reply}
+use Rattle.cb_peer.specs.declared.settings.Settings.{Settings}
+use Rattle.cb_peer.specs.declared.event.Event.{Event}
+use Rattle.cb_peer.specs.declared.event.Event.TheVariants as events
+use Rattle.cb_peer.specs.declared.session.Standing.{Standing}
+use Rattle.cb_peer.specs.declared.trace.TraceEntry.{TraceEntry}
+use Rattle.cb_peer.specs.Event.{Kind, begins, ends_at_once, is_hall_full, is_input, is_tick, is_told, is_write_fault, kind_of, loses}
+use Rattle.cb_hall.specs.declared.hall.Question.TheVariants.{Admit}
+use Rattle.cb_peer.specs.Session.{SessionState, Stepped, is_closed, question_left, questions_left, standing_question, told as told_step}
+use Rattle.cb_peer.specs.Fold.{Account, EachOpen, account_of, account_step, entry_step, first_account, has_kind, inputs_of, replies, replies_to, sends, session_of}
+use Rattle.cb_peer.specs.Trace.{Grows, HasRoom, IsOpen, RanOut, Rests, StandsFor, TraceSteps, TraceView, next_step}
+use Rattle.cb_peer.proofs.Folds.{EachPrompt_more, account_of_more, entry_cases}
+use Rattle.cb_peer.proofs.Steps.{entry_ends, entry_silent, told_fewer}
+use Rattle.cb_peer.proofs.Traces.{next_is}
+use Rattle.cb_session.specs.Conversation.{Accounts, AnswerOf, Gave, IsAnswered, IsLoss, Origin, Progress, Sent, Settled, Underway, left_of, open_question, progress}
+
+-- what the hall told, call by call
+pub record IsOracle {H : Type 0} (told : H → BadgeState → List Reply → H → BadgeState → Type 0) (full : H → BadgeState → Type 0) : Type 0 where
+  pub none : (a : H) (x : BadgeState) → told a x [] a x
+  pub next : (a b c : H) (x y z : BadgeState) (first later : List Reply) → told a x first b y → told b y later c z → told a x (first ++ later) c z
+  pub stays : (a b : H) (x y : BadgeState) (replies : List Reply) → told a x replies b y → full a x → full b y
 
 -- ---- tests over one entry more
 
-has_more : (test : Event → Bool) (entries : List TraceEntry) (entry : TraceEntry) → has_event test (entries ++ entry ∷ []) ≡ (has_event test entries || (test entry.event || false))
-has_more test entries entry = list_any-append (λ e. test e.event) entries (entry ∷ [])
+has_more : (test : Kind → Bool) (entries : List TraceEntry) (entry : TraceEntry) → has_kind test (entries ++ entry ∷ []) ≡ (has_kind test entries || (test (kind_of entry.event) || false))
+has_more test entries entry = list_any-append (λ (e : TraceEntry). test (kind_of e.event)) entries (entry ∷ [])
 
 or_true : (a b : Bool) → (a || (b || false)) ≡ true → (a ≡ true) ⊎ (b ≡ true)
 or_true true b e = inl refl
@@ -48,219 +55,173 @@ or_last true b e = refl
 or_last false true e = refl
 or_last false false e = absurd cc
 
-or_input : (a b : Bool) → (a || b) ≡ true → b ≡ false → a ≡ true
-or_input true b e f = refl
-or_input false true e f = absurd cc
-or_input false false e f = e
-
 -- an input is one more input, and nothing else is
 abbrev pub inputs_in : Event → List Event
-inputs_in event = filter is_input (event ∷ [])
+inputs_in event = filter (λ e. is_input (kind_of e)) (event ∷ [])
 
 inputs_more : (entries : List TraceEntry) (entry : TraceEntry) → inputs_of (entries ++ entry ∷ []) ≡ inputs_of entries ++ inputs_in entry.event
-inputs_more entries entry = ap (filter is_input) (map-append (λ (e : TraceEntry). e.event) entries (entry ∷ [])) ∙ filter-append is_input (map (λ (e : TraceEntry). e.event) entries) (entry.event ∷ [])
+inputs_more entries entry =
+    ap (filter (λ (e : Event). is_input (kind_of e))) (map-append (λ (e : TraceEntry). e.event) entries (entry ∷ []))
+    ∙ filter-append (λ (e : Event). is_input (kind_of e)) (map (λ (e : TraceEntry). e.event) entries) (entry.event ∷ [])
 
-pub answers_append : (journal : List Entry) (peer : ℕ) (a b : List Reply) → AreAnswers journal peer a → AreAnswers (journal ++ map (asked_by peer) a) peer b → AreAnswers journal peer (a ++ b)
-answers_append journal peer [] b h k = subst (λ (j : List Entry). AreAnswers j peer b) (append-nil journal) k
-answers_append journal peer (reply ∷ a) b h k =
-    (h.0, answers_append (journal ++ asked_by peer reply ∷ []) peer a b h.1 (subst (λ (j : List Entry). AreAnswers j peer b) (sym (append_assoc journal (asked_by peer reply ∷ []) (map (asked_by peer) a))) k))
+pub no_input : (event : Event) → is_input (kind_of event) ≡ false → inputs_in event ≡ []
+no_input event e = ap (λ b. cond b (event ∷ []) []) e
+
+pub one_input : (event : Event) → is_input (kind_of event) ≡ true → inputs_in event ≡ event ∷ []
+one_input event e = ap (λ b. cond b (event ∷ []) []) e
 
 -- ---- one entry more
 
 -- what else changes with an entry
-pub record Changes (from : Origin) (trace : TraceView) (failed failed' : Bool) (journal journal' : List Entry) (badge badge' : BadgeState) (event : Event) : Type 0 where
-  pub failed_stays : failed ≡ true → failed' ≡ true
-  pub failed_told : is_write_fault event ≡ true → failed' ≡ true
-  pub full_stays : IsMarkedFull journal badge → IsMarkedFull journal' badge'
-  pub full_told : is_hall_full event ≡ true → IsMarkedFull journal' badge'
-  pub peer : badge'.peer ≡ badge.peer
-  pub counted : badge'.count ≡ badge.count + length (replies_to (standing_question (session_of trace.settings trace.entries).standing) event)
-  pub grew : journal' ≡ journal ++ map (asked_by from.peer) (replies_to (standing_question (session_of trace.settings trace.entries).standing) event)
-  pub answers : AreAnswers journal from.peer (replies_to (standing_question (session_of trace.settings trace.entries).standing) event)
-  pub no_tick : is_tick event ≡ false
-  pub free : is_input event ≡ true → (session_of trace.settings trace.entries).standing ≡ None
+pub record Changes {H : Type 0} (told : H → BadgeState → List Reply → H → BadgeState → Type 0) (full : H → BadgeState → Type 0) (trace : TraceView) (failed : Bool) (hall hall' : H) (badge badge' : BadgeState) (event : Event) : Type 0 where
+  pub failed_told : is_write_fault (kind_of event) ≡ true → failed ≡ true
+  pub full_told : is_hall_full (kind_of event) ≡ true → full hall' badge'
+  pub told_next : told hall badge (replies_to (standing_question trace.session.standing) event) hall' badge'
+  pub no_tick : is_tick (kind_of event) ≡ false
+  pub free : begins (kind_of event) ≡ true → trace.session.standing ≡ None
 
 -- the trace grew by an entry
-pub accounts_grow : (from : Origin) (trace trace' : TraceView) (held : Option (List ℕ)) (failed failed' : Bool) (journal journal' : List Entry) (badge badge' : BadgeState) (written : ℕ) (inputs : List Event) (missing : List ℕ) (event : Event) (starved : Bool)
-    → Accounts from (progress trace held failed journal badge written) inputs missing → IsOpen trace → Grows trace trace' event starved → Changes from trace failed failed' journal journal' badge badge' event
-    → Accounts from (progress trace' held failed' journal' badge' written) (inputs ++ inputs_in event) (missing ++ texts (next_step trace (record { event = event; starved = starved })).messages)
-accounts_grow from trace trace' held failed failed' journal journal' badge badge' written inputs missing event starved a going g c =
-    let entry : TraceEntry = record { event = event; starved = starved } in
-    let grown : List TraceEntry = trace.entries ++ entry ∷ [] in
-    let more : account_of trace'.settings trace'.entries ≡ account_step (account_of trace.settings trace.entries) entry =
-    ap (λ (s : Settings). account_of s trace'.entries) g.settings ∙ ap (account_of trace.settings) g.entries ∙ account_of_more trace.settings trace.entries entry in
+pub accounts_grow : {H : Type 0} (told : H → BadgeState → List Reply → H → BadgeState → Type 0) (full : H → BadgeState → Type 0) (oracle : IsOracle told full) (from : Origin H) (trace trace' : TraceView) (hall hall' : H) (badge badge' : BadgeState)
+    (held : Option (List ℕ)) (failed : Bool) (written : ℕ) (inputs : List Event) (missing : List ℕ) (lost : Bool) (entry : TraceEntry)
+    → Accounts told full from (progress trace hall badge held failed written) inputs missing lost → Grows trace trace' entry → Changes told full trace failed hall hall' badge badge' entry.event
+    → Accounts told full from (progress trace' hall' badge' held failed written) (inputs ++ inputs_in entry.event) (missing ++ texts (next_step trace entry).messages) (lost || (loses (kind_of entry.event) || false))
+accounts_grow told full oracle from trace trace' hall hall' badge badge' held failed written inputs missing lost entry a g c =
+    let h : List TraceEntry = a.history in
+    let s : Settings = from.settings in
+    let step_is : next_step trace entry ≡ entry_step (account_of s h).count (session_of s h) entry =
+    next_is trace h entry a.stands ∙ ap (λ (x : Settings). entry_step (account_of x h).count (session_of x h) entry) a.settings in
+    let more : account_of s (h ++ entry ∷ []) ≡ account_step (account_of s h) entry = account_of_more s h entry in
     let sent : List Message = (next_step trace entry).messages in
-    let sends_more : sends trace'.settings trace'.entries ≡ sends trace.settings trace.entries ++ sent = ap (λ (x : Account). x.sent) more in
-    let new_replies : List Reply = replies_to (standing_question (session_of trace.settings trace.entries).standing) event in
-    let replies_more : replies trace'.settings trace'.entries ≡ replies trace.settings trace.entries ++ new_replies = ap (λ (x : Account). x.replies) more in
-    let has : (test : Event → Bool) → has_event test trace'.entries ≡ (has_event test trace.entries || (test event || false)) =
-    λ test. ap (has_event test) g.entries ∙ has_more test trace.entries entry in
+    let sends_more : sends s (h ++ entry ∷ []) ≡ sends s h ++ sent = ap (λ (x : Account). x.sent) more ∙ ap (λ (m : Stepped). sends s h ++ m.messages) (sym step_is) in
+    let standing_is : trace.session.standing ≡ (session_of s h).standing = ap (λ (x : SessionState). x.standing) (a.stands.session ∙ ap (λ (x : Settings). session_of x h) a.settings) in
+    let replies_more : replies s (h ++ entry ∷ []) ≡ replies s h ++ replies_to (standing_question trace.session.standing) entry.event =
+    ap (λ (x : Account). x.replies) more ∙ ap (λ (o : Option Standing). replies s h ++ replies_to (standing_question o) entry.event) (sym standing_is) in
     record {
       settings = g.settings ∙ a.settings;
+      history = h ++ entry ∷ [];
+      stands = g.history h a.stands;
       wrote = record {
         sent = a.wrote.sent;
         parts =
-            ap texts sends_more ∙ flat_map-append text (sends trace.settings trace.entries) sent
+            ap texts sends_more ∙ flat_map-append text (sends s h) sent
             ∙ ap (λ (x : List ℕ). x ++ texts sent) a.wrote.parts ∙ append_assoc a.wrote.sent missing (texts sent);
         appended = a.wrote.appended;
         count = a.wrote.count;
       };
-      inputs_are = ap inputs_of g.entries ∙ inputs_more trace.entries entry ∙ ap (λ (x : List Event). x ++ inputs_in event) a.inputs_are;
-      each =
-          subst (λ (es : List TraceEntry). EachOpen (first_account trace'.settings) es) (sym g.entries)
-          (subst (λ (s : Settings). EachOpen (first_account s) grown) (sym g.settings) (EachOpen_more trace.settings trace.entries entry a.each going));
-      prompt =
-          subst (λ (es : List TraceEntry). EachPrompt (first_account trace'.settings) es) (sym g.entries)
-          (subst (λ (s : Settings). EachPrompt (first_account s) grown) (sym g.settings)
-          (EachPrompt_more trace.settings trace.entries entry a.prompt (λ h. c.free (or_input _ _ h c.no_tick))));
-      journal =
-          c.grew ∙ ap (λ (j : List Entry). j ++ map (asked_by from.peer) new_replies) a.journal
-          ∙ append_assoc from.journal (map (asked_by from.peer) (replies trace.settings trace.entries)) (map (asked_by from.peer) new_replies)
-          ∙ ap (λ (j : List Entry). from.journal ++ j) (sym (map-append (asked_by from.peer) (replies trace.settings trace.entries) new_replies) ∙ ap (map (asked_by from.peer)) (sym replies_more));
-      answers =
-          subst (λ (rs : List Reply). AreAnswers from.journal from.peer rs) (sym replies_more)
-          (answers_append from.journal from.peer (replies trace.settings trace.entries) new_replies a.answers (subst (λ (j : List Entry). AreAnswers j from.peer new_replies) a.journal c.answers));
-      peer = c.peer ∙ a.peer;
-      count = (let before = a.count in let counted = c.counted in let more_replies = ap length replies_more ∙ length-append (replies trace.settings trace.entries) new_replies in omega arith);
-      write_fault = λ h. elim (or_true _ _ (sym (has is_write_fault) ∙ h)) [ inl x ↦ c.failed_stays (a.write_fault x) | inr x ↦ c.failed_told x ];
-      hall_full = λ h. elim (or_true _ _ (sym (has is_hall_full) ∙ h)) [ inl x ↦ c.full_stays (a.hall_full x) | inr x ↦ c.full_told x ];
-      no_tick = has is_tick ∙ or_false _ _ a.no_tick c.no_tick;
+      inputs_are = inputs_more h entry ∙ ap (λ (x : List Event). x ++ inputs_in entry.event) a.inputs_are;
+      prompt = EachPrompt_more s h entry a.prompt (λ b. sym standing_is ∙ c.free b);
+      replies_are =
+          subst (λ (rs : List Reply). told from.hall from.badge rs hall' badge') (sym replies_more)
+          (oracle.next from.hall hall hall' from.badge badge badge' (replies s h) (replies_to (standing_question trace.session.standing) entry.event) a.replies_are c.told_next);
+      write_fault = λ x. elim (or_true _ _ (sym (has_more is_write_fault h entry) ∙ x)) [ inl y ↦ a.write_fault y | inr y ↦ c.failed_told y ];
+      hall_full =
+          λ x. elim (or_true _ _ (sym (has_more is_hall_full h entry) ∙ x)) [
+            | inl y ↦ oracle.stays hall hall' badge badge' (replies_to (standing_question trace.session.standing) entry.event) c.told_next (a.hall_full y)
+            | inr y ↦ c.full_told y
+          ];
+      no_tick = has_more is_tick h entry ∙ or_false _ _ a.no_tick c.no_tick;
+      losses = has_more loses h entry ∙ ap (λ b. b || (loses (kind_of entry.event) || false)) a.losses;
     }
 
--- room was made, and nothing else
-pub accounts_room : (from : Origin) (trace trace' : TraceView) (held : Option (List ℕ)) (failed : Bool) (journal : List Entry) (badge : BadgeState) (written : ℕ) (inputs : List Event) (missing : List ℕ)
-    → trace'.settings ≡ trace.settings → trace'.entries ≡ trace.entries
-    → Accounts from (progress trace held failed journal badge written) inputs missing → Accounts from (progress trace' held failed journal badge written) inputs missing
-accounts_room from trace trace' held failed journal badge written inputs missing s e a =
-    let view : Settings → List TraceEntry → TraceView = λ x y. record { settings = x; entries = y; room = trace'.room } in
-    subst (λ (x : Settings). Accounts from (progress (view x trace'.entries) held failed journal badge written) inputs missing) (sym s)
-    (subst (λ (y : List TraceEntry). Accounts from (progress (view trace.settings y) held failed journal badge written) inputs missing) (sym e)
-    (record {
-      settings = a.settings;
+-- the trace rested, and stands for the same history
+pub accounts_rest : {H : Type 0} (told : H → BadgeState → List Reply → H → BadgeState → Type 0) (full : H → BadgeState → Type 0) (from : Origin H) (trace trace' : TraceView) (hall : H) (badge : BadgeState)
+    (held : Option (List ℕ)) (failed : Bool) (written : ℕ) (inputs : List Event) (missing : List ℕ) (lost : Bool) → Rests trace trace'
+    → Accounts told full from (progress trace hall badge held failed written) inputs missing lost → Accounts told full from (progress trace' hall badge held failed written) inputs missing lost
+accounts_rest told full from trace trace' hall badge held failed written inputs missing lost r a =
+    record {
+      settings = r.settings ∙ a.settings;
+      history = a.history;
+      stands = r.history a.history a.stands;
       wrote = a.wrote;
       inputs_are = a.inputs_are;
-      each = a.each;
       prompt = a.prompt;
-      journal = a.journal;
-      answers = a.answers;
-      peer = a.peer;
-      count = a.count;
+      replies_are = a.replies_are;
       write_fault = a.write_fault;
       hall_full = a.hall_full;
       no_tick = a.no_tick;
-    }))
-
--- the question that a step asks stands
-pub stands_more : (trace trace' : TraceView) (event : Event) (sent : List Message) (asked : Option Question) → IsOpen trace → TraceSteps trace trace' event sent asked → Stands trace' asked
-stands_more trace trace' event sent asked going t question is =
-    let entry : TraceEntry = record { event = event; starved = t.starved } in
-    let more : account_of trace'.settings trace'.entries ≡ account_step (account_of trace.settings trace.entries) entry =
-    ap (λ (s : Settings). account_of s trace'.entries) t.grows.settings ∙ ap (account_of trace.settings) t.grows.entries ∙ account_of_more trace.settings trace.entries entry in
-    let shape : IsShaped (next_step trace entry) = entry_step_shaped (account_of trace.settings trace.entries).count (session_of trace.settings trace.entries) entry going in
-    let asks : (next_step trace entry).question ≡ Some question = sym t.question ∙ is in
-    elim shape.stands [
-      | inl none ↦ absurd (let e = sym none ∙ asks in cc)
-      | inr same ↦ ap (λ (x : Account). standing_question x.session.standing) more ∙ sym same ∙ asks
-    ]
-
--- a step that ends the session is silent
-pub silent_more : (trace trace' : TraceView) (event : Event) (sent : List Message) (asked : Option Question) → IsOpen trace → TraceSteps trace trace' event sent asked → is_closed (state_of trace') ≡ true → sent ≡ []
-silent_more trace trace' event sent asked going t closed =
-    let entry : TraceEntry = record { event = event; starved = t.starved } in
-    let more : account_of trace'.settings trace'.entries ≡ account_step (account_of trace.settings trace.entries) entry =
-    ap (λ (s : Settings). account_of s trace'.entries) t.grows.settings ∙ ap (account_of trace.settings) t.grows.entries ∙ account_of_more trace.settings trace.entries entry in
-    let shape : IsShaped (next_step trace entry) = entry_step_shaped (account_of trace.settings trace.entries).count (session_of trace.settings trace.entries) entry going in
-    t.messages ∙ shape.silent (sym (ap (λ (x : Account). is_closed x.session.state) more) ∙ closed)
-
--- the trace was given an event
-pub accounts_step : (from : Origin) (trace trace' : TraceView) (held : Option (List ℕ)) (failed failed' : Bool) (journal journal' : List Entry) (badge badge' : BadgeState) (written : ℕ) (inputs : List Event) (missing : List ℕ) (event : Event) (sent : List Message) (asked : Option Question)
-    → Accounts from (progress trace held failed journal badge written) inputs missing → IsOpen trace → TraceSteps trace trace' event sent asked → Changes from trace failed failed' journal journal' badge badge' event
-    → Accounts from (progress trace' held failed' journal' badge' written) (inputs ++ inputs_in event) (missing ++ texts sent)
-accounts_step from trace trace' held failed failed' journal journal' badge badge' written inputs missing event sent asked a going t c =
-    subst (λ (ms : List Message). Accounts from (progress trace' held failed' journal' badge' written) (inputs ++ inputs_in event) (missing ++ texts ms)) (sym t.messages)
-    (accounts_grow from trace trace' held failed failed' journal journal' badge badge' written inputs missing event t.starved a going t.grows c)
-
-same_answers : (standing : Option Question) (event : Event) → is_told event ≡ false → replies_to standing event ≡ []
-same_answers None event e = refl
-same_answers (Some question) (events.Said item) e = refl
-same_answers (Some question) (events.Broken fault) e = refl
-same_answers (Some question) events.Tick e = refl
-same_answers (Some question) (events.Told answer) e = absurd cc
-same_answers (Some question) events.ReaderEnd e = refl
-same_answers (Some question) events.NoMemory e = refl
-same_answers (Some question) events.HallFull e = refl
-same_answers (Some question) events.WriteFault e = refl
-
--- an event that is no answer changes neither journal nor badge, but for the mark of a full one
-pub calm_changes : (from : Origin) (trace : TraceView) (failed : Bool) (journal : List Entry) (badge badge' : BadgeState) (event : Event)
-    → is_told event ≡ false → is_tick event ≡ false → (is_write_fault event ≡ true → failed ≡ true) → (IsMarkedFull journal badge → IsMarkedFull journal badge') → (is_hall_full event ≡ true → IsMarkedFull journal badge') → badge'.peer ≡ badge.peer → badge'.count ≡ badge.count
-    → (is_input event ≡ true → (session_of trace.settings trace.entries).standing ≡ None) → Changes from trace failed failed journal journal badge badge' event
-calm_changes from trace failed journal badge badge' event told tick write full hall peer count free =
-    let none : replies_to (standing_question (session_of trace.settings trace.entries).standing) event ≡ [] = same_answers _ event told in
-    record {
-      failed_stays = λ h. h;
-      failed_told = write;
-      full_stays = full;
-      full_told = hall;
-      peer = peer;
-      counted = (let nothing = ap length none in omega (arith, nothing, count));
-      grew = sym (ap (λ (rs : List Reply). journal ++ map (asked_by from.peer) rs) none ∙ append-nil journal);
-      answers = subst (λ (rs : List Reply). AreAnswers journal from.peer rs) (sym none) tt;
-      no_tick = tick;
-      free = free;
+      losses = a.losses;
     }
 
--- an event that is no input
-no_free : (event : Event) {P : Type 0} → is_input event ≡ false → is_input event ≡ true → P
-no_free event other same = absurd (let clash = sym other ∙ same in cc)
+-- a trace that is open after a rest
+pub rest_open : (trace trace' : TraceView) → Rests trace trace' → IsOpen trace → IsOpen trace'
+rest_open trace trace' r going = ap (λ (s : SessionState). is_closed s.state) r.session ∙ going
 
-no_input : (event : Event) → is_input event ≡ false → inputs_in event ≡ []
-no_input event e = ap (λ b. cond b (event ∷ []) []) e
+-- a step that ends the session is silent
+pub silent_more : (trace trace' : TraceView) (entry : TraceEntry) → IsOpen trace → Grows trace trace' entry → is_closed trace'.session.state ≡ true → (next_step trace entry).messages ≡ []
+silent_more trace trace' entry going g closed =
+    entry_silent trace.total.entries trace.session entry going (ap (λ (s : SessionState). is_closed s.state) (sym g.session) ∙ closed)
 
-one_input : (event : Event) → is_input event ≡ true → inputs_in event ≡ event ∷ []
-one_input event e = ap (λ b. cond b (event ∷ []) []) e
+-- an event that ends a session at once has ended it
+pub ended_more : (trace trace' : TraceView) (entry : TraceEntry) → IsOpen trace → Grows trace trace' entry → ends_at_once entry.event ≡ true → is_closed trace'.session.state ≡ true
+ended_more trace trace' entry going g ends = ap (λ (s : SessionState). is_closed s.state) g.session ∙ entry_ends trace.total.entries trace.session entry going ends
 
--- the same entries leave the same session
-session_kept : (trace trace' : TraceView) → trace'.settings ≡ trace.settings → trace'.entries ≡ trace.entries → session_of trace'.settings trace'.entries ≡ session_of trace.settings trace.entries
-session_kept trace trace' s e = ap (λ (x : Settings). session_of x trace'.entries) s ∙ ap (λ (es : List TraceEntry). session_of trace.settings es) e
+-- ---- an event that loses messages
 
--- a trace that is open after room was made
-pub room_open : (trace trace' : TraceView) → HasRoom trace trace' → IsOpen trace → IsOpen trace'
-room_open trace trace' r going = ap (λ (s : SessionState). is_closed s.state) (session_kept trace trace' r.settings r.entries) ∙ going
+loss_plain : (event : Event) → loses (kind_of event) ≡ true → (is_input (kind_of event) ≡ false) × (is_tick (kind_of event) ≡ false) × (begins (kind_of event) ≡ false) × (is_hall_full (kind_of event) ≡ false)
+loss_plain (events.Said item) e = absurd cc
+loss_plain (events.Broken fault) e = absurd cc
+loss_plain events.Tick e = absurd cc
+loss_plain (events.Told answer) e = absurd cc
+loss_plain events.ReaderEnd e = absurd cc
+loss_plain events.NoMemory e = (refl, refl, refl, refl)
+loss_plain events.HallFull e = absurd cc
+loss_plain events.WriteFault e = (refl, refl, refl, refl)
+
+loss_replies : (standing : Option Question) (event : Event) → loses (kind_of event) ≡ true → replies_to standing event ≡ []
+loss_replies standing (events.Said item) e = absurd cc
+loss_replies standing (events.Broken fault) e = absurd cc
+loss_replies standing events.Tick e = absurd cc
+loss_replies standing (events.Told answer) e = absurd cc
+loss_replies standing events.ReaderEnd e = absurd cc
+loss_replies None events.NoMemory e = refl
+loss_replies (Some question) events.NoMemory e = refl
+loss_replies standing events.HallFull e = absurd cc
+loss_replies None events.WriteFault e = refl
+loss_replies (Some question) events.WriteFault e = refl
+
+pub not_both : {P : Type 0} (b : Bool) → b ≡ false → b ≡ true → P
+not_both b e f = absurd (let clash = sym e ∙ f in cc)
+
+-- a trace grew by an event by which messages are lost
+pub accounts_lost : {H : Type 0} (told : H → BadgeState → List Reply → H → BadgeState → Type 0) (full : H → BadgeState → Type 0) (oracle : IsOracle told full) (from : Origin H) (trace mid trace' : TraceView) (hall : H) (badge : BadgeState)
+    (held : Option (List ℕ)) (failed : Bool) (written : ℕ) (inputs : List Event) (missing : List ℕ) (lost : Bool) (entry : TraceEntry)
+    → IsOpen trace → Rests trace mid → Grows mid trace' entry → IsLoss entry.event → (is_write_fault (kind_of entry.event) ≡ true → failed ≡ true)
+    → Accounts told full from (progress trace hall badge held failed written) inputs missing lost → Accounts told full from (progress trace' hall badge held failed written) inputs missing true
+accounts_lost told full oracle from trace mid trace' hall badge held failed written inputs missing lost entry going r g l write a =
+    let going' = rest_open trace mid r going in
+    let b = accounts_rest told full from trace mid hall badge held failed written inputs missing lost r a in
+    let plain = loss_plain entry.event l.loses_messages in
+    let silent : (next_step mid entry).messages ≡ [] = silent_more mid trace' entry going' g (ended_more mid trace' entry going' g l.ends) in
+    let changes : Changes told full mid failed hall hall badge badge entry.event =
+    record {
+      failed_told = write;
+      full_told = λ e. not_both (is_hall_full (kind_of entry.event)) plain.3 e;
+      told_next = subst (λ (rs : List Reply). told hall badge rs hall badge) (sym (loss_replies (standing_question mid.session.standing) entry.event l.loses_messages)) (oracle.none hall badge);
+      no_tick = plain.1;
+      free = λ e. not_both (begins (kind_of entry.event)) plain.2 e;
+    } in
+    let grown = accounts_grow told full oracle from mid trace' hall hall badge badge held failed written inputs missing lost entry b g changes in
+    subst (λ b. Accounts told full from (progress trace' hall badge held failed written) inputs missing b) (or_last lost (loses (kind_of entry.event)) l.loses_messages)
+    (subst (λ (ms : List ℕ). Accounts told full from (progress trace' hall badge held failed written) inputs ms (lost || (loses (kind_of entry.event) || false))) (ap (λ (ms : List Message). missing ++ texts ms) silent ∙ append-nil missing)
+    (subst (λ (is : List Event). Accounts told full from (progress trace' hall badge held failed written) is (missing ++ texts (next_step mid entry).messages) (lost || (loses (kind_of entry.event) || false))) (ap (λ (is : List Event). inputs ++ is) (no_input entry.event plain.0) ∙ append-nil inputs) grown))
+
+pub no_memory_loss : IsLoss events.NoMemory
+no_memory_loss = record { loses_messages = refl; ends = refl }
 
 -- a trace that ended for want of memory
-pub accounts_ran : (from : Origin) (trace trace' : TraceView) (held : Option (List ℕ)) (failed : Bool) (journal : List Entry) (badge : BadgeState) (written : ℕ) (inputs : List Event) (missing : List ℕ)
-    → IsOpen trace → RanOut trace trace' → Accounts from (progress trace held failed journal badge written) inputs missing → Accounts from (progress trace' held failed journal badge written) inputs missing
-accounts_ran from trace trace' held failed journal badge written inputs missing going r a =
-    let entry : TraceEntry = record { event = events.NoMemory; starved = false } in
-    let shape : IsShaped (next_step trace entry) = entry_step_shaped (account_of trace.settings trace.entries).count (session_of trace.settings trace.entries) entry going in
-    let over : is_closed (next_step trace entry).session.state ≡ true = entry_ends (account_of trace.settings trace.entries).count (session_of trace.settings trace.entries) entry going refl in
-    let silent : (next_step trace entry).messages ≡ [] = shape.silent over in
-    let grown = accounts_grow from trace trace' held failed failed journal journal badge badge written inputs missing events.NoMemory false a going r.grows
-    (calm_changes from trace failed journal badge badge events.NoMemory refl refl (λ h. absurd cc) (λ h. h) (λ h. absurd cc) refl refl (λ h. absurd cc)) in
-    subst (λ (ms : List ℕ). Accounts from (progress trace' held failed journal badge written) inputs ms) (ap (λ (ms : List Message). missing ++ texts ms) silent ∙ append-nil missing)
-    (subst (λ (is : List Event). Accounts from (progress trace' held failed journal badge written) is (missing ++ texts (next_step trace entry).messages)) (append-nil inputs) grown)
+pub accounts_ran : {H : Type 0} (told : H → BadgeState → List Reply → H → BadgeState → Type 0) (full : H → BadgeState → Type 0) (oracle : IsOracle told full) (from : Origin H) (trace trace' : TraceView) (hall : H) (badge : BadgeState)
+    (held : Option (List ℕ)) (failed : Bool) (written : ℕ) (inputs : List Event) (missing : List ℕ) (lost : Bool)
+    → IsOpen trace → RanOut trace trace' → Accounts told full from (progress trace hall badge held failed written) inputs missing lost → Accounts told full from (progress trace' hall badge held failed written) inputs missing true
+accounts_ran told full oracle from trace trace' hall badge held failed written inputs missing lost going r a =
+    accounts_lost told full oracle from trace r.between trace' hall badge held failed written inputs missing lost (record { event = events.NoMemory; starved = false }) going r.rests r.grows no_memory_loss (λ e. absurd cc) a
 
--- an event by which messages are lost
-pub accounts_lost : (from : Origin) (trace mid trace' : TraceView) (held : Option (List ℕ)) (failed : Bool) (journal : List Entry) (badge : BadgeState) (written : ℕ) (inputs : List Event) (missing : List ℕ) (event : Event) (sent : List Message) (asked : Option Question)
-    → IsOpen trace → HasRoom trace mid → TraceSteps mid trace' event sent asked → ends_at_once event ≡ true → IsQuiet event → (is_write_fault event ≡ true → failed ≡ true)
-    → Accounts from (progress trace held failed journal badge written) inputs missing → Accounts from (progress trace' held failed journal badge written) inputs missing
-accounts_lost from trace mid trace' held failed journal badge written inputs missing event sent asked going r t ends q write a =
-    let open' = room_open trace mid r going in
-    let b = accounts_room from trace mid held failed journal badge written inputs missing r.settings r.entries a in
-    let silent : sent ≡ [] = silent_more mid trace' event sent asked open' t (ended mid trace' event t.starved open' ends t.grows) in
-    let grown = accounts_step from mid trace' held failed failed journal journal badge badge written inputs missing event sent asked b open' t
-    (calm_changes from mid failed journal badge badge event q.no_answer q.no_tick write (λ h. h) (λ h. absurd (let x = sym h ∙ q.no_hall in cc)) refl refl (no_free event q.no_input)) in
-    subst (λ (ms : List ℕ). Accounts from (progress trace' held failed journal badge written) inputs ms) (ap (λ (ms : List Message). missing ++ texts ms) silent ∙ append-nil missing)
-    (subst (λ (is : List Event). Accounts from (progress trace' held failed journal badge written) is (missing ++ texts sent)) (ap (λ (is : List Event). inputs ++ is) (no_input event q.no_input) ∙ append-nil inputs) grown)
+-- ---- a session that goes on has lost nothing
 
--- an event that a trace has as its last
-pub has_last : (test : Event → Bool) (old new : TraceView) (event : Event) (starved : Bool) → Grows old new event starved → test event ≡ true → has_event test new.entries ≡ true
-has_last test old new event starved g e = ap (has_event test) g.entries ∙ has_more test old.entries (record { event = event; starved = starved }) ∙ or_last _ _ e
+stays_closed : (account : Account) (entries : List TraceEntry) → is_closed account.session.state ≡ true → EachOpen account entries → entries ≡ []
+stays_closed account [] e each = refl
+stays_closed account (entry ∷ entries) e each = not_both (is_closed account.session.state) each.0 e
 
--- ---- what a session that goes on has not met
-
-loses_ends : (event : Event) → loses event ≡ true → ends_at_once event ≡ true
+loses_ends : (event : Event) → loses (kind_of event) ≡ true → ends_at_once event ≡ true
 loses_ends (events.Said item) e = absurd cc
 loses_ends (events.Broken fault) e = absurd cc
 loses_ends events.Tick e = absurd cc
@@ -270,92 +231,206 @@ loses_ends events.NoMemory e = refl
 loses_ends events.HallFull e = absurd cc
 loses_ends events.WriteFault e = refl
 
--- the step of an entry at a session that isn't over
-abbrev entry_fed : Account → TraceEntry → Stepped
-entry_fed account entry =
-    cond (account.count + 1 == 65536) (closes reasons.TraceFull account.session)
-    (cond entry.starved (closes reasons.Memory account.session) (open_step account.session entry.event))
-
-stays_closed : (account : Account) (entries : List TraceEntry) → is_closed account.session.state ≡ true → is_closed (fold account_step account entries).session.state ≡ true
-stays_closed account [] e = e
-stays_closed account (entry ∷ entries) e = stays_closed (account_step account entry) entries (ap (λ b. is_closed (cond b (stays account.session) (entry_fed account entry)).session.state) e ∙ e)
-
-lost_none : (account : Account) (entries : List TraceEntry) → EachOpen account entries → is_closed (fold account_step account entries).session.state ≡ false → has_event loses entries ≡ false
+lost_none : (account : Account) (entries : List TraceEntry) → EachOpen account entries → is_closed (fold account_step account entries).session.state ≡ false → has_kind loses entries ≡ false
 lost_none account [] each going = refl
 lost_none account (entry ∷ entries) each going =
-    let first : (b : Bool) → loses entry.event ≡ b → (b || has_event loses entries) ≡ false =
+    let first : (b : Bool) → loses (kind_of entry.event) ≡ b → (b || has_kind loses entries) ≡ false =
     elim [
-      | true ↦ λ e. absurd (
+      | true ↦ λ e.
           let over = entry_ends account.count account.session entry each.0 (loses_ends entry.event e) in
-          let after = stays_closed (account_step account entry) entries over in
-          let clash = sym going ∙ after in cc
-          )
+          let nothing = stays_closed (account_step account entry) entries over each.1 in
+          not_both _ (subst (λ (es : List TraceEntry). is_closed (fold account_step (account_step account entry) es).session.state ≡ false) nothing going) over
       | false ↦ λ e. lost_none (account_step account entry) entries each.1 going
     ] in
-    first (loses entry.event) refl
+    first (loses (kind_of entry.event)) refl
 
--- a session that goes on has lost nothing
-pub open_lost : (trace : TraceView) → EachOpen (first_account trace.settings) trace.entries → IsOpen trace → has_event loses trace.entries ≡ false
+open_lost : (settings : Settings) (history : List TraceEntry) → EachOpen (first_account settings) history → is_closed (session_of settings history).state ≡ false → has_kind loses history ≡ false
 unfolding account_of
-open_lost trace each going = lost_none (first_account trace.settings) trace.entries each going
+open_lost settings history each going = lost_none (first_account settings) history each going
+
+-- what was lost by a session that goes on
+pub not_lost : {H : Type 0} (told : H → BadgeState → List Reply → H → BadgeState → Type 0) (full : H → BadgeState → Type 0) (from : Origin H) (now : Progress H) (inputs : List Event) (missing : List ℕ) (lost : Bool)
+    → Accounts told full from now inputs missing lost → IsOpen now.trace → lost ≡ false
+not_lost told full from now inputs missing lost a going =
+    sym a.losses ∙ open_lost now.trace.settings a.history a.stands.each (ap (λ (s : SessionState). is_closed s.state) (sym a.stands.session) ∙ going)
+
+-- nothing is missing while the session goes on
+pub open_whole : {H : Type 0} (told : H → BadgeState → List Reply → H → BadgeState → Type 0) (full : H → BadgeState → Type 0) (from : Origin H) (now : Progress H) (inputs : List Event)
+    → Sent told full from now inputs → IsOpen now.trace → Accounts told full from now inputs [] false
+open_whole told full from now inputs s going =
+    let none = not_lost told full from now inputs s.missing s.lost s.accounts going in
+    subst (λ b. Accounts told full from now inputs [] b) none (subst (λ (ms : List ℕ). Accounts told full from now inputs ms s.lost) (s.whole none) s.accounts)
+
+-- while the session goes on, a sink that has failed had failed before
+pub open_told : {H : Type 0} (told : H → BadgeState → List Reply → H → BadgeState → Type 0) (full : H → BadgeState → Type 0) (from : Origin H) (now : Progress H) (inputs : List Event)
+    → Sent told full from now inputs → IsOpen now.trace → now.failed ≡ true → from.failed ≡ true
+open_told told full from now inputs s going failed =
+    elim (s.told_loss failed) [ inl before ↦ before | inr lost ↦ not_both s.lost (not_lost told full from now inputs s.missing s.lost s.accounts going) lost ]
 
 -- ---- asking
-
--- what was full stays so
-full_more : (journal journal' : List Entry) (badge badge' : BadgeState) (entry : Entry) → journal' ≡ journal ++ entry ∷ [] → badge'.full ≡ badge.full → badge'.count ≡ badge.count + 1 → IsMarkedFull journal badge → IsMarkedFull journal' badge'
-full_more journal journal' badge badge' entry grew same more (mark, inl long) = (same ∙ mark, inl (let len = ap length grew ∙ length-append journal (entry ∷ []) in omega (arith, len, long)))
-full_more journal journal' badge badge' entry grew same more (mark, inr many) = (same ∙ mark, inr (omega (arith, more, many)))
-
--- no place could be made for the answer
-pub ask_none : (from : Origin) (trace trace' : TraceView) (held : Option (List ℕ)) (failed : Bool) (journal : List Entry) (badge : BadgeState) (written : ℕ) (inputs : List Event) (sent : List Message)
-    → IsOpen trace → RanOut trace trace' → sent ≡ [] → Accounts from (progress trace held failed journal badge written) inputs [] → Accounts from (progress trace' held failed journal badge written) inputs (texts sent)
-ask_none from trace trace' held failed journal badge written inputs sent going r none a =
-    subst (λ (ms : List Message). Accounts from (progress trace' held failed journal badge written) inputs (texts ms)) (sym none)
-    (accounts_ran from trace trace' held failed journal badge written inputs [] going r a)
 
 reply_is : (standing : Option Question) (question : Question) (answer : Answer) → standing ≡ Some question → replies_to standing (events.Told answer) ≡ record { question = question; answer = answer } ∷ []
 reply_is standing question answer e = ap (λ o. replies_to o (events.Told answer)) e
 
--- the hall granted the question
-pub ask_told : (from : Origin) (trace mid trace' : TraceView) (held : Option (List ℕ)) (failed : Bool) (journal journal' : List Entry) (badge badge' : BadgeState) (written : ℕ) (inputs : List Event) (question : Question) (answer : Answer) (sent : List Message) (asked : Option Question)
-    → IsOpen trace → HasRoom trace mid → standing_question (session_of trace.settings trace.entries).standing ≡ Some question
-    → Grants journal journal' badge badge' question answer → TraceSteps mid trace' (events.Told answer) sent asked
-    → Accounts from (progress trace held failed journal badge written) inputs [] → Accounts from (progress trace' held failed journal' badge' written) inputs (texts sent)
-ask_told from trace mid trace' held failed journal journal' badge badge' written inputs question answer sent asked going r stands g t a =
-    let open' = room_open trace mid r going in
-    let b = accounts_room from trace mid held failed journal badge written inputs [] r.settings r.entries a in
-    let stands' : standing_question (session_of mid.settings mid.entries).standing ≡ Some question =
-    ap (λ (s : Settings). standing_question (session_of s mid.entries).standing) r.settings ∙ ap (λ (es : List TraceEntry). standing_question (session_of trace.settings es).standing) r.entries ∙ stands in
-    let reply : Reply = record { question = question; answer = answer } in
-    let one : replies_to (standing_question (session_of mid.settings mid.entries).standing) (events.Told answer) ≡ reply ∷ [] = reply_is _ question answer stands' in
-    let changes : Changes from mid failed failed journal journal' badge badge' (events.Told answer) =
-    record {
-      failed_stays = λ h. h;
-      failed_told = λ h. absurd cc;
-      full_stays = λ h. full_more journal journal' badge badge' (Asked badge.peer question) g.journal (ap (λ (x : BadgeState). x.full) g.badge) (ap (λ (x : BadgeState). x.count) g.badge) h;
-      full_told = λ h. absurd cc;
-      peer = ap (λ (x : BadgeState). x.peer) g.badge;
-      counted = (let counts = ap (λ (x : BadgeState). x.count) g.badge in let single = ap length one in omega arith);
-      grew = g.journal ∙ ap (λ (p : ℕ). journal ++ Asked p question ∷ []) a.peer ∙ sym (ap (λ (rs : List Reply). journal ++ map (asked_by from.peer) rs) one);
-      answers = subst (λ (rs : List Reply). AreAnswers journal from.peer rs) (sym one) (g.answered ∙ ap (λ (p : ℕ). answer_to journal (Asked p question)) a.peer, tt);
-      no_tick = refl;
-      free = λ h. absurd cc;
-    } in
-    let grown = accounts_step from mid trace' held failed failed journal journal' badge badge' written inputs [] (events.Told answer) sent asked b open' t changes in
-    subst (λ (is : List Event). Accounts from (progress trace' held failed journal' badge' written) is (texts sent)) (append-nil inputs) grown
+no_reply : (standing : Option Question) → (replies_to standing events.HallFull ≡ []) × (replies_to standing events.NoMemory ≡ [])
+no_reply None = (refl, refl)
+no_reply (Some question) = (refl, refl)
 
--- the hall refused the question
-pub ask_refused : (from : Origin) (trace mid trace' : TraceView) (held : Option (List ℕ)) (failed : Bool) (journal journal' : List Entry) (badge badge' : BadgeState) (written : ℕ) (inputs : List Event) (event : Event) (sent : List Message) (asked : Option Question)
-    → IsOpen trace → HasRoom trace mid → journal' ≡ journal → (IsMarkedFull journal badge → IsMarkedFull journal badge') → (is_hall_full event ≡ true → IsMarkedFull journal badge') → badge'.peer ≡ badge.peer → badge'.count ≡ badge.count
-    → is_told event ≡ false → is_tick event ≡ false → is_write_fault event ≡ false → is_input event ≡ false → TraceSteps mid trace' event sent asked
-    → Accounts from (progress trace held failed journal badge written) inputs [] → Accounts from (progress trace' held failed journal' badge' written) inputs (texts sent)
-ask_refused from trace mid trace' held failed journal journal' badge badge' written inputs event sent asked going r same full hall peer count told tick write input t a =
-    let open' = room_open trace mid r going in
-    let b = accounts_room from trace mid held failed journal badge written inputs [] r.settings r.entries a in
-    let changes = calm_changes from mid failed journal badge badge' event told tick (λ h. absurd (let e = sym h ∙ write in cc)) full hall peer count (no_free event input) in
-    let grown = accounts_step from mid trace' held failed failed journal journal badge badge' written inputs [] event sent asked b open' t changes in
-    subst (λ (j : List Entry). Accounts from (progress trace' held failed j badge' written) inputs (texts sent)) (sym same)
-    (subst (λ (is : List Event). Accounts from (progress trace' held failed journal badge' written) is (texts sent)) (ap (λ (is : List Event). inputs ++ is) (no_input event input) ∙ append-nil inputs) grown)
+-- what the hall made of a question, as a change of the account
+pub answer_changes : {H : Type 0} (told : H → BadgeState → List Reply → H → BadgeState → Type 0) (full : H → BadgeState → Type 0) (trace : TraceView) (failed : Bool) (hall hall' : H) (badge badge' : BadgeState) (question : Question) (event : Event)
+    → standing_question trace.session.standing ≡ Some question → AnswerOf told full hall badge hall' badge' question event → Changes told full trace failed hall hall' badge badge' event
+answer_changes told full trace failed hall hall' badge badge' question (events.Told answer) stands a =
+    record {
+      failed_told = λ e. absurd cc;
+      full_told = λ e. absurd cc;
+      told_next = subst (λ (rs : List Reply). told hall badge rs hall' badge') (sym (reply_is (standing_question trace.session.standing) question answer stands)) a;
+      no_tick = refl;
+      free = λ e. absurd cc;
+    }
+answer_changes told full trace failed hall hall' badge badge' question events.HallFull stands a =
+    record {
+      failed_told = λ e. absurd cc;
+      full_told = λ e. a.1;
+      told_next = subst (λ (rs : List Reply). told hall badge rs hall' badge') (sym (no_reply (standing_question trace.session.standing)).0) a.0;
+      no_tick = refl;
+      free = λ e. absurd cc;
+    }
+answer_changes told full trace failed hall hall' badge badge' question events.NoMemory stands a =
+    record {
+      failed_told = λ e. absurd cc;
+      full_told = λ e. absurd cc;
+      told_next = subst (λ (rs : List Reply). told hall badge rs hall' badge') (sym (no_reply (standing_question trace.session.standing)).1) a;
+      no_tick = refl;
+      free = λ e. absurd cc;
+    }
+answer_changes told full trace failed hall hall' badge badge' question (events.Said item) stands a = absurd a
+answer_changes told full trace failed hall hall' badge badge' question (events.Broken fault) stands a = absurd a
+answer_changes told full trace failed hall hall' badge badge' question events.Tick stands a = absurd a
+answer_changes told full trace failed hall hall' badge badge' question events.ReaderEnd stands a = absurd a
+answer_changes told full trace failed hall hall' badge badge' question events.WriteFault stands a = absurd a
+
+answer_no_input : {H : Type 0} (told : H → BadgeState → List Reply → H → BadgeState → Type 0) (full : H → BadgeState → Type 0) (hall hall' : H) (badge badge' : BadgeState) (question : Question) (event : Event)
+    → AnswerOf told full hall badge hall' badge' question event → is_input (kind_of event) ≡ false
+answer_no_input told full hall hall' badge badge' question (events.Told answer) a = refl
+answer_no_input told full hall hall' badge badge' question events.HallFull a = refl
+answer_no_input told full hall hall' badge badge' question events.NoMemory a = refl
+answer_no_input told full hall hall' badge badge' question (events.Said item) a = absurd a
+answer_no_input told full hall hall' badge badge' question (events.Broken fault) a = absurd a
+answer_no_input told full hall hall' badge badge' question events.Tick a = absurd a
+answer_no_input told full hall hall' badge badge' question events.ReaderEnd a = absurd a
+answer_no_input told full hall hall' badge badge' question events.WriteFault a = absurd a
+
+-- the session was told what the hall made of its question
+pub accounts_asked : {H : Type 0} (told : H → BadgeState → List Reply → H → BadgeState → Type 0) (full : H → BadgeState → Type 0) (oracle : IsOracle told full) (from : Origin H) (trace mid trace' : TraceView) (hall hall' : H) (badge badge' : BadgeState)
+    (held : Option (List ℕ)) (failed : Bool) (written : ℕ) (inputs : List Event) (question : Question) (event : Event) (sent : List Message) (asked : Option Question)
+    → Rests trace mid → standing_question trace.session.standing ≡ Some question → AnswerOf told full hall badge hall' badge' question event → TraceSteps mid trace' event sent asked
+    → Accounts told full from (progress trace hall badge held failed written) inputs [] false → Underway told full from (progress trace' hall' badge' held failed written) inputs (texts sent)
+accounts_asked told full oracle from trace mid trace' hall hall' badge badge' held failed written inputs question event sent asked r stands answer t a =
+    let b = accounts_rest told full from trace mid hall badge held failed written inputs [] false r a in
+    let stands' : standing_question mid.session.standing ≡ Some question = ap (λ (s : SessionState). standing_question s.standing) r.session ∙ stands in
+    let grown = accounts_grow told full oracle from mid trace' hall hall' badge badge' held failed written inputs [] false (record { event = event; starved = t.starved }) b t.grows
+    (answer_changes told full mid failed hall hall' badge badge' question event stands' answer) in
+    record {
+      lost = loses (kind_of event) || false;
+      accounts =
+          subst (λ (ms : List Message). Accounts told full from (progress trace' hall' badge' held failed written) inputs (texts ms) (loses (kind_of event) || false)) (sym t.messages)
+          (subst (λ (is : List Event). Accounts told full from (progress trace' hall' badge' held failed written) is (texts (next_step mid (record { event = event; starved = t.starved })).messages) (loses (kind_of event) || false))
+          (ap (λ (is : List Event). inputs ++ is) (no_input event (answer_no_input told full hall hall' badge badge' question event answer)) ∙ append-nil inputs) grown);
+    }
+
+-- ---- what is left to be answered
+
+-- the question that stands in an open session
+pub question_open : (trace : TraceView) (question : Question) → open_question trace ≡ Some question → (is_closed trace.session.state ≡ false) × (standing_question trace.session.standing ≡ Some question)
+question_open trace question e =
+    let by_state : (b : Bool) → is_closed trace.session.state ≡ b → cond b None (standing_question trace.session.standing) ≡ Some question → (is_closed trace.session.state ≡ false) × (standing_question trace.session.standing ≡ Some question) =
+    elim [ true ↦ λ s x. absurd (let z : None ≡ Some question = x in cc) | false ↦ λ s x. (s, x) ] in
+    by_state (is_closed trace.session.state) refl e
+
+none_stands : (standing : Option Standing) → standing_question standing ≡ None → standing ≡ None
+none_stands None e = refl
+none_stands (Some standing) e = absurd cc
+
+-- no question stands in an open session
+pub none_open : (trace : TraceView) → open_question trace ≡ None → IsAnswered trace
+none_open trace e going = none_stands trace.session.standing (sym (ap (λ b. cond b None (standing_question trace.session.standing)) going) ∙ e)
+
+left_open : (trace : TraceView) → is_closed trace.session.state ≡ false → left_of trace ≡ questions_left trace.session.standing
+left_open trace e = ap (λ b. cond b 0 (questions_left trace.session.standing)) e
+
+left_closed : (trace : TraceView) → is_closed trace.session.state ≡ true → left_of trace ≡ 0
+left_closed trace e = ap (λ b. cond b 0 (questions_left trace.session.standing)) e
+
+question_some : (question : Question) → 1 ≤ question_left question
+question_some Admit = omega arith
+
+standing_some : (standing : Option Standing) (question : Question) → standing_question standing ≡ Some question → 1 ≤ questions_left standing
+standing_some None question e = absurd cc
+standing_some (Some standing) question e = question_some standing.question
+
+-- a session that is over waits for nothing
+pub left_over : (trace trace' : TraceView) (question : Question) → open_question trace ≡ Some question → is_closed trace'.session.state ≡ true → left_of trace' < left_of trace
+left_over trace trace' question stands closed =
+    let q = question_open trace question stands in
+    let zero = left_closed trace' closed in
+    let same = left_open trace q.0 in
+    let some = standing_some trace.session.standing question q.1 in
+    omega (arith, zero, same, some)
+
+told_fewer_of : (standing : Option Standing) (s : SessionState) (question : Question) (answer : Answer) → standing_question standing ≡ Some question → is_closed (told_step standing s answer).session.state ≡ false
+    → questions_left (told_step standing s answer).session.standing < questions_left standing
+told_fewer_of None s question answer stands going = absurd cc
+told_fewer_of (Some standing) s question answer stands going = told_fewer s standing answer going
+
+-- an answer leaves fewer
+left_told : (mid trace' : TraceView) (question : Question) (answer : Answer) (starved : Bool) → is_closed mid.session.state ≡ false → standing_question mid.session.standing ≡ Some question
+    → Grows mid trace' (record { event = events.Told answer; starved = starved }) → is_closed trace'.session.state ≡ false → questions_left trace'.session.standing < questions_left mid.session.standing
+left_told mid trace' question answer starved going stands g after =
+    let fewer : is_closed (next_step mid (record { event = events.Told answer; starved = starved })).session.state ≡ false
+    → questions_left (next_step mid (record { event = events.Told answer; starved = starved })).session.standing < questions_left mid.session.standing =
+    entry_cases (λ made. is_closed made.session.state ≡ false → questions_left made.session.standing < questions_left mid.session.standing) mid.total.entries mid.session (record { event = events.Told answer; starved = starved }) going
+    (λ _ x. absurd cc) (λ _ _ x. absurd cc) (λ _ _ x. told_fewer_of mid.session.standing mid.session question answer stands x) in
+    subst (λ (s : SessionState). questions_left s.standing < questions_left mid.session.standing) (sym g.session) (fewer (ap (λ (s : SessionState). is_closed s.state) (sym g.session) ∙ after))
+
+-- what the hall made of the question leaves fewer
+pub left_asked : {H : Type 0} (told : H → BadgeState → List Reply → H → BadgeState → Type 0) (full : H → BadgeState → Type 0) (hall hall' : H) (badge badge' : BadgeState) (trace mid trace' : TraceView) (question : Question) (event : Event) (starved : Bool)
+    → open_question trace ≡ Some question → Rests trace mid → AnswerOf told full hall badge hall' badge' question event → Grows mid trace' (record { event = event; starved = starved }) → left_of trace' < left_of trace
+left_asked told full hall hall' badge badge' trace mid trace' question (events.Told answer) starved stands r a g =
+    let q = question_open trace question stands in
+    let by_state : (b : Bool) → is_closed trace'.session.state ≡ b → left_of trace' < left_of trace =
+    elim [
+      | true ↦ λ s. left_over trace trace' question stands s
+      | false ↦ λ s.
+          let fewer = left_told mid trace' question answer starved (rest_open trace mid r q.0) (ap (λ (x : SessionState). standing_question x.standing) r.session ∙ q.1) g s in
+          let after = left_open trace' s in
+          let before = left_open trace q.0 in
+          let same = ap (λ (x : SessionState). questions_left x.standing) r.session in
+          omega (arith, fewer, after, before, same)
+    ] in
+    by_state (is_closed trace'.session.state) refl
+left_asked told full hall hall' badge badge' trace mid trace' question events.HallFull starved stands r a g =
+    left_over trace trace' question stands (ended_more mid trace' (record { event = events.HallFull; starved = starved }) (rest_open trace mid r (question_open trace question stands).0) g refl)
+left_asked told full hall hall' badge badge' trace mid trace' question events.NoMemory starved stands r a g =
+    left_over trace trace' question stands (ended_more mid trace' (record { event = events.NoMemory; starved = starved }) (rest_open trace mid r (question_open trace question stands).0) g refl)
+left_asked told full hall hall' badge badge' trace mid trace' question (events.Said item) starved stands r a g = absurd a
+left_asked told full hall hall' badge badge' trace mid trace' question (events.Broken fault) starved stands r a g = absurd a
+left_asked told full hall hall' badge badge' trace mid trace' question events.Tick starved stands r a g = absurd a
+left_asked told full hall hall' badge badge' trace mid trace' question events.ReaderEnd starved stands r a g = absurd a
+left_asked told full hall hall' badge badge' trace mid trace' question events.WriteFault starved stands r a g = absurd a
+
+-- what was sent on: either the session is over, or the trace is as it was
+pub left_kept : (trace trace' : TraceView) → (IsOpen trace' → trace' ≡ trace) → left_of trace' ≤ left_of trace
+left_kept trace trace' kept =
+    let by_state : (b : Bool) → is_closed trace'.session.state ≡ b → left_of trace' ≤ left_of trace =
+    elim [
+      | true ↦ λ s. (let zero = left_closed trace' s in omega (arith, zero))
+      | false ↦ λ s. (let same = ap left_of (kept s) in omega (arith, same))
+    ] in
+    by_state (is_closed trace'.session.state) refl
+
+-- a step that ends the session has nothing to send
+pub silent_step : (trace trace' : TraceView) (event : Event) (sent : List Message) (asked : Option Question) → IsOpen trace → TraceSteps trace trace' event sent asked → is_closed trace'.session.state ≡ true → sent ≡ []
+silent_step trace trace' event sent asked going t closed = t.messages ∙ silent_more trace trace' (record { event = event; starved = t.starved }) going t.grows closed
 
 -- ---- sending
 
@@ -363,12 +438,15 @@ counted_more : (x y : List ℕ) (n k m : ℕ) → n ≡ counted x → k ≡ coun
 counted_more x y n k m a b e = omega (arith, length-append x y)
 
 -- some of what was to be written went out
-pub accounts_wrote : (from : Origin) (trace : TraceView) (held held' : Option (List ℕ)) (failed failed' : Bool) (journal : List Entry) (badge : BadgeState) (written written' n : ℕ) (inputs : List Event) (text missing : List ℕ)
+pub accounts_wrote : {H : Type 0} (told : H → BadgeState → List Reply → H → BadgeState → Type 0) (full : H → BadgeState → Type 0) (from : Origin H) (trace : TraceView) (hall : H) (badge : BadgeState)
+    (held held' : Option (List ℕ)) (failed failed' : Bool) (written written' n : ℕ) (inputs : List Event) (text missing : List ℕ) (lost : Bool)
     → Wrote held held' text n missing → written' ≡ min (written + n) (2 ^ 64 - 1) → (failed ≡ true → failed' ≡ true)
-    → Accounts from (progress trace held failed journal badge written) inputs text → Accounts from (progress trace held' failed' journal badge written') inputs missing
-accounts_wrote from trace held held' failed failed' journal badge written written' n inputs text missing w count stays a =
+    → Accounts told full from (progress trace hall badge held failed written) inputs text lost → Accounts told full from (progress trace hall badge held' failed' written') inputs missing lost
+accounts_wrote told full from trace hall badge held held' failed failed' written written' n inputs text missing lost w count stays a =
     record {
       settings = a.settings;
+      history = a.history;
+      stands = a.stands;
       wrote = record {
         sent = a.wrote.sent ++ w.sent;
         parts = a.wrote.parts ∙ ap (λ (x : List ℕ). a.wrote.sent ++ x) w.parts ∙ sym (append_assoc a.wrote.sent w.sent missing);
@@ -376,19 +454,16 @@ accounts_wrote from trace held held' failed failed' journal badge written writte
         count = counted_more a.wrote.sent w.sent written n written' a.wrote.count w.count count;
       };
       inputs_are = a.inputs_are;
-      each = a.each;
       prompt = a.prompt;
-      journal = a.journal;
-      answers = a.answers;
-      peer = a.peer;
-      count = a.count;
+      replies_are = a.replies_are;
       write_fault = λ h. stays (a.write_fault h);
       hall_full = a.hall_full;
       no_tick = a.no_tick;
+      losses = a.losses;
     }
 
 -- what isn't over goes on
-pub going_on : (b : Bool) → (b ≡ true → ⊥) → b ≡ false
+going_on : (b : Bool) → (b ≡ true → ⊥) → b ≡ false
 going_on true h = absurd (h refl)
 going_on false h = refl
 
@@ -400,138 +475,71 @@ ok_err (Err x) e is h = cc
 pub has_messages : {T E : Type 0} (b : Bool) (messages : List Message) (r : Result T E) (e : E) → (b ≡ true → messages ≡ []) → (messages ≡ [] → IsOk r) → r ≡ Err e → b ≡ false
 has_messages b messages r e silent nothing is = going_on b (λ closed. ok_err r e is (nothing (silent closed)))
 
--- a badge that was marked
-pub marked_full : (journal : List Entry) (old new : BadgeState) → new ≡ record { peer = old.peer; count = old.count; full = true } → IsFull journal old → IsMarkedFull journal new
-marked_full journal old new e h =
-    subst (λ (b : BadgeState). IsMarkedFull journal b) (sym e) (refl, h)
-
--- a refusal that marks the badge at the most
-pub refused_badge : (old new : BadgeState) (result : Result Answer Fault) (fault : Fault) → result ≡ Err fault → ((fault ≡ JournalFull) ⊎ (fault ≡ Memory))
-    → (result ≡ Err JournalFull → new ≡ record { peer = old.peer; count = old.count; full = true }) → (result ≡ Err Memory → new ≡ old)
-    → ((journal : List Entry) → IsMarkedFull journal old → IsMarkedFull journal new) × (new.peer ≡ old.peer) × (new.count ≡ old.count)
-refused_badge old new result fault is (inl e) full same =
-    let n = full (is ∙ ap (λ f. Err f) e) in (λ journal h. marked_full journal old new n h.1, ap (λ (b : BadgeState). b.peer) n, ap (λ (b : BadgeState). b.count) n)
-refused_badge old new result fault is (inr e) full same =
-    let n = same (is ∙ ap (λ f. Err f) e) in (λ journal h. subst (λ (b : BadgeState). IsMarkedFull journal b) (sym n) h, ap (λ (b : BadgeState). b.peer) n, ap (λ (b : BadgeState). b.count) n)
-
 -- ---- giving an input
 
--- nothing is missing while the session goes on
-pub open_whole : (from : Origin) (now : Progress) (inputs : List Event) → Sent from now inputs → IsOpen now.trace → Accounts from now inputs []
-open_whole from now inputs s going =
-    subst (λ (ms : List ℕ). Accounts from now inputs ms) (s.whole (open_lost now.trace s.accounts.each going)) s.accounts
-
--- while the session goes on, a sink that has failed had failed before
-pub open_told : (from : Origin) (now : Progress) (inputs : List Event) → Sent from now inputs → IsOpen now.trace → now.failed ≡ true → from.failed ≡ true
-open_told from now inputs s going failed =
-    elim (s.told failed) [ inl before ↦ before | inr lost ↦ absurd (let none = open_lost now.trace s.accounts.each going in let clash = sym none ∙ lost in cc) ]
-
-pub stands_kept : (trace trace' : TraceView) (asked : Option Question) → trace'.settings ≡ trace.settings → trace'.entries ≡ trace.entries → Stands trace asked → Stands trace' asked
-stands_kept trace trace' asked s e h question is = ap (λ (x : SessionState). standing_question x.standing) (session_kept trace trace' s e) ∙ h question is
-
--- what stands is kept
-free_kept : (trace trace' : TraceView) → trace'.settings ≡ trace.settings → trace'.entries ≡ trace.entries → (session_of trace.settings trace.entries).standing ≡ None → (session_of trace'.settings trace'.entries).standing ≡ None
-free_kept trace trace' s e h = ap (λ (x : SessionState). x.standing) (session_kept trace trace' s e) ∙ h
-
-pub waits_kept : (trace trace' : TraceView) (asked : Option Question) → trace'.settings ≡ trace.settings → (IsOpen trace' → trace'.entries ≡ trace.entries) → Waits trace asked → Waits trace' asked
-waits_kept trace trace' asked s e h going =
-    let same = session_kept trace trace' s (e going) in
-    ap (λ (x : SessionState). standing_question x.standing) same ∙ h (ap (λ (x : SessionState). is_closed x.state) (sym same) ∙ going)
-
--- the question that a step asks is the one that stands after it
-waits_step : (trace trace' : TraceView) (event : Event) (sent : List Message) (asked : Option Question) → IsOpen trace → Waiting (open_step (session_of trace.settings trace.entries) event) → TraceSteps trace trace' event sent asked → Waits trace' asked
-waits_step trace trace' event sent asked going fed t after =
-    let entry : TraceEntry = record { event = event; starved = t.starved } in
-    let waiting : Waiting (next_step trace entry) =
-    entry_cases Waiting (account_of trace.settings trace.entries).count (session_of trace.settings trace.entries) entry going (λ _ h. absurd cc) (λ _ _ h. absurd cc) (λ _ _. fed) in
-    ap standing_question (standing_more trace trace' event t.starved t.grows) ∙ waiting (ap is_closed (sym (state_more trace trace' event t.starved t.grows)) ∙ after) ∙ sym t.question
-
-pub waits_input : (trace mid trace' : TraceView) (event : Event) (sent : List Message) (asked : Option Question) → IsOpen trace → HasRoom trace mid → is_input event ≡ true → NoneStands trace → TraceSteps mid trace' event sent asked → Waits trace' asked
-waits_input trace mid trace' event sent asked going r input none t =
-    waits_step mid trace' event sent asked (room_open trace mid r going) (waiting_input (session_of mid.settings mid.entries) event input (free_kept trace mid r.settings r.entries (none going))) t
-
-pub waits_answer : (trace trace' : TraceView) (event : Event) (sent : List Message) (asked : Option Question) → IsOpen trace → is_input event ≡ false → is_tick event ≡ false → TraceSteps trace trace' event sent asked → Waits trace' asked
-waits_answer trace trace' event sent asked going input tick t = waits_step trace trace' event sent asked going (waiting_after (session_of trace.settings trace.entries) event input tick) t
-
--- nothing stands after an answer
-pub free_answer : (trace trace' : TraceView) (event : Event) (sent : List Message) (asked : Option Question) → IsOpen trace → is_input event ≡ false → is_tick event ≡ false → TraceSteps trace trace' event sent asked → NoneStands trace'
-free_answer trace trace' event sent asked going input tick t after =
-    let entry : TraceEntry = record { event = event; starved = t.starved } in
-    let free : IsFree (next_step trace entry) =
-    entry_cases IsFree (account_of trace.settings trace.entries).count (session_of trace.settings trace.entries) entry going (λ _ h. absurd cc) (λ _ _ h. absurd cc) (λ _ _. free_after (session_of trace.settings trace.entries) event input tick) in
-    standing_more trace trace' event t.starved t.grows ∙ free (ap is_closed (sym (state_more trace trace' event t.starved t.grows)) ∙ after)
-
--- an answer leaves fewer to be waited for
-pub fewer_left : (before after : Option Matter) (question : Question) → standing_question before ≡ Some question → after ≡ None → questions_left after < questions_left before
-fewer_left None after question stands e = absurd cc
-fewer_left (Some matter) after question stands e = let z : questions_left after ≡ 0 = ap questions_left e in omega (arith, z)
-
--- what is left after an answer that was sent on
-pub left_less : (before mid after : TraceView) (n : ℕ) → after.settings ≡ mid.settings → (IsOpen after → after.entries ≡ mid.entries) → (IsOpen mid → answers_left mid < answers_left before)
-    → answers_left before + n ≤ 6 → IsOpen after → answers_left after + (n + 1) ≤ 6
-left_less before mid after n s e less few going =
-    let kept = session_kept mid after s (e going) in
-    let same : answers_left after ≡ answers_left mid = ap (λ (x : SessionState). questions_left x.standing) kept in
-    let fewer = less (ap (λ (x : SessionState). is_closed x.state) (sym kept) ∙ going) in
-    omega (arith, same, fewer, few)
-
-pub few_left : (standing : Option Matter) → questions_left standing + 0 ≤ 6
-few_left None = omega arith
-few_left (Some matter) = omega arith
-
-pub none_left : (standing : Option Matter) → standing_question standing ≡ None → standing ≡ None
-none_left None e = refl
-none_left (Some matter) e = absurd cc
-
-pub none_left_of : (standing : Option Matter) → questions_left standing ≡ 0 → standing ≡ None
-none_left_of None e = refl
-none_left_of (Some matter) e = absurd (let f : 1 ≡ 0 = e in omega arith)
-
 -- there was no room for an input
-pub gave_none : (from : Origin) (trace trace' : TraceView) (held : Option (List ℕ)) (failed : Bool) (journal : List Entry) (badge : BadgeState) (written : ℕ) (inputs : List Event) (event : Event)
-    → IsOpen trace → RanOut trace trace' → Settled from (progress trace held failed journal badge written) inputs → Gave from (progress trace' held failed journal badge written) inputs event
-gave_none from trace trace' held failed journal badge written inputs event going r s =
+pub gave_none : {H : Type 0} (told : H → BadgeState → List Reply → H → BadgeState → Type 0) (full : H → BadgeState → Type 0) (from : Origin H) (now : Progress H) (inputs : List Event) (missing : List ℕ) (event : Event)
+    → Accounts told full from now inputs missing true → is_closed now.trace.session.state ≡ true → Gave told full from now inputs event
+gave_none told full from now inputs missing event a closed =
     record {
       given = inputs;
       settled = record {
-        sent = record {
-          missing = s.sent.missing;
-          accounts = accounts_ran from trace trace' held failed journal badge written inputs s.sent.missing going r s.sent.accounts;
-          whole = λ h. absurd (let lost = has_last loses trace trace' events.NoMemory false r.grows refl in let clash = sym lost ∙ h in cc);
-          told = λ h. inr (has_last loses trace trace' events.NoMemory false r.grows refl);
-        };
-        answered = λ h. absurd (let clash = sym h ∙ r.closed in cc);
+        sent = record { missing = missing; lost = true; accounts = a; whole = λ h. absurd (let clash : true ≡ false = h in cc); told_loss = λ h. inr refl };
+        answered = λ h. not_both (is_closed now.trace.session.state) h closed;
       };
-      which = inr (refl, r.closed);
+      which = inr (refl, closed);
     }
 
 -- an input is no answer, no tick, and says nothing of the sink or the hall
 record IsPlain (event : Event) : Type 0 where
-  no_answer : is_told event ≡ false
-  no_tick : is_tick event ≡ false
-  no_write : is_write_fault event ≡ false
-  no_hall : is_hall_full event ≡ false
+  no_tick : is_tick (kind_of event) ≡ false
+  no_write : is_write_fault (kind_of event) ≡ false
+  no_hall : is_hall_full (kind_of event) ≡ false
+  replies_none : (standing : Option Question) → replies_to standing event ≡ []
 
-input_plain : (event : Event) → is_input event ≡ true → IsPlain event
-input_plain (events.Said item) e = record { no_answer = refl; no_tick = refl; no_write = refl; no_hall = refl }
-input_plain (events.Broken fault) e = record { no_answer = refl; no_tick = refl; no_write = refl; no_hall = refl }
+input_plain : (event : Event) → is_input (kind_of event) ≡ true → IsPlain event
+input_plain (events.Said item) e = record { no_tick = refl; no_write = refl; no_hall = refl; replies_none = elim [ None ↦ refl | Some q ↦ refl ] }
+input_plain (events.Broken fault) e = record { no_tick = refl; no_write = refl; no_hall = refl; replies_none = elim [ None ↦ refl | Some q ↦ refl ] }
 input_plain events.Tick e = absurd cc
 input_plain (events.Told answer) e = absurd cc
-input_plain events.ReaderEnd e = record { no_answer = refl; no_tick = refl; no_write = refl; no_hall = refl }
+input_plain events.ReaderEnd e = record { no_tick = refl; no_write = refl; no_hall = refl; replies_none = elim [ None ↦ refl | Some q ↦ refl ] }
 input_plain events.NoMemory e = absurd cc
 input_plain events.HallFull e = absurd cc
 input_plain events.WriteFault e = absurd cc
 
 -- an input was given, and its messages are on their way
-pub accounts_input : (from : Origin) (trace mid trace' : TraceView) (held : Option (List ℕ)) (failed : Bool) (journal : List Entry) (badge : BadgeState) (written : ℕ) (inputs : List Event) (event : Event) (sent : List Message) (asked : Option Question)
-    → IsOpen trace → HasRoom trace mid → is_input event ≡ true → TraceSteps mid trace' event sent asked
-    → Settled from (progress trace held failed journal badge written) inputs → Accounts from (progress trace' held failed journal badge written) (inputs ++ event ∷ []) (texts sent)
-accounts_input from trace mid trace' held failed journal badge written inputs event sent asked going r input t s =
+pub accounts_input : {H : Type 0} (told : H → BadgeState → List Reply → H → BadgeState → Type 0) (full : H → BadgeState → Type 0) (oracle : IsOracle told full) (from : Origin H) (trace mid trace' : TraceView) (hall : H) (badge : BadgeState)
+    (held : Option (List ℕ)) (failed : Bool) (written : ℕ) (inputs : List Event) (event : Event) (sent : List Message) (asked : Option Question)
+    → IsOpen trace → Rests trace mid → is_input (kind_of event) ≡ true → TraceSteps mid trace' event sent asked
+    → Settled told full from (progress trace hall badge held failed written) inputs → Underway told full from (progress trace' hall badge held failed written) (inputs ++ event ∷ []) (texts sent)
+accounts_input told full oracle from trace mid trace' hall badge held failed written inputs event sent asked going r input t s =
     let p = input_plain event input in
-    let a = open_whole from (progress trace held failed journal badge written) inputs s.sent going in
-    let open' = room_open trace mid r going in
-    let b = accounts_room from trace mid held failed journal badge written inputs [] r.settings r.entries a in
-    let free = free_kept trace mid r.settings r.entries (s.answered going) in
-    let changes = calm_changes from mid failed journal badge badge event p.no_answer p.no_tick (λ h. absurd (let e = sym h ∙ p.no_write in cc)) (λ h. h) (λ h. absurd (let e = sym h ∙ p.no_hall in cc)) refl refl (λ h. free) in
-    let grown = accounts_step from mid trace' held failed failed journal journal badge badge written inputs [] event sent asked b open' t changes in
-    subst (λ (is : List Event). Accounts from (progress trace' held failed journal badge written) (inputs ++ is) (texts sent)) (one_input event input) grown
+    let a = open_whole told full from (progress trace hall badge held failed written) inputs s.sent going in
+    let b = accounts_rest told full from trace mid hall badge held failed written inputs [] false r a in
+    let free : mid.session.standing ≡ None = ap (λ (x : SessionState). x.standing) r.session ∙ s.answered going in
+    let changes : Changes told full mid failed hall hall badge badge event =
+    record {
+      failed_told = λ h. not_both (is_write_fault (kind_of event)) p.no_write h;
+      full_told = λ h. not_both (is_hall_full (kind_of event)) p.no_hall h;
+      told_next = subst (λ (rs : List Reply). told hall badge rs hall badge) (sym (p.replies_none (standing_question mid.session.standing))) (oracle.none hall badge);
+      no_tick = p.no_tick;
+      free = λ h. free;
+    } in
+    let grown = accounts_grow told full oracle from mid trace' hall hall badge badge held failed written inputs [] false (record { event = event; starved = t.starved }) b t.grows changes in
+    record {
+      lost = loses (kind_of event) || false;
+      accounts =
+          subst (λ (ms : List Message). Accounts told full from (progress trace' hall badge held failed written) (inputs ++ event ∷ []) (texts ms) (loses (kind_of event) || false)) (sym t.messages)
+          (subst (λ (is : List Event). Accounts told full from (progress trace' hall badge held failed written) (inputs ++ is) (texts (next_step mid (record { event = event; starved = t.starved })).messages) (loses (kind_of event) || false)) (one_input event input) grown);
+    }
+
+-- ---- one conversation
+
+-- messages were on their way, and went out or were lost
+pub sent_ok : {H : Type 0} (told : H → BadgeState → List Reply → H → BadgeState → Type 0) (full : H → BadgeState → Type 0) (from : Origin H) (now : Progress H) (inputs : List Event) (lost : Bool)
+    → Accounts told full from now inputs [] lost → (now.failed ≡ true → from.failed ≡ true) → Sent told full from now inputs
+sent_ok told full from now inputs lost a before = record { missing = []; lost = lost; accounts = a; whole = λ h. refl; told_loss = λ h. inl (before h) }
+
+pub sent_lost : {H : Type 0} (told : H → BadgeState → List Reply → H → BadgeState → Type 0) (full : H → BadgeState → Type 0) (from : Origin H) (now : Progress H) (inputs : List Event) (missing : List ℕ)
+    → Accounts told full from now inputs missing true → Sent told full from now inputs
+sent_lost told full from now inputs missing a = record { missing = missing; lost = true; accounts = a; whole = λ h. absurd (let clash : true ≡ false = h in cc); told_loss = λ h. inr refl }

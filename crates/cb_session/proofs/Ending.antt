@@ -4,18 +4,22 @@ use Rattle.std.proofs.lemmas.List.{append-nil}
 use Rattle.cb_wire.specs.declared.message.Message.{Message}
 use Rattle.cb_wire.specs.Stream.{Assembled, Ends, texts}
 use Rattle.cb_wire.proofs.Streams.{front_at-nil}
-use Rattle.cb_session.specs.declared.settings.Settings.{Settings}
-use Rattle.cb_session.specs.declared.event.Event.{Event}
-use Rattle.cb_session.specs.declared.event.Event.TheVariants as events
-use Rattle.cb_session.specs.declared.hall.Entry.{Entry}
+use Rattle.cb_io.proofs.Known.{Appends-nothing, Consumes-nothing, Keeps-same}
+use Rattle.cb_hall.specs.Hall.{BadgeState}
+use Rattle.cb_hall.specs.Histories.{Reply}
+use Rattle.cb_peer.specs.declared.settings.Settings.{Settings}
+use Rattle.cb_peer.specs.declared.event.Event.{Event}
+use Rattle.cb_peer.specs.declared.event.Event.TheVariants as events
+use Rattle.cb_peer.specs.declared.trace.TraceEntry.{TraceEntry}
+use Rattle.cb_peer.specs.Session.{SessionState, is_closed, openings}
+use Rattle.cb_peer.specs.Fold.{account_of, session_of}
+use Rattle.cb_peer.specs.Prompt.{NoneStands}
+use Rattle.cb_peer.specs.Trace.{StandsFor, TraceView}
 use Rattle.cb_session.specs.declared.reading.ReadEnd.{ReadEnd}
 use Rattle.cb_session.specs.declared.reading.ReadEnd.TheVariants as ends
-use Rattle.cb_session.specs.declared.trace.TraceEntry.{TraceEntry}
-use Rattle.cb_session.specs.Hall.{BadgeState}
-use Rattle.cb_session.specs.Session.{is_closed}
-use Rattle.cb_session.specs.Trace.{TraceView, account_of, state_of}
-use Rattle.cb_session.specs.Serving.{Accounts, Gave, Heard, HeardBy, IsInOrder, NoneStands, Origin, Progress, Serves, Settled, broken, end_mark, inputs_of, progress, queue, said}
-use Rattle.cb_session.proofs.Known.{Appends-nothing, Consumes-nothing, Keeps-same}
+use Rattle.cb_session.specs.Conversation.{Accounts, Gave, IsAnswered, Origin, Progress, Settled, Underway, origin_of, progress}
+use Rattle.cb_session.specs.Serving.{Heard, HeardBy, IsInOrder, Serves, broken, end_mark, queue, said}
+use Rattle.cb_session.proofs.Accounts.{IsOracle}
 use Rattle.cb_session.proofs.Inputs.{in_order_ended, in_order_stopped}
 
 -- ---- the end
@@ -26,16 +30,18 @@ marked ends.Fault other = refl
 marked ends.Turns other = refl
 marked ends.Stopped other = absurd (other refl)
 
--- the account with the trace's own inputs
-own_inputs : (from : Origin) (now : Progress) (inputs : List Event) → Settled from now inputs → Settled from now (inputs_of now.trace.entries)
-own_inputs from now inputs s = subst (λ (is : List Event). Settled from now is) (sym s.sent.accounts.inputs_are) s
+-- no question stands after the history
+none_stands : {H : Type 0} (told : H → BadgeState → List Reply → H → BadgeState → Type 0) (full : H → BadgeState → Type 0) (from : Origin H) (now : Progress H) (inputs : List Event) (s : Settled told full from now inputs) → NoneStands from.settings s.sent.accounts.history
+none_stands told full from now inputs s going =
+    let same : now.trace.session ≡ session_of from.settings s.sent.accounts.history = s.sent.accounts.stands.session ∙ ap (λ (x : Settings). session_of x s.sent.accounts.history) s.sent.accounts.settings in
+    ap (λ (x : SessionState). x.standing) (sym same) ∙ s.answered (ap (λ (x : SessionState). is_closed x.state) same ∙ going)
 
 -- the session was over before reading ended
-pub serves_stopped : (from : Origin) (input remaining : Option (List ℕ)) (failed : Bool) (now : Progress) (end : ReadEnd) → end ≡ ends.Stopped → is_closed (state_of now.trace) ≡ true
-    → Heard from input remaining failed now end → Serves from input remaining failed now end
-serves_stopped from input remaining failed now end stopped closed h =
+pub serves_stopped : {H : Type 0} (told : H → BadgeState → List Reply → H → BadgeState → Type 0) (full : H → BadgeState → Type 0) (from : Origin H) (input remaining : Option (List ℕ)) (failed : Bool) (now : Progress H) (end : ReadEnd) → end ≡ ends.Stopped → is_closed now.trace.session.state ≡ true
+    → Heard told full from input remaining failed now end → Serves told full from input remaining failed now end
+serves_stopped told full from input remaining failed now end stopped closed h =
     let p = h.pieced in
-    let o = in_order_stopped from now p.inputs p.later p.items p.fault p.parts p.settled in
+    let o = in_order_stopped told full from now p.inputs p.later p.items p.fault p.parts p.settled in
     record {
       read = h.read;
       consumed = h.consumed;
@@ -43,19 +49,20 @@ serves_stopped from input remaining failed now end stopped closed h =
       rest = p.rest;
       fault = p.fault;
       stream = p.stream;
-      in_order = subst (λ (e : ReadEnd). IsInOrder (queue p.items p.fault e) now.trace) (sym stopped) o.0;
-      prompt = record { each = p.settled.sent.accounts.prompt; done = p.settled.answered };
-      settled = own_inputs from now p.inputs p.settled;
+      inputs = p.inputs;
+      settled = p.settled;
+      in_order = subst (λ (e : ReadEnd). IsInOrder (queue p.items p.fault e) from.settings p.settled.sent.accounts.history) (sym stopped) o.0;
+      prompt = record { each = p.settled.sent.accounts.prompt; done = none_stands told full from now p.inputs p.settled };
       cause = h.cause;
       stopped = λ _. o.1;
       closed = closed;
     }
 
 -- reading came to its end, and the session was told
-pub serves_ended : (from : Origin) (input remaining : Option (List ℕ)) (failed : Bool) (before now : Progress) (end : ReadEnd) → end ≢ ends.Stopped → is_closed (state_of before.trace) ≡ false
-    → Heard from input remaining failed before end → ((inputs : List Event) → Settled from before inputs → Gave from now inputs events.ReaderEnd) → is_closed (state_of now.trace) ≡ true
-    → Serves from input remaining failed now end
-serves_ended from input remaining failed before now end other going h give closed =
+pub serves_ended : {H : Type 0} (told : H → BadgeState → List Reply → H → BadgeState → Type 0) (full : H → BadgeState → Type 0) (from : Origin H) (input remaining : Option (List ℕ)) (failed : Bool) (before now : Progress H) (end : ReadEnd) → end ≢ ends.Stopped → is_closed before.trace.session.state ≡ false
+    → Heard told full from input remaining failed before end → ((inputs : List Event) → Settled told full from before inputs → Gave told full from now inputs events.ReaderEnd) → is_closed now.trace.session.state ≡ true
+    → Serves told full from input remaining failed now end
+serves_ended told full from input remaining failed before now end other going h give closed =
     let p = h.pieced in
     let up = p.going going in
     let all : p.inputs ≡ said p.items ++ broken p.fault = sym (append-nil p.inputs) ∙ ap (λ (is : List Event). p.inputs ++ is) (sym up.none_later) ∙ p.parts in
@@ -67,52 +74,60 @@ serves_ended from input remaining failed before now end other going h give close
       rest = p.rest;
       fault = p.fault;
       stream = p.stream;
-      in_order = in_order_ended from now p.inputs p.items p.fault end (marked end other) all g;
-      prompt = record { each = g.settled.sent.accounts.prompt; done = g.settled.answered };
-      settled = own_inputs from now g.given g.settled;
+      inputs = g.given;
+      settled = g.settled;
+      in_order = in_order_ended told full from now p.inputs p.items p.fault end (marked end other) all g;
+      prompt = record { each = g.settled.sent.accounts.prompt; done = none_stands told full from now g.given g.settled };
       cause = h.cause;
       stopped = λ is. absurd (other is);
       closed = closed;
     }
 
+-- the same in other words for where it is
+pub serves_at : {H : Type 0} (told : H → BadgeState → List Reply → H → BadgeState → Type 0) (full : H → BadgeState → Type 0) (from : Origin H) (input remaining : Option (List ℕ)) (read_failed : Bool) (trace trace' : TraceView) (hall hall' : H) (badge badge' : BadgeState) (held held' : Option (List ℕ)) (failed failed' : Bool) (written written' : ℕ) (end : ReadEnd)
+    → trace' ≡ trace → hall' ≡ hall → badge' ≡ badge → held' ≡ held → failed' ≡ failed → written' ≡ written
+    → Serves told full from input remaining read_failed (progress trace hall badge held failed written) end → Serves told full from input remaining read_failed (progress trace' hall' badge' held' failed' written') end
+serves_at {H = H} told full from input remaining read_failed trace trace' hall hall' badge badge' held held' failed failed' written written' end t h b k f w s =
+    subst (λ (x : TraceView). Serves told full from input remaining read_failed (progress x hall' badge' held' failed' written') end) (sym t)
+    (subst (λ (x : H). Serves told full from input remaining read_failed (progress trace x badge' held' failed' written') end) (sym h)
+    (subst (λ (x : BadgeState). Serves told full from input remaining read_failed (progress trace hall x held' failed' written') end) (sym b)
+    (subst (λ (x : Option (List ℕ)). Serves told full from input remaining read_failed (progress trace hall badge x failed' written') end) (sym k)
+    (subst (λ x. Serves told full from input remaining read_failed (progress trace hall badge held x written') end) (sym f)
+    (subst (λ (x : ℕ). Serves told full from input remaining read_failed (progress trace hall badge held failed x) end) (sym w) s)))))
+
 -- ---- the beginning
 
-first_of : (settings : Settings) (trace : TraceView) (held : Option (List ℕ)) (failed : Bool) (journal : List Entry) (badge : BadgeState) → trace.settings ≡ settings
-    → Accounts (record { settings = settings; peer = badge.peer; count = badge.count; held = held; failed = failed; journal = journal }) (progress (record { settings = trace.settings; entries = []; room = trace.room }) held failed journal badge 0) [] []
+-- a trace with no entries, whose opening messages are on their way
+pub underway_first : {H : Type 0} (told : H → BadgeState → List Reply → H → BadgeState → Type 0) (full : H → BadgeState → Type 0) (oracle : IsOracle told full) (settings : Settings) (trace : TraceView) (hall : H) (badge : BadgeState)
+    (held : Option (List ℕ)) (failed : Bool) (messages : List Message) → trace.settings ≡ settings → StandsFor trace [] → messages ≡ openings settings
+    → Underway told full (origin_of settings hall badge held failed) (progress trace hall badge held failed 0) [] (texts messages)
 unfolding account_of
-first_of settings trace held failed journal badge s =
+underway_first told full oracle settings trace hall badge held failed messages s stands m =
     record {
-      settings = s;
-      wrote = record { sent = []; parts = refl; appended = Appends-nothing held held (Keeps-same held); count = refl };
-      inputs_are = refl;
-      each = tt;
-      prompt = tt;
-      journal = sym (append-nil journal);
-      answers = tt;
-      peer = refl;
-      count = omega arith;
-      write_fault = λ h. absurd cc;
-      hall_full = λ h. absurd cc;
-      no_tick = refl;
+      lost = false;
+      accounts = record {
+        settings = s;
+        history = [];
+        stands = stands;
+        wrote = record { sent = []; parts = ap texts (sym m); appended = Appends-nothing held held (Keeps-same held); count = refl };
+        inputs_are = refl;
+        prompt = tt;
+        replies_are = oracle.none hall badge;
+        write_fault = λ h. absurd cc;
+        hall_full = λ h. absurd cc;
+        no_tick = refl;
+        losses = refl;
+      };
     }
 
--- a trace with no entries, and nothing sent
-pub accounts_first : (settings : Settings) (trace : TraceView) (held : Option (List ℕ)) (failed : Bool) (journal : List Entry) (badge : BadgeState) (messages : List Message)
-    → trace.settings ≡ settings → trace.entries ≡ [] → messages ≡ []
-    → Accounts (record { settings = settings; peer = badge.peer; count = badge.count; held = held; failed = failed; journal = journal }) (progress trace held failed journal badge 0) [] (texts messages)
-accounts_first settings trace held failed journal badge messages s e m =
-    subst (λ (ms : List Message). Accounts (record { settings = settings; peer = badge.peer; count = badge.count; held = held; failed = failed; journal = journal }) (progress trace held failed journal badge 0) [] (texts ms)) (sym m)
-    (subst (λ (es : List TraceEntry). Accounts (record { settings = settings; peer = badge.peer; count = badge.count; held = held; failed = failed; journal = journal }) (progress (record { settings = trace.settings; entries = es; room = trace.room }) held failed journal badge 0) [] []) (sym e)
-    (first_of settings trace held failed journal badge s))
-
 -- nothing stands in a trace with no entries
-pub first_free : (old new : TraceView) → old.entries ≡ [] → (is_closed (state_of new) ≡ false → new.entries ≡ old.entries) → NoneStands new
+pub first_free : (old new : TraceView) → StandsFor old [] → (is_closed new.session.state ≡ false → new ≡ old) → IsAnswered new
 unfolding account_of
-first_free old new none kept going = ap (λ (es : List TraceEntry). (account_of new.settings es).session.standing) (kept going ∙ none)
+first_free old new stands kept going = ap (λ (t : TraceView). t.session.standing) (kept going) ∙ ap (λ (s : SessionState). s.standing) stands.session
 
 -- nothing was heard yet
-pub heard_first : (from : Origin) (input : Option (List ℕ)) (now : Progress) (assembled : Assembled) → assembled ≡ record { rest = []; fault = None } → Settled from now [] → HeardBy from input input now assembled 0
-heard_first from input now assembled new s =
+pub heard_first : {H : Type 0} (told : H → BadgeState → List Reply → H → BadgeState → Type 0) (full : H → BadgeState → Type 0) (from : Origin H) (input : Option (List ℕ)) (now : Progress H) (assembled : Assembled) → assembled ≡ record { rest = []; fault = None } → Settled told full from now [] → HeardBy told full from input input now assembled 0
+heard_first told full from input now assembled new s =
     record {
       read = [];
       consumed = Consumes-nothing input input (Keeps-same input);

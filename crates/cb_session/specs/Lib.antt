@@ -1,6 +1,2 @@
-pub mod Bytes
-pub mod Hall
+pub mod Conversation
 pub mod Serving
-pub mod Session
-pub mod Trace
-pub mod Writing

@@ -1,173 +1,219 @@
 //! One event of a connection at a time: the session is given it, what it sends is written, what it asks is asked.
-ghost use Rattle.std.specs.Prelude.{◌≡◌, ◌<◌, true, Bool, List, ℕ, [], Option, Some};
+ghost use Rattle.std.specs.Prelude.{◌≡◌, ◌<◌, ◌≤◌, ◌++◌, true, false, Bool, List, ℕ, [], Option, Some, None, IfSome, if◌then◌else◌};
 ghost use Rattle.cb_wire.specs.Stream.{texts};
-ghost use Rattle.cb_session.specs.declared.event.Event.{Event};
-ghost use Rattle.cb_session.specs.declared.hall.Entry.{Entry};
-ghost use Rattle.cb_session.specs.Hall.{BadgeState};
-ghost use Rattle.cb_session.specs.Session.{is_closed, standing_question};
-ghost use Rattle.cb_session.specs.Trace.{IsOpen, ends_at_once, has_event, session_of, state_of};
-ghost use Rattle.cb_session.specs.Serving.{Accounts, Gave, IsQuiet, Origin, Sent, Settled, Stands, Waits, answers_left, is_input, is_write_fault, loses, progress};
-ghost use Rattle.cb_session.specs.Writing.{IsOfSink};
+ghost use Rattle.cb_wire.specs.declared.item.Item.{Item};
+ghost use Rattle.cb_io.specs.Writing.{IsOfSink};
+ghost use Rattle.cb_peer.specs.declared.event.Event.{Event};
+ghost use Rattle.cb_peer.specs.declared.event.Event.TheVariants as events;
+ghost use Rattle.cb_peer.specs.Event.{ends_at_once, is_input, is_write_fault, kind_of, loses};
+ghost use Rattle.cb_peer.specs.Session.{is_closed, standing_question};
+ghost use Rattle.cb_peer.specs.Trace.{IsOpen};
+ghost use Rattle.cb_session.specs.Conversation.{Accounts, AnswerOf, Gave, IsLoss, Origin, Sent, Settled, Underway, left_of, open_question, progress};
 
-use crate::event::Event;
-use crate::hall::{Badge, Hall, Question};
-use crate::sink::Sink;
-use crate::trace::Trace;
-use crate::writing::{WriteFault, write_out};
-use cb_base::Fault;
-use cb_wire::BoundedMessage;
+use cb_base::{Fault, Shared};
+use cb_hall::{Badge, Question};
+use cb_io::{Sink, WriteFault, write_out};
+use cb_peer::{Event, Oracle, State, Trace};
+use cb_wire::{BoundedMessage, Item};
 use std::alloc::Global;
 
-/// The most questions that one item or tick asks.
-const QUESTIONS: u32 = 6;
-
-/// Gives the trace an input, writes what its session sends, and asks the hall what it asks, until it asks no more. The
-/// answer is how many bytes were written in all, from `written` on.
-pub fn give<W: Sink>(
-    alloc: Global,
-    trace: &mut Trace,
-    writer: &mut W,
-    hall: &mut Hall,
-    badge: &mut Badge,
-    event: Event,
+/// A peer's trace, the sink to which its messages are written, the hall that its questions are asked of under its badge,
+/// and how many bytes were written.
+#[derive(Drop)]
+pub struct Conversation<'a, W, H> {
+    trace: &'a mut Trace,
+    writer: &'a mut W,
+    hall: &'a mut H,
+    badge: &'a mut Badge,
     written: u64,
-) -> u64
-    requires going { IsOpen trace.old }
-    requires input { is_input event ≡ true }
-    ensures ended { ends_at_once event ≡ true → is_closed (state_of trace.new) ≡ true }
-    ensures gave { (from : Origin) (inputs : List Event) → Settled from (progress trace.old (W.contents writer.old) (W.has_failed writer.old) hall.old badge.old written) inputs →
-        Gave from (progress trace.new (W.contents writer.new) (W.has_failed writer.new) hall.new badge.new result) inputs event }
-{
-    if !trace.ready() {
-        return written;
-    }
-    let (messages, question) = trace.step(event);
-    converse(
-        alloc, trace, writer, hall, badge, messages, question, written,
-    )
 }
 
-/// Writes the messages of a step and asks its question, then those of the answer, until no more is asked.
-fn converse<W: Sink>(
-    alloc: Global,
-    trace: &mut Trace,
-    writer: &mut W,
-    hall: &mut Hall,
-    badge: &mut Badge,
-    messages: Vec<BoundedMessage>,
-    question: Option<Question>,
-    written: u64,
-) -> u64
-    requires silent { is_closed (state_of trace.old) ≡ true → messages.items ≡ [] }
-    requires stands { Stands trace.old question }
-    ensures stays { is_closed (state_of trace.old) ≡ true → is_closed (state_of trace.new) ≡ true }
-    ensures settled { (from : Origin) (inputs : List Event) →
-        Accounts from (progress trace.old (W.contents writer.old) (W.has_failed writer.old) hall.old badge.old written) inputs (texts messages.items) →
-        Waits trace.old question →
-        (W.has_failed writer.old ≡ true → from.failed ≡ true) →
-        Settled from (progress trace.new (W.contents writer.new) (W.has_failed writer.new) hall.new badge.new result) inputs }
-{
-    let mut total = send(alloc, trace, writer, messages.as_slice(), written);
-    let mut next = question;
-    for _ in 0..QUESTIONS {
-        let Some(asked) = next else {
-            return total;
+impl<'a, W: Sink, H: Oracle> Conversation<'a, W, H> {
+    /// A conversation over these, in which so many bytes were written.
+    pub fn new(
+        trace: &'a mut Trace,
+        writer: &'a mut W,
+        hall: &'a mut H,
+        badge: &'a mut Badge,
+        written: u64,
+    ) -> Conversation<'a, W, H>
+        ensures ends { (result.trace.ghost_name ≡ trace.entry.ghost_name) × (result.writer.ghost_name ≡ writer.entry.ghost_name) × (result.hall.ghost_name ≡ hall.entry.ghost_name) × (result.badge.ghost_name ≡ badge.entry.ghost_name) }
+        ensures trace { result.trace.now ≡ trace.old }
+        ensures writer { result.writer.now ≡ writer.old }
+        ensures hall { result.hall.now ≡ hall.old }
+        ensures badge { result.badge.now ≡ badge.old }
+        ensures written { result.written ≡ written }
+    {
+        Conversation {
+            trace,
+            writer,
+            hall,
+            badge,
+            written,
+        }
+    }
+
+    /// How far the session is.
+    pub fn state(&self) -> State
+        ensures { result ≡ self.now.trace.now.session.state }
+    {
+        self.trace.state()
+    }
+
+    /// How many bytes were written; the greatest u64 where they are more.
+    pub fn written(&self) -> u64
+        ensures { result ≡ self.now.written }
+    {
+        self.written
+    }
+
+    /// Gives the session an item, with all its answers. Where there is no memory for it, the session ends.
+    pub fn give_item(&mut self, alloc: Global, item: Item)
+        requires going { IsOpen self.old.trace.now }
+        ensures ends { (self.new.trace.ghost_name ≡ self.old.trace.ghost_name) × (self.new.writer.ghost_name ≡ self.old.writer.ghost_name) × (self.new.hall.ghost_name ≡ self.old.hall.ghost_name) × (self.new.badge.ghost_name ≡ self.old.badge.ghost_name) }
+        ensures gave { (from : Origin _) (inputs : List Event) →
+            Settled H.told H.is_full from (progress self.old.trace.now self.old.hall.now self.old.badge.now (W.contents self.old.writer.now) (W.has_failed self.old.writer.now) self.old.written) inputs →
+            Gave H.told H.is_full from (progress self.new.trace.now self.new.hall.now self.new.badge.now (W.contents self.new.writer.now) (W.has_failed self.new.writer.now) self.new.written) inputs (events.Said item) }
+    {
+        let Some(shared) = share(alloc, item) else {
+            self.lose(Event::NoMemory);
+            return;
         };
-        if trace.state().is_closed() {
-            return total;
-        }
-        let (answers, further) = ask(alloc, trace, hall, badge, asked);
-        total = send(alloc, trace, writer, answers.as_slice(), total);
-        next = further;
+        self.give(alloc, Event::Said(shared));
     }
-    total
+
+    /// Gives the session what came of the peer: writes what it sends, and asks the hall what it asks, until it asks no more.
+    pub fn give(&mut self, alloc: Global, event: Event)
+        requires going { IsOpen self.old.trace.now }
+        requires input { is_input (kind_of event) ≡ true }
+        ensures ends { (self.new.trace.ghost_name ≡ self.old.trace.ghost_name) × (self.new.writer.ghost_name ≡ self.old.writer.ghost_name) × (self.new.hall.ghost_name ≡ self.old.hall.ghost_name) × (self.new.badge.ghost_name ≡ self.old.badge.ghost_name) }
+        ensures ended { ends_at_once event ≡ true → is_closed self.new.trace.now.session.state ≡ true }
+        ensures gave { (from : Origin _) (inputs : List Event) →
+            Settled H.told H.is_full from (progress self.old.trace.now self.old.hall.now self.old.badge.now (W.contents self.old.writer.now) (W.has_failed self.old.writer.now) self.old.written) inputs →
+            Gave H.told H.is_full from (progress self.new.trace.now self.new.hall.now self.new.badge.now (W.contents self.new.writer.now) (W.has_failed self.new.writer.now) self.new.written) inputs event }
+    {
+        if !self.trace.ready() {
+            return;
+        }
+        let (sent, _question) = self.trace.step(event);
+        self.send(alloc, sent.as_slice());
+        self.converse(alloc);
+    }
+
+    /// Asks the hall what the session asks, and writes what it sends to the answers, until no question stands.
+    pub fn converse(&mut self, alloc: Global)
+        ensures ends { (self.new.trace.ghost_name ≡ self.old.trace.ghost_name) × (self.new.writer.ghost_name ≡ self.old.writer.ghost_name) × (self.new.hall.ghost_name ≡ self.old.hall.ghost_name) × (self.new.badge.ghost_name ≡ self.old.badge.ghost_name) }
+        ensures stays { is_closed self.old.trace.now.session.state ≡ true → is_closed self.new.trace.now.session.state ≡ true }
+        ensures settled { (from : Origin _) (inputs : List Event) →
+            Sent H.told H.is_full from (progress self.old.trace.now self.old.hall.now self.old.badge.now (W.contents self.old.writer.now) (W.has_failed self.old.writer.now) self.old.written) inputs →
+            Settled H.told H.is_full from (progress self.new.trace.now self.new.hall.now self.new.badge.now (W.contents self.new.writer.now) (W.has_failed self.new.writer.now) self.new.written) inputs }
+    {
+        while let Some(question) = self.question() {
+            let messages = self.ask(alloc, question);
+            self.send(alloc, messages.as_slice());
+        }
+    }
+
+    /// The question that stands, while the session goes on.
+    fn question(&self) -> Option<Question>
+        ensures { result ≡ open_question self.now.trace.now }
+    {
+        if self.trace.state().is_closed() {
+            return None;
+        }
+        self.trace.question()
+    }
+
+    /// Asks the hall the question that stands, and gives the session the answer: what it sends then. The place of the
+    /// answer is made before the hall is asked. Nothing is on its way while the hall is asked.
+    fn ask(&mut self, alloc: Global, question: Question) -> Vec<BoundedMessage>
+        requires stands { open_question self.old.trace.now ≡ Some question }
+        ensures ends { (self.new.trace.ghost_name ≡ self.old.trace.ghost_name) × (self.new.writer.ghost_name ≡ self.old.writer.ghost_name) × (self.new.hall.ghost_name ≡ self.old.hall.ghost_name) × (self.new.badge.ghost_name ≡ self.old.badge.ghost_name) }
+        ensures sink { self.new.writer.now ≡ self.old.writer.now }
+        ensures written { self.new.written ≡ self.old.written }
+        ensures accounts { (from : Origin _) (inputs : List Event) (held : Option (List ℕ)) (failed : Bool) (written : ℕ) →
+            Accounts H.told H.is_full from (progress self.old.trace.now self.old.hall.now self.old.badge.now held failed written) inputs [] false →
+            Underway H.told H.is_full from (progress self.new.trace.now self.new.hall.now self.new.badge.now held failed written) inputs (texts result.items) }
+        ensures fewer { left_of self.new.trace.now < left_of self.old.trace.now }
+        ensures silent { is_closed self.new.trace.now.session.state ≡ true → result.items ≡ [] }
+    {
+        if !self.trace.ready() {
+            return Vec::new(alloc);
+        }
+        let event = ask_hall(self.hall, self.badge, question);
+        let (messages, _question) = self.trace.step(event);
+        messages
+    }
+
+    /// Writes the messages of a step, all in one write. Where that ends early the trace is told, which ends it.
+    pub fn send(&mut self, alloc: Global, messages: &[BoundedMessage])
+        requires silent { is_closed self.old.trace.now.session.state ≡ true → messages.now ≡ [] }
+        ensures ends { (self.new.trace.ghost_name ≡ self.old.trace.ghost_name) × (self.new.writer.ghost_name ≡ self.old.writer.ghost_name) × (self.new.hall.ghost_name ≡ self.old.hall.ghost_name) × (self.new.badge.ghost_name ≡ self.old.badge.ghost_name) }
+        ensures hall { self.new.hall.now ≡ self.old.hall.now }
+        ensures badge { self.new.badge.now ≡ self.old.badge.now }
+        ensures accounts { (from : Origin _) (inputs : List Event) (hall : _) (badge : _) →
+            Underway H.told H.is_full from (progress self.old.trace.now hall badge (W.contents self.old.writer.now) (W.has_failed self.old.writer.now) self.old.written) inputs (texts messages.now) →
+            (W.has_failed self.old.writer.now ≡ true → from.failed ≡ true) →
+            Sent H.told H.is_full from (progress self.new.trace.now hall badge (W.contents self.new.writer.now) (W.has_failed self.new.writer.now) self.new.written) inputs }
+        ensures kept { IsOpen self.new.trace.now → self.new.trace.now ≡ self.old.trace.now }
+        ensures stays { is_closed self.old.trace.now.session.state ≡ true → is_closed self.new.trace.now.session.state ≡ true }
+    {
+        match write_out(alloc, self.writer, messages) {
+            Ok(taken) => self.written = self.written.saturating_add(taken),
+            Err(end) => {
+                self.written = self.written.saturating_add(end.written);
+                self.lose(lost_by(end.fault));
+            }
+        }
+    }
+
+    /// Ends the session with an event by which messages are lost.
+    pub fn lose(&mut self, event: Event)
+        requires going { IsOpen self.old.trace.now }
+        requires loss { IsLoss event }
+        ensures ends { (self.new.trace.ghost_name ≡ self.old.trace.ghost_name) × (self.new.writer.ghost_name ≡ self.old.writer.ghost_name) × (self.new.hall.ghost_name ≡ self.old.hall.ghost_name) × (self.new.badge.ghost_name ≡ self.old.badge.ghost_name) }
+        ensures hall { self.new.hall.now ≡ self.old.hall.now }
+        ensures badge { self.new.badge.now ≡ self.old.badge.now }
+        ensures sink { self.new.writer.now ≡ self.old.writer.now }
+        ensures written { self.new.written ≡ self.old.written }
+        ensures accounts { (from : Origin _) (inputs : List Event) (missing : List ℕ) (lost : Bool) (hall : _) (badge : _) (held : Option (List ℕ)) (failed : Bool) (written : ℕ) →
+            (is_write_fault (kind_of event) ≡ true → failed ≡ true) →
+            Accounts H.told H.is_full from (progress self.old.trace.now hall badge held failed written) inputs missing lost →
+            Accounts H.told H.is_full from (progress self.new.trace.now hall badge held failed written) inputs missing true }
+        ensures closed { is_closed self.new.trace.now.session.state ≡ true }
+    {
+        if !self.trace.ready() {
+            return;
+        }
+        let _silent = self.trace.step(event);
+    }
 }
 
-/// Asks the hall a question of the session, and gives the trace the answer: what it sends and asks then. The place of
-/// the answer is made before the hall is asked.
-fn ask(
-    alloc: Global,
-    trace: &mut Trace,
-    hall: &mut Hall,
-    badge: &mut Badge,
-    question: Question,
-) -> (Vec<BoundedMessage>, Option<Question>)
-    requires going { IsOpen trace.old }
-    requires stands { standing_question (session_of trace.old.settings trace.old.entries).standing ≡ Some question }
-    ensures accounts { (from : Origin) (inputs : List Event) (held : Option (List ℕ)) (failed : Bool) (written : ℕ) →
-        Accounts from (progress trace.old held failed hall.old badge.old written) inputs [] →
-        Accounts from (progress trace.new held failed hall.new badge.new written) inputs (texts result.0.items) }
-    ensures stands { Stands trace.new result.1 }
-    ensures waits { Waits trace.new result.1 }
-    ensures fewer { IsOpen trace.new → answers_left trace.new < answers_left trace.old }
-    ensures silent { is_closed (state_of trace.new) ≡ true → result.0.items ≡ [] }
+/// The item with an owner that can be shared; None where there is no memory.
+fn share(alloc: Global, item: Item) -> Option<Shared<Item>>
+    ensures { IfSome result (λ shared. shared ≡ item) }
 {
-    if !trace.ready() {
-        return (Vec::new(alloc), None);
-    }
-    match hall.call(badge, question) {
-        Ok(answer) => trace.step(Event::Told(answer)),
-        Err(Fault::JournalFull) => trace.step(Event::HallFull),
-        Err(_) => trace.step(Event::NoMemory),
-    }
+    Shared::new(alloc, item).ok()
 }
 
-/// Writes the messages of a step. Where that ends early the trace is told, which ends it. The answer is how many bytes
-/// were written in all, from `written` on.
-pub fn send<W: Sink>(
-    alloc: Global,
-    trace: &mut Trace,
-    writer: &mut W,
-    messages: &[BoundedMessage],
-    written: u64,
-) -> u64
-    requires silent { is_closed (state_of trace.old) ≡ true → messages.now ≡ [] }
-    ensures accounts { (from : Origin) (inputs : List Event) (journal : List Entry) (badge : BadgeState) →
-        Accounts from (progress trace.old (W.contents writer.old) (W.has_failed writer.old) journal badge written) inputs (texts messages.now) →
-        (W.has_failed writer.old ≡ true → from.failed ≡ true) →
-        Sent from (progress trace.new (W.contents writer.new) (W.has_failed writer.new) journal badge result) inputs }
-    ensures kept { IsOpen trace.new → trace.new.entries ≡ trace.old.entries }
-    ensures stays { is_closed (state_of trace.old) ≡ true → is_closed (state_of trace.new) ≡ true }
-    ensures settings { trace.new.settings ≡ trace.old.settings }
+/// Asks the hall a question. What it makes of it is an event.
+fn ask_hall<H: Oracle>(hall: &mut H, badge: &mut Badge, question: Question) -> Event
+    ensures { AnswerOf H.told H.is_full hall.old badge.old hall.new badge.new question result }
 {
-    match write_out(alloc, writer, messages) {
-        Ok(taken) => written.saturating_add(taken),
-        Err(end) => {
-            lose(trace, lost_by(end.fault));
-            written.saturating_add(end.written)
-        }
+    match hall.ask(badge, question) {
+        Ok(answer) => Event::Told(answer),
+        Err(fault) if fault == Fault::JournalFull => Event::HallFull,
+        Err(_) => Event::NoMemory,
     }
 }
 
 /// The event of a write that ended early.
 fn lost_by(fault: WriteFault) -> Event
-    ensures loses { loses result ≡ true }
-    ensures ends { ends_at_once result ≡ true }
-    ensures sink { is_write_fault result ≡ true → IsOfSink fault }
-    ensures quiet { IsQuiet result }
+    ensures loss { IsLoss result }
+    ensures sink { is_write_fault (kind_of result) ≡ true → IsOfSink fault }
 {
     match fault {
         WriteFault::Io | WriteFault::Zero => Event::WriteFault,
         WriteFault::Memory => Event::NoMemory,
     }
-}
-
-/// Ends the trace with an event by which messages are lost.
-pub fn lose(trace: &mut Trace, event: Event)
-    requires going { IsOpen trace.old }
-    requires loses { loses event ≡ true }
-    requires ends { ends_at_once event ≡ true }
-    requires quiet { IsQuiet event }
-    ensures accounts { (from : Origin) (inputs : List Event) (missing : List ℕ) (held : Option (List ℕ)) (failed : Bool) (journal : List Entry) (badge : BadgeState) (written : ℕ) →
-        (is_write_fault event ≡ true → failed ≡ true) →
-        Accounts from (progress trace.old held failed journal badge written) inputs missing →
-        Accounts from (progress trace.new held failed journal badge written) inputs missing }
-    ensures closed { is_closed (state_of trace.new) ≡ true }
-    ensures lost { has_event loses trace.new.entries ≡ true }
-    ensures settings { trace.new.settings ≡ trace.old.settings }
-{
-    if !trace.ready() {
-        return;
-    }
-    let _silent = trace.step(event);
 }

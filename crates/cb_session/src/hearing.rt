@@ -2,125 +2,108 @@
 ghost use Rattle.std.specs.Prelude.{◌≡◌, ◌≢◌, ◌≤◌, ◌++◌, true, false, Bool, List, ℕ, Option, None, length};
 ghost use Rattle.cb_wire.specs.declared.item.Item.{Item};
 ghost use Rattle.cb_wire.specs.Stream.{Stream};
-ghost use Rattle.cb_session.specs.declared.event.Event.{Event};
-ghost use Rattle.cb_session.specs.Session.{is_closed};
-ghost use Rattle.cb_session.specs.Trace.{IsOpen, state_of};
-ghost use Rattle.cb_session.specs.Serving.{Heard, HeardBy, Origin, Pieced, Settled, Took, progress, said};
+ghost use Rattle.cb_peer.specs.declared.event.Event.{Event};
+ghost use Rattle.cb_peer.specs.Session.{is_closed};
+ghost use Rattle.cb_peer.specs.Trace.{IsOpen};
+ghost use Rattle.cb_session.specs.Conversation.{Origin, Settled, progress};
+ghost use Rattle.cb_session.specs.Serving.{Heard, HeardBy, Pieced, Took, said};
 
-use crate::conversation::{give, lose};
-use crate::event::Event;
-use crate::hall::{Badge, Hall};
+use crate::conversation::Conversation;
 use crate::reading::ReadEnd;
-use crate::sink::Sink;
-use crate::source::Source;
-use crate::trace::Trace;
+use cb_io::{Sink, Source};
+use cb_peer::{Event, Oracle};
 use cb_wire::{Assembler, Fed, Item};
 use std::alloc::Global;
 
 /// The most reads that are made of one source.
 const TURNS: u64 = 1 << 40;
 
-/// Reads a source to its end and gives the trace all items that its bytes spell, or as many as it takes before it is
-/// closed. The answer is why reading ended, and how many bytes were written in all, from `written` on.
-pub fn hear<R: Source, W: Sink>(
+/// Reads a source to its end and gives the session all items that its bytes spell, or as many as it takes before it is
+/// closed. The answer is why reading ended.
+pub fn hear<'a, R: Source, W: Sink, H: Oracle>(
     alloc: Global,
     reader: &mut R,
     buffer: &mut [u8],
     assembler: &mut Assembler,
-    trace: &mut Trace,
-    writer: &mut W,
-    hall: &mut Hall,
-    badge: &mut Badge,
-    written: u64,
-) -> (ReadEnd, u64)
+    conversation: &mut Conversation<'a, W, H>,
+) -> ReadEnd
     requires room { 1 ≤ length buffer.old }
-    ensures heard { (from : Origin) (input : Option (List ℕ)) →
-        HeardBy from input (R.remaining reader.old) (progress trace.old (W.contents writer.old) (W.has_failed writer.old) hall.old badge.old written) assembler.old 0 →
-        Heard from input (R.remaining reader.new) (R.has_failed reader.new) (progress trace.new (W.contents writer.new) (W.has_failed writer.new) hall.new badge.new result.1) result.0 }
-    ensures stopped { result.0 ≡ ReadEnd.Stopped → is_closed (state_of trace.new) ≡ true }
-    ensures going { result.0 ≢ ReadEnd.Stopped → is_closed (state_of trace.new) ≡ false }
+    ensures ends { (conversation.new.trace.ghost_name ≡ conversation.old.trace.ghost_name) × (conversation.new.writer.ghost_name ≡ conversation.old.writer.ghost_name) × (conversation.new.hall.ghost_name ≡ conversation.old.hall.ghost_name) × (conversation.new.badge.ghost_name ≡ conversation.old.badge.ghost_name) }
+    ensures heard { (from : Origin _) (input : Option (List ℕ)) →
+        HeardBy H.told H.is_full from input (R.remaining reader.old) (progress conversation.old.trace.now conversation.old.hall.now conversation.old.badge.now (W.contents conversation.old.writer.now) (W.has_failed conversation.old.writer.now) conversation.old.written) assembler.old 0 →
+        Heard H.told H.is_full from input (R.remaining reader.new) (R.has_failed reader.new) (progress conversation.new.trace.now conversation.new.hall.now conversation.new.badge.now (W.contents conversation.new.writer.now) (W.has_failed conversation.new.writer.now) conversation.new.written) result }
+    ensures stopped { result ≡ ReadEnd.Stopped → is_closed conversation.new.trace.now.session.state ≡ true }
+    ensures going { result ≢ ReadEnd.Stopped → is_closed conversation.new.trace.now.session.state ≡ false }
 {
-    let mut total = written;
     for _ in 0..TURNS {
-        if trace.state().is_closed() {
-            return (ReadEnd::Stopped, total);
+        if conversation.state().is_closed() {
+            return ReadEnd::Stopped;
         }
         match reader.read(buffer) {
-            None => return (ReadEnd::Fault, total),
+            None => return ReadEnd::Fault,
             Some(given) => {
                 if given == 0 {
-                    return (ReadEnd::Eof, total);
+                    return ReadEnd::Eof;
                 }
                 let (piece, _) = buffer.split_at(given);
-                total = hear_piece(alloc, assembler, trace, writer, hall, badge, piece, total);
+                hear_piece(alloc, assembler, conversation, piece);
             }
         }
     }
-    if trace.state().is_closed() {
-        return (ReadEnd::Stopped, total);
+    if conversation.state().is_closed() {
+        return ReadEnd::Stopped;
     }
-    (ReadEnd::Turns, total)
+    ReadEnd::Turns
 }
 
-/// Takes a piece of the stream: gives the trace the items that are whole now, and the stream's fault if it has one.
-fn hear_piece<W: Sink>(
+/// Takes a piece of the stream: gives the session the items that are whole now, and the stream's fault if it has one.
+fn hear_piece<'a, W: Sink, H: Oracle>(
     alloc: Global,
     assembler: &mut Assembler,
-    trace: &mut Trace,
-    writer: &mut W,
-    hall: &mut Hall,
-    badge: &mut Badge,
+    conversation: &mut Conversation<'a, W, H>,
     piece: &[u8],
-    written: u64,
-) -> u64
-    requires going { IsOpen trace.old }
-    ensures { (from : Origin) (bytes : List ℕ) (items : List Item) →
+)
+    requires going { IsOpen conversation.old.trace.now }
+    ensures ends { (conversation.new.trace.ghost_name ≡ conversation.old.trace.ghost_name) × (conversation.new.writer.ghost_name ≡ conversation.old.writer.ghost_name) × (conversation.new.hall.ghost_name ≡ conversation.old.hall.ghost_name) × (conversation.new.badge.ghost_name ≡ conversation.old.badge.ghost_name) }
+    ensures pieced { (from : Origin _) (bytes : List ℕ) (items : List Item) →
         Stream bytes items assembler.old.rest assembler.old.fault →
-        Settled from (progress trace.old (W.contents writer.old) (W.has_failed writer.old) hall.old badge.old written) (said items) →
-        Pieced from (progress trace.new (W.contents writer.new) (W.has_failed writer.new) hall.new badge.new result) (bytes ++ piece.now) assembler.new }
+        Settled H.told H.is_full from (progress conversation.old.trace.now conversation.old.hall.now conversation.old.badge.now (W.contents conversation.old.writer.now) (W.has_failed conversation.old.writer.now) conversation.old.written) (said items) →
+        Pieced H.told H.is_full from (progress conversation.new.trace.now conversation.new.hall.now conversation.new.badge.now (W.contents conversation.new.writer.now) (W.has_failed conversation.new.writer.now) conversation.new.written) (bytes ++ piece.now) assembler.new }
 {
     match assembler.feed(piece) {
         Ok(Fed { items, fault }) => {
-            let total = give_all(alloc, trace, writer, hall, badge, items, written);
+            give_all(alloc, conversation, items);
             match fault {
-                None => total,
+                None => {}
                 Some(why) => {
-                    if trace.state().is_closed() {
-                        return total;
+                    if conversation.state().is_closed() {
+                        return;
                     }
-                    give(alloc, trace, writer, hall, badge, Event::Broken(why), total)
+                    conversation.give(alloc, Event::Broken(why));
                 }
             }
         }
-        Err(_) => {
-            lose(trace, Event::NoMemory);
-            written
-        }
+        Err(_) => conversation.lose(Event::NoMemory),
     }
 }
 
-/// Gives the trace items in order, until they are all given or the session is over.
-fn give_all<W: Sink>(
+/// Gives the session items in order, until they are all given or it is over.
+fn give_all<'a, W: Sink, H: Oracle>(
     alloc: Global,
-    trace: &mut Trace,
-    writer: &mut W,
-    hall: &mut Hall,
-    badge: &mut Badge,
+    conversation: &mut Conversation<'a, W, H>,
     items: Vec<Item>,
-    written: u64,
-) -> u64
-    ensures { (from : Origin) (inputs : List Event) →
-        Settled from (progress trace.old (W.contents writer.old) (W.has_failed writer.old) hall.old badge.old written) inputs →
-        Took from (progress trace.new (W.contents writer.new) (W.has_failed writer.new) hall.new badge.new result) inputs items.items }
+)
+    ensures ends { (conversation.new.trace.ghost_name ≡ conversation.old.trace.ghost_name) × (conversation.new.writer.ghost_name ≡ conversation.old.writer.ghost_name) × (conversation.new.hall.ghost_name ≡ conversation.old.hall.ghost_name) × (conversation.new.badge.ghost_name ≡ conversation.old.badge.ghost_name) }
+    ensures took { (from : Origin _) (inputs : List Event) →
+        Settled H.told H.is_full from (progress conversation.old.trace.now conversation.old.hall.now conversation.old.badge.now (W.contents conversation.old.writer.now) (W.has_failed conversation.old.writer.now) conversation.old.written) inputs →
+        Took H.told H.is_full from (progress conversation.new.trace.now conversation.new.hall.now conversation.new.badge.now (W.contents conversation.new.writer.now) (W.has_failed conversation.new.writer.now) conversation.new.written) inputs items.items }
 {
-    let mut total = written;
     let mut waiting = items;
     waiting.reverse();
     while let Some(item) = waiting.pop() {
-        if trace.state().is_closed() {
-            return total;
+        if conversation.state().is_closed() {
+            return;
         }
-        total = give(alloc, trace, writer, hall, badge, Event::Said(item), total);
+        conversation.give_item(alloc, item);
     }
-    total
 }

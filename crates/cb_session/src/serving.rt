@@ -1,19 +1,17 @@
-ghost use Rattle.std.specs.Prelude.{◌≡◌, ◌≢◌, true, false, Bool, List, ℕ, Option, IfOk, IsOkUnless, OnErr};
+ghost use Rattle.std.specs.Prelude.{◌≡◌, ◌≢◌, ◌≤◌, true, false, Bool, List, [], ℕ, Option, IfOk, IsOkUnless, OnErr, length};
 ghost use Rattle.cb_base.specs.declared.fault.Fault.TheVariants.{Memory};
-ghost use Rattle.cb_session.specs.Serving.{Heard, Origin, Serves, progress};
-ghost use Rattle.cb_session.specs.Session.{is_closed};
-ghost use Rattle.cb_session.specs.Trace.{state_of};
+ghost use Rattle.cb_hall.specs.Histories.{Asks, IsMarkedFull};
+ghost use Rattle.cb_peer.specs.Session.{is_closed};
+ghost use Rattle.cb_session.specs.Conversation.{Origin, Settled, origin_of, progress};
+ghost use Rattle.cb_session.specs.Serving.{Heard, Serves};
 
-use crate::conversation::{give, send};
-use crate::event::Event;
-use crate::hall::{Badge, Hall};
+use crate::conversation::Conversation;
 use crate::hearing::hear;
 use crate::reading::ReadEnd;
-use crate::settings::Settings;
-use crate::sink::Sink;
-use crate::source::Source;
-use crate::trace::Trace;
 use cb_base::Fault;
+use cb_hall::{Badge, Hall};
+use cb_io::{Sink, Source};
+use cb_peer::{Event, Oracle, Settings, Trace};
 use cb_wire::Assembler;
 use std::alloc::Global;
 
@@ -23,7 +21,7 @@ const READ_SIZE: usize = 65_536;
 /// What serving a connection came to.
 #[derive(Debug, Drop)]
 pub struct Served {
-    /// The session with all its events.
+    /// The session, and its events since the last checkpoint.
     pub trace: Trace,
     /// Why reading ended.
     pub read: ReadEnd,
@@ -44,9 +42,33 @@ pub fn serve<R: Source, W: Sink>(
     badge: &mut Badge,
     settings: Settings,
 ) -> Result<Served, Fault>
-    ensures served { IfOk result (λ served. Serves (record { settings = settings; peer = badge.old.peer; count = badge.old.count; held = W.contents writer.old; failed = W.has_failed writer.old; journal = hall.old })
+    // What the hall was asked and told is in its journal, which grew by exactly that.
+    ensures served { IfOk result (λ served. Serves (λ old had replies new has. Asks old new had has replies) IsMarkedFull
+        (origin_of settings hall.old badge.old (W.contents writer.old) (W.has_failed writer.old))
         (R.remaining reader.old) (R.remaining reader.new) (R.has_failed reader.new)
-        (progress served.trace (W.contents writer.new) (W.has_failed writer.new) hall.new badge.new served.written) served.read) }
+        (progress served.trace hall.new badge.new (W.contents writer.new) (W.has_failed writer.new) served.written) served.read) }
+    ensures memory { IsOkUnless result Memory }
+    ensures unread { OnErr result (reader.new ≡ reader.old) }
+    ensures unwritten { OnErr result (writer.new ≡ writer.old) }
+    ensures unasked { OnErr result (hall.new ≡ hall.old) }
+    ensures ungranted { OnErr result (badge.new ≡ badge.old) }
+{
+    serve_by(alloc, reader, writer, hall, badge, settings)
+}
+
+/// The same by any oracle in place of a hall.
+pub fn serve_by<R: Source, W: Sink, H: Oracle>(
+    alloc: Global,
+    reader: &mut R,
+    writer: &mut W,
+    hall: &mut H,
+    badge: &mut Badge,
+    settings: Settings,
+) -> Result<Served, Fault>
+    ensures served { IfOk result (λ served. Serves H.told H.is_full
+        (origin_of settings hall.old badge.old (W.contents writer.old) (W.has_failed writer.old))
+        (R.remaining reader.old) (R.remaining reader.new) (R.has_failed reader.new)
+        (progress served.trace hall.new badge.new (W.contents writer.new) (W.has_failed writer.new) served.written) served.read) }
     ensures memory { IsOkUnless result Memory }
     ensures unread { OnErr result (reader.new ≡ reader.old) }
     ensures unwritten { OnErr result (writer.new ≡ writer.old) }
@@ -55,20 +77,10 @@ pub fn serve<R: Source, W: Sink>(
 {
     let (mut trace, messages) = Trace::new(alloc, settings)?;
     let mut buffer = vec![in alloc; 0u8; READ_SIZE]?;
-    let mut assembler = Assembler::new(alloc);
-    let opened = send(alloc, &mut trace, writer, messages.as_slice(), 0);
-    let (read, heard) = hear(
-        alloc,
-        reader,
-        buffer.as_mut_slice(),
-        &mut assembler,
-        &mut trace,
-        writer,
-        hall,
-        badge,
-        opened,
-    );
-    let written = finish(alloc, read, &mut trace, writer, hall, badge, heard);
+    let mut conversation = Conversation::new(&mut trace, writer, hall, badge, 0);
+    conversation.send(alloc, messages.as_slice());
+    let read = hear_all(alloc, reader, buffer.as_mut_slice(), &mut conversation);
+    let written = conversation.written();
     Ok(Served {
         trace,
         read,
@@ -76,25 +88,41 @@ pub fn serve<R: Source, W: Sink>(
     })
 }
 
-/// Gives the session the end of the peer's stream, unless it was over before. The answer is how many bytes were written
-/// in all, from `written` on.
-fn finish<W: Sink>(
+/// Reads the peer's stream to its end, or to that of the session, and gives the session its end. The answer is why reading
+/// ended.
+fn hear_all<'a, R: Source, W: Sink, H: Oracle>(
+    alloc: Global,
+    reader: &mut R,
+    buffer: &mut [u8],
+    conversation: &mut Conversation<'a, W, H>,
+) -> ReadEnd
+    requires room { 1 ≤ length buffer.old }
+    ensures ends { (conversation.new.trace.ghost_name ≡ conversation.old.trace.ghost_name) × (conversation.new.writer.ghost_name ≡ conversation.old.writer.ghost_name) × (conversation.new.hall.ghost_name ≡ conversation.old.hall.ghost_name) × (conversation.new.badge.ghost_name ≡ conversation.old.badge.ghost_name) }
+    ensures serves { (from : Origin _) →
+        Settled H.told H.is_full from (progress conversation.old.trace.now conversation.old.hall.now conversation.old.badge.now (W.contents conversation.old.writer.now) (W.has_failed conversation.old.writer.now) conversation.old.written) [] →
+        Serves H.told H.is_full from (R.remaining reader.old) (R.remaining reader.new) (R.has_failed reader.new) (progress conversation.new.trace.now conversation.new.hall.now conversation.new.badge.now (W.contents conversation.new.writer.now) (W.has_failed conversation.new.writer.now) conversation.new.written) result }
+{
+    let mut assembler = Assembler::new(alloc);
+    let read = hear(alloc, reader, buffer, &mut assembler, conversation);
+    finish(alloc, read, conversation);
+    read
+}
+
+/// Gives the session the end of the peer's stream, unless it was over before.
+fn finish<'a, W: Sink, H: Oracle>(
     alloc: Global,
     read: ReadEnd,
-    trace: &mut Trace,
-    writer: &mut W,
-    hall: &mut Hall,
-    badge: &mut Badge,
-    written: u64,
-) -> u64
-    requires stopped { read ≡ ReadEnd.Stopped → is_closed (state_of trace.old) ≡ true }
-    requires going { read ≢ ReadEnd.Stopped → is_closed (state_of trace.old) ≡ false }
-    ensures { (from : Origin) (input remaining : Option (List ℕ)) (read_failed : Bool) →
-        Heard from input remaining read_failed (progress trace.old (W.contents writer.old) (W.has_failed writer.old) hall.old badge.old written) read →
-        Serves from input remaining read_failed (progress trace.new (W.contents writer.new) (W.has_failed writer.new) hall.new badge.new result) read }
+    conversation: &mut Conversation<'a, W, H>,
+)
+    requires stopped { read ≡ ReadEnd.Stopped → is_closed conversation.old.trace.now.session.state ≡ true }
+    requires going { read ≢ ReadEnd.Stopped → is_closed conversation.old.trace.now.session.state ≡ false }
+    ensures ends { (conversation.new.trace.ghost_name ≡ conversation.old.trace.ghost_name) × (conversation.new.writer.ghost_name ≡ conversation.old.writer.ghost_name) × (conversation.new.hall.ghost_name ≡ conversation.old.hall.ghost_name) × (conversation.new.badge.ghost_name ≡ conversation.old.badge.ghost_name) }
+    ensures serves { (from : Origin _) (input remaining : Option (List ℕ)) (read_failed : Bool) →
+        Heard H.told H.is_full from input remaining read_failed (progress conversation.old.trace.now conversation.old.hall.now conversation.old.badge.now (W.contents conversation.old.writer.now) (W.has_failed conversation.old.writer.now) conversation.old.written) read →
+        Serves H.told H.is_full from input remaining read_failed (progress conversation.new.trace.now conversation.new.hall.now conversation.new.badge.now (W.contents conversation.new.writer.now) (W.has_failed conversation.new.writer.now) conversation.new.written) read }
 {
     if read.is_stopped() {
-        return written;
+        return;
     }
-    give(alloc, trace, writer, hall, badge, Event::ReaderEnd, written)
+    conversation.give(alloc, Event::ReaderEnd);
 }

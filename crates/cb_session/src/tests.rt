@@ -1,6 +1,8 @@
+ghost use Rattle.std.specs.Prelude.{⊤};
+
 use super::*;
-use cb_base::Fault;
-use cb_wire::{BoundedMessage, Item, Message};
+use cb_base::{Fault, Shared};
+use cb_wire::{BoundedMessage, Item, Message, decode};
 use std::alloc::Global;
 use std::io::{Error, ErrorKind, Read, Result as IoResult, Write};
 use std::test::*;
@@ -112,10 +114,15 @@ struct Room {
     most: usize,
     at_end: AtEnd,
     interrupts: bool,
+    fails_once: bool,
 }
 
 impl Write for Room {
     fn write(&mut self, piece: &[u8]) -> IoResult<usize> {
+        if self.fails_once {
+            self.fails_once = false;
+            return Err(Error::from(ErrorKind::BrokenPipe));
+        }
         if self.interrupts {
             self.interrupts = false;
             return Err(Error::from(ErrorKind::Interrupted));
@@ -157,6 +164,7 @@ fn writer_for(alloc: Global, room: usize) -> Room {
         most: usize::MAX,
         at_end: AtEnd::Fails,
         interrupts: false,
+        fails_once: false,
     }
 }
 
@@ -165,7 +173,9 @@ fn writer_for(alloc: Global, room: usize) -> Room {
 struct Outcome {
     state: State,
     read: ReadEnd,
-    entries: usize,
+    /// Since the beginning, and since the last checkpoint.
+    entries: u64,
+    kept: usize,
     written: u64,
     taken: Vec<u8>,
     calls: usize,
@@ -188,11 +198,100 @@ fn serve_once(alloc: Global, pieces: Pieces, room: Room) -> Result<Outcome, Fail
     Ok(Outcome {
         state: served.trace.state(),
         read: served.read,
-        entries: served.trace.entries().len(),
+        entries: served.trace.total().entries,
+        kept: served.trace.entries().len(),
         written: served.written,
         taken: writer.into_inner().taken,
         calls: hall.journal().len(),
     })
+}
+
+/// How many entries a trace has dropped behind so many unknown messages of 4,000,000 bytes, each with the hall's leave.
+fn dropped_behind(alloc: Global, count: usize) -> Result<u64, Fail> {
+    let (mut trace, _) = Trace::new(alloc, SETTINGS)?;
+    for _ in 0..count {
+        let message = large_message(alloc)?;
+        if !message.is_within_limits() {
+            return Ok(u64::MAX);
+        }
+        let item = Shared::new(alloc, Item::Good(BoundedMessage::new(message)))?;
+        give(&mut trace, Event::Said(item));
+        give(&mut trace, Event::Told(Answer::Go));
+    }
+    give(&mut trace, Event::Tick);
+    Ok(trace.before().entries)
+}
+
+/// An unknown message of 4,000,000 bytes.
+fn large_message(alloc: Global) -> Result<Message, Fail> {
+    let payload = vec![in alloc; 0u8; 4_000_000]?;
+    Ok(decode(alloc, "hello", payload.as_slice())?)
+}
+
+/// Gives a trace an event, unless it is over.
+fn give(trace: &mut Trace, event: Event) {
+    if !trace.state().is_closed() && trace.ready() {
+        let _given = trace.step(event);
+    }
+}
+
+/// Grants two questions, and no more: for want of memory, or because it is full.
+#[derive(Drop)]
+struct TwoAnswers {
+    granted: u32,
+    full: bool,
+}
+
+impl Oracle for TwoAnswers {
+    ghost told = { λ old had replies new has. ⊤ };
+
+    ghost is_full = { λ hall badge. ⊤ };
+
+    fn ask(&mut self, _badge: &mut Badge, _question: Question) -> Result<Answer, Fault> {
+        if self.granted >= 2 {
+            if self.full {
+                return Err(Fault::JournalFull);
+            }
+            return Err(Fault::Memory);
+        }
+        self.granted += 1;
+        Ok(Answer::Go)
+    }
+
+    ghost told_none = { λ hall badge. tt };
+
+    ghost told_then = { λ a b c x y z first next h k. tt };
+
+    ghost full_stays = { λ a b x y replies h k. tt };
+}
+
+/// How a session ends whose third question is refused, and how many bytes it wrote.
+fn serve_two_answers(alloc: Global, full: bool) -> Result<(State, u64), Fail> {
+    let (_, mut badges) = Hall::new(alloc, 1)?;
+    let mut badge = badges.pop().ok_or(Fault::Memory)?;
+    let mut given = reader_of(alloc, &[])?;
+    given.bytes = PING.repeat(alloc, 5)?;
+    let mut reader = In::new(given);
+    let mut writer = Out::new(writer_for(alloc, usize::MAX));
+    let mut two = TwoAnswers { granted: 0, full };
+    let served = serve_by(
+        alloc,
+        &mut reader,
+        &mut writer,
+        &mut two,
+        &mut badge,
+        SETTINGS,
+    )?;
+    Ok((served.trace.state(), served.written))
+}
+
+#[test]
+fn a_third_question_that_is_refused_ends_the_session(rt: HostRuntime) -> Result<(), Fail> {
+    let full = serve_two_answers(rt.alloc(), true)?;
+    assert!(rt; full == (State::Closed(CloseReason::HallFull), 64));
+    let starved = serve_two_answers(rt.alloc(), false)?;
+    assert!(rt; starved == (State::Closed(CloseReason::Memory), 64));
+    Ok(())
 }
 
 /// Serves a connection that brings so many pings.
@@ -249,17 +348,28 @@ fn row_b_all_but_the_ping_is_passed_over(rt: HostRuntime) -> Result<(), Fail> {
     Ok(())
 }
 
+/// Two entries and one pong for each ping, one entry for the end; a checkpoint where 65,000 or more stand.
 #[test]
-fn row_c_a_trace_has_65_536_entries_at_most(rt: HostRuntime) -> Result<(), Fail> {
-    let pongs = PONG.repeat(rt.alloc(), 32_767)?;
-    let outcome = serve_pings(rt.alloc(), 32_767)?;
-    assert!(rt; outcome.taken.as_slice() == pongs.as_slice());
-    assert_eq!(rt; outcome.state, State::Closed(CloseReason::Bye));
-    assert_eq!(rt; outcome.entries, 65_535);
-    let outcome = serve_pings(rt.alloc(), 32_768)?;
-    assert!(rt; outcome.taken.as_slice() == pongs.as_slice());
-    assert_eq!(rt; outcome.state, State::Closed(CloseReason::TraceFull));
-    assert_eq!(rt; outcome.entries, 65_536);
+fn row_a_a_trace_goes_on_behind_its_checkpoints(rt: HostRuntime) -> Result<(), Fail> {
+    let alloc = rt.alloc();
+    for (pings, kept) in [(32_768usize, 537usize), (100_000, 5_001)] {
+        let outcome = serve_pings(alloc, pings)?;
+        let pongs = PONG.repeat(alloc, pings)?;
+        assert!(rt; outcome.taken.as_slice() == pongs.as_slice());
+        assert_eq!(rt; outcome.state, State::Closed(CloseReason::Bye));
+        assert_eq!(rt; outcome.entries, 2 * pings as u64 + 1);
+        assert_eq!(rt; outcome.kept, kept);
+    }
+    Ok(())
+}
+
+/// Two messages of 4,000,000 bytes hold more than 8,000,000 with the 64 of each entry.
+#[test]
+fn large_payloads_bring_a_checkpoint(rt: HostRuntime) -> Result<(), Fail> {
+    let alloc = rt.alloc();
+    for (count, dropped) in [(1usize, 0u64), (2, 4), (4, 8)] {
+        assert!(rt; dropped_behind(alloc, count)? == dropped);
+    }
     Ok(())
 }
 
@@ -320,6 +430,18 @@ fn a_writer_that_fails_or_takes_nothing_ends_the_session(rt: HostRuntime) -> Res
 }
 
 #[test]
+fn nothing_is_written_after_a_write_that_failed(rt: HostRuntime) -> Result<(), Fail> {
+    let alloc = rt.alloc();
+    let mut taking = writer_for(alloc, usize::MAX);
+    taking.fails_once = true;
+    let given = reader_of(alloc, &[PING.as_slice(), PING.as_slice()])?;
+    let outcome = serve_once(alloc, given, taking)?;
+    assert_eq!(rt; outcome.taken.len(), 0);
+    assert_eq!(rt; outcome.state, State::Closed(CloseReason::WriteFault));
+    Ok(())
+}
+
+#[test]
 fn what_was_interrupted_is_made_again(rt: HostRuntime) -> Result<(), Fail> {
     let alloc = rt.alloc();
     let mut given = reader_of(alloc, &[PING.as_slice()])?;
@@ -334,28 +456,12 @@ fn what_was_interrupted_is_made_again(rt: HostRuntime) -> Result<(), Fail> {
 }
 
 #[test]
-fn a_hall_grants_and_keeps_its_calls(rt: HostRuntime) -> Result<(), Fail> {
-    let (mut hall, mut badges) = Hall::new(rt.alloc(), 3)?;
-    let mut badge = badges.pop().ok_or(Fault::Memory)?;
-    let answer = hall.call(&mut badge, Question::Admit)?;
-    assert_eq!(rt; answer, Answer::Go);
-    assert_eq!(rt; badge.peer(), 2);
-    assert_eq!(rt; badge.count(), 1);
-    assert!(rt; !badge.full());
-    assert_eq!(rt;
-        hall.journal(),
-        [Entry::Asked(2, Question::Admit)].as_slice()
-    );
-    Ok(())
-}
-
-#[test]
 fn a_ping_is_answered_when_the_hall_lets_it(rt: HostRuntime) -> Result<(), Fail> {
     let alloc = rt.alloc();
     let (mut session, opening) = Session::new(alloc, SETTINGS)?;
     assert_eq!(rt; opening.len(), 0);
     assert_eq!(rt; session.state(), State::Start);
-    let ping = Event::Said(Item::Good(BoundedMessage::new(Message::Ping(0))));
+    let ping = Event::Said(Shared::new(alloc, Item::Good(BoundedMessage::new(Message::Ping(0))))?);
     let (messages, question) = session.step(alloc, &ping)?;
     assert_eq!(rt; messages.len(), 0);
     assert_eq!(rt; question, Some(Question::Admit));
@@ -398,12 +504,5 @@ fn a_transaction_or_a_block_that_cannot_be_read_is_a_bad_message(
         assert_eq!(rt; outcome.taken.len(), 0);
         assert_eq!(rt; outcome.state, State::Closed(CloseReason::BadMessage));
     }
-    Ok(())
-}
-
-#[test]
-fn a_close_reason_is_printed_by_its_name(rt: HostRuntime) -> Result<(), Fail> {
-    let line = format!(in rt.alloc(); "closed {}", CloseReason::Bye)?;
-    assert_eq!(rt; line.as_str(), "closed Bye");
     Ok(())
 }

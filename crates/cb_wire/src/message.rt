@@ -142,7 +142,8 @@ impl Model for BoundedMessage {
 }
 
 impl BoundedMessage {
-    ghost use Rattle.cb_wire.specs.Grammar.{HoldsNothing, IsWithinLimits};
+    ghost use Rattle.std.specs.Prelude.{◌≤◌};
+    ghost use Rattle.cb_wire.specs.Grammar.{HoldsNothing, IsWithinLimits, payload_text};
 
     /// Takes a message that is within the limits.
     pub fn new(message: Message) -> BoundedMessage
@@ -158,6 +159,20 @@ impl BoundedMessage {
         ensures limits { IsWithinLimits self.now }
     {
         &self.message
+    }
+
+    /// How many bytes the payload has.
+    pub fn payload_len(&self) -> u64
+        ensures payload { result ≡ length (payload_text self.now) }
+        ensures limit { result ≤ 4000000 }
+    {
+        match &self.message {
+            Message::Verack => 0,
+            Message::Ping(_) | Message::Pong(_) => 8,
+            Message::Tx(tx) => tx.size(),
+            Message::Block(block) => block.size(),
+            Message::Unknown(_, payload) => payload.len() as u64,
+        }
     }
 
     /// Gives the message out.

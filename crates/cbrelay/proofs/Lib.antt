@@ -7,4 +7,3 @@ pub mod SimReportLemmas
 pub mod SimRunLemmas
 pub mod Simulating
 pub mod Telling
-pub mod Writing

@@ -2,8 +2,8 @@
 use Rattle.std.proofs.Common.{◌≡◌, ℕ, Bool, true, false, List, [], ◌++◌, ◌⊎◌, Option, Result, MatchResult, sym, subst, inl, inr}
 use Rattle.std.proofs.lemmas.List.{append-nil}
 use Rattle.std.specs.Io.KnownBytes.{Appends}
-use Rattle.cb_session.proofs.Known.{Appends-then}
-use Rattle.cb_session.specs.declared.state.CloseReason.{CloseReason}
+use Rattle.cb_io.proofs.Known.{Appends-then}
+use Rattle.cb_peer.specs.declared.state.CloseReason.{CloseReason}
 use Rattle.cbrelay.specs.declared.ending.Status.{Status}
 use Rattle.cbrelay.specs.declared.ending.Status.TheVariants.{BadInput}
 use Rattle.cbrelay.specs.declared.ending.Halt.{Halt}

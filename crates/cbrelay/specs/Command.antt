@@ -1,7 +1,7 @@
 -- What a run of the program comes to: its exit status, and what standard error was told.
 use Rattle.std.specs.Prelude.{◌≡◌, ℕ, Bool, true, false, ◌⊎◌, List, [], ◌++◌, Option, Result, Ok, Err}
 use Rattle.std.specs.Io.KnownBytes.{Appends}
-use Rattle.cb_session.specs.declared.state.CloseReason.{CloseReason}
+use Rattle.cb_peer.specs.declared.state.CloseReason.{CloseReason}
 use Rattle.cbrelay.specs.declared.ending.Status.{Status}
 use Rattle.cbrelay.specs.declared.ending.Status.TheVariants.{Usage, BadInput}
 use Rattle.cbrelay.specs.declared.ending.Halt.{Halt}

@@ -1,7 +1,7 @@
 -- How a run ends: the exit status, and what standard error gets.
 use Rattle.std.specs.Prelude.{◌≡◌, ℕ, Bool, true, List, [], codes, ⊤, Option}
-use Rattle.cb_session.specs.declared.state.CloseReason.{CloseReason}
-use Rattle.cb_session.specs.declared.state.CloseReason.TheVariants as reasons
+use Rattle.cb_peer.specs.declared.state.CloseReason.{CloseReason}
+use Rattle.cb_peer.specs.declared.state.CloseReason.TheVariants as reasons
 use Rattle.cbrelay.specs.declared.ending.Status.{Status}
 use Rattle.cbrelay.specs.declared.ending.Status.TheVariants.{Success, Usage, Refused, BadInput, NoMemory}
 use Rattle.cbrelay.specs.declared.ending.Halt.{Halt}

@@ -1,30 +1,24 @@
 -- What `serve` comes to for its peer.
 use Rattle.std.specs.Prelude.{◌≡◌, ℕ, pos, Bool, true, false, ◌⊎◌, List, [], ◌∷◌, ◌++◌, codes, Option, Result, Ok, Err}
 use Rattle.std.specs.Io.KnownBytes.{Appends}
-use Rattle.cb_session.specs.declared.state.State.TheVariants.{Closed}
-use Rattle.cb_session.specs.declared.state.CloseReason.{CloseReason}
-use Rattle.cb_session.specs.declared.hall.Entry.{Entry}
+use Rattle.cb_hall.specs.declared.hall.Entry.{Entry}
+use Rattle.cb_hall.specs.Hall.{BadgeState, fresh_badge}
+use Rattle.cb_hall.specs.Histories.{Asks, IsMarkedFull}
+use Rattle.cb_peer.specs.declared.state.State.TheVariants.{Closed}
+use Rattle.cb_peer.specs.declared.state.CloseReason.{CloseReason}
+use Rattle.cb_peer.specs.Session.{reason_name}
+use Rattle.cb_peer.specs.Trace.{TraceView}
 use Rattle.cb_session.specs.declared.reading.ReadEnd.{ReadEnd}
-use Rattle.cb_session.specs.Hall.{BadgeState}
-use Rattle.cb_session.specs.Session.{reason_name}
-use Rattle.cb_session.specs.Trace.{TraceView, state_of}
-use Rattle.cb_session.specs.Serving.{Origin, Serves, progress}
+use Rattle.cb_session.specs.Conversation.{Origin, origin_of, progress}
+use Rattle.cb_session.specs.Serving.{Serves}
 use Rattle.cbrelay.specs.declared.ending.Status.{Status}
 use Rattle.cbrelay.specs.declared.ending.Halt.{Halt}
 use Rattle.cbrelay.specs.declared.ending.Halt.TheVariants.{ReadFailed, WriteFailed}
 use Rattle.cbrelay.specs.Ending.{reason_status}
 
--- where serving begins: the peer's settings, the one peer 0, and an empty journal
-abbrev pub peer_origin : Option (List ℕ) → Bool → Origin
-peer_origin held failed =
-    record {
-      settings = record { inbound = true; nonce = 1; time = pos 0; height = pos 0; salt = 0 };
-      peer = 0;
-      count = 0;
-      held = held;
-      failed = failed;
-      journal = [];
-    }
+-- where serving begins: the peer's settings, an empty journal, and the badge of peer 0
+abbrev pub peer_origin : Option (List ℕ) → Bool → Origin (List Entry)
+peer_origin held failed = origin_of (record { inbound = true; nonce = 1; time = pos 0; height = pos 0; salt = 0 }) [] (fresh_badge 0) held failed
 
 -- The connection was served to its end, from its source as it was (input) to its source as it is (remaining), and from
 -- what the writer held to what it holds, which had failed before or not; its session is closed for this reason.
@@ -34,8 +28,8 @@ pub record WasServed (input remaining : Option (List ℕ)) (read_failed : Bool) 
   pub badge : BadgeState
   pub written : ℕ
   pub end : ReadEnd
-  pub serves : Serves (peer_origin held had_failed) input remaining read_failed (progress trace holds write_failed journal badge written) end
-  pub closed : state_of trace ≡ Closed reason
+  pub serves : Serves (λ old had replies new has. Asks old new had has replies) IsMarkedFull (peer_origin held had_failed) input remaining read_failed (progress trace journal badge holds write_failed written) end
+  pub closed : trace.session.state ≡ Closed reason
 
 -- the line on standard error
 abbrev pub closed_text : CloseReason → List ℕ

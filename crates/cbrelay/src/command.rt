@@ -2,8 +2,8 @@
 
 ghost use Rattle.std.specs.Prelude.{◌≡◌, ◌⊎◌, ℕ, true, false, IsErrOf, List, [], ◌∷◌, codes, map, option_map, string_bytes, IfOk, IfErr, MatchResult};
 ghost use Rattle.std.specs.Io.KnownBytes.{Appends};
-ghost use Rattle.cb_session.specs.declared.state.CloseReason.{CloseReason};
-ghost use Rattle.cb_session.specs.declared.state.CloseReason.TheVariants as reasons;
+ghost use Rattle.cb_peer.specs.declared.state.CloseReason.{CloseReason};
+ghost use Rattle.cb_peer.specs.declared.state.CloseReason.TheVariants as reasons;
 ghost use Rattle.cbrelay.specs.declared.ending.Halt.TheVariants.{Memory, WriteFailed};
 ghost use Rattle.cbrelay.specs.declared.ending.Status.TheVariants.{Usage};
 ghost use Rattle.cbrelay.specs.Command.{PrintsReport, EndsEarly, Halts, Refuses, TellsPeer, code_of};
@@ -19,7 +19,7 @@ use crate::ending::{Halt, Status};
 use crate::output::write_all;
 use crate::serve::serve_peer;
 use crate::simulate::simulate;
-use cb_session::{Sink, Source};
+use cb_io::{Sink, Source};
 use clap::Command;
 use clap::error::ErrorKind;
 use std::alloc::{AllocError, Global};

@@ -12,7 +12,7 @@ use crate::lines::LineReader;
 use crate::output::write_all;
 use crate::printed::{push_fault, push_items};
 use cb_base::Fault;
-use cb_session::{Sink, Source};
+use cb_io::{Sink, Source};
 use cb_wire::{Assembler, Item};
 use hex::FromHexError;
 use std::alloc::Global;

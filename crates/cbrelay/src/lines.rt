@@ -8,7 +8,7 @@ ghost use Rattle.cbrelay.specs.Lines.{Cutting, Moves, NextLine};
 ghost use Rattle.cbrelay.specs.declared.ending.Halt.TheVariants.{Memory, ReadFailed};
 
 use crate::ending::Halt;
-use cb_session::Source;
+use cb_io::Source;
 use std::alloc::Global;
 use std::marker::Model;
 

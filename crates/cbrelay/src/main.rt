@@ -13,7 +13,7 @@ mod simulate;
 #[cfg(test)]
 mod tests;
 
-use cb_session::{In, Out};
+use cb_io::{In, Out};
 use std::io::ErrorKind;
 use std::process::ExitCode;
 

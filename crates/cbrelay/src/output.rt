@@ -5,7 +5,7 @@ ghost use Rattle.std.specs.Io.KnownBytes.{Appends};
 ghost use Rattle.cbrelay.specs.declared.ending.Halt.TheVariants.{WriteFailed};
 
 use crate::ending::Halt;
-use cb_session::Sink;
+use cb_io::Sink;
 
 /// Writes all of a piece. The only error is that a write failed, or took nothing.
 pub fn write_all<W: Sink>(writer: &mut W, piece: &[u8]) -> Result<(), Halt>
@@ -14,15 +14,5 @@ pub fn write_all<W: Sink>(writer: &mut W, piece: &[u8]) -> Result<(), Halt>
     ensures marked { OnErr result (W.has_failed writer.new ≡ true) }
     ensures stays { W.has_failed writer.old ≡ true → W.has_failed writer.new ≡ true }
 {
-    let mut rest = piece;
-    while !rest.is_empty() {
-        match writer.write(rest) {
-            Some(taken) if taken > 0 => {
-                let (_, after) = rest.split_at(taken);
-                rest = after;
-            }
-            _ => return Err(Halt::WriteFailed),
-        }
-    }
-    Ok(())
+    cb_io::write_all(writer, piece).map_err(|_| Halt::WriteFailed)
 }

@@ -2,19 +2,19 @@
 
 ghost use Rattle.std.specs.Prelude.{◌≡◌, ◌⊎◌, true, OnOk, OnErr, IsOkUnless};
 ghost use Rattle.std.specs.Io.KnownBytes.{Appends};
-ghost use Rattle.cb_session.specs.Session.{is_closed};
-ghost use Rattle.cb_session.specs.declared.state.CloseReason.{CloseReason};
-ghost use Rattle.cb_session.specs.declared.state.CloseReason.TheVariants as reasons;
-ghost use Rattle.cb_session.specs.declared.state.State.TheVariants.{Closed};
+ghost use Rattle.cb_peer.specs.Session.{is_closed};
+ghost use Rattle.cb_peer.specs.declared.state.CloseReason.{CloseReason};
+ghost use Rattle.cb_peer.specs.declared.state.CloseReason.TheVariants as reasons;
+ghost use Rattle.cb_peer.specs.declared.state.State.TheVariants.{Closed};
 ghost use Rattle.cbrelay.specs.declared.ending.Halt.TheVariants.{WriteFailed};
 ghost use Rattle.cbrelay.specs.Ending.{reason_status};
 ghost use Rattle.cbrelay.specs.Peer.{WasServed, PeerEnds, closed_text, peer_end};
 
 use crate::ending::{Halt, Status};
 use crate::output::write_all;
-use cb_session::{CloseReason, Hall, Settings, Sink, Source, State, serve};
+use cb_io::{Sink, Source};
+use cb_session::{CloseReason, Hall, Settings, State, serve};
 use std::alloc::Global;
-use std::mem::forget;
 
 /// What the session is given: it is the peer's connection, and all else is fixed, so that a run can be made again.
 const SETTINGS: Settings = Settings {
@@ -57,12 +57,7 @@ fn connection<R: Source, W: Sink>(alloc: Global, reader: &mut R, writer: &mut W)
         return CloseReason::Memory;
     };
     match serve(alloc, reader, writer, &mut hall, &mut badge, SETTINGS) {
-        Ok(served) => {
-            let reason = reason_of(served.trace.state());
-            // The run ends next, and the system takes all of the memory back at once.
-            forget(served);
-            reason
-        }
+        Ok(served) => reason_of(served.trace.state()),
         Err(_) => CloseReason::Memory,
     }
 }

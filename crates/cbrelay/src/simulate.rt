@@ -11,7 +11,7 @@ use crate::ending::Halt;
 use crate::lines::LineReader;
 use crate::output::write_all;
 use crate::sim::{Flow, Simulation};
-use cb_session::{Sink, Source};
+use cb_io::{Sink, Source};
 use std::alloc::Global;
 
 /// Runs the crew's core by the lines of the input, and prints how it stands at the end. The answer is the exit status.

@@ -1,5 +1,5 @@
 use Rattle.std.specs.Io.KnownBytes.{Keeps}
-use Rattle.cb_session.proofs.sink.write_again.Given as goal
+use Rattle.cb_io.proofs.sink.write_again.Given as goal
 
 -- nothing was taken so far
 abbrev pub invariant-loop : goal.invariant-loop

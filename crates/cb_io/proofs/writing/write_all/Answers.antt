@@ -1,6 +1,6 @@
-use Rattle.std.proofs.Common.{◌∙◌, length, arith, refl}
-use Rattle.cb_session.proofs.Writes.{front_more, unfailed_more}
-use Rattle.cb_session.proofs.writing.write_bytes.Goals as goal
+use Rattle.std.proofs.Common.{◌∙◌, arith}
+use Rattle.cb_io.proofs.Writes.{taken_more, unfailed_more}
+use Rattle.cb_io.proofs.writing.write_all.Goals as goal
 
 pub loop-rest-preserved : goal.loop-rest-preserved
 loop-rest-preserved g c =
@@ -8,6 +8,7 @@ loop-rest-preserved g c =
     let shorter = c.loop-rest.invariant.shorter in
     record {
       shorter = omega arith;
-      front = front_more _ _ _ _ _ _ _ c.in-Some.taken _ c.loop-rest.invariant.front c.in-Some.ensures.bytes c.in-Some.ensures.taken c.split_at.ensures.back refl;
-      same = unfailed_more _ _ c.in-Some.taken (length c.loop-rest.rest.now) c.in-Some.ensures.failed c.if-taken-eq0.false ∙ c.loop-rest.invariant.same;
+      taken = taken_more _ _ _ _ _ _ c.in-Some.more c.loop-rest.invariant.taken c.in-Some.ensures.bytes c.split_at.ensures.back;
+      same = unfailed_more _ _ c.in-Some.more c.loop-rest.rest.now c.in-Some.ensures.cause c.in-Some.more-test.1 ∙ c.loop-rest.invariant.same;
+      untouched = λ h. absurd (c.in-Some.more-test.1 (omega arith));
     }

@@ -1,13 +1,14 @@
-use Rattle.std.proofs.Common.{◌≡◌, ◌-◌, ◌≤◌, length}
-use Rattle.cb_session.specs.Writing.{SentFront}
-use Rattle.cb_session.proofs.writing.write_bytes.Given as goal
+use Rattle.std.proofs.Common.{◌≡◌, ◌≤◌, length}
+use Rattle.cb_io.proofs.Writes.{Taken}
+use Rattle.cb_io.proofs.writing.write_all.Given as goal
 
--- what isn't left has been taken
+-- what isn't left has been taken, and no write failed
 abbrev pub invariant-loop-rest : goal.invariant-loop-rest
 invariant-loop-rest g l = record {
-  shorter : length l.rest ≤ length l.bytes;
-  front : SentFront (g.W.Sink.contents l.fn.writer) (g.W.Sink.contents l.writer) l.bytes l.rest (length l.bytes - length l.rest);
-  same : g.W.Sink.has_failed l.writer ≡ g.W.Sink.has_failed l.fn.writer;
+  shorter : length l.rest ≤ length l.piece;
+  taken : Taken (g.W.Sink.contents l.fn.writer) (g.W.Sink.contents l.writer) l.piece l.rest;
+  same : g.W.Sink.failure l.writer ≡ g.W.Sink.failure l.fn.writer;
+  untouched : length l.rest ≡ length l.piece → l.writer ≡ l.fn.writer;
 }
 
 abbrev pub decreases-loop-rest : goal.decreases-loop-rest

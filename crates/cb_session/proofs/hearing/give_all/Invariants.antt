@@ -1,17 +1,20 @@
 use Rattle.std.proofs.Common.{◌≡◌, List, ◌++◌, vec_len}
 use Rattle.std.specs.Prelude.{reverse}
 use Rattle.cb_wire.specs.declared.item.Item.{Item}
-use Rattle.cb_session.specs.declared.event.Event.{Event}
-use Rattle.cb_session.specs.Serving.{Origin, Settled, Took, progress}
+use Rattle.cb_peer.specs.declared.event.Event.{Event}
+use Rattle.cb_session.specs.Conversation.{Origin, Settled, progress}
+use Rattle.cb_session.specs.Serving.{Took}
 use Rattle.cb_session.proofs.hearing.give_all.Given as goal
 
 -- what isn't waiting has been taken
 abbrev pub invariant-loop-item : goal.invariant-loop-item
-invariant-loop-item g l =
-    (taken : List Item) × (l.fn.items.items ≡ taken ++ reverse l.waiting.items)
-    × ((from : Origin) (inputs : List Event) →
-    Settled from (progress l.fn.trace (g.W.Sink.contents l.fn.writer) (g.W.Sink.has_failed l.fn.writer) l.fn.hall l.fn.badge l.fn.written) inputs →
-    Took from (progress l.trace (g.W.Sink.contents l.writer) (g.W.Sink.has_failed l.writer) l.hall l.badge l.total) inputs taken)
+invariant-loop-item g l = record {
+  ends : (l.conversation.trace.ghost_name ≡ l.fn.conversation.trace.ghost_name) × (l.conversation.writer.ghost_name ≡ l.fn.conversation.writer.ghost_name) × (l.conversation.hall.ghost_name ≡ l.fn.conversation.hall.ghost_name) × (l.conversation.badge.ghost_name ≡ l.fn.conversation.badge.ghost_name);
+  taken : List Item;
+  parts : l.fn.items.items ≡ taken ++ reverse l.waiting.items;
+  took : (from : Origin g.row.H.Denot) (inputs : List Event) →
+      Settled g.H.Oracle.told g.H.Oracle.is_full from (progress l.fn.conversation.trace.now l.fn.conversation.hall.now l.fn.conversation.badge.now (g.W.Sink.contents l.fn.conversation.writer.now) (g.W.Sink.has_failed l.fn.conversation.writer.now) l.fn.conversation.written) inputs → Took g.H.Oracle.told g.H.Oracle.is_full from (progress l.conversation.trace.now l.conversation.hall.now l.conversation.badge.now (g.W.Sink.contents l.conversation.writer.now) (g.W.Sink.has_failed l.conversation.writer.now) l.conversation.written) inputs taken;
+}
 
 abbrev pub decreases-loop-item : goal.decreases-loop-item
 decreases-loop-item g l = vec_len l.waiting

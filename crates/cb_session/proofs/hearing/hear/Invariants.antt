@@ -1,10 +1,14 @@
-use Rattle.std.proofs.Common.{List, ℕ, Option}
-use Rattle.cb_session.specs.Serving.{HeardBy, Origin, progress}
+use Rattle.std.proofs.Common.{◌≡◌, ◌≤◌, List, ℕ, Option, length}
+use Rattle.cb_session.specs.Conversation.{Origin, progress}
+use Rattle.cb_session.specs.Serving.{HeardBy}
 use Rattle.cb_session.proofs.hearing.hear.Given as goal
 
--- what was heard in so many reads
+-- what was read so far was heard
 abbrev pub invariant-loop : goal.invariant-loop
-invariant-loop g l =
-    (from : Origin) (input : Option (List ℕ)) →
-    HeardBy from input (g.R.Source.remaining l.fn.reader) (progress l.fn.trace (g.W.Sink.contents l.fn.writer) (g.W.Sink.has_failed l.fn.writer) l.fn.hall l.fn.badge l.fn.written) l.fn.assembler 0 →
-    HeardBy from input (g.R.Source.remaining l.reader) (progress l.trace (g.W.Sink.contents l.writer) (g.W.Sink.has_failed l.writer) l.hall l.badge l.total) l.assembler l.counter
+invariant-loop g l = record {
+  ends : (l.conversation.trace.ghost_name ≡ l.fn.conversation.trace.ghost_name) × (l.conversation.writer.ghost_name ≡ l.fn.conversation.writer.ghost_name) × (l.conversation.hall.ghost_name ≡ l.fn.conversation.hall.ghost_name) × (l.conversation.badge.ghost_name ≡ l.fn.conversation.badge.ghost_name);
+  room : 1 ≤ length l.buffer;
+  heard : (from : Origin g.row.H.Denot) (input : Option (List ℕ)) →
+      HeardBy g.H.Oracle.told g.H.Oracle.is_full from input (g.R.Source.remaining l.fn.reader) (progress l.fn.conversation.trace.now l.fn.conversation.hall.now l.fn.conversation.badge.now (g.W.Sink.contents l.fn.conversation.writer.now) (g.W.Sink.has_failed l.fn.conversation.writer.now) l.fn.conversation.written) l.fn.assembler 0 →
+      HeardBy g.H.Oracle.told g.H.Oracle.is_full from input (g.R.Source.remaining l.reader) (progress l.conversation.trace.now l.conversation.hall.now l.conversation.badge.now (g.W.Sink.contents l.conversation.writer.now) (g.W.Sink.has_failed l.conversation.writer.now) l.conversation.written) l.assembler l.counter;
+}

@@ -1,0 +1,12 @@
+//! What a node reads from and writes to: sources and sinks of bytes, and writing messages to a sink.
+#![tactic(auto)]
+
+mod sink;
+mod source;
+#[cfg(test)]
+mod tests;
+mod writing;
+
+pub use sink::{Out, Sink, SinkFailure};
+pub use source::{In, Source};
+pub use writing::{Unwritten, WriteEnd, WriteFault, write_all, write_out};

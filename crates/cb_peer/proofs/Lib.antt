@@ -1,0 +1,5 @@
+pub mod Folds
+pub mod Laws
+pub mod Questions
+pub mod Steps
+pub mod Traces

@@ -1,0 +1,141 @@
+-- What a step makes, as tables.
+use Rattle.std.proofs.Common.{◌≡◌, ℕ, ◌+◌, ◌≢◌, ◌<◌, ◌≤◌, Bool, true, false, cond, List, [], ◌∷◌, Option, Some, None, refl, sym, ap, ◌∙◌, arith, inl, inr, ◌⊎◌}
+use Rattle.std.specs.Prelude.{◌^◌}
+use Rattle.cb_wire.specs.declared.item.Item.{Item}
+use Rattle.cb_wire.specs.declared.item.Item.TheVariants.{Good, Damaged, Bad}
+use Rattle.cb_wire.specs.declared.message.Message.{Message}
+use Rattle.cb_hall.specs.declared.hall.Question.{Question}
+use Rattle.cb_hall.specs.declared.hall.Question.TheVariants.{Admit}
+use Rattle.cb_hall.specs.declared.hall.Answer.{Answer}
+use Rattle.cb_hall.specs.declared.hall.Answer.TheVariants.{Go}
+use Rattle.cb_peer.specs.declared.state.CloseReason.{CloseReason}
+use Rattle.cb_peer.specs.declared.state.CloseReason.TheVariants as reasons
+use Rattle.cb_peer.specs.declared.event.Event.{Event}
+use Rattle.cb_peer.specs.declared.event.Event.TheVariants as events
+use Rattle.cb_peer.specs.declared.session.Standing.{Standing}
+use Rattle.cb_peer.specs.declared.trace.TraceEntry.{TraceEntry}
+use Rattle.cb_peer.specs.Event.{begins, ends_at_once, is_input, is_told, kind_of}
+use Rattle.cb_peer.specs.Session.{SessionState, Stepped, answered, arrives, closes, is_closed, open_step, processed, question_left, questions_left, reply_to, standing_question, stays, step_of, told}
+use Rattle.cb_peer.specs.Fold.{entry_step}
+use Rattle.cb_peer.proofs.Folds.{entry_cases}
+
+-- the session as it is while what stood is processed
+abbrev pub freed : SessionState → SessionState
+freed s = record { settings = s.settings; state = s.state; standing = None }
+
+-- ---- one that ends the session is silent
+
+abbrev pub IsSilent : Stepped → Type 0
+IsSilent made = is_closed made.session.state ≡ true → made.messages ≡ []
+
+open_clash : {P : Type 0} (b : Bool) → b ≡ false → b ≡ true → P
+open_clash b e f = absurd (let clash = sym e ∙ f in cc)
+
+arrives_silent : (standing : Option Standing) (s : SessionState) (item : Option Item) → IsSilent (arrives standing s item)
+arrives_silent None s item closed = refl
+arrives_silent (Some other) s item closed = refl
+
+processed_silent : (s : SessionState) (item : Option Item) → is_closed s.state ≡ false → IsSilent (processed s item)
+processed_silent s None going closed = refl
+processed_silent s (Some (Good message)) going closed = open_clash (is_closed s.state) going closed
+processed_silent s (Some Damaged) going closed = refl
+processed_silent s (Some (Bad command fault)) going closed = refl
+
+answered_silent : (s : SessionState) (item : Option Item) (question : Question) (answer : Answer) → is_closed s.state ≡ false → IsSilent (answered s item question answer)
+answered_silent s item Admit Go going closed = processed_silent s item going closed
+
+told_silent : (standing : Option Standing) (s : SessionState) (answer : Answer) → is_closed s.state ≡ false → IsSilent (told standing s answer)
+told_silent None s answer going closed = refl
+told_silent (Some standing) s answer going closed = answered_silent (freed s) standing.item standing.question answer going closed
+
+open_silent : (s : SessionState) (event : Event) → is_closed s.state ≡ false → IsSilent (open_step s event)
+open_silent s (events.Said item) going closed = arrives_silent s.standing s (Some item) closed
+open_silent s (events.Broken fault) going closed = refl
+open_silent s events.Tick going closed = arrives_silent s.standing s None closed
+open_silent s (events.Told answer) going closed = told_silent s.standing s answer going closed
+open_silent s events.ReaderEnd going closed = refl
+open_silent s events.NoMemory going closed = refl
+open_silent s events.HallFull going closed = refl
+open_silent s events.WriteFault going closed = refl
+
+pub entry_silent : (count : ℕ) (s : SessionState) (entry : TraceEntry) → is_closed s.state ≡ false → IsSilent (entry_step count s entry)
+entry_silent count s entry going = entry_cases IsSilent count s entry going (λ _ _. refl) (λ _ _ _. refl) (λ _ _. open_silent s entry.event going)
+
+-- ---- an event that ends the session at once ends it
+
+ends_open : (s : SessionState) (event : Event) → ends_at_once event ≡ true → is_closed (open_step s event).session.state ≡ true
+ends_open s (events.Said item) e = absurd cc
+ends_open s (events.Broken fault) e = refl
+ends_open s events.Tick e = absurd cc
+ends_open s (events.Told answer) e = absurd cc
+ends_open s events.ReaderEnd e = refl
+ends_open s events.NoMemory e = refl
+ends_open s events.HallFull e = refl
+ends_open s events.WriteFault e = refl
+
+pub entry_ends : (count : ℕ) (s : SessionState) (entry : TraceEntry) → is_closed s.state ≡ false → ends_at_once entry.event ≡ true → is_closed (entry_step count s entry).session.state ≡ true
+entry_ends count s entry going e =
+    entry_cases (λ made. is_closed made.session.state ≡ true) count s entry going (λ _. refl) (λ _ _. refl) (λ _ _. ends_open s entry.event e)
+
+-- the entry number 2^62 ends the session
+pub entry_full : (count : ℕ) (s : SessionState) (entry : TraceEntry) → is_closed s.state ≡ false → is_closed (entry_step count s entry).session.state ≡ false → count + 1 ≢ 2 ^ 62
+entry_full count s entry going =
+    entry_cases (λ made. is_closed made.session.state ≡ false → count + 1 ≢ 2 ^ 62) count s entry going (λ _ closed. absurd cc) (λ more _ _. more) (λ more _ _. more)
+
+-- a step that was fed is the session's own
+pub fed_is : (before : ℕ) (s : SessionState) (event : Event) → is_closed s.state ≡ false → before + 1 ≢ 2 ^ 62 → entry_step before s (record { event = event; starved = false }) ≡ step_of s event
+unfolding step_of
+fed_is before s event going other =
+    let same : step_of s event ≡ open_step s event = ap (λ b. cond b (stays s) (open_step s event)) going in
+    entry_cases (λ made. made ≡ step_of s event) before s (record { event = event; starved = false }) going
+    (λ full. absurd (other full)) (λ _ starved. absurd (let e : false ≡ true = starved in cc)) (λ _ _. sym same)
+
+-- ---- what stands after a step
+
+-- the question of a step is the one that stands after it, unless the session is over
+abbrev pub Waiting : Stepped → Type 0
+Waiting made = is_closed made.session.state ≡ false → standing_question made.session.standing ≡ made.question
+
+-- what stands after an answer needs fewer answers, or the session is over
+abbrev pub Fewer : Option Standing → Stepped → Type 0
+Fewer before made = is_closed made.session.state ≡ false → (made.session.standing ≡ None) ⊎ (questions_left made.session.standing < questions_left before)
+
+arrives_waiting : (standing : Option Standing) (s : SessionState) (item : Option Item) → standing ≡ None → Waiting (arrives standing s item)
+arrives_waiting None s item e going = refl
+arrives_waiting (Some other) s item e going = absurd cc
+
+-- what begins something new at a session at which no question stands
+pub waiting_new : (s : SessionState) (event : Event) → begins (kind_of event) ≡ true → s.standing ≡ None → Waiting (open_step s event)
+waiting_new s (events.Said item) new e going = arrives_waiting s.standing s (Some item) e going
+waiting_new s (events.Broken fault) new e going = absurd cc
+waiting_new s events.Tick new e going = arrives_waiting s.standing s None e going
+waiting_new s (events.Told answer) new e going = absurd cc
+waiting_new s events.ReaderEnd new e going = absurd cc
+waiting_new s events.NoMemory new e going = absurd cc
+waiting_new s events.HallFull new e going = absurd cc
+waiting_new s events.WriteFault new e going = absurd cc
+
+-- ---- fewer answers are needed
+
+processed_free : (s : SessionState) (item : Option Item) → s.standing ≡ None → is_closed (processed s item).session.state ≡ false → (processed s item).session.standing ≡ None
+processed_free s None e going = e
+processed_free s (Some (Good message)) e going = e
+processed_free s (Some Damaged) e going = e
+processed_free s (Some (Bad command fault)) e going = absurd cc
+
+answered_free : (s : SessionState) (item : Option Item) (question : Question) (answer : Answer) → s.standing ≡ None → is_closed (answered s item question answer).session.state ≡ false
+    → questions_left (answered s item question answer).session.standing < question_left question
+answered_free s item Admit Go e going = (let none = ap questions_left (processed_free s item e going) in omega (arith, none))
+
+-- an answer leaves fewer to be waited for
+pub told_fewer : (s : SessionState) (standing : Standing) (answer : Answer) → is_closed (told (Some standing) s answer).session.state ≡ false
+    → questions_left (told (Some standing) s answer).session.standing < questions_left (Some standing)
+told_fewer s standing answer going = answered_free (freed s) standing.item standing.question answer refl going
+
+left_few : (question : Question) → question_left question ≤ 6
+left_few Admit = omega arith
+
+-- at most six answers are needed
+pub few_left : (standing : Option Standing) → questions_left standing ≤ 6
+few_left None = omega arith
+few_left (Some standing) = left_few standing.question

@@ -1,0 +1,6 @@
+pub mod Event
+pub mod Fold
+pub mod Law
+pub mod Prompt
+pub mod Session
+pub mod Trace

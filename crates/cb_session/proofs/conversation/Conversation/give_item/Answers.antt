@@ -1,0 +1,11 @@
+use Rattle.cb_session.proofs.Accounts.{gave_none}
+use Rattle.cb_session.proofs.conversation.Conversation.give_item.Goals as goal
+
+pub returns-in_default-clause-gave : goal.returns-in_default-clause-gave
+returns-in_default-clause-gave g c =
+    λ from inputs s.
+    rw (c.lose.ensures.hall, c.lose.ensures.badge, c.lose.ensures.sink, c.lose.ensures.written)
+    (gave_none g.H.Oracle.told g.H.Oracle.is_full from _ inputs s.sent.missing _ (c.lose.ensures.accounts from inputs s.sent.missing s.sent.lost _ _ _ _ _ (λ e. absurd cc) s.sent.accounts) c.lose.ensures.closed)
+
+pub returns-clause-gave : goal.returns-clause-gave
+returns-clause-gave g c = λ from inputs s. rw (← c.in-Some.ensures) (c.give.ensures.gave from inputs s)

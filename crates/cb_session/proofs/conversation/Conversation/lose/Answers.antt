@@ -1,0 +1,16 @@
+use Rattle.cb_session.proofs.Accounts.{accounts_lost, accounts_ran, ended_more, rest_open}
+use Rattle.cb_session.proofs.conversation.Conversation.lose.Goals as goal
+
+pub returns-then-not-ready-clause-accounts : goal.returns-then-not-ready-clause-accounts
+returns-then-not-ready-clause-accounts g c =
+    λ from inputs missing lost hall badge held failed written write a.
+    accounts_ran g.H.Oracle.told g.H.Oracle.is_full (record { none = g.met.H.Oracle.told_none; next = g.met.H.Oracle.told_then; stays = g.met.H.Oracle.full_stays }) from c.args.self.now.trace.now c.ready.new.self hall badge held failed written inputs missing lost c.requires.going c.if-not-ready.ensures.readied a
+
+pub returns-clause-accounts : goal.returns-clause-accounts
+returns-clause-accounts g c =
+    λ from inputs missing lost hall badge held failed written write a.
+    accounts_lost g.H.Oracle.told g.H.Oracle.is_full (record { none = g.met.H.Oracle.told_none; next = g.met.H.Oracle.told_then; stays = g.met.H.Oracle.full_stays }) from c.args.self.now.trace.now c.ready.new.self c.step-silent.new.self hall badge held failed written inputs missing lost _ c.requires.going c.if-not-ready.ensures.readied.rests c.step-silent.ensures.grows c.requires.loss write a
+
+pub returns-clause-closed : goal.returns-clause-closed
+returns-clause-closed g c =
+    ended_more c.ready.new.self c.step-silent.new.self _ (rest_open c.args.self.now.trace.now c.ready.new.self c.if-not-ready.ensures.readied.rests c.requires.going) c.step-silent.ensures.grows c.requires.loss.ends

@@ -1,0 +1,107 @@
+-- A conversation: what has come in, what went out, and what was asked and told, at any moment.
+use Rattle.std.specs.Prelude.{◌≡◌, ℕ, ◌⊎◌, Bool, true, false, List, [], ◌∷◌, ◌++◌, ◌<◌, ◌≤◌, Option, Some, None, if◌then◌else◌}
+use Rattle.cb_wire.specs.Stream.{texts}
+use Rattle.cb_io.specs.Writing.{Wrote}
+use Rattle.cb_hall.specs.Hall.{BadgeState}
+use Rattle.cb_hall.specs.Histories.{Reply}
+use Rattle.cb_hall.specs.declared.hall.Question.{Question}
+use Rattle.cb_peer.specs.declared.settings.Settings.{Settings}
+use Rattle.cb_peer.specs.declared.event.Event.{Event}
+use Rattle.cb_peer.specs.declared.event.Event.TheVariants as events
+use Rattle.cb_peer.specs.declared.trace.TraceEntry.{TraceEntry}
+use Rattle.cb_peer.specs.Event.{ends_at_once, is_hall_full, is_tick, is_write_fault, kind_of, loses}
+use Rattle.cb_peer.specs.Session.{is_closed, questions_left, standing_question}
+use Rattle.cb_peer.specs.Fold.{first_account, has_kind, inputs_of, replies, sends}
+use Rattle.cb_peer.specs.Prompt.{EachPrompt}
+use Rattle.cb_peer.specs.Trace.{StandsFor, TraceView}
+
+-- where a conversation began: the settings, the hall and the badge, what the sink held and whether it had failed
+pub record Origin (H : Type 0) : Type 0 where
+  pub settings : Settings
+  pub hall : H
+  pub badge : BadgeState
+  pub held : Option (List ℕ)
+  pub failed : Bool
+
+abbrev pub origin_of : {H : Type 0} → Settings → H → BadgeState → Option (List ℕ) → Bool → Origin H
+origin_of settings hall badge held failed = record { settings = settings; hall = hall; badge = badge; held = held; failed = failed }
+
+-- how far it is: the trace, the hall and the badge, what the sink holds and whether it has failed, the bytes written
+pub record Progress (H : Type 0) : Type 0 where
+  pub trace : TraceView
+  pub hall : H
+  pub badge : BadgeState
+  pub held : Option (List ℕ)
+  pub failed : Bool
+  pub written : ℕ
+
+abbrev pub progress : {H : Type 0} → TraceView → H → BadgeState → Option (List ℕ) → Bool → ℕ → Progress H
+progress trace hall badge held failed written = record { trace = trace; hall = hall; badge = badge; held = held; failed = failed; written = written }
+
+-- The account of a conversation: these inputs were given, these bytes of what was sent are missing, and whether something
+-- came by which bytes may be. What the hall told is as `told` says, and `full` that it grants no more.
+pub record Accounts {H : Type 0} (told : H → BadgeState → List Reply → H → BadgeState → Type 0) (full : H → BadgeState → Type 0) (from : Origin H) (now : Progress H) (inputs : List Event) (missing : List ℕ) (lost : Bool) : Type 0 where
+  pub settings : now.trace.settings ≡ from.settings
+  -- all entries since the beginning
+  pub history : List TraceEntry
+  pub stands : StandsFor now.trace history
+  -- what went out is a beginning of the text of what the fold sends
+  pub wrote : Wrote from.held now.held (texts (sends from.settings history)) now.written missing
+  pub inputs_are : inputs_of history ≡ inputs
+  pub prompt : EachPrompt (first_account from.settings) history
+  -- the hall granted the questions of the fold, and told its replies
+  pub replies_are : told from.hall from.badge (replies from.settings history) now.hall now.badge
+  -- each cause is true
+  pub write_fault : has_kind is_write_fault history ≡ true → now.failed ≡ true
+  pub hall_full : has_kind is_hall_full history ≡ true → full now.hall now.badge
+  pub no_tick : has_kind is_tick history ≡ false
+  pub losses : has_kind loses history ≡ lost
+
+-- the same with messages on their way
+pub record Underway {H : Type 0} (told : H → BadgeState → List Reply → H → BadgeState → Type 0) (full : H → BadgeState → Type 0) (from : Origin H) (now : Progress H) (inputs : List Event) (missing : List ℕ) : Type 0 where
+  pub lost : Bool
+  pub accounts : Accounts told full from now inputs missing lost
+
+-- the account with nothing on its way: all that was sent went out, unless a write failed or memory ran out
+pub record Sent {H : Type 0} (told : H → BadgeState → List Reply → H → BadgeState → Type 0) (full : H → BadgeState → Type 0) (from : Origin H) (now : Progress H) (inputs : List Event) : Type 0 where
+  pub missing : List ℕ
+  pub lost : Bool
+  pub accounts : Accounts told full from now inputs missing lost
+  pub whole : lost ≡ false → missing ≡ []
+  -- a write that failed was told, and ended the session
+  pub told_loss : now.failed ≡ true → (from.failed ≡ true) ⊎ (lost ≡ true)
+
+-- no question stands, unless the session is over
+abbrev pub IsAnswered : TraceView → Type 0
+IsAnswered trace = is_closed trace.session.state ≡ false → trace.session.standing ≡ None
+
+-- the same where no answer is waited for
+pub record Settled {H : Type 0} (told : H → BadgeState → List Reply → H → BadgeState → Type 0) (full : H → BadgeState → Type 0) (from : Origin H) (now : Progress H) (inputs : List Event) : Type 0 where
+  pub sent : Sent told full from now inputs
+  pub answered : IsAnswered now.trace
+
+-- an input was given, or there was no room for it and the session ended
+pub record Gave {H : Type 0} (told : H → BadgeState → List Reply → H → BadgeState → Type 0) (full : H → BadgeState → Type 0) (from : Origin H) (now : Progress H) (inputs : List Event) (event : Event) : Type 0 where
+  pub given : List Event
+  pub settled : Settled told full from now given
+  pub which : (given ≡ inputs ++ event ∷ []) ⊎ ((given ≡ inputs) × (is_closed now.trace.session.state ≡ true))
+
+-- how many answers are needed until no question stands
+abbrev pub left_of : TraceView → ℕ
+left_of trace = if is_closed trace.session.state then 0 else questions_left trace.session.standing
+
+-- the question that stands, while the session goes on
+abbrev pub open_question : TraceView → Option Question
+open_question trace = if is_closed trace.session.state then None else standing_question trace.session.standing
+
+-- an event that ends the session at once and by which messages may be lost: no memory, or a write that failed
+pub record IsLoss (event : Event) : Type 0 where
+  pub loses_messages : loses (kind_of event) ≡ true
+  pub ends : ends_at_once event ≡ true
+
+-- what the hall made of a question: the event that tells it
+abbrev pub AnswerOf : {H : Type 0} → (H → BadgeState → List Reply → H → BadgeState → Type 0) → (H → BadgeState → Type 0) → H → BadgeState → H → BadgeState → Question → Event → Type 0
+AnswerOf told full old had new has question (events.Told answer) = told old had (record { question = question; answer = answer } ∷ []) new has
+AnswerOf told full old had new has question events.HallFull = told old had [] new has × full new has
+AnswerOf told full old had new has question events.NoMemory = told old had [] new has
+AnswerOf told full old had new has question other = ⊥
