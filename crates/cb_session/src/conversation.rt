@@ -211,6 +211,7 @@ fn ask_hall<H: Oracle>(hall: &mut H, badge: &mut Badge, question: Question) -> E
 fn lost_by(fault: WriteFault) -> Event
     ensures loss { IsLoss result }
     ensures sink { is_write_fault (kind_of result) ≡ true → IsOfSink fault }
+    ensures told { IsOfSink fault → is_write_fault (kind_of result) ≡ true }
 {
     match fault {
         WriteFault::Io | WriteFault::Zero => Event::WriteFault,
