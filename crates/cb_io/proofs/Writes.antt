@@ -1,6 +1,6 @@
 -- What went out of a piece, write by write.
 use Rattle.std.proofs.Common.{◌≡◌, ◌≢◌, ℕ, ◌^◌, ◌<◌, List, [], ◌++◌, length, take, drop, false, Option, Some, None, refl, sym, ap, ◌∙◌, append_assoc, arith}
-use Rattle.std.specs.Prelude.{◌&&◌, ◌==◌, nat_lt, if◌then◌else◌}
+use Rattle.std.specs.Prelude.{◌&&◌, ◌==◌, Bool, nat_lt, if◌then◌else◌}
 use Rattle.std.proofs.lemmas.Bool.Decides.{nat_tests}
 use Rattle.std.proofs.lemmas.List.{length-take, take-append-drop}
 use Rattle.std.specs.Io.KnownBytes.{Appends}
@@ -33,6 +33,10 @@ unfailed_more (Some failure) after n rest e some = e
 unfailed_more None after n rest e some =
     let none : (n == 0) ≡ false = grind (arith, nat_tests) in
     e ∙ ap (λ b. if b && nat_lt 0 (length rest) then Some Zero else None) none
+
+-- one write more, of a sink that has failed just if it had at first
+pub heeds_more : {S : Type 0} (heeds : S → S → Type 0) → ((a b c : S) → heeds a b → heeds b c → heeds a c) → (a b c : S) (had has : Bool) → (had ≡ false → heeds a b) → has ≡ had → (has ≡ false → heeds b c) → had ≡ false → heeds a c
+heeds_more heeds both a b c had has before same more unfailed = both a b c (before unfailed) (more (same ∙ unfailed))
 
 -- a beginning of a text went out, and no more
 pub part_front : (old new : Option (List ℕ)) (piece text : List ℕ) (n : ℕ) → piece ≡ text → length piece < 2 ^ 64 → Appends old new (take n piece) → n < length piece → WrotePart old new text n

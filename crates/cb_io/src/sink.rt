@@ -1,4 +1,4 @@
-ghost use Rattle.std.specs.Prelude.{◌≡◌, ℕ, ◌≤◌, ◌||◌, Bool, List, Option, None, IfSome, length, is_some, refl};
+ghost use Rattle.std.specs.Prelude.{◌≡◌, ℕ, ◌≤◌, ◌||◌, Bool, true, false, List, Option, None, IfSome, length, is_some, refl};
 ghost use Rattle.cb_io.specs.Bytes.{SinkTakes, failure_after, is_refusal, refusal};
 ghost use Rattle.cb_io.specs.declared.sink.SinkFailure.{SinkFailure};
 
@@ -30,12 +30,16 @@ pub trait Sink {
     /// What it first failed by, if it has.
     ghost failure: { Self → Option SinkFailure };
 
+    /// From this sink to that, no write was made once one had failed.
+    ghost heeds_failure: { Self → Self → Type 0 };
+
     /// Writes a piece, and answers how many of its bytes were taken, from the first on; None where the write failed.
     fn write(&mut self, piece: &[u8]) -> Option<usize>
         ensures taken { IfSome result (λ n. n ≤ length piece.now) }
         ensures bytes { SinkTakes (contents self.old) (contents self.new) result piece.now }
         ensures failed { has_failed self.new ≡ (has_failed self.old || is_refusal result piece.now) }
-        ensures cause { failure self.new ≡ failure_after (failure self.old) result piece.now };
+        ensures cause { failure self.new ≡ failure_after (failure self.old) result piece.now }
+        ensures heeds { has_failed self.old ≡ false → heeds_failure self.old self.new };
 
     /// Whether a write answered None, or took none of a piece that isn't empty.
     fn failed(&self) -> bool
@@ -43,6 +47,12 @@ pub trait Sink {
 
     /// It has failed just where it failed by something.
     ghost agrees: { (sink : Self) → has_failed sink ≡ is_some (failure sink) };
+
+    /// Where no write was made, none was made after a failure.
+    ghost heeds_none: { (a : Self) → heeds_failure a a };
+
+    /// One stretch, and then another.
+    ghost heeds_then: { (a b c : Self) → heeds_failure a b → heeds_failure b c → heeds_failure a c };
 }
 
 /// A sink over any writer. A write that was interrupted is made again.
@@ -74,13 +84,22 @@ impl<W> Out<W> {
 }
 
 impl<W: Write> Sink for Out<W> {
+    ghost use Rattle.std.proofs.Common.{ap, ◌∙◌};
+
     ghost contents = { λ out. W.contents out.writer };
 
     ghost has_failed = { λ out. is_some out.failure };
 
     ghost failure = { λ out. out.failure };
 
+    // Once it has failed, it and its writer are left as they are.
+    ghost heeds_failure = { λ old new. is_some old.failure ≡ true → new ≡ old };
+
     ghost agrees = { λ out. refl };
+
+    ghost heeds_none = { λ out h. refl };
+
+    ghost heeds_then = { λ a b c h k failed. k (ap (λ out. is_some out.failure) (h failed) ∙ failed) ∙ h failed };
 
     fn write(&mut self, piece: &[u8]) -> Option<usize> {
         let taken = write_again(&mut self.writer, piece);

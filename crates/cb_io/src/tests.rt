@@ -1,4 +1,4 @@
-ghost use Rattle.std.specs.Prelude.{◌≡◌, IfOk};
+ghost use Rattle.std.specs.Prelude.{◌≡◌, IfOk, None, is_some, refl};
 
 use super::*;
 use cb_wire::{BoundedMessage, Message};
@@ -227,6 +227,126 @@ fn a_piece_that_is_written_in_part_is_told(rt: HostRuntime) -> Result<(), Fail> 
     let failure = SinkFailure::Zero;
     assert_eq!(rt; end, Err(Unwritten { taken: 3, failure }));
     assert_eq!(rt; sink.into_inner().taken.as_slice(), b"hel".as_slice());
+    Ok(())
+}
+
+/// Takes one byte a write, tells no bytes, and counts the writes that were made once one had failed. One of its writes,
+/// counted from 1, fails so.
+#[derive(Drop)]
+struct Watched {
+    writes: usize,
+    late: usize,
+    fails_at: usize,
+    fails_by: SinkFailure,
+    failure: Option<SinkFailure>,
+}
+
+impl Sink for Watched {
+    ghost use Rattle.std.proofs.Common.{◌∙◌};
+
+    ghost contents = { λ sink. None };
+
+    ghost has_failed = { λ sink. is_some sink.failure };
+
+    ghost failure = { λ sink. sink.failure };
+
+    ghost heeds_failure = { λ old new. new.late ≡ old.late };
+
+    ghost agrees = { λ sink. refl };
+
+    ghost heeds_none = { λ a. refl };
+
+    ghost heeds_then = { λ a b c h k. k ∙ h };
+
+    fn write(&mut self, piece: &[u8]) -> Option<usize> {
+        self.writes = self.writes.saturating_add(1);
+        if self.failure.is_some() {
+            self.late = self.late.saturating_add(1);
+        }
+        if piece.is_empty() || self.writes != self.fails_at {
+            return Some(piece.len().min(1));
+        }
+        if self.failure.is_none() {
+            self.failure = Some(self.fails_by);
+        }
+        match self.fails_by {
+            SinkFailure::Io => None,
+            SinkFailure::Zero => Some(0),
+        }
+    }
+
+    fn failed(&self) -> bool {
+        self.failure.is_some()
+    }
+}
+
+/// A sink that hasn't failed yet, and whose third write does.
+fn sink_watched(fails_by: SinkFailure) -> Watched
+    ensures unfailed { result.failure ≡ None }
+    ensures none { result.late ≡ 0 }
+{
+    Watched {
+        writes: 0,
+        late: 0,
+        fails_at: 3,
+        fails_by,
+        failure: None,
+    }
+}
+
+/// What writing a piece comes to, and how many writes were made once one had failed.
+fn piece_watched(fails_by: SinkFailure) -> (Result<(), Unwritten>, usize)
+    ensures { result.1 ≡ 0 }
+{
+    let mut sink = sink_watched(fails_by);
+    let written = write_all(&mut sink, b"hello");
+    (written, sink.late)
+}
+
+/// What writing messages comes to, and how many writes were made once one had failed.
+fn messages_watched(
+    alloc: Global,
+    fails_by: SinkFailure,
+    messages: &[BoundedMessage],
+) -> (Result<u64, WriteEnd>, usize)
+    ensures { result.1 ≡ 0 }
+{
+    let mut sink = sink_watched(fails_by);
+    let written = write_out(alloc, &mut sink, messages);
+    (written, sink.late)
+}
+
+#[test]
+fn a_piece_ends_with_the_write_that_failed(rt: HostRuntime) -> Result<(), Fail> {
+    for failure in [SinkFailure::Io, SinkFailure::Zero] {
+        let (written, late) = piece_watched(failure);
+        assert!(rt; written == Err(Unwritten { taken: 2, failure }) && late == 0);
+    }
+    Ok(())
+}
+
+#[test]
+fn messages_end_with_the_write_that_failed(rt: HostRuntime) -> Result<(), Fail> {
+    let alloc = rt.alloc();
+    let messages = ping_and_pong(alloc)?;
+    for (failure, fault) in [
+        (SinkFailure::Io, WriteFault::Io),
+        (SinkFailure::Zero, WriteFault::Zero),
+    ] {
+        let (sent, late) = messages_watched(alloc, failure, messages.as_slice());
+        assert!(rt; sent == Err(WriteEnd { written: 2, fault }) && late == 0);
+    }
+    Ok(())
+}
+
+/// A call over a sink that has failed does write, and the sink counts it.
+#[test]
+fn a_write_behind_a_failure_is_counted(rt: HostRuntime) -> Result<(), Fail> {
+    let mut sink = sink_watched(SinkFailure::Io);
+    let first = write_all(&mut sink, b"hello");
+    assert!(rt; first.is_err() && sink.writes == 3 && sink.late == 0);
+    let second = write_all(&mut sink, b"hi");
+    assert!(rt; second.is_ok() && sink.writes == 5 && sink.late == 2);
     Ok(())
 }
 

@@ -1,4 +1,4 @@
-ghost use Rattle.std.specs.Prelude.{◌≡◌, ◌<◌, true, Option, [], length, take, OnOk, OnErr, IfOk, IfErr, IsOk, IsOkUnless};
+ghost use Rattle.std.specs.Prelude.{◌≡◌, ◌<◌, true, false, Option, [], length, take, OnOk, OnErr, IfOk, IfErr, IsOk, IsOkUnless};
 ghost use Rattle.std.specs.Io.KnownBytes.{Appends};
 ghost use Rattle.cb_base.specs.declared.fault.Fault.TheVariants as faults;
 ghost use Rattle.cb_wire.specs.Stream.{texts};
@@ -57,6 +57,8 @@ pub fn write_all<W: Sink>(writer: &mut W, piece: &[u8]) -> Result<(), Unwritten>
     ensures marked { OnErr result (W.has_failed writer.new ≡ true) }
     ensures unmarked { OnOk result (W.has_failed writer.new ≡ W.has_failed writer.old) }
     ensures stays { W.has_failed writer.old ≡ true → W.has_failed writer.new ≡ true }
+    // A sink that hadn't failed gets no write once one has.
+    ensures heeds { W.has_failed writer.old ≡ false → W.heeds_failure writer.old writer.new }
     // Of an empty piece no write is made.
     ensures nothing { piece.now ≡ [] → IsOk result }
     ensures untouched { piece.now ≡ [] → writer.new ≡ writer.old }
@@ -102,11 +104,12 @@ pub fn write_out<W: Sink>(
     ensures failed { IfErr result (λ end. IsOfSink end.fault → W.has_failed writer.new ≡ true) }
     // Where memory lacked nothing was written, and the sink is as it was.
     ensures starved { IfErr result (λ end. end.fault ≡ WriteFault.Memory → (end.written ≡ 0) × (writer.new ≡ writer.old)) }
-    ensures spared { IfErr result (λ end. end.fault ≡ WriteFault.Memory → W.has_failed writer.new ≡ W.has_failed writer.old) }
     // All went out only where the sink didn't fail in this call.
     ensures unfailed { OnOk result (W.failure writer.new ≡ W.failure writer.old) }
     ensures unmarked { OnOk result (W.has_failed writer.new ≡ W.has_failed writer.old) }
     ensures stays { W.has_failed writer.old ≡ true → W.has_failed writer.new ≡ true }
+    // A sink that hadn't failed gets no write once one has.
+    ensures heeds { W.has_failed writer.old ≡ false → W.heeds_failure writer.old writer.new }
     // For no messages no write is made.
     ensures nothing { messages.now ≡ [] → IsOk result }
     ensures untouched { messages.now ≡ [] → writer.new ≡ writer.old }
