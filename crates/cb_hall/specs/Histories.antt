@@ -1,5 +1,7 @@
 -- What a peer asked of a hall and was told, as the hall's journal has it.
 use Rattle.std.specs.Prelude.{◌≡◌, ℕ, ◌+◌, true, List, [], ◌∷◌, ◌++◌, length, map}
+use Rattle.cb_base.specs.declared.fault.Fault.{Fault}
+use Rattle.cb_base.specs.declared.fault.Fault.TheVariants.{JournalFull}
 use Rattle.cb_hall.specs.declared.hall.Entry.{Entry}
 use Rattle.cb_hall.specs.declared.hall.Entry.TheVariants.{Asked}
 use Rattle.cb_hall.specs.declared.hall.Question.{Question}
@@ -23,6 +25,11 @@ AreAnswers journal peer (reply ∷ replies) = (reply.answer ≡ answer_to journa
 -- the journal or the badge is full, and the badge is marked
 abbrev pub IsMarkedFull : List Entry → BadgeState → Type 0
 IsMarkedFull journal badge = (badge.full ≡ true) × IsFull journal badge
+
+-- What a call that was refused leaves: a mark where all is full. For want of memory it leaves nothing to be seen.
+abbrev pub IsRefused : List Entry → BadgeState → Fault → Type 0
+IsRefused journal badge JournalFull = IsMarkedFull journal badge
+IsRefused journal badge other = Unit {0}
 
 -- From one journal and badge to another by calls of that badge: these were granted, in order, and each was answered by the
 -- journal before it.

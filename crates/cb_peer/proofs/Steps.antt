@@ -1,21 +1,18 @@
 -- What a step makes, as tables.
-use Rattle.std.proofs.Common.{◌≡◌, ℕ, ◌+◌, ◌≢◌, ◌<◌, ◌≤◌, Bool, true, false, cond, List, [], ◌∷◌, Option, Some, None, refl, sym, ap, ◌∙◌, arith, inl, inr, ◌⊎◌}
+use Rattle.std.proofs.Common.{◌≡◌, ℕ, ◌+◌, ◌≢◌, ◌<◌, ◌≤◌, Bool, true, false, cond, [], Option, Some, None, refl, sym, ap, ◌∙◌, arith}
 use Rattle.std.specs.Prelude.{◌^◌}
 use Rattle.cb_wire.specs.declared.item.Item.{Item}
 use Rattle.cb_wire.specs.declared.item.Item.TheVariants.{Good, Damaged, Bad}
-use Rattle.cb_wire.specs.declared.message.Message.{Message}
 use Rattle.cb_hall.specs.declared.hall.Question.{Question}
 use Rattle.cb_hall.specs.declared.hall.Question.TheVariants.{Admit}
 use Rattle.cb_hall.specs.declared.hall.Answer.{Answer}
 use Rattle.cb_hall.specs.declared.hall.Answer.TheVariants.{Go}
-use Rattle.cb_peer.specs.declared.state.CloseReason.{CloseReason}
-use Rattle.cb_peer.specs.declared.state.CloseReason.TheVariants as reasons
 use Rattle.cb_peer.specs.declared.event.Event.{Event}
 use Rattle.cb_peer.specs.declared.event.Event.TheVariants as events
 use Rattle.cb_peer.specs.declared.session.Standing.{Standing}
 use Rattle.cb_peer.specs.declared.trace.TraceEntry.{TraceEntry}
-use Rattle.cb_peer.specs.Event.{begins, ends_at_once, is_input, is_told, kind_of}
-use Rattle.cb_peer.specs.Session.{SessionState, Stepped, answered, arrives, closes, is_closed, open_step, processed, question_left, questions_left, reply_to, standing_question, stays, step_of, told}
+use Rattle.cb_peer.specs.Event.{ends_at_once}
+use Rattle.cb_peer.specs.Session.{SessionState, Stepped, answered, arrives, is_closed, open_step, processed, question_left, questions_left, stays, step_of, told}
 use Rattle.cb_peer.specs.Fold.{entry_step}
 use Rattle.cb_peer.proofs.Folds.{entry_cases}
 
@@ -91,29 +88,6 @@ fed_is before s event going other =
     (λ full. absurd (other full)) (λ _ starved. absurd (let e : false ≡ true = starved in cc)) (λ _ _. sym same)
 
 -- ---- what stands after a step
-
--- the question of a step is the one that stands after it, unless the session is over
-abbrev pub Waiting : Stepped → Type 0
-Waiting made = is_closed made.session.state ≡ false → standing_question made.session.standing ≡ made.question
-
--- what stands after an answer needs fewer answers, or the session is over
-abbrev pub Fewer : Option Standing → Stepped → Type 0
-Fewer before made = is_closed made.session.state ≡ false → (made.session.standing ≡ None) ⊎ (questions_left made.session.standing < questions_left before)
-
-arrives_waiting : (standing : Option Standing) (s : SessionState) (item : Option Item) → standing ≡ None → Waiting (arrives standing s item)
-arrives_waiting None s item e going = refl
-arrives_waiting (Some other) s item e going = absurd cc
-
--- what begins something new at a session at which no question stands
-pub waiting_new : (s : SessionState) (event : Event) → begins (kind_of event) ≡ true → s.standing ≡ None → Waiting (open_step s event)
-waiting_new s (events.Said item) new e going = arrives_waiting s.standing s (Some item) e going
-waiting_new s (events.Broken fault) new e going = absurd cc
-waiting_new s events.Tick new e going = arrives_waiting s.standing s None e going
-waiting_new s (events.Told answer) new e going = absurd cc
-waiting_new s events.ReaderEnd new e going = absurd cc
-waiting_new s events.NoMemory new e going = absurd cc
-waiting_new s events.HallFull new e going = absurd cc
-waiting_new s events.WriteFault new e going = absurd cc
 
 -- ---- fewer answers are needed
 

@@ -1,19 +1,18 @@
 -- A trace, one entry at a time, and its checkpoints.
-use Rattle.std.proofs.Common.{◌≡◌, ℕ, ◌+◌, ◌-◌, ◌<◌, ◌≤◌, ◌≢◌, Bool, true, false, cond, List, [], ◌∷◌, ◌++◌, length, Option, Some, None, refl, sym, ap, subst, ◌∙◌, append_assoc, arith, inl, inr, ◌⊎◌}
+use Rattle.std.proofs.Common.{◌≡◌, ℕ, ◌+◌, ◌-◌, ◌<◌, ◌≤◌, Bool, true, false, List, [], ◌∷◌, ◌++◌, Option, refl, sym, ap, subst, ◌∙◌, append_assoc, arith}
 use Rattle.std.specs.Prelude.{◌^◌, min}
 use Rattle.std.proofs.lemmas.List.Sums.{sum_by_push}
-use Rattle.std.proofs.lemmas.List.{append-nil, length-append}
+use Rattle.std.proofs.lemmas.List.{append-nil}
 use Rattle.cb_wire.specs.declared.message.Message.{Message}
 use Rattle.cb_hall.specs.declared.hall.Question.{Question}
 use Rattle.cb_peer.specs.declared.settings.Settings.{Settings}
 use Rattle.cb_peer.specs.declared.event.Event.{Event}
-use Rattle.cb_peer.specs.declared.event.Event.TheVariants as events
 use Rattle.cb_peer.specs.declared.trace.TraceEntry.{TraceEntry}
 use Rattle.cb_peer.specs.declared.trace.Counts.{Counts}
-use Rattle.cb_peer.specs.Event.{ends_at_once, is_input, is_told, kind_of}
+use Rattle.cb_peer.specs.Event.{ends_at_once, is_told, kind_of}
 use Rattle.cb_peer.specs.Session.{SessionState, Stepped, is_closed, opening, takes_no_memory}
-use Rattle.cb_peer.specs.Fold.{Account, EachOpen, account_of, account_step, entry_step, first_account, number_of, session_of}
-use Rattle.cb_peer.specs.Trace.{AreCounts, Answers, Grows, IsOpen, IsTrace, RanOut, Readied, Rests, StandsFor, TraceSteps, TraceView, counts_of, counts_with, held_by, held_of, is_due, next_step}
+use Rattle.cb_peer.specs.Fold.{Account, account_of, entry_step, session_of}
+use Rattle.cb_peer.specs.Trace.{AreCounts, Answers, IsTrace, Rests, StandsFor, TraceSteps, TraceView, counts_with, held_by, held_of, is_due, next_step}
 use Rattle.cb_peer.proofs.Folds.{EachOpen_more, account_of_more, count_is, counts_more, items_few, told_few}
 use Rattle.cb_peer.proofs.Steps.{entry_ends, entry_full}
 

@@ -1,7 +1,7 @@
 -- What a prompt trace that ended by the peer's end sent: the answer to each item by itself, in order.
-use Rattle.std.specs.Prelude.{◌≡◌, ◌++◌, List, [], ◌∷◌, flat_map}
+use Rattle.std.specs.Prelude.{◌≡◌, ◌++◌, List, [], flat_map}
 use Rattle.cb_wire.specs.declared.item.Item.{Item}
-use Rattle.cb_wire.specs.declared.item.Item.TheVariants.{Good, Damaged, Bad}
+use Rattle.cb_wire.specs.declared.item.Item.TheVariants.{Good}
 use Rattle.cb_wire.specs.declared.message.Message.{Message}
 use Rattle.cb_peer.specs.declared.settings.Settings.{Settings}
 use Rattle.cb_peer.specs.declared.state.State.TheVariants.{Closed}

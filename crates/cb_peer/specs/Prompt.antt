@@ -1,5 +1,5 @@
 -- Promptness: each item had its answers before the next one came, and none was left waiting.
-use Rattle.std.specs.Prelude.{◌≡◌, Bool, true, false, List, [], ◌∷◌, None}
+use Rattle.std.specs.Prelude.{◌≡◌, true, false, List, [], ◌∷◌, None}
 use Rattle.cb_peer.specs.declared.settings.Settings.{Settings}
 use Rattle.cb_peer.specs.declared.trace.TraceEntry.{TraceEntry}
 use Rattle.cb_peer.specs.Event.{begins, kind_of}

@@ -10,7 +10,7 @@ use Rattle.cb_hall.specs.declared.hall.Answer.{Answer}
 use Rattle.cb_hall.specs.declared.hall.Answer.TheVariants.{Go}
 use Rattle.cb_peer.specs.declared.settings.Settings.{Settings}
 use Rattle.cb_peer.specs.declared.state.State.{State}
-use Rattle.cb_peer.specs.declared.state.State.TheVariants.{Start, Greeted, Ready, Closed}
+use Rattle.cb_peer.specs.declared.state.State.TheVariants.{Start, Closed}
 use Rattle.cb_peer.specs.declared.state.CloseReason.{CloseReason}
 use Rattle.cb_peer.specs.declared.state.CloseReason.TheVariants as reasons
 use Rattle.cb_peer.specs.declared.event.Event.{Event}

@@ -1,21 +1,20 @@
 -- A trace: a session, and the entries since its base. It stands for all entries since the beginning; those before the base
 -- were dropped, and their numbers are kept.
-use Rattle.std.specs.Prelude.{◌≡◌, ℕ, ◌+◌, ◌≤◌, ◌<◌, ◌^◌, ◌||◌, ◌&&◌, Bool, true, false, List, [], ◌∷◌, ◌++◌, length, nat_lt, not, is_none, Option, Some, None, Result, if◌then◌else◌}
+use Rattle.std.specs.Prelude.{◌≡◌, ℕ, ◌+◌, ◌≤◌, ◌<◌, ◌^◌, ◌||◌, ◌&&◌, Bool, true, false, List, [], ◌∷◌, ◌++◌, length, nat_lt, not, is_none, Option, if◌then◌else◌}
 use Rattle.std.specs.List.{sum_by}
 use Rattle.cb_wire.specs.declared.item.Item.{Item}
-use Rattle.cb_wire.specs.declared.item.Item.TheVariants.{Good, Damaged, Bad}
+use Rattle.cb_wire.specs.declared.item.Item.TheVariants.{Good}
 use Rattle.cb_wire.specs.declared.message.Message.{Message}
 use Rattle.cb_wire.specs.Grammar.{payload_text}
 use Rattle.cb_hall.specs.declared.hall.Question.{Question}
 use Rattle.cb_peer.specs.declared.settings.Settings.{Settings}
-use Rattle.cb_peer.specs.declared.state.State.{State}
 use Rattle.cb_peer.specs.declared.event.Event.{Event}
 use Rattle.cb_peer.specs.declared.event.Event.TheVariants as events
 use Rattle.cb_peer.specs.declared.trace.TraceEntry.{TraceEntry}
 use Rattle.cb_peer.specs.declared.trace.Counts.{Counts}
 use Rattle.cb_peer.specs.Event.{is_input, is_told, kind_of}
 use Rattle.cb_peer.specs.Session.{SessionState, Stepped, is_closed, standing_question, takes_no_memory}
-use Rattle.cb_peer.specs.Fold.{Account, EachOpen, account_step, entry_step, first_account, inputs_of, number_of, session_of}
+use Rattle.cb_peer.specs.Fold.{Account, EachOpen, account_step, entry_step, first_account, number_of, session_of}
 
 -- what a call answered is what a step makes
 pub record Answers (step : Stepped) (session : SessionState) (sent : List Message) (asked : Option Question) : Type 0 where
@@ -127,16 +126,18 @@ pub record Rests (old new : TraceView) : Type 0 where
   pub taken : is_due old ≡ true → (new.base ≡ old.session) × (new.before ≡ old.total) × (new.entries ≡ [])
   pub kept : is_due old ≡ false → (new.base ≡ old.base) × (new.before ≡ old.before) × (new.entries ≡ old.entries)
 
--- room was made for two entries, or the trace ended with NoMemory
+-- room was made for two entries
 pub record HasRoom (old new : TraceView) : Type 0 where
   pub rests : Rests old new
   pub room : 2 ≤ new.room
 
+-- or there was none, and NoMemory took the last place
 pub record RanOut (old new : TraceView) : Type 0 where
   pub between : TraceView
   pub rests : Rests old between
   pub grows : Grows between new (record { event = events.NoMemory; starved = false })
   pub closed : is_closed new.session.state ≡ true
+  pub room : new.room ≡ 0
 
 abbrev pub Readied : TraceView → TraceView → Bool → Type 0
 Readied old new true = HasRoom old new

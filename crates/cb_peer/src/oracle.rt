@@ -1,7 +1,8 @@
-ghost use Rattle.std.specs.Prelude.{◌≡◌, ◌⊎◌, ◌++◌, ◌∷◌, [], List, IfOk, IfErr, OnErr, IsErrOf};
+ghost use Rattle.std.specs.Prelude.{◌≡◌, ◌⊎◌, ◌++◌, ◌∷◌, [], List, IfOk, IfErr, OnErr};
+ghost use Rattle.cb_base.specs.declared.fault.Fault.{Fault};
 ghost use Rattle.cb_base.specs.declared.fault.Fault.TheVariants.{Memory, JournalFull};
 ghost use Rattle.cb_hall.specs.Hall.{BadgeState};
-ghost use Rattle.cb_hall.specs.Histories.{Asks, IsMarkedFull, Reply};
+ghost use Rattle.cb_hall.specs.Histories.{Asks, IsRefused, Reply};
 
 use cb_base::Fault;
 use cb_hall::{Answer, Badge, Hall, Question};
@@ -13,8 +14,9 @@ pub trait Oracle {
     /// answers, and no others of it.
     ghost told: { Self → BadgeState → List Reply → Self → BadgeState → Type 0 };
 
-    /// No more questions of this badge's peer are granted.
-    ghost is_full: { Self → BadgeState → Type 0 };
+    /// A question of this badge's peer was refused by this fault, and none was granted since. Who runs over any oracle has
+    /// this of a question that was refused, and of nothing else.
+    ghost refused: { Self → BadgeState → Fault → Type 0 };
 
     /// Asks a question. An answer is one reply more; a refusal is none.
     ///
@@ -22,7 +24,7 @@ pub trait Oracle {
     fn ask(&mut self, badge: &mut Badge, question: Question) -> Result<Answer, Fault>
         ensures ok { IfOk result (λ answer. told self.old badge.old (record { question = question; answer = answer } ∷ []) self.new badge.new) }
         ensures err { OnErr result (told self.old badge.old [] self.new badge.new) }
-        ensures full { IsErrOf result JournalFull → is_full self.new badge.new }
+        ensures refused { IfErr result (λ fault. refused self.new badge.new fault) }
         ensures kinds { IfErr result (λ fault. (fault ≡ JournalFull) ⊎ (fault ≡ Memory)) };
 
     /// Where nothing was asked, nothing was told.
@@ -32,7 +34,7 @@ pub trait Oracle {
     ghost told_then: { (a b c : Self) (x y z : BadgeState) (first next : List Reply) → told a x first b y → told b y next c z → told a x (first ++ next) c z };
 
     /// What is full stays so.
-    ghost full_stays: { (a b : Self) (x y : BadgeState) (replies : List Reply) → told a x replies b y → is_full a x → is_full b y };
+    ghost full_stays: { (a b : Self) (x y : BadgeState) (replies : List Reply) → told a x replies b y → refused a x JournalFull → refused b y JournalFull };
 }
 
 impl Oracle for Hall {
@@ -40,7 +42,7 @@ impl Oracle for Hall {
 
     ghost told = { λ old had replies new has. Asks old new had has replies };
 
-    ghost is_full = { λ hall badge. IsMarkedFull hall badge };
+    ghost refused = { λ hall badge fault. IsRefused hall badge fault };
 
     fn ask(&mut self, badge: &mut Badge, question: Question) -> Result<Answer, Fault> {
         self.call(badge, question)

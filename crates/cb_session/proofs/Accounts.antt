@@ -1,14 +1,16 @@
 -- The account of a conversation, one entry of its trace at a time.
-use Rattle.std.proofs.Common.{◌≡◌, ℕ, ◌+◌, ◌-◌, ◌<◌, ◌≤◌, ◌^◌, min, Bool, true, false, cond, ◌||◌, List, [], ◌∷◌, ◌++◌, length, Option, Some, None, Result, Ok, Err, refl, sym, ap, subst, ◌∙◌, append_assoc, arith, inl, inr, ◌⊎◌}
+use Rattle.std.proofs.Common.{◌≡◌, ◌≢◌, ℕ, ◌+◌, ◌-◌, ◌<◌, ◌≤◌, ◌^◌, min, Bool, true, false, cond, ◌||◌, List, [], ◌∷◌, ◌++◌, Option, Some, None, Result, Ok, Err, refl, sym, ap, subst, ◌∙◌, append_assoc, arith, inl, inr, ◌⊎◌}
 use Rattle.std.specs.Prelude.{map, filter, fold, IsOk}
 use Rattle.std.proofs.lemmas.List.{append-nil, length-append, map-append}
 use Rattle.std.proofs.lemmas.List.Elements.{filter-append}
 use Rattle.std.proofs.lemmas.List.Folds.{list_any-append}
 use Rattle.std.proofs.lemmas.Grind.{flat_map-append}
+use Rattle.cb_base.specs.declared.fault.Fault.{Fault}
+use Rattle.cb_base.specs.declared.fault.Fault.TheVariants.{JournalFull, Memory}
 use Rattle.cb_wire.specs.declared.message.Message.{Message}
-use Rattle.cb_wire.specs.Envelope.{text}
+use Rattle.cb_wire.specs.Envelope.{envelope_text, text}
 use Rattle.cb_wire.specs.Stream.{texts}
-use Rattle.cb_io.specs.Writing.{counted, Wrote}
+use Rattle.cb_io.specs.Writing.{counted, Wrote, WrotePart}
 use Rattle.cb_io.proofs.Known.{Appends-then}
 use Rattle.cb_hall.specs.declared.hall.Question.{Question}
 use Rattle.cb_hall.specs.declared.hall.Answer.{Answer}
@@ -19,21 +21,21 @@ use Rattle.cb_peer.specs.declared.event.Event.{Event}
 use Rattle.cb_peer.specs.declared.event.Event.TheVariants as events
 use Rattle.cb_peer.specs.declared.session.Standing.{Standing}
 use Rattle.cb_peer.specs.declared.trace.TraceEntry.{TraceEntry}
-use Rattle.cb_peer.specs.Event.{Kind, begins, ends_at_once, is_hall_full, is_input, is_tick, is_told, is_write_fault, kind_of, loses}
+use Rattle.cb_peer.specs.Event.{Kind, begins, ends_at_once, is_hall_full, is_input, is_no_memory, is_tick, is_write_fault, kind_of, loses}
 use Rattle.cb_hall.specs.declared.hall.Question.TheVariants.{Admit}
 use Rattle.cb_peer.specs.Session.{SessionState, Stepped, is_closed, question_left, questions_left, standing_question, told as told_step}
 use Rattle.cb_peer.specs.Fold.{Account, EachOpen, account_of, account_step, entry_step, first_account, has_kind, inputs_of, replies, replies_to, sends, session_of}
-use Rattle.cb_peer.specs.Trace.{Grows, HasRoom, IsOpen, RanOut, Rests, StandsFor, TraceSteps, TraceView, next_step}
+use Rattle.cb_peer.specs.Trace.{Grows, IsOpen, RanOut, Rests, TraceSteps, TraceView, next_step}
 use Rattle.cb_peer.proofs.Folds.{EachPrompt_more, account_of_more, entry_cases}
 use Rattle.cb_peer.proofs.Steps.{entry_ends, entry_silent, told_fewer}
 use Rattle.cb_peer.proofs.Traces.{next_is}
-use Rattle.cb_session.specs.Conversation.{Accounts, AnswerOf, Gave, IsAnswered, IsLoss, Origin, Progress, Sent, Settled, Underway, left_of, open_question, progress}
+use Rattle.cb_session.specs.Conversation.{Accounts, AnswerOf, Gave, IsLoss, Lacked, Origin, Progress, Sent, Settled, Underway, left_of, open_question, progress}
 
 -- what the hall told, call by call
-pub record IsOracle {H : Type 0} (told : H → BadgeState → List Reply → H → BadgeState → Type 0) (full : H → BadgeState → Type 0) : Type 0 where
+pub record IsOracle {H : Type 0} (told : H → BadgeState → List Reply → H → BadgeState → Type 0) (refused : H → BadgeState → Fault → Type 0) : Type 0 where
   pub none : (a : H) (x : BadgeState) → told a x [] a x
   pub next : (a b c : H) (x y z : BadgeState) (first later : List Reply) → told a x first b y → told b y later c z → told a x (first ++ later) c z
-  pub stays : (a b : H) (x y : BadgeState) (replies : List Reply) → told a x replies b y → full a x → full b y
+  pub stays : (a b : H) (x y : BadgeState) (replies : List Reply) → told a x replies b y → refused a x JournalFull → refused b y JournalFull
 
 -- ---- tests over one entry more
 
@@ -70,22 +72,132 @@ no_input event e = ap (λ b. cond b (event ∷ []) []) e
 pub one_input : (event : Event) → is_input (kind_of event) ≡ true → inputs_in event ≡ event ∷ []
 one_input event e = ap (λ b. cond b (event ∷ []) []) e
 
+pub not_both : {P : Type 0} (b : Bool) → b ≡ false → b ≡ true → P
+not_both b e f = absurd (let clash = sym e ∙ f in cc)
+
+-- ---- a session that goes on has lost nothing
+
+stays_closed : (account : Account) (entries : List TraceEntry) → is_closed account.session.state ≡ true → EachOpen account entries → entries ≡ []
+stays_closed account [] e each = refl
+stays_closed account (entry ∷ entries) e each = not_both (is_closed account.session.state) each.0 e
+
+loses_ends : (event : Event) → loses (kind_of event) ≡ true → ends_at_once event ≡ true
+loses_ends (events.Said item) e = absurd cc
+loses_ends (events.Broken fault) e = absurd cc
+loses_ends events.Tick e = absurd cc
+loses_ends (events.Told answer) e = absurd cc
+loses_ends events.ReaderEnd e = absurd cc
+loses_ends events.NoMemory e = refl
+loses_ends events.HallFull e = absurd cc
+loses_ends events.WriteFault e = refl
+
+lost_none : (account : Account) (entries : List TraceEntry) → EachOpen account entries → is_closed (fold account_step account entries).session.state ≡ false → has_kind loses entries ≡ false
+lost_none account [] each going = refl
+lost_none account (entry ∷ entries) each going =
+    let first : (b : Bool) → loses (kind_of entry.event) ≡ b → (b || has_kind loses entries) ≡ false =
+    elim [
+      | true ↦ λ e.
+          let over = entry_ends account.count account.session entry each.0 (loses_ends entry.event e) in
+          let nothing = stays_closed (account_step account entry) entries over each.1 in
+          not_both _ (subst (λ (es : List TraceEntry). is_closed (fold account_step (account_step account entry) es).session.state ≡ false) nothing going) over
+      | false ↦ λ e. lost_none (account_step account entry) entries each.1 going
+    ] in
+    first (loses (kind_of entry.event)) refl
+
+open_lost : (settings : Settings) (history : List TraceEntry) → EachOpen (first_account settings) history → is_closed (session_of settings history).state ≡ false → has_kind loses history ≡ false
+unfolding account_of
+open_lost settings history each going = lost_none (first_account settings) history each going
+
+-- what was lost by a session that goes on
+pub not_lost : {H : Type 0} (told : H → BadgeState → List Reply → H → BadgeState → Type 0) (refused : H → BadgeState → Fault → Type 0) (from : Origin H) (now : Progress H) (inputs : List Event) (missing : List ℕ) (lost unkept : Bool)
+    → Accounts told refused from now inputs missing lost unkept → IsOpen now.trace → lost ≡ false
+not_lost told refused from now inputs missing lost unkept a going =
+    sym a.losses ∙ open_lost now.trace.settings a.history a.stands.each (ap (λ (s : SessionState). is_closed s.state) (sym a.stands.session) ∙ going)
+
+shortage_loses : (event : Event) → is_no_memory (kind_of event) ≡ true → loses (kind_of event) ≡ true
+shortage_loses (events.Said item) e = absurd cc
+shortage_loses (events.Broken fault) e = absurd cc
+shortage_loses events.Tick e = absurd cc
+shortage_loses (events.Told answer) e = absurd cc
+shortage_loses events.ReaderEnd e = absurd cc
+shortage_loses events.NoMemory e = refl
+shortage_loses events.HallFull e = absurd cc
+shortage_loses events.WriteFault e = absurd cc
+
+either_true : (a b c d : Bool) → (a ≡ true → c ≡ true) → (b ≡ true → d ≡ true) → (a || b) ≡ true → (c || d) ≡ true
+either_true true b c d f g e = ap (λ x. x || d) (f refl)
+either_true false b true d f g e = refl
+either_true false b false d f g e = g e
+
+shortage_among : (entries : List TraceEntry) → has_kind is_no_memory entries ≡ true → has_kind loses entries ≡ true
+shortage_among [] e = absurd cc
+shortage_among (entry ∷ entries) e = either_true _ _ _ _ (λ h. shortage_loses entry.event h) (λ h. shortage_among entries h) e
+
+-- a session that goes on found memory throughout
+pub no_shortage : {H : Type 0} (told : H → BadgeState → List Reply → H → BadgeState → Type 0) (refused : H → BadgeState → Fault → Type 0) (from : Origin H) (now : Progress H) (inputs : List Event) (missing : List ℕ) (lost unkept : Bool) {P : Type 0}
+    → (a : Accounts told refused from now inputs missing lost unkept) → IsOpen now.trace → has_kind is_no_memory a.history ≡ true → P
+no_shortage told refused from now inputs missing lost unkept a going e =
+    not_both _ (a.losses ∙ not_lost told refused from now inputs missing lost unkept a going) (shortage_among a.history e)
+
+-- and has kept all that came
+pub open_kept : {H : Type 0} (told : H → BadgeState → List Reply → H → BadgeState → Type 0) (refused : H → BadgeState → Fault → Type 0) (from : Origin H) (now : Progress H) (inputs : List Event) (unkept : Bool) → IsOpen now.trace
+    → Settled told refused from now inputs unkept → Settled told refused from now inputs false
+open_kept told refused from now inputs unkept going s =
+    let a = s.sent.accounts in
+    record {
+      sent = record {
+        missing = s.sent.missing;
+        lost = s.sent.lost;
+        accounts = record {
+          settings = a.settings;
+          history = a.history;
+          stands = a.stands;
+          wrote = a.wrote;
+          inputs_are = a.inputs_are;
+          prompt = a.prompt;
+          replies_are = a.replies_are;
+          write_fault = a.write_fault;
+          hall_full = a.hall_full;
+          no_memory = λ h. no_shortage told refused from now inputs s.sent.missing s.sent.lost unkept a going h;
+          no_tick = a.no_tick;
+          losses = a.losses;
+        };
+        whole = s.sent.whole;
+        told_loss = s.sent.told_loss;
+      };
+      answered = s.answered;
+    }
+
+-- nothing is missing while the session goes on
+pub open_whole : {H : Type 0} (told : H → BadgeState → List Reply → H → BadgeState → Type 0) (refused : H → BadgeState → Fault → Type 0) (from : Origin H) (now : Progress H) (inputs : List Event)
+    → Sent told refused from now inputs false → IsOpen now.trace → Accounts told refused from now inputs [] false false
+open_whole told refused from now inputs s going =
+    let none = not_lost told refused from now inputs s.missing s.lost false s.accounts going in
+    subst (λ b. Accounts told refused from now inputs [] b false) none (subst (λ (ms : List ℕ). Accounts told refused from now inputs ms s.lost false) (s.whole none) s.accounts)
+
+-- while the session goes on, a sink that has failed had failed before
+pub open_told : {H : Type 0} (told : H → BadgeState → List Reply → H → BadgeState → Type 0) (refused : H → BadgeState → Fault → Type 0) (from : Origin H) (now : Progress H) (inputs : List Event)
+    → Sent told refused from now inputs false → IsOpen now.trace → now.failed ≡ true → from.failed ≡ true
+open_told told refused from now inputs s going failed =
+    elim (s.told_loss failed) [ inl before ↦ before | inr lost ↦ not_both s.lost (not_lost told refused from now inputs s.missing s.lost false s.accounts going) lost ]
+
 -- ---- one entry more
 
 -- what else changes with an entry
-pub record Changes {H : Type 0} (told : H → BadgeState → List Reply → H → BadgeState → Type 0) (full : H → BadgeState → Type 0) (trace : TraceView) (failed : Bool) (hall hall' : H) (badge badge' : BadgeState) (event : Event) : Type 0 where
+pub record Changes {H : Type 0} (told : H → BadgeState → List Reply → H → BadgeState → Type 0) (refused : H → BadgeState → Fault → Type 0) (trace : TraceView) (failed : Bool) (hall hall' : H) (badge badge' : BadgeState) (event : Event) : Type 0 where
   pub failed_told : is_write_fault (kind_of event) ≡ true → failed ≡ true
-  pub full_told : is_hall_full (kind_of event) ≡ true → full hall' badge'
+  pub full_told : is_hall_full (kind_of event) ≡ true → refused hall' badge' JournalFull
   pub told_next : told hall badge (replies_to (standing_question trace.session.standing) event) hall' badge'
   pub no_tick : is_tick (kind_of event) ≡ false
   pub free : begins (kind_of event) ≡ true → trace.session.standing ≡ None
 
 -- the trace grew by an entry
-pub accounts_grow : {H : Type 0} (told : H → BadgeState → List Reply → H → BadgeState → Type 0) (full : H → BadgeState → Type 0) (oracle : IsOracle told full) (from : Origin H) (trace trace' : TraceView) (hall hall' : H) (badge badge' : BadgeState)
-    (held : Option (List ℕ)) (failed : Bool) (written : ℕ) (inputs : List Event) (missing : List ℕ) (lost : Bool) (entry : TraceEntry)
-    → Accounts told full from (progress trace hall badge held failed written) inputs missing lost → Grows trace trace' entry → Changes told full trace failed hall hall' badge badge' entry.event
-    → Accounts told full from (progress trace' hall' badge' held failed written) (inputs ++ inputs_in entry.event) (missing ++ texts (next_step trace entry).messages) (lost || (loses (kind_of entry.event) || false))
-accounts_grow told full oracle from trace trace' hall hall' badge badge' held failed written inputs missing lost entry a g c =
+pub accounts_grow : {H : Type 0} (told : H → BadgeState → List Reply → H → BadgeState → Type 0) (refused : H → BadgeState → Fault → Type 0) (oracle : IsOracle told refused) (from : Origin H) (trace trace' : TraceView) (hall hall' : H) (badge badge' : BadgeState)
+    (held : Option (List ℕ)) (failed : Bool) (written : ℕ) (inputs : List Event) (missing : List ℕ) (lost unkept : Bool) (entry : TraceEntry) → IsOpen trace
+    → Accounts told refused from (progress trace hall badge held failed written) inputs missing lost false → Grows trace trace' entry → Changes told refused trace failed hall hall' badge badge' entry.event
+    → (is_no_memory (kind_of entry.event) ≡ true → Lacked refused (progress trace' hall' badge' held failed written) (missing ++ texts (next_step trace entry).messages) ⊎ (unkept ≡ true))
+    → Accounts told refused from (progress trace' hall' badge' held failed written) (inputs ++ inputs_in entry.event) (missing ++ texts (next_step trace entry).messages) (lost || (loses (kind_of entry.event) || false)) unkept
+accounts_grow told refused oracle from trace trace' hall hall' badge badge' held failed written inputs missing lost unkept entry going a g c lacked =
     let h : List TraceEntry = a.history in
     let s : Settings = from.settings in
     let step_is : next_step trace entry ≡ entry_step (account_of s h).count (session_of s h) entry =
@@ -119,15 +231,20 @@ accounts_grow told full oracle from trace trace' hall hall' badge badge' held fa
             | inl y ↦ oracle.stays hall hall' badge badge' (replies_to (standing_question trace.session.standing) entry.event) c.told_next (a.hall_full y)
             | inr y ↦ c.full_told y
           ];
+      no_memory =
+          λ x. elim (or_true _ _ (sym (has_more is_no_memory h entry) ∙ x)) [
+            | inl y ↦ no_shortage told refused from (progress trace hall badge held failed written) inputs missing lost false a going y
+            | inr y ↦ lacked y
+          ];
       no_tick = has_more is_tick h entry ∙ or_false _ _ a.no_tick c.no_tick;
       losses = has_more loses h entry ∙ ap (λ b. b || (loses (kind_of entry.event) || false)) a.losses;
     }
 
 -- the trace rested, and stands for the same history
-pub accounts_rest : {H : Type 0} (told : H → BadgeState → List Reply → H → BadgeState → Type 0) (full : H → BadgeState → Type 0) (from : Origin H) (trace trace' : TraceView) (hall : H) (badge : BadgeState)
-    (held : Option (List ℕ)) (failed : Bool) (written : ℕ) (inputs : List Event) (missing : List ℕ) (lost : Bool) → Rests trace trace'
-    → Accounts told full from (progress trace hall badge held failed written) inputs missing lost → Accounts told full from (progress trace' hall badge held failed written) inputs missing lost
-accounts_rest told full from trace trace' hall badge held failed written inputs missing lost r a =
+pub accounts_rest : {H : Type 0} (told : H → BadgeState → List Reply → H → BadgeState → Type 0) (refused : H → BadgeState → Fault → Type 0) (from : Origin H) (trace trace' : TraceView) (hall : H) (badge : BadgeState)
+    (held : Option (List ℕ)) (failed : Bool) (written : ℕ) (inputs : List Event) (missing : List ℕ) (lost : Bool) → IsOpen trace → Rests trace trace'
+    → Accounts told refused from (progress trace hall badge held failed written) inputs missing lost false → Accounts told refused from (progress trace' hall badge held failed written) inputs missing lost false
+accounts_rest told refused from trace trace' hall badge held failed written inputs missing lost going r a =
     record {
       settings = r.settings ∙ a.settings;
       history = a.history;
@@ -138,6 +255,7 @@ accounts_rest told full from trace trace' hall badge held failed written inputs 
       replies_are = a.replies_are;
       write_fault = a.write_fault;
       hall_full = a.hall_full;
+      no_memory = λ h. no_shortage told refused from (progress trace hall badge held failed written) inputs missing lost false a going h;
       no_tick = a.no_tick;
       losses = a.losses;
     }
@@ -179,20 +297,18 @@ loss_replies standing events.HallFull e = absurd cc
 loss_replies None events.WriteFault e = refl
 loss_replies (Some question) events.WriteFault e = refl
 
-pub not_both : {P : Type 0} (b : Bool) → b ≡ false → b ≡ true → P
-not_both b e f = absurd (let clash = sym e ∙ f in cc)
-
 -- a trace grew by an event by which messages are lost
-pub accounts_lost : {H : Type 0} (told : H → BadgeState → List Reply → H → BadgeState → Type 0) (full : H → BadgeState → Type 0) (oracle : IsOracle told full) (from : Origin H) (trace mid trace' : TraceView) (hall : H) (badge : BadgeState)
-    (held : Option (List ℕ)) (failed : Bool) (written : ℕ) (inputs : List Event) (missing : List ℕ) (lost : Bool) (entry : TraceEntry)
+pub accounts_lost : {H : Type 0} (told : H → BadgeState → List Reply → H → BadgeState → Type 0) (refused : H → BadgeState → Fault → Type 0) (oracle : IsOracle told refused) (from : Origin H) (trace mid trace' : TraceView) (hall : H) (badge : BadgeState)
+    (held : Option (List ℕ)) (failed : Bool) (written : ℕ) (inputs : List Event) (missing : List ℕ) (lost unkept : Bool) (entry : TraceEntry)
     → IsOpen trace → Rests trace mid → Grows mid trace' entry → IsLoss entry.event → (is_write_fault (kind_of entry.event) ≡ true → failed ≡ true)
-    → Accounts told full from (progress trace hall badge held failed written) inputs missing lost → Accounts told full from (progress trace' hall badge held failed written) inputs missing true
-accounts_lost told full oracle from trace mid trace' hall badge held failed written inputs missing lost entry going r g l write a =
+    → (is_no_memory (kind_of entry.event) ≡ true → Lacked refused (progress trace' hall badge held failed written) missing ⊎ (unkept ≡ true))
+    → Accounts told refused from (progress trace hall badge held failed written) inputs missing lost false → Accounts told refused from (progress trace' hall badge held failed written) inputs missing true unkept
+accounts_lost told refused oracle from trace mid trace' hall badge held failed written inputs missing lost unkept entry going r g l write lacked a =
     let going' = rest_open trace mid r going in
-    let b = accounts_rest told full from trace mid hall badge held failed written inputs missing lost r a in
+    let b = accounts_rest told refused from trace mid hall badge held failed written inputs missing lost going r a in
     let plain = loss_plain entry.event l.loses_messages in
     let silent : (next_step mid entry).messages ≡ [] = silent_more mid trace' entry going' g (ended_more mid trace' entry going' g l.ends) in
-    let changes : Changes told full mid failed hall hall badge badge entry.event =
+    let changes : Changes told refused mid failed hall hall badge badge entry.event =
     record {
       failed_told = write;
       full_told = λ e. not_both (is_hall_full (kind_of entry.event)) plain.3 e;
@@ -200,72 +316,22 @@ accounts_lost told full oracle from trace mid trace' hall badge held failed writ
       no_tick = plain.1;
       free = λ e. not_both (begins (kind_of entry.event)) plain.2 e;
     } in
-    let grown = accounts_grow told full oracle from mid trace' hall hall badge badge held failed written inputs missing lost entry b g changes in
-    subst (λ b. Accounts told full from (progress trace' hall badge held failed written) inputs missing b) (or_last lost (loses (kind_of entry.event)) l.loses_messages)
-    (subst (λ (ms : List ℕ). Accounts told full from (progress trace' hall badge held failed written) inputs ms (lost || (loses (kind_of entry.event) || false))) (ap (λ (ms : List Message). missing ++ texts ms) silent ∙ append-nil missing)
-    (subst (λ (is : List Event). Accounts told full from (progress trace' hall badge held failed written) is (missing ++ texts (next_step mid entry).messages) (lost || (loses (kind_of entry.event) || false))) (ap (λ (is : List Event). inputs ++ is) (no_input entry.event plain.0) ∙ append-nil inputs) grown))
+    let none : missing ++ texts (next_step mid entry).messages ≡ missing = ap (λ (ms : List Message). missing ++ texts ms) silent ∙ append-nil missing in
+    let grown = accounts_grow told refused oracle from mid trace' hall hall badge badge held failed written inputs missing lost unkept entry going' b g changes
+    (λ e. subst (λ (ms : List ℕ). Lacked refused (progress trace' hall badge held failed written) ms ⊎ (unkept ≡ true)) (sym none) (lacked e)) in
+    subst (λ b. Accounts told refused from (progress trace' hall badge held failed written) inputs missing b unkept) (or_last lost (loses (kind_of entry.event)) l.loses_messages)
+    (subst (λ (ms : List ℕ). Accounts told refused from (progress trace' hall badge held failed written) inputs ms (lost || (loses (kind_of entry.event) || false)) unkept) none
+    (subst (λ (is : List Event). Accounts told refused from (progress trace' hall badge held failed written) is (missing ++ texts (next_step mid entry).messages) (lost || (loses (kind_of entry.event) || false)) unkept) (ap (λ (is : List Event). inputs ++ is) (no_input entry.event plain.0) ∙ append-nil inputs) grown))
 
 pub no_memory_loss : IsLoss events.NoMemory
 no_memory_loss = record { loses_messages = refl; ends = refl }
 
 -- a trace that ended for want of memory
-pub accounts_ran : {H : Type 0} (told : H → BadgeState → List Reply → H → BadgeState → Type 0) (full : H → BadgeState → Type 0) (oracle : IsOracle told full) (from : Origin H) (trace trace' : TraceView) (hall : H) (badge : BadgeState)
-    (held : Option (List ℕ)) (failed : Bool) (written : ℕ) (inputs : List Event) (missing : List ℕ) (lost : Bool)
-    → IsOpen trace → RanOut trace trace' → Accounts told full from (progress trace hall badge held failed written) inputs missing lost → Accounts told full from (progress trace' hall badge held failed written) inputs missing true
-accounts_ran told full oracle from trace trace' hall badge held failed written inputs missing lost going r a =
-    accounts_lost told full oracle from trace r.between trace' hall badge held failed written inputs missing lost (record { event = events.NoMemory; starved = false }) going r.rests r.grows no_memory_loss (λ e. absurd cc) a
-
--- ---- a session that goes on has lost nothing
-
-stays_closed : (account : Account) (entries : List TraceEntry) → is_closed account.session.state ≡ true → EachOpen account entries → entries ≡ []
-stays_closed account [] e each = refl
-stays_closed account (entry ∷ entries) e each = not_both (is_closed account.session.state) each.0 e
-
-loses_ends : (event : Event) → loses (kind_of event) ≡ true → ends_at_once event ≡ true
-loses_ends (events.Said item) e = absurd cc
-loses_ends (events.Broken fault) e = absurd cc
-loses_ends events.Tick e = absurd cc
-loses_ends (events.Told answer) e = absurd cc
-loses_ends events.ReaderEnd e = absurd cc
-loses_ends events.NoMemory e = refl
-loses_ends events.HallFull e = absurd cc
-loses_ends events.WriteFault e = refl
-
-lost_none : (account : Account) (entries : List TraceEntry) → EachOpen account entries → is_closed (fold account_step account entries).session.state ≡ false → has_kind loses entries ≡ false
-lost_none account [] each going = refl
-lost_none account (entry ∷ entries) each going =
-    let first : (b : Bool) → loses (kind_of entry.event) ≡ b → (b || has_kind loses entries) ≡ false =
-    elim [
-      | true ↦ λ e.
-          let over = entry_ends account.count account.session entry each.0 (loses_ends entry.event e) in
-          let nothing = stays_closed (account_step account entry) entries over each.1 in
-          not_both _ (subst (λ (es : List TraceEntry). is_closed (fold account_step (account_step account entry) es).session.state ≡ false) nothing going) over
-      | false ↦ λ e. lost_none (account_step account entry) entries each.1 going
-    ] in
-    first (loses (kind_of entry.event)) refl
-
-open_lost : (settings : Settings) (history : List TraceEntry) → EachOpen (first_account settings) history → is_closed (session_of settings history).state ≡ false → has_kind loses history ≡ false
-unfolding account_of
-open_lost settings history each going = lost_none (first_account settings) history each going
-
--- what was lost by a session that goes on
-pub not_lost : {H : Type 0} (told : H → BadgeState → List Reply → H → BadgeState → Type 0) (full : H → BadgeState → Type 0) (from : Origin H) (now : Progress H) (inputs : List Event) (missing : List ℕ) (lost : Bool)
-    → Accounts told full from now inputs missing lost → IsOpen now.trace → lost ≡ false
-not_lost told full from now inputs missing lost a going =
-    sym a.losses ∙ open_lost now.trace.settings a.history a.stands.each (ap (λ (s : SessionState). is_closed s.state) (sym a.stands.session) ∙ going)
-
--- nothing is missing while the session goes on
-pub open_whole : {H : Type 0} (told : H → BadgeState → List Reply → H → BadgeState → Type 0) (full : H → BadgeState → Type 0) (from : Origin H) (now : Progress H) (inputs : List Event)
-    → Sent told full from now inputs → IsOpen now.trace → Accounts told full from now inputs [] false
-open_whole told full from now inputs s going =
-    let none = not_lost told full from now inputs s.missing s.lost s.accounts going in
-    subst (λ b. Accounts told full from now inputs [] b) none (subst (λ (ms : List ℕ). Accounts told full from now inputs ms s.lost) (s.whole none) s.accounts)
-
--- while the session goes on, a sink that has failed had failed before
-pub open_told : {H : Type 0} (told : H → BadgeState → List Reply → H → BadgeState → Type 0) (full : H → BadgeState → Type 0) (from : Origin H) (now : Progress H) (inputs : List Event)
-    → Sent told full from now inputs → IsOpen now.trace → now.failed ≡ true → from.failed ≡ true
-open_told told full from now inputs s going failed =
-    elim (s.told_loss failed) [ inl before ↦ before | inr lost ↦ not_both s.lost (not_lost told full from now inputs s.missing s.lost s.accounts going) lost ]
+pub accounts_ran : {H : Type 0} (told : H → BadgeState → List Reply → H → BadgeState → Type 0) (refused : H → BadgeState → Fault → Type 0) (oracle : IsOracle told refused) (from : Origin H) (trace trace' : TraceView) (hall : H) (badge : BadgeState)
+    (held : Option (List ℕ)) (failed : Bool) (written : ℕ) (inputs : List Event) (missing : List ℕ) (lost unkept : Bool)
+    → IsOpen trace → RanOut trace trace' → Accounts told refused from (progress trace hall badge held failed written) inputs missing lost false → Accounts told refused from (progress trace' hall badge held failed written) inputs missing true unkept
+accounts_ran told refused oracle from trace trace' hall badge held failed written inputs missing lost unkept going r a =
+    accounts_lost told refused oracle from trace r.between trace' hall badge held failed written inputs missing lost unkept (record { event = events.NoMemory; starved = false }) going r.rests r.grows no_memory_loss (λ e. absurd cc) (λ _. inl (inl r.room)) a
 
 -- ---- asking
 
@@ -277,9 +343,9 @@ no_reply None = (refl, refl)
 no_reply (Some question) = (refl, refl)
 
 -- what the hall made of a question, as a change of the account
-pub answer_changes : {H : Type 0} (told : H → BadgeState → List Reply → H → BadgeState → Type 0) (full : H → BadgeState → Type 0) (trace : TraceView) (failed : Bool) (hall hall' : H) (badge badge' : BadgeState) (question : Question) (event : Event)
-    → standing_question trace.session.standing ≡ Some question → AnswerOf told full hall badge hall' badge' question event → Changes told full trace failed hall hall' badge badge' event
-answer_changes told full trace failed hall hall' badge badge' question (events.Told answer) stands a =
+pub answer_changes : {H : Type 0} (told : H → BadgeState → List Reply → H → BadgeState → Type 0) (refused : H → BadgeState → Fault → Type 0) (trace : TraceView) (failed : Bool) (hall hall' : H) (badge badge' : BadgeState) (question : Question) (event : Event)
+    → standing_question trace.session.standing ≡ Some question → AnswerOf told refused hall badge hall' badge' question event → Changes told refused trace failed hall hall' badge badge' event
+answer_changes told refused trace failed hall hall' badge badge' question (events.Told answer) stands a =
     record {
       failed_told = λ e. absurd cc;
       full_told = λ e. absurd cc;
@@ -287,7 +353,7 @@ answer_changes told full trace failed hall hall' badge badge' question (events.T
       no_tick = refl;
       free = λ e. absurd cc;
     }
-answer_changes told full trace failed hall hall' badge badge' question events.HallFull stands a =
+answer_changes told refused trace failed hall hall' badge badge' question events.HallFull stands a =
     record {
       failed_told = λ e. absurd cc;
       full_told = λ e. a.1;
@@ -295,47 +361,59 @@ answer_changes told full trace failed hall hall' badge badge' question events.Ha
       no_tick = refl;
       free = λ e. absurd cc;
     }
-answer_changes told full trace failed hall hall' badge badge' question events.NoMemory stands a =
+answer_changes told refused trace failed hall hall' badge badge' question events.NoMemory stands a =
     record {
       failed_told = λ e. absurd cc;
       full_told = λ e. absurd cc;
-      told_next = subst (λ (rs : List Reply). told hall badge rs hall' badge') (sym (no_reply (standing_question trace.session.standing)).1) a;
+      told_next = subst (λ (rs : List Reply). told hall badge rs hall' badge') (sym (no_reply (standing_question trace.session.standing)).1) a.0;
       no_tick = refl;
       free = λ e. absurd cc;
     }
-answer_changes told full trace failed hall hall' badge badge' question (events.Said item) stands a = absurd a
-answer_changes told full trace failed hall hall' badge badge' question (events.Broken fault) stands a = absurd a
-answer_changes told full trace failed hall hall' badge badge' question events.Tick stands a = absurd a
-answer_changes told full trace failed hall hall' badge badge' question events.ReaderEnd stands a = absurd a
-answer_changes told full trace failed hall hall' badge badge' question events.WriteFault stands a = absurd a
+answer_changes told refused trace failed hall hall' badge badge' question (events.Said item) stands a = absurd a
+answer_changes told refused trace failed hall hall' badge badge' question (events.Broken fault) stands a = absurd a
+answer_changes told refused trace failed hall hall' badge badge' question events.Tick stands a = absurd a
+answer_changes told refused trace failed hall hall' badge badge' question events.ReaderEnd stands a = absurd a
+answer_changes told refused trace failed hall hall' badge badge' question events.WriteFault stands a = absurd a
 
-answer_no_input : {H : Type 0} (told : H → BadgeState → List Reply → H → BadgeState → Type 0) (full : H → BadgeState → Type 0) (hall hall' : H) (badge badge' : BadgeState) (question : Question) (event : Event)
-    → AnswerOf told full hall badge hall' badge' question event → is_input (kind_of event) ≡ false
-answer_no_input told full hall hall' badge badge' question (events.Told answer) a = refl
-answer_no_input told full hall hall' badge badge' question events.HallFull a = refl
-answer_no_input told full hall hall' badge badge' question events.NoMemory a = refl
-answer_no_input told full hall hall' badge badge' question (events.Said item) a = absurd a
-answer_no_input told full hall hall' badge badge' question (events.Broken fault) a = absurd a
-answer_no_input told full hall hall' badge badge' question events.Tick a = absurd a
-answer_no_input told full hall hall' badge badge' question events.ReaderEnd a = absurd a
-answer_no_input told full hall hall' badge badge' question events.WriteFault a = absurd a
+answer_no_input : {H : Type 0} (told : H → BadgeState → List Reply → H → BadgeState → Type 0) (refused : H → BadgeState → Fault → Type 0) (hall hall' : H) (badge badge' : BadgeState) (question : Question) (event : Event)
+    → AnswerOf told refused hall badge hall' badge' question event → is_input (kind_of event) ≡ false
+answer_no_input told refused hall hall' badge badge' question (events.Told answer) a = refl
+answer_no_input told refused hall hall' badge badge' question events.HallFull a = refl
+answer_no_input told refused hall hall' badge badge' question events.NoMemory a = refl
+answer_no_input told refused hall hall' badge badge' question (events.Said item) a = absurd a
+answer_no_input told refused hall hall' badge badge' question (events.Broken fault) a = absurd a
+answer_no_input told refused hall hall' badge badge' question events.Tick a = absurd a
+answer_no_input told refused hall hall' badge badge' question events.ReaderEnd a = absurd a
+answer_no_input told refused hall hall' badge badge' question events.WriteFault a = absurd a
+
+-- the hall refused it for want of memory
+answer_lacked : {H : Type 0} (told : H → BadgeState → List Reply → H → BadgeState → Type 0) (refused : H → BadgeState → Fault → Type 0) (hall hall' : H) (badge badge' : BadgeState) (question : Question) (event : Event)
+    → AnswerOf told refused hall badge hall' badge' question event → is_no_memory (kind_of event) ≡ true → refused hall' badge' Memory
+answer_lacked told refused hall hall' badge badge' question (events.Told answer) a e = absurd cc
+answer_lacked told refused hall hall' badge badge' question events.HallFull a e = absurd cc
+answer_lacked told refused hall hall' badge badge' question events.NoMemory a e = a.1
+answer_lacked told refused hall hall' badge badge' question (events.Said item) a e = absurd a
+answer_lacked told refused hall hall' badge badge' question (events.Broken fault) a e = absurd a
+answer_lacked told refused hall hall' badge badge' question events.Tick a e = absurd a
+answer_lacked told refused hall hall' badge badge' question events.ReaderEnd a e = absurd a
+answer_lacked told refused hall hall' badge badge' question events.WriteFault a e = absurd a
 
 -- the session was told what the hall made of its question
-pub accounts_asked : {H : Type 0} (told : H → BadgeState → List Reply → H → BadgeState → Type 0) (full : H → BadgeState → Type 0) (oracle : IsOracle told full) (from : Origin H) (trace mid trace' : TraceView) (hall hall' : H) (badge badge' : BadgeState)
+pub accounts_asked : {H : Type 0} (told : H → BadgeState → List Reply → H → BadgeState → Type 0) (refused : H → BadgeState → Fault → Type 0) (oracle : IsOracle told refused) (from : Origin H) (trace mid trace' : TraceView) (hall hall' : H) (badge badge' : BadgeState)
     (held : Option (List ℕ)) (failed : Bool) (written : ℕ) (inputs : List Event) (question : Question) (event : Event) (sent : List Message) (asked : Option Question)
-    → Rests trace mid → standing_question trace.session.standing ≡ Some question → AnswerOf told full hall badge hall' badge' question event → TraceSteps mid trace' event sent asked
-    → Accounts told full from (progress trace hall badge held failed written) inputs [] false → Underway told full from (progress trace' hall' badge' held failed written) inputs (texts sent)
-accounts_asked told full oracle from trace mid trace' hall hall' badge badge' held failed written inputs question event sent asked r stands answer t a =
-    let b = accounts_rest told full from trace mid hall badge held failed written inputs [] false r a in
+    → IsOpen trace → Rests trace mid → standing_question trace.session.standing ≡ Some question → AnswerOf told refused hall badge hall' badge' question event → TraceSteps mid trace' event sent asked
+    → Accounts told refused from (progress trace hall badge held failed written) inputs [] false false → Underway told refused from (progress trace' hall' badge' held failed written) inputs (texts sent) false
+accounts_asked told refused oracle from trace mid trace' hall hall' badge badge' held failed written inputs question event sent asked going r stands answer t a =
+    let b = accounts_rest told refused from trace mid hall badge held failed written inputs [] false going r a in
     let stands' : standing_question mid.session.standing ≡ Some question = ap (λ (s : SessionState). standing_question s.standing) r.session ∙ stands in
-    let grown = accounts_grow told full oracle from mid trace' hall hall' badge badge' held failed written inputs [] false (record { event = event; starved = t.starved }) b t.grows
-    (answer_changes told full mid failed hall hall' badge badge' question event stands' answer) in
+    let grown = accounts_grow told refused oracle from mid trace' hall hall' badge badge' held failed written inputs [] false false (record { event = event; starved = t.starved }) (rest_open trace mid r going) b t.grows
+    (answer_changes told refused mid failed hall hall' badge badge' question event stands' answer) (λ e. inl (inr (inl (answer_lacked told refused hall hall' badge badge' question event answer e)))) in
     record {
       lost = loses (kind_of event) || false;
       accounts =
-          subst (λ (ms : List Message). Accounts told full from (progress trace' hall' badge' held failed written) inputs (texts ms) (loses (kind_of event) || false)) (sym t.messages)
-          (subst (λ (is : List Event). Accounts told full from (progress trace' hall' badge' held failed written) is (texts (next_step mid (record { event = event; starved = t.starved })).messages) (loses (kind_of event) || false))
-          (ap (λ (is : List Event). inputs ++ is) (no_input event (answer_no_input told full hall hall' badge badge' question event answer)) ∙ append-nil inputs) grown);
+          subst (λ (ms : List Message). Accounts told refused from (progress trace' hall' badge' held failed written) inputs (texts ms) (loses (kind_of event) || false) false) (sym t.messages)
+          (subst (λ (is : List Event). Accounts told refused from (progress trace' hall' badge' held failed written) is (texts (next_step mid (record { event = event; starved = t.starved })).messages) (loses (kind_of event) || false) false)
+          (ap (λ (is : List Event). inputs ++ is) (no_input event (answer_no_input told refused hall hall' badge badge' question event answer)) ∙ append-nil inputs) grown);
     }
 
 -- ---- what is left to be answered
@@ -350,10 +428,6 @@ question_open trace question e =
 none_stands : (standing : Option Standing) → standing_question standing ≡ None → standing ≡ None
 none_stands None e = refl
 none_stands (Some standing) e = absurd cc
-
--- no question stands in an open session
-pub none_open : (trace : TraceView) → open_question trace ≡ None → IsAnswered trace
-none_open trace e going = none_stands trace.session.standing (sym (ap (λ b. cond b None (standing_question trace.session.standing)) going) ∙ e)
 
 left_open : (trace : TraceView) → is_closed trace.session.state ≡ false → left_of trace ≡ questions_left trace.session.standing
 left_open trace e = ap (λ b. cond b 0 (questions_left trace.session.standing)) e
@@ -393,9 +467,9 @@ left_told mid trace' question answer starved going stands g after =
     subst (λ (s : SessionState). questions_left s.standing < questions_left mid.session.standing) (sym g.session) (fewer (ap (λ (s : SessionState). is_closed s.state) (sym g.session) ∙ after))
 
 -- what the hall made of the question leaves fewer
-pub left_asked : {H : Type 0} (told : H → BadgeState → List Reply → H → BadgeState → Type 0) (full : H → BadgeState → Type 0) (hall hall' : H) (badge badge' : BadgeState) (trace mid trace' : TraceView) (question : Question) (event : Event) (starved : Bool)
-    → open_question trace ≡ Some question → Rests trace mid → AnswerOf told full hall badge hall' badge' question event → Grows mid trace' (record { event = event; starved = starved }) → left_of trace' < left_of trace
-left_asked told full hall hall' badge badge' trace mid trace' question (events.Told answer) starved stands r a g =
+pub left_asked : {H : Type 0} (told : H → BadgeState → List Reply → H → BadgeState → Type 0) (refused : H → BadgeState → Fault → Type 0) (hall hall' : H) (badge badge' : BadgeState) (trace mid trace' : TraceView) (question : Question) (event : Event) (starved : Bool)
+    → open_question trace ≡ Some question → Rests trace mid → AnswerOf told refused hall badge hall' badge' question event → Grows mid trace' (record { event = event; starved = starved }) → left_of trace' < left_of trace
+left_asked told refused hall hall' badge badge' trace mid trace' question (events.Told answer) starved stands r a g =
     let q = question_open trace question stands in
     let by_state : (b : Bool) → is_closed trace'.session.state ≡ b → left_of trace' < left_of trace =
     elim [
@@ -408,25 +482,15 @@ left_asked told full hall hall' badge badge' trace mid trace' question (events.T
           omega (arith, fewer, after, before, same)
     ] in
     by_state (is_closed trace'.session.state) refl
-left_asked told full hall hall' badge badge' trace mid trace' question events.HallFull starved stands r a g =
+left_asked told refused hall hall' badge badge' trace mid trace' question events.HallFull starved stands r a g =
     left_over trace trace' question stands (ended_more mid trace' (record { event = events.HallFull; starved = starved }) (rest_open trace mid r (question_open trace question stands).0) g refl)
-left_asked told full hall hall' badge badge' trace mid trace' question events.NoMemory starved stands r a g =
+left_asked told refused hall hall' badge badge' trace mid trace' question events.NoMemory starved stands r a g =
     left_over trace trace' question stands (ended_more mid trace' (record { event = events.NoMemory; starved = starved }) (rest_open trace mid r (question_open trace question stands).0) g refl)
-left_asked told full hall hall' badge badge' trace mid trace' question (events.Said item) starved stands r a g = absurd a
-left_asked told full hall hall' badge badge' trace mid trace' question (events.Broken fault) starved stands r a g = absurd a
-left_asked told full hall hall' badge badge' trace mid trace' question events.Tick starved stands r a g = absurd a
-left_asked told full hall hall' badge badge' trace mid trace' question events.ReaderEnd starved stands r a g = absurd a
-left_asked told full hall hall' badge badge' trace mid trace' question events.WriteFault starved stands r a g = absurd a
-
--- what was sent on: either the session is over, or the trace is as it was
-pub left_kept : (trace trace' : TraceView) → (IsOpen trace' → trace' ≡ trace) → left_of trace' ≤ left_of trace
-left_kept trace trace' kept =
-    let by_state : (b : Bool) → is_closed trace'.session.state ≡ b → left_of trace' ≤ left_of trace =
-    elim [
-      | true ↦ λ s. (let zero = left_closed trace' s in omega (arith, zero))
-      | false ↦ λ s. (let same = ap left_of (kept s) in omega (arith, same))
-    ] in
-    by_state (is_closed trace'.session.state) refl
+left_asked told refused hall hall' badge badge' trace mid trace' question (events.Said item) starved stands r a g = absurd a
+left_asked told refused hall hall' badge badge' trace mid trace' question (events.Broken fault) starved stands r a g = absurd a
+left_asked told refused hall hall' badge badge' trace mid trace' question events.Tick starved stands r a g = absurd a
+left_asked told refused hall hall' badge badge' trace mid trace' question events.ReaderEnd starved stands r a g = absurd a
+left_asked told refused hall hall' badge badge' trace mid trace' question events.WriteFault starved stands r a g = absurd a
 
 -- a step that ends the session has nothing to send
 pub silent_step : (trace trace' : TraceView) (event : Event) (sent : List Message) (asked : Option Question) → IsOpen trace → TraceSteps trace trace' event sent asked → is_closed trace'.session.state ≡ true → sent ≡ []
@@ -437,12 +501,20 @@ silent_step trace trace' event sent asked going t closed = t.messages ∙ silent
 counted_more : (x y : List ℕ) (n k m : ℕ) → n ≡ counted x → k ≡ counted y → m ≡ min (n + k) (2 ^ 64 - 1) → m ≡ counted (x ++ y)
 counted_more x y n k m a b e = omega (arith, length-append x y)
 
+-- where nothing was to be written, what lacked memory is still so
+lacked_still : {H : Type 0} (refused : H → BadgeState → Fault → Type 0) (trace : TraceView) (hall : H) (badge : BadgeState) (held held' : Option (List ℕ)) (failed failed' : Bool) (written written' : ℕ) (text missing : List ℕ) → text ≡ []
+    → Lacked refused (progress trace hall badge held failed written) text ⊎ (false ≡ true) → Lacked refused (progress trace hall badge held' failed' written') missing ⊎ (false ≡ true)
+lacked_still refused trace hall badge held held' failed failed' written written' text missing none (inl (inl place)) = inl (inl place)
+lacked_still refused trace hall badge held held' failed failed' written written' text missing none (inl (inr (inl call))) = inl (inr (inl call))
+lacked_still refused trace hall badge held held' failed failed' written written' text missing none (inl (inr (inr some))) = absurd (some none)
+lacked_still refused trace hall badge held held' failed failed' written written' text missing none (inr e) = inr e
+
 -- some of what was to be written went out
-pub accounts_wrote : {H : Type 0} (told : H → BadgeState → List Reply → H → BadgeState → Type 0) (full : H → BadgeState → Type 0) (from : Origin H) (trace : TraceView) (hall : H) (badge : BadgeState)
+pub accounts_wrote : {H : Type 0} (told : H → BadgeState → List Reply → H → BadgeState → Type 0) (refused : H → BadgeState → Fault → Type 0) (from : Origin H) (trace : TraceView) (hall : H) (badge : BadgeState)
     (held held' : Option (List ℕ)) (failed failed' : Bool) (written written' n : ℕ) (inputs : List Event) (text missing : List ℕ) (lost : Bool)
-    → Wrote held held' text n missing → written' ≡ min (written + n) (2 ^ 64 - 1) → (failed ≡ true → failed' ≡ true)
-    → Accounts told full from (progress trace hall badge held failed written) inputs text lost → Accounts told full from (progress trace hall badge held' failed' written') inputs missing lost
-accounts_wrote told full from trace hall badge held held' failed failed' written written' n inputs text missing lost w count stays a =
+    → (is_closed trace.session.state ≡ true → text ≡ []) → Wrote held held' text n missing → written' ≡ min (written + n) (2 ^ 64 - 1) → (failed ≡ true → failed' ≡ true)
+    → Accounts told refused from (progress trace hall badge held failed written) inputs text lost false → Accounts told refused from (progress trace hall badge held' failed' written') inputs missing lost false
+accounts_wrote told refused from trace hall badge held held' failed failed' written written' n inputs text missing lost silent w count stays a =
     record {
       settings = a.settings;
       history = a.history;
@@ -458,29 +530,53 @@ accounts_wrote told full from trace hall badge held held' failed failed' written
       replies_are = a.replies_are;
       write_fault = λ h. stays (a.write_fault h);
       hall_full = a.hall_full;
+      no_memory =
+          let by_state : (b : Bool) → is_closed trace.session.state ≡ b → has_kind is_no_memory a.history ≡ true → Lacked refused (progress trace hall badge held' failed' written') missing ⊎ (false ≡ true) =
+          elim [
+            | true ↦ λ over h. lacked_still refused trace hall badge held held' failed failed' written written' text missing (silent over) (a.no_memory h)
+            | false ↦ λ going h. no_shortage told refused from (progress trace hall badge held failed written) inputs text lost false a going h
+          ] in
+          by_state (is_closed trace.session.state) refl;
       no_tick = a.no_tick;
       losses = a.losses;
     }
 
--- what isn't over goes on
-going_on : (b : Bool) → (b ≡ true → ⊥) → b ≡ false
-going_on true h = absurd (h refl)
-going_on false h = refl
-
-ok_err : {T E : Type 0} (r : Result T E) (e : E) → r ≡ Err e → IsOk r → ⊥
+pub ok_err : {T E : Type 0} (r : Result T E) (e : E) → r ≡ Err e → IsOk r → ⊥
 ok_err (Ok x) e is h = absurd cc
 ok_err (Err x) e is h = cc
 
--- a write that ended early had something to write
-pub has_messages : {T E : Type 0} (b : Bool) (messages : List Message) (r : Result T E) (e : E) → (b ≡ true → messages ≡ []) → (messages ≡ [] → IsOk r) → r ≡ Err e → b ≡ false
-has_messages b messages r e silent nothing is = going_on b (λ closed. ok_err r e is (nothing (silent closed)))
+-- a call that was refused had some messages, where it isn't refused for none
+pub has_messages : {T E : Type 0} (messages : List Message) (r : Result T E) (e : E) → (messages ≡ [] → IsOk r) → r ≡ Err e → messages ≢ []
+has_messages messages r e nothing is none = ok_err r e is (nothing none)
+
+text_some : (message : Message) → text message ≢ []
+unfolding envelope_text
+text_some message e = absurd (let empty = e in cc)
+
+append_left : {T : Type 0} (xs ys : List T) → xs ++ ys ≡ [] → xs ≡ []
+append_left [] ys e = refl
+append_left (x ∷ xs) ys e = absurd cc
+
+texts_some : (messages : List Message) → messages ≢ [] → texts messages ≢ []
+texts_some [] some e = some refl
+texts_some (message ∷ messages) some e = text_some message (append_left (text message) (texts messages) e)
+
+counted_none : (bytes : List ℕ) → 0 ≡ counted bytes → bytes ≡ []
+counted_none [] e = refl
+counted_none (b ∷ bytes) e = absurd (omega (arith, e))
+
+-- where no byte of some messages went out, bytes are missing
+pub whole_missing : (messages : List Message) (old new : Option (List ℕ)) (written : ℕ) (part : WrotePart old new (texts messages) written) → written ≡ 0 → messages ≢ [] → part.missing ≢ []
+whole_missing messages old new written part zero some none =
+    let nothing : part.wrote.sent ≡ [] = counted_none part.wrote.sent (sym zero ∙ part.wrote.count) in
+    texts_some messages some (part.wrote.parts ∙ ap (λ (x : List ℕ). x ++ part.missing) nothing ∙ none)
 
 -- ---- giving an input
 
 -- there was no room for an input
-pub gave_none : {H : Type 0} (told : H → BadgeState → List Reply → H → BadgeState → Type 0) (full : H → BadgeState → Type 0) (from : Origin H) (now : Progress H) (inputs : List Event) (missing : List ℕ) (event : Event)
-    → Accounts told full from now inputs missing true → is_closed now.trace.session.state ≡ true → Gave told full from now inputs event
-gave_none told full from now inputs missing event a closed =
+pub gave_none : {H : Type 0} (told : H → BadgeState → List Reply → H → BadgeState → Type 0) (refused : H → BadgeState → Fault → Type 0) (from : Origin H) (now : Progress H) (inputs : List Event) (missing : List ℕ) (event : Event)
+    → Accounts told refused from now inputs missing true false → is_closed now.trace.session.state ≡ true → Gave told refused from now inputs event
+gave_none told refused from now inputs missing event a closed =
     record {
       given = inputs;
       settled = record {
@@ -495,29 +591,30 @@ record IsPlain (event : Event) : Type 0 where
   no_tick : is_tick (kind_of event) ≡ false
   no_write : is_write_fault (kind_of event) ≡ false
   no_hall : is_hall_full (kind_of event) ≡ false
+  no_shortage : is_no_memory (kind_of event) ≡ false
   replies_none : (standing : Option Question) → replies_to standing event ≡ []
 
 input_plain : (event : Event) → is_input (kind_of event) ≡ true → IsPlain event
-input_plain (events.Said item) e = record { no_tick = refl; no_write = refl; no_hall = refl; replies_none = elim [ None ↦ refl | Some q ↦ refl ] }
-input_plain (events.Broken fault) e = record { no_tick = refl; no_write = refl; no_hall = refl; replies_none = elim [ None ↦ refl | Some q ↦ refl ] }
+input_plain (events.Said item) e = record { no_tick = refl; no_write = refl; no_hall = refl; no_shortage = refl; replies_none = elim [ None ↦ refl | Some q ↦ refl ] }
+input_plain (events.Broken fault) e = record { no_tick = refl; no_write = refl; no_hall = refl; no_shortage = refl; replies_none = elim [ None ↦ refl | Some q ↦ refl ] }
 input_plain events.Tick e = absurd cc
 input_plain (events.Told answer) e = absurd cc
-input_plain events.ReaderEnd e = record { no_tick = refl; no_write = refl; no_hall = refl; replies_none = elim [ None ↦ refl | Some q ↦ refl ] }
+input_plain events.ReaderEnd e = record { no_tick = refl; no_write = refl; no_hall = refl; no_shortage = refl; replies_none = elim [ None ↦ refl | Some q ↦ refl ] }
 input_plain events.NoMemory e = absurd cc
 input_plain events.HallFull e = absurd cc
 input_plain events.WriteFault e = absurd cc
 
 -- an input was given, and its messages are on their way
-pub accounts_input : {H : Type 0} (told : H → BadgeState → List Reply → H → BadgeState → Type 0) (full : H → BadgeState → Type 0) (oracle : IsOracle told full) (from : Origin H) (trace mid trace' : TraceView) (hall : H) (badge : BadgeState)
+pub accounts_input : {H : Type 0} (told : H → BadgeState → List Reply → H → BadgeState → Type 0) (refused : H → BadgeState → Fault → Type 0) (oracle : IsOracle told refused) (from : Origin H) (trace mid trace' : TraceView) (hall : H) (badge : BadgeState)
     (held : Option (List ℕ)) (failed : Bool) (written : ℕ) (inputs : List Event) (event : Event) (sent : List Message) (asked : Option Question)
     → IsOpen trace → Rests trace mid → is_input (kind_of event) ≡ true → TraceSteps mid trace' event sent asked
-    → Settled told full from (progress trace hall badge held failed written) inputs → Underway told full from (progress trace' hall badge held failed written) (inputs ++ event ∷ []) (texts sent)
-accounts_input told full oracle from trace mid trace' hall badge held failed written inputs event sent asked going r input t s =
+    → Settled told refused from (progress trace hall badge held failed written) inputs false → Underway told refused from (progress trace' hall badge held failed written) (inputs ++ event ∷ []) (texts sent) false
+accounts_input told refused oracle from trace mid trace' hall badge held failed written inputs event sent asked going r input t s =
     let p = input_plain event input in
-    let a = open_whole told full from (progress trace hall badge held failed written) inputs s.sent going in
-    let b = accounts_rest told full from trace mid hall badge held failed written inputs [] false r a in
+    let a = open_whole told refused from (progress trace hall badge held failed written) inputs s.sent going in
+    let b = accounts_rest told refused from trace mid hall badge held failed written inputs [] false going r a in
     let free : mid.session.standing ≡ None = ap (λ (x : SessionState). x.standing) r.session ∙ s.answered going in
-    let changes : Changes told full mid failed hall hall badge badge event =
+    let changes : Changes told refused mid failed hall hall badge badge event =
     record {
       failed_told = λ h. not_both (is_write_fault (kind_of event)) p.no_write h;
       full_told = λ h. not_both (is_hall_full (kind_of event)) p.no_hall h;
@@ -525,21 +622,22 @@ accounts_input told full oracle from trace mid trace' hall badge held failed wri
       no_tick = p.no_tick;
       free = λ h. free;
     } in
-    let grown = accounts_grow told full oracle from mid trace' hall hall badge badge held failed written inputs [] false (record { event = event; starved = t.starved }) b t.grows changes in
+    let grown = accounts_grow told refused oracle from mid trace' hall hall badge badge held failed written inputs [] false false (record { event = event; starved = t.starved }) (rest_open trace mid r going) b t.grows changes
+    (λ e. not_both (is_no_memory (kind_of event)) p.no_shortage e) in
     record {
       lost = loses (kind_of event) || false;
       accounts =
-          subst (λ (ms : List Message). Accounts told full from (progress trace' hall badge held failed written) (inputs ++ event ∷ []) (texts ms) (loses (kind_of event) || false)) (sym t.messages)
-          (subst (λ (is : List Event). Accounts told full from (progress trace' hall badge held failed written) (inputs ++ is) (texts (next_step mid (record { event = event; starved = t.starved })).messages) (loses (kind_of event) || false)) (one_input event input) grown);
+          subst (λ (ms : List Message). Accounts told refused from (progress trace' hall badge held failed written) (inputs ++ event ∷ []) (texts ms) (loses (kind_of event) || false) false) (sym t.messages)
+          (subst (λ (is : List Event). Accounts told refused from (progress trace' hall badge held failed written) (inputs ++ is) (texts (next_step mid (record { event = event; starved = t.starved })).messages) (loses (kind_of event) || false) false) (one_input event input) grown);
     }
 
 -- ---- one conversation
 
 -- messages were on their way, and went out or were lost
-pub sent_ok : {H : Type 0} (told : H → BadgeState → List Reply → H → BadgeState → Type 0) (full : H → BadgeState → Type 0) (from : Origin H) (now : Progress H) (inputs : List Event) (lost : Bool)
-    → Accounts told full from now inputs [] lost → (now.failed ≡ true → from.failed ≡ true) → Sent told full from now inputs
-sent_ok told full from now inputs lost a before = record { missing = []; lost = lost; accounts = a; whole = λ h. refl; told_loss = λ h. inl (before h) }
+pub sent_ok : {H : Type 0} (told : H → BadgeState → List Reply → H → BadgeState → Type 0) (refused : H → BadgeState → Fault → Type 0) (from : Origin H) (now : Progress H) (inputs : List Event) (lost : Bool)
+    → Accounts told refused from now inputs [] lost false → (now.failed ≡ true → from.failed ≡ true) → Sent told refused from now inputs false
+sent_ok told refused from now inputs lost a before = record { missing = []; lost = lost; accounts = a; whole = λ h. refl; told_loss = λ h. inl (before h) }
 
-pub sent_lost : {H : Type 0} (told : H → BadgeState → List Reply → H → BadgeState → Type 0) (full : H → BadgeState → Type 0) (from : Origin H) (now : Progress H) (inputs : List Event) (missing : List ℕ)
-    → Accounts told full from now inputs missing true → Sent told full from now inputs
-sent_lost told full from now inputs missing a = record { missing = missing; lost = true; accounts = a; whole = λ h. absurd (let clash : true ≡ false = h in cc); told_loss = λ h. inr refl }
+pub sent_lost : {H : Type 0} (told : H → BadgeState → List Reply → H → BadgeState → Type 0) (refused : H → BadgeState → Fault → Type 0) (from : Origin H) (now : Progress H) (inputs : List Event) (missing : List ℕ) (unkept : Bool)
+    → Accounts told refused from now inputs missing true unkept → Sent told refused from now inputs unkept
+sent_lost told refused from now inputs missing unkept a = record { missing = missing; lost = true; accounts = a; whole = λ h. absurd (let clash : true ≡ false = h in cc); told_loss = λ h. inr refl }

@@ -1,14 +1,19 @@
 -- What a connection has heard: its inputs against what the bytes spell.
-use Rattle.std.proofs.Common.{◌≡◌, ℕ, ◌+◌, ◌≤◌, ◌^◌, Bool, true, false, cond, eqb, ◌||◌, List, [], ◌∷◌, ◌++◌, length, take, Option, Some, None, refl, sym, ap, subst, ◌∙◌, append_assoc, arith, inl, inr, ◌⊎◌}
-use Rattle.std.specs.Prelude.{reverse, fold}
+use Rattle.std.proofs.Common.{◌≡◌, ◌≢◌, ◌<◌, ℕ, ◌+◌, ◌≤◌, ◌^◌, Bool, true, false, cond, eqb, ◌||◌, List, [], ◌∷◌, ◌++◌, length, take, Option, Some, None, Result, Ok, Err, refl, sym, ap, subst, ◌∙◌, append_assoc, arith, inl, inr, ◌⊎◌}
+use Rattle.std.specs.Prelude.{reverse, fold, IsOk, IsOkUnless}
 use Rattle.std.specs.List.{list_any}
 use Rattle.std.proofs.lemmas.List.Folds.{list_any-append}
 use Rattle.std.proofs.lemmas.List.{append-nil, length-append, map-append, reverse-append}
 use Rattle.std.specs.Io.KnownBytes.{Consumes, Keeps}
 use Rattle.cb_base.specs.declared.fault.Fault.{Fault}
+use Rattle.cb_base.specs.declared.fault.Fault.TheVariants.{Memory}
 use Rattle.cb_wire.specs.declared.item.Item.{Item}
 use Rattle.cb_wire.specs.declared.item.Item.TheVariants.{Good, Damaged, Bad}
-use Rattle.cb_wire.specs.Stream.{Assembled, Extends, Stream}
+use Rattle.cb_wire.specs.declared.envelope.Front.{Front}
+use Rattle.cb_wire.specs.declared.envelope.Front.TheVariants.{Partial, Broken, Whole}
+use Rattle.cb_wire.specs.Envelope.{front_at}
+use Rattle.cb_wire.specs.Stream.{Assembled, Ends, Stream}
+use Rattle.cb_wire.proofs.Streams.{Stream-grows, reading_of}
 use Rattle.cb_io.proofs.Known.{Consumes-nothing, Consumes-then}
 use Rattle.cb_hall.specs.declared.hall.Question.{Question}
 use Rattle.cb_hall.specs.declared.hall.Question.TheVariants.{Admit}
@@ -33,9 +38,30 @@ use Rattle.cb_peer.proofs.Folds.{entry_cases}
 use Rattle.cb_peer.proofs.Steps.{freed}
 use Rattle.cb_session.specs.declared.reading.ReadEnd.{ReadEnd}
 use Rattle.cb_session.specs.declared.reading.ReadEnd.TheVariants as ends
-use Rattle.cb_session.specs.Conversation.{Accounts, Gave, Origin, Progress, Sent, Settled}
+use Rattle.cb_session.specs.Conversation.{Accounts, Gave, GaveItem, Origin, Progress, Settled}
 use Rattle.cb_session.specs.Serving.{EndsSo, Heard, HeardBy, IsInOrder, Pieced, Took, broken, end_mark, has_end, queue, said}
-use Rattle.cb_session.proofs.Accounts.{sent_lost}
+use Rattle.cb_session.proofs.Accounts.{ok_err, open_kept, sent_lost}
+
+not_true : false ≡ true → ⊥
+not_true e = cc
+
+-- what follows a whole is nothing
+append_self : {T : Type 0} (xs ys : List T) → xs ++ ys ≡ xs → ys ≡ []
+append_self [] ys e = e
+append_self (x ∷ xs) ys e = append_self xs ys (let more = e in cc)
+
+-- lists without an element behind one another
+front_nil : {T : Type 0} (xs ys : List T) → xs ++ ys ≡ [] → xs ≡ []
+front_nil [] ys e = refl
+front_nil (x ∷ xs) ys e = absurd cc
+
+-- something comes behind the inputs, so they aren't all
+some_later : (inputs later whole : List Event) → inputs ++ later ≡ whole → later ≢ [] → inputs ≢ whole
+some_later inputs later whole parts some same = some (append_self inputs later (parts ∙ sym same))
+
+said_some : (items : List Item) → items ≢ [] → said items ≢ []
+said_some [] some e = some refl
+said_some (item ∷ items) some e = cc
 
 reason_is : (a b : CloseReason) → Closed a ≡ Closed b → a ≡ b
 reason_is a b e = cc
@@ -46,24 +72,29 @@ said_more xs ys = map-append (λ item. events.Said item) xs ys
 -- ---- items in turn
 
 -- nothing was taken yet
-pub took_none : {H : Type 0} (told : H → BadgeState → List Reply → H → BadgeState → Type 0) (full : H → BadgeState → Type 0) (from : Origin H) (now : Progress H) (inputs : List Event) → Settled told full from now inputs → Took told full from now inputs []
-took_none told full from now inputs s =
-    record { front = []; rest = []; parts = refl; settled = subst (λ (is : List Event). Settled told full from now is) (sym (append-nil inputs)) s; all = λ _. refl }
+pub took_none : {H : Type 0} (told : H → BadgeState → List Reply → H → BadgeState → Type 0) (refused : H → BadgeState → Fault → Type 0) (from : Origin H) (now : Progress H) (inputs : List Event) → Settled told refused from now inputs false → Took told refused from now inputs []
+took_none told refused from now inputs s =
+    record { front = []; rest = []; parts = refl; unkept = false; settled = subst (λ (is : List Event). Settled told refused from now is false) (sym (append-nil inputs)) s; short = λ h. absurd (not_true h); all = λ _. refl }
 
 -- one more item was given to a session that went on
-pub took_more : {H : Type 0} (told : H → BadgeState → List Reply → H → BadgeState → Type 0) (full : H → BadgeState → Type 0) (from : Origin H) (before now : Progress H) (inputs : List Event) (taken : List Item) (item : Item) → is_closed before.trace.session.state ≡ false → (t : Took told full from before inputs taken)
-    → Gave told full from now (inputs ++ said t.front) (events.Said item) → Took told full from now inputs (taken ++ item ∷ [])
-took_more told full from before now inputs taken item going t g =
+pub took_more : {H : Type 0} (told : H → BadgeState → List Reply → H → BadgeState → Type 0) (refused : H → BadgeState → Fault → Type 0) (from : Origin H) (before now : Progress H) (inputs : List Event) (taken : List Item) (item : Item) → is_closed before.trace.session.state ≡ false → (t : Took told refused from before inputs taken)
+    → GaveItem told refused from now (inputs ++ said t.front) item → Took told refused from now inputs (taken ++ item ∷ [])
+took_more told refused from before now inputs taken item going t g =
     let none : t.rest ≡ [] = t.all going in
     let front : taken ≡ t.front = t.parts ∙ ap (λ (xs : List Item). t.front ++ xs) none ∙ append-nil t.front in
+    let some : item ∷ [] ≢ [] = λ e. cc in
+    let gave : Gave told refused from now (inputs ++ said t.front) (events.Said item) → Took told refused from now inputs (taken ++ item ∷ []) =
+    λ g.
     elim g.which [
       | inl e ↦
           record {
             front = taken ++ item ∷ [];
             rest = [];
             parts = sym (append-nil (taken ++ item ∷ []));
+            unkept = false;
+            short = λ h. absurd (not_true h);
             settled =
-                subst (λ (is : List Event). Settled told full from now is)
+                subst (λ (is : List Event). Settled told refused from now is false)
                 (e ∙ append_assoc inputs (said t.front) (events.Said item ∷ []) ∙ ap (λ (xs : List Event). inputs ++ xs) (sym (said_more t.front (item ∷ []))) ∙ ap (λ (xs : List Item). inputs ++ said (xs ++ item ∷ [])) (sym front))
                 g.settled;
             all = λ _. refl;
@@ -73,24 +104,38 @@ took_more told full from before now inputs taken item going t g =
             front = taken;
             rest = item ∷ [];
             parts = refl;
-            settled = subst (λ (is : List Event). Settled told full from now is) (e.0 ∙ ap (λ (xs : List Item). inputs ++ said xs) (sym front)) g.settled;
+            unkept = false;
+            short = λ h. absurd (not_true h);
+            settled = subst (λ (is : List Event). Settled told refused from now is false) (e.0 ∙ ap (λ (xs : List Item). inputs ++ said xs) (sym front)) g.settled;
             all = λ h. absurd (let clash = sym h ∙ e.1 in cc);
+          }
+    ] in
+    elim g [
+      | inl given ↦ gave given
+      | inr lacked ↦
+          record {
+            front = taken;
+            rest = item ∷ [];
+            parts = refl;
+            unkept = true;
+            short = λ _. some;
+            settled = subst (λ (is : List Event). Settled told refused from now is true) (ap (λ (xs : List Item). inputs ++ said xs) (sym front)) lacked.settled;
+            all = λ h. absurd (let clash = sym h ∙ lacked.closed in cc);
           }
     ]
 
 -- the session was over before the rest
-pub took_stopped : {H : Type 0} (told : H → BadgeState → List Reply → H → BadgeState → Type 0) (full : H → BadgeState → Type 0) (from : Origin H) (now : Progress H) (inputs : List Event) (taken more all : List Item) → all ≡ taken ++ more → is_closed now.trace.session.state ≡ true → Took told full from now inputs taken → Took told full from now inputs all
-took_stopped told full from now inputs taken more all e closed t =
+pub took_stopped : {H : Type 0} (told : H → BadgeState → List Reply → H → BadgeState → Type 0) (refused : H → BadgeState → Fault → Type 0) (from : Origin H) (now : Progress H) (inputs : List Event) (taken more all : List Item) → all ≡ taken ++ more → is_closed now.trace.session.state ≡ true → Took told refused from now inputs taken → Took told refused from now inputs all
+took_stopped told refused from now inputs taken more all e closed t =
     record {
       front = t.front;
       rest = t.rest ++ more;
       parts = e ∙ ap (λ (xs : List Item). xs ++ more) t.parts ∙ append_assoc t.front t.rest more;
+      unkept = t.unkept;
+      short = λ h none. t.short h (front_nil t.rest more none);
       settled = t.settled;
       all = λ h. absurd (let clash = sym h ∙ closed in cc);
     }
-
-pub took_all : {H : Type 0} (told : H → BadgeState → List Reply → H → BadgeState → Type 0) (full : H → BadgeState → Type 0) (from : Origin H) (now : Progress H) (inputs : List Event) (taken all : List Item) → all ≡ taken → Took told full from now inputs taken → Took told full from now inputs all
-took_all told full from now inputs taken all e t = subst (λ (xs : List Item). Took told full from now inputs xs) (sym e) t
 
 -- the last one waiting is the next
 pub next_waiting : (old new : List Item) (item : Item) → old ≡ new ++ item ∷ [] → reverse old ≡ item ∷ reverse new
@@ -98,10 +143,18 @@ next_waiting old new item e = ap reverse e ∙ reverse-append new (item ∷ [])
 
 -- ---- a piece
 
+-- what was given of some items and a fault behind them, and what is still to come
+took_parts : (items more front rest : List Item) (fault : Option Fault) → more ≡ front ++ rest → (said items ++ said front) ++ (said rest ++ broken fault) ≡ said (items ++ more) ++ broken fault
+took_parts items more front rest fault parts =
+    append_assoc (said items) (said front) (said rest ++ broken fault)
+    ∙ ap (λ (is : List Event). said items ++ is) (sym (append_assoc (said front) (said rest) (broken fault)) ∙ ap (λ (is : List Event). is ++ broken fault) (sym (said_more front rest) ∙ ap said (sym parts)))
+    ∙ sym (append_assoc (said items) (said more) (broken fault))
+    ∙ ap (λ (is : List Event). is ++ broken fault) (sym (said_more items more))
+
 -- the first of the items were given
-pub pieced_took : {H : Type 0} (told : H → BadgeState → List Reply → H → BadgeState → Type 0) (full : H → BadgeState → Type 0) (from : Origin H) (now : Progress H) (bytes : List ℕ) (assembled : Assembled) (items more : List Item) (fault : Option Fault) → fault ≡ assembled.fault
-    → Stream bytes (items ++ more) assembled.rest assembled.fault → Took told full from now (said items) more → (is_closed now.trace.session.state ≡ false → fault ≡ None) → Pieced told full from now bytes assembled
-pieced_took told full from now bytes assembled items more fault same s t none =
+pub pieced_took : {H : Type 0} (told : H → BadgeState → List Reply → H → BadgeState → Type 0) (refused : H → BadgeState → Fault → Type 0) (from : Origin H) (now : Progress H) (bytes : List ℕ) (assembled : Assembled) (items more : List Item) (fault : Option Fault) → fault ≡ assembled.fault
+    → Stream bytes (items ++ more) assembled.rest assembled.fault → Took told refused from now (said items) more → (is_closed now.trace.session.state ≡ false → fault ≡ None) → Pieced told refused from now bytes assembled
+pieced_took told refused from now bytes assembled items more fault same s t none =
     record {
       items = items ++ more;
       rest = assembled.rest;
@@ -109,12 +162,11 @@ pieced_took told full from now bytes assembled items more fault same s t none =
       stream = s;
       inputs = said items ++ said t.front;
       later = said t.rest ++ broken assembled.fault;
-      parts =
-          append_assoc (said items) (said t.front) (said t.rest ++ broken assembled.fault)
-          ∙ ap (λ (is : List Event). said items ++ is) (sym (append_assoc (said t.front) (said t.rest) (broken assembled.fault)) ∙ ap (λ (is : List Event). is ++ broken assembled.fault) (sym (said_more t.front t.rest) ∙ ap said (sym t.parts)))
-          ∙ sym (append_assoc (said items) (said more) (broken assembled.fault))
-          ∙ ap (λ (is : List Event). is ++ broken assembled.fault) (sym (said_more items more));
+      parts = took_parts items more t.front t.rest assembled.fault t.parts;
+      unkept = t.unkept;
       settled = t.settled;
+      short = λ h.
+          inl (some_later (said items ++ said t.front) (said t.rest ++ broken assembled.fault) _ (took_parts items more t.front t.rest assembled.fault t.parts) (λ none. said_some t.rest (t.short h) (front_nil (said t.rest) (broken assembled.fault) none)));
       going = λ h.
           let e : assembled.fault ≡ None = sym same ∙ none h in
           record {
@@ -136,10 +188,10 @@ given_parts given inputs whole event C (inl e) w = append-nil given ∙ e ∙ ap
 given_parts given inputs whole event C (inr e) w = ap (λ (is : List Event). is ++ event ∷ []) (e.0 ∙ w)
 
 -- all items were given, and the stream's fault behind them
-pub pieced_broken : {H : Type 0} (told : H → BadgeState → List Reply → H → BadgeState → Type 0) (full : H → BadgeState → Type 0) (from : Origin H) (before now : Progress H) (bytes : List ℕ) (assembled : Assembled) (items more : List Item) (why : Fault) → Some why ≡ assembled.fault
-    → Stream bytes (items ++ more) assembled.rest assembled.fault → (t : Took told full from before (said items) more) → is_closed before.trace.session.state ≡ false
-    → is_closed now.trace.session.state ≡ true → Gave told full from now (said items ++ said t.front) (events.Broken why) → Pieced told full from now bytes assembled
-pieced_broken told full from before now bytes assembled items more why same s t going closed g =
+pub pieced_broken : {H : Type 0} (told : H → BadgeState → List Reply → H → BadgeState → Type 0) (refused : H → BadgeState → Fault → Type 0) (from : Origin H) (before now : Progress H) (bytes : List ℕ) (assembled : Assembled) (items more : List Item) (why : Fault) → Some why ≡ assembled.fault
+    → Stream bytes (items ++ more) assembled.rest assembled.fault → (t : Took told refused from before (said items) more) → is_closed before.trace.session.state ≡ false
+    → is_closed now.trace.session.state ≡ true → Gave told refused from now (said items ++ said t.front) (events.Broken why) → Pieced told refused from now bytes assembled
+pieced_broken told refused from before now bytes assembled items more why same s t going closed g =
     let front : more ≡ t.front = t.parts ∙ ap (λ (xs : List Item). t.front ++ xs) (t.all going) ∙ append-nil t.front in
     let whole : said items ++ said t.front ≡ said (items ++ more) = ap (λ (xs : List Item). said items ++ said xs) (sym front) ∙ sym (said_more items more) in
     let last : broken assembled.fault ≡ events.Broken why ∷ [] = ap broken (sym same) in
@@ -153,30 +205,69 @@ pieced_broken told full from before now bytes assembled items more why same s t 
       inputs = g.given;
       later = rest_of g.given (said items ++ said t.front) (events.Broken why) _ g.which;
       parts = parts;
+      unkept = false;
       settled = g.settled;
+      short = λ h. absurd (not_true h);
       going = λ h. absurd (let clash = sym h ∙ closed in cc);
     }
 
--- a piece was refused, for want of memory
-pub pieced_refused : {H : Type 0} (told : H → BadgeState → List Reply → H → BadgeState → Type 0) (full : H → BadgeState → Type 0) (from : Origin H) (now : Progress H) (bytes : List ℕ) (assembled : Assembled) (items : List Item) → Extends bytes items → is_closed now.trace.session.state ≡ true
-    → Settled told full from now (said items) → Pieced told full from now bytes assembled
-pieced_refused told full from now bytes assembled items e closed s =
+-- bytes spell an item or a fault, or are left over
+more_comes : (bytes : List ℕ) (more : List Item) (rest : List ℕ) (fault : Option Fault) → Stream bytes more rest fault → bytes ≢ [] → (said more ++ broken fault ≢ []) ⊎ (rest ≢ [])
+more_comes bytes (item ∷ more) rest fault s some = inl (λ e. cc)
+more_comes bytes [] rest (Some why) s some = inl (λ e. cc)
+more_comes bytes [] rest None s some =
+    let by_front : (front : Front) → Ends front bytes rest None → (broken None ≢ []) ⊎ (rest ≢ []) =
+    elim [
+      | Partial ↦ λ x. inr (λ e. some (sym x.0 ∙ e))
+      | Broken why ↦ λ x. absurd (let clash = x.1 in cc)
+      | Whole size ↦ λ x. absurd x
+    ] in
+    by_front (front_at bytes) s
+
+append_some : {T : Type 0} (xs ys : List T) → 0 < length ys → xs ++ ys ≢ []
+append_some [] [] some e = absurd (let zero : 0 < 0 = some in omega (arith, zero))
+append_some [] (y ∷ ys) some e = cc
+append_some (x ∷ xs) ys some e = cc
+
+-- a piece is refused only where the stream has no fault
+pub no_fault : {T : Type 0} (fault : Option Fault) (result : Result T Fault) (e : Fault) → ((why : Fault) → fault ≡ Some why → IsOk result) → result ≡ Err e → fault ≡ None
+no_fault None result e broken is = refl
+no_fault (Some why) result e broken is = absurd (ok_err result e is (broken why refl))
+
+-- and it isn't empty
+pub lacked_some : {T : Type 0} (result : Result T Fault) (e : Fault) (piece : List ℕ) → result ≡ Err e → IsOkUnless result Memory → (result ≡ Err Memory → 0 < length piece) → 0 < length piece
+lacked_some (Ok x) e piece is memory paid = absurd (let clash = is in cc)
+lacked_some (Err x) e piece is memory paid = paid (ap Err memory)
+
+-- a piece was refused, for want of memory: it spells more than was given
+pub pieced_refused : {H : Type 0} (told : H → BadgeState → List Reply → H → BadgeState → Type 0) (refused : H → BadgeState → Fault → Type 0) (from : Origin H) (now : Progress H) (bytes piece rest : List ℕ) (assembled : Assembled) (items : List Item) → Stream bytes items rest None → 0 < length piece
+    → is_closed now.trace.session.state ≡ true → Settled told refused from now (said items) true → Pieced told refused from now (bytes ++ piece) assembled
+pieced_refused told refused from now bytes piece rest assembled items stream some closed s =
+    let tail = reading_of (rest ++ piece) in
+    let parts : said items ++ (said tail.items ++ broken tail.fault) ≡ said (items ++ tail.items) ++ broken tail.fault =
+    sym (append_assoc (said items) (said tail.items) (broken tail.fault)) ∙ ap (λ (is : List Event). is ++ broken tail.fault) (sym (said_more items tail.items)) in
     record {
-      items = items ++ e.more;
-      rest = e.rest;
-      fault = e.fault;
-      stream = e.stream;
+      items = items ++ tail.items;
+      rest = tail.rest;
+      fault = tail.fault;
+      stream = Stream-grows bytes piece items rest tail.items tail.rest tail.fault stream tail.stream;
       inputs = said items;
-      later = said e.more ++ broken e.fault;
-      parts = sym (append_assoc (said items) (said e.more) (broken e.fault)) ∙ ap (λ (is : List Event). is ++ broken e.fault) (sym (said_more items e.more));
+      later = said tail.items ++ broken tail.fault;
+      parts = parts;
+      unkept = true;
       settled = s;
+      short = λ _.
+          elim (more_comes (rest ++ piece) tail.items tail.rest tail.fault tail.stream (append_some rest piece some)) [
+            | inl comes ↦ inl (some_later (said items) (said tail.items ++ broken tail.fault) _ parts comes)
+            | inr left ↦ inr left
+          ];
       going = λ h. absurd (let clash = sym h ∙ closed in cc);
     }
 
 -- an end by which messages are lost settles what is missing
-pub settled_lost : {H : Type 0} (told : H → BadgeState → List Reply → H → BadgeState → Type 0) (full : H → BadgeState → Type 0) (from : Origin H) (now : Progress H) (inputs : List Event) (missing : List ℕ) → Accounts told full from now inputs missing true → is_closed now.trace.session.state ≡ true → Settled told full from now inputs
-settled_lost told full from now inputs missing a closed =
-    record { sent = sent_lost told full from now inputs missing a; answered = λ h. absurd (let clash = sym h ∙ closed in cc) }
+pub settled_lost : {H : Type 0} (told : H → BadgeState → List Reply → H → BadgeState → Type 0) (refused : H → BadgeState → Fault → Type 0) (from : Origin H) (now : Progress H) (inputs : List Event) (missing : List ℕ) (unkept : Bool) → Accounts told refused from now inputs missing true unkept → is_closed now.trace.session.state ≡ true → Settled told refused from now inputs unkept
+settled_lost told refused from now inputs missing unkept a closed =
+    record { sent = sent_lost told refused from now inputs missing unkept a; answered = λ h. absurd (let clash = sym h ∙ closed in cc) }
 
 -- ---- reading
 
@@ -184,11 +275,11 @@ Consumes-keeps : (a b c : Option (List ℕ)) (x : List ℕ) → Consumes a b x �
 Consumes-keeps a b c x h k = subst (λ (y : List ℕ). Consumes a c y) (append-nil x) (Consumes-then a b c x [] h (Consumes-nothing b c k))
 
 -- one piece more
-pub heard_more : {H : Type 0} (told : H → BadgeState → List Reply → H → BadgeState → Type 0) (full : H → BadgeState → Type 0) (from : Origin H) (input before after : Option (List ℕ)) (now now' : Progress H) (assembled assembled' : Assembled) (turns turns' : ℕ) (piece : List ℕ)
-    → HeardBy told full from input before now assembled turns → is_closed now.trace.session.state ≡ false → Consumes before after piece → 1 ≤ length piece → turns' ≡ turns + 1
-    → ((bytes : List ℕ) (items : List Item) → Stream bytes items assembled.rest assembled.fault → Settled told full from now (said items) → Pieced told full from now' (bytes ++ piece) assembled')
-    → HeardBy told full from input after now' assembled' turns'
-heard_more told full from input before after now now' assembled assembled' turns turns' piece h going c one next step =
+pub heard_more : {H : Type 0} (told : H → BadgeState → List Reply → H → BadgeState → Type 0) (refused : H → BadgeState → Fault → Type 0) (from : Origin H) (input before after : Option (List ℕ)) (now now' : Progress H) (assembled assembled' : Assembled) (turns turns' : ℕ) (piece : List ℕ)
+    → HeardBy told refused from input before now assembled turns → is_closed now.trace.session.state ≡ false → Consumes before after piece → 1 ≤ length piece → turns' ≡ turns + 1
+    → ((bytes : List ℕ) (items : List Item) → Stream bytes items assembled.rest assembled.fault → Settled told refused from now (said items) false → Pieced told refused from now' (bytes ++ piece) assembled')
+    → HeardBy told refused from input after now' assembled' turns'
+heard_more told refused from input before after now now' assembled assembled' turns turns' piece h going c one next step =
     let p = h.pieced in
     let up = p.going going in
     let stream : Stream h.read p.items assembled.rest assembled.fault =
@@ -200,13 +291,13 @@ heard_more told full from input before after now now' assembled assembled' turns
       read = h.read ++ piece;
       consumed = Consumes-then input before after h.read piece h.consumed c;
       enough = omega (arith, length-append h.read piece);
-      pieced = step h.read p.items stream (subst (λ (is : List Event). Settled told full from now is) inputs p.settled);
+      pieced = step h.read p.items stream (open_kept told refused from now (said p.items) p.unkept going (subst (λ (is : List Event). Settled told refused from now is p.unkept) inputs p.settled));
     }
 
 -- reading has ended
-pub heard_end : {H : Type 0} (told : H → BadgeState → List Reply → H → BadgeState → Type 0) (full : H → BadgeState → Type 0) (from : Origin H) (input before after : Option (List ℕ)) (failed : Bool) (now : Progress H) (assembled : Assembled) (turns : ℕ) (end : ReadEnd)
-    → HeardBy told full from input before now assembled turns → Keeps before after → ((read : List ℕ) → turns ≤ length read → EndsSo end after failed read) → Heard told full from input after failed now end
-heard_end told full from input before after failed now assembled turns end h k e =
+pub heard_end : {H : Type 0} (told : H → BadgeState → List Reply → H → BadgeState → Type 0) (refused : H → BadgeState → Fault → Type 0) (from : Origin H) (input before after : Option (List ℕ)) (failed : Bool) (now : Progress H) (assembled : Assembled) (turns : ℕ) (end : ReadEnd)
+    → HeardBy told refused from input before now assembled turns → Keeps before after → ((read : List ℕ) → turns ≤ length read → EndsSo end after failed read) → Heard told refused from input after failed now end
+heard_end told refused from input before after failed now assembled turns end h k e =
     record { read = h.read; consumed = Consumes-keeps input before after h.read h.consumed k; assembled = assembled; pieced = h.pieced; cause = e h.read h.enough }
 
 keeps_of : (a b : Option (List ℕ)) → Consumes a b [] → Keeps a b
@@ -326,32 +417,32 @@ no_end inputs later items fault e =
     )
 
 -- no entry stands after the end, from the settings where it began
-each_from : {H : Type 0} (told : H → BadgeState → List Reply → H → BadgeState → Type 0) (full : H → BadgeState → Type 0) (from : Origin H) (now : Progress H) (inputs : List Event) (missing : List ℕ) (lost : Bool) (a : Accounts told full from now inputs missing lost) → EachOpen (first_account from.settings) a.history
-each_from told full from now inputs missing lost a = subst (λ (s : Settings). EachOpen (first_account s) a.history) a.settings a.stands.each
+each_from : {H : Type 0} (told : H → BadgeState → List Reply → H → BadgeState → Type 0) (refused : H → BadgeState → Fault → Type 0) (from : Origin H) (now : Progress H) (inputs : List Event) (missing : List ℕ) (lost unkept : Bool) (a : Accounts told refused from now inputs missing lost unkept) → EachOpen (first_account from.settings) a.history
+each_from told refused from now inputs missing lost unkept a = subst (λ (s : Settings). EachOpen (first_account s) a.history) a.settings a.stands.each
 
 -- reading stopped before its end
-pub in_order_stopped : {H : Type 0} (told : H → BadgeState → List Reply → H → BadgeState → Type 0) (full : H → BadgeState → Type 0) (from : Origin H) (now : Progress H) (inputs later : List Event) (items : List Item) (fault : Option Fault) → inputs ++ later ≡ said items ++ broken fault → (s : Settled told full from now inputs)
+pub in_order_stopped : {H : Type 0} (told : H → BadgeState → List Reply → H → BadgeState → Type 0) (refused : H → BadgeState → Fault → Type 0) (from : Origin H) (now : Progress H) (inputs later : List Event) (items : List Item) (fault : Option Fault) (unkept : Bool) → inputs ++ later ≡ said items ++ broken fault → (s : Settled told refused from now inputs unkept)
     → IsInOrder (queue items fault ends.Stopped) from.settings s.sent.accounts.history × (has_end s.sent.accounts.history ≡ false)
-in_order_stopped told full from now inputs later items fault e s =
+in_order_stopped told refused from now inputs later items fault unkept e s =
     let history : List TraceEntry = s.sent.accounts.history in
     let is : inputs_of history ≡ inputs = s.sent.accounts.inputs_are in
     let none : has_end history ≡ false = end_is_input history ∙ ap (list_any is_reader_end) is ∙ no_end inputs later items fault e in (
       record {
         later = later;
         beginning = ap (λ (x : List Event). x ++ later) is ∙ e ∙ ap (λ (x : List Event). said items ++ x) (sym (append-nil (broken fault)));
-        none_after = each_from told full from now inputs s.sent.missing s.sent.lost s.sent.accounts;
+        none_after = each_from told refused from now inputs s.sent.missing s.sent.lost unkept s.sent.accounts;
         all_at_bye = λ bye. absurd (let end = bye_ended from.settings history bye in let clash = sym none ∙ end in cc);
       },
       none,
     )
 
 -- reading came to its end, and the session was given the end mark
-pub in_order_ended : {H : Type 0} (told : H → BadgeState → List Reply → H → BadgeState → Type 0) (full : H → BadgeState → Type 0) (from : Origin H) (now : Progress H) (inputs : List Event) (items : List Item) (fault : Option Fault) (end : ReadEnd) → end_mark end ≡ events.ReaderEnd ∷ [] → inputs ≡ said items ++ broken fault
-    → (g : Gave told full from now inputs events.ReaderEnd) → IsInOrder (queue items fault end) from.settings g.settled.sent.accounts.history
-in_order_ended told full from now inputs items fault end mark e g =
+pub in_order_ended : {H : Type 0} (told : H → BadgeState → List Reply → H → BadgeState → Type 0) (refused : H → BadgeState → Fault → Type 0) (from : Origin H) (now : Progress H) (inputs : List Event) (items : List Item) (fault : Option Fault) (end : ReadEnd) → end_mark end ≡ events.ReaderEnd ∷ [] → inputs ≡ said items ++ broken fault
+    → (g : Gave told refused from now inputs events.ReaderEnd) → IsInOrder (queue items fault end) from.settings g.settled.sent.accounts.history
+in_order_ended told refused from now inputs items fault end mark e g =
     let history : List TraceEntry = g.settled.sent.accounts.history in
     let is : inputs_of history ≡ g.given = g.settled.sent.accounts.inputs_are in
-    let each = each_from told full from now g.given g.settled.sent.missing g.settled.sent.lost g.settled.sent.accounts in
+    let each = each_from told refused from now g.given g.settled.sent.missing g.settled.sent.lost false g.settled.sent.accounts in
     let all : said items ++ (broken fault ++ end_mark end) ≡ inputs ++ events.ReaderEnd ∷ [] =
     ap (λ (x : List Event). said items ++ (broken fault ++ x)) mark ∙ sym (append_assoc (said items) (broken fault) (events.ReaderEnd ∷ [])) ∙ ap (λ (x : List Event). x ++ events.ReaderEnd ∷ []) (sym e) in
     elim g.which [

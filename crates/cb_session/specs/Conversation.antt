@@ -1,5 +1,8 @@
 -- A conversation: what has come in, what went out, and what was asked and told, at any moment.
-use Rattle.std.specs.Prelude.{◌≡◌, ℕ, ◌⊎◌, Bool, true, false, List, [], ◌∷◌, ◌++◌, ◌<◌, ◌≤◌, Option, Some, None, if◌then◌else◌}
+use Rattle.std.specs.Prelude.{◌≡◌, ◌≢◌, ℕ, ◌⊎◌, Bool, true, false, List, [], ◌∷◌, ◌++◌, Option, None, if◌then◌else◌}
+use Rattle.cb_base.specs.declared.fault.Fault.{Fault}
+use Rattle.cb_base.specs.declared.fault.Fault.TheVariants.{JournalFull, Memory}
+use Rattle.cb_wire.specs.declared.item.Item.{Item}
 use Rattle.cb_wire.specs.Stream.{texts}
 use Rattle.cb_io.specs.Writing.{Wrote}
 use Rattle.cb_hall.specs.Hall.{BadgeState}
@@ -9,7 +12,7 @@ use Rattle.cb_peer.specs.declared.settings.Settings.{Settings}
 use Rattle.cb_peer.specs.declared.event.Event.{Event}
 use Rattle.cb_peer.specs.declared.event.Event.TheVariants as events
 use Rattle.cb_peer.specs.declared.trace.TraceEntry.{TraceEntry}
-use Rattle.cb_peer.specs.Event.{ends_at_once, is_hall_full, is_tick, is_write_fault, kind_of, loses}
+use Rattle.cb_peer.specs.Event.{ends_at_once, is_hall_full, is_no_memory, is_tick, is_write_fault, kind_of, loses}
 use Rattle.cb_peer.specs.Session.{is_closed, questions_left, standing_question}
 use Rattle.cb_peer.specs.Fold.{first_account, has_kind, inputs_of, replies, sends}
 use Rattle.cb_peer.specs.Prompt.{EachPrompt}
@@ -38,9 +41,15 @@ pub record Progress (H : Type 0) : Type 0 where
 abbrev pub progress : {H : Type 0} → TraceView → H → BadgeState → Option (List ℕ) → Bool → ℕ → Progress H
 progress trace hall badge held failed written = record { trace = trace; hall = hall; badge = badge; held = held; failed = failed; written = written }
 
--- The account of a conversation: these inputs were given, these bytes of what was sent are missing, and whether something
--- came by which bytes may be. What the hall told is as `told` says, and `full` that it grants no more.
-pub record Accounts {H : Type 0} (told : H → BadgeState → List Reply → H → BadgeState → Type 0) (full : H → BadgeState → Type 0) (from : Origin H) (now : Progress H) (inputs : List Event) (missing : List ℕ) (lost : Bool) : Type 0 where
+-- Memory lacked in a conversation: its trace has no place for another entry, the hall refused a question for want of it, or
+-- what was to be written wasn't.
+abbrev pub Lacked : {H : Type 0} → (H → BadgeState → Fault → Type 0) → Progress H → List ℕ → Type 0
+Lacked refused now missing = (now.trace.room ≡ 0) ⊎ (refused now.hall now.badge Memory ⊎ (missing ≢ []))
+
+-- The account of a conversation: these inputs were given, these bytes of what was sent are missing, whether something came
+-- by which bytes may be, and whether something that came of the peer may not have been kept, for want of memory. What the
+-- hall told is as `told` says, and what it refused as `refused` says.
+pub record Accounts {H : Type 0} (told : H → BadgeState → List Reply → H → BadgeState → Type 0) (refused : H → BadgeState → Fault → Type 0) (from : Origin H) (now : Progress H) (inputs : List Event) (missing : List ℕ) (lost unkept : Bool) : Type 0 where
   pub settings : now.trace.settings ≡ from.settings
   -- all entries since the beginning
   pub history : List TraceEntry
@@ -53,20 +62,21 @@ pub record Accounts {H : Type 0} (told : H → BadgeState → List Reply → H �
   pub replies_are : told from.hall from.badge (replies from.settings history) now.hall now.badge
   -- each cause is true
   pub write_fault : has_kind is_write_fault history ≡ true → now.failed ≡ true
-  pub hall_full : has_kind is_hall_full history ≡ true → full now.hall now.badge
+  pub hall_full : has_kind is_hall_full history ≡ true → refused now.hall now.badge JournalFull
+  pub no_memory : has_kind is_no_memory history ≡ true → Lacked refused now missing ⊎ (unkept ≡ true)
   pub no_tick : has_kind is_tick history ≡ false
   pub losses : has_kind loses history ≡ lost
 
 -- the same with messages on their way
-pub record Underway {H : Type 0} (told : H → BadgeState → List Reply → H → BadgeState → Type 0) (full : H → BadgeState → Type 0) (from : Origin H) (now : Progress H) (inputs : List Event) (missing : List ℕ) : Type 0 where
+pub record Underway {H : Type 0} (told : H → BadgeState → List Reply → H → BadgeState → Type 0) (refused : H → BadgeState → Fault → Type 0) (from : Origin H) (now : Progress H) (inputs : List Event) (missing : List ℕ) (unkept : Bool) : Type 0 where
   pub lost : Bool
-  pub accounts : Accounts told full from now inputs missing lost
+  pub accounts : Accounts told refused from now inputs missing lost unkept
 
 -- the account with nothing on its way: all that was sent went out, unless a write failed or memory ran out
-pub record Sent {H : Type 0} (told : H → BadgeState → List Reply → H → BadgeState → Type 0) (full : H → BadgeState → Type 0) (from : Origin H) (now : Progress H) (inputs : List Event) : Type 0 where
+pub record Sent {H : Type 0} (told : H → BadgeState → List Reply → H → BadgeState → Type 0) (refused : H → BadgeState → Fault → Type 0) (from : Origin H) (now : Progress H) (inputs : List Event) (unkept : Bool) : Type 0 where
   pub missing : List ℕ
   pub lost : Bool
-  pub accounts : Accounts told full from now inputs missing lost
+  pub accounts : Accounts told refused from now inputs missing lost unkept
   pub whole : lost ≡ false → missing ≡ []
   -- a write that failed was told, and ended the session
   pub told_loss : now.failed ≡ true → (from.failed ≡ true) ⊎ (lost ≡ true)
@@ -76,15 +86,28 @@ abbrev pub IsAnswered : TraceView → Type 0
 IsAnswered trace = is_closed trace.session.state ≡ false → trace.session.standing ≡ None
 
 -- the same where no answer is waited for
-pub record Settled {H : Type 0} (told : H → BadgeState → List Reply → H → BadgeState → Type 0) (full : H → BadgeState → Type 0) (from : Origin H) (now : Progress H) (inputs : List Event) : Type 0 where
-  pub sent : Sent told full from now inputs
+pub record Settled {H : Type 0} (told : H → BadgeState → List Reply → H → BadgeState → Type 0) (refused : H → BadgeState → Fault → Type 0) (from : Origin H) (now : Progress H) (inputs : List Event) (unkept : Bool) : Type 0 where
+  pub sent : Sent told refused from now inputs unkept
   pub answered : IsAnswered now.trace
 
 -- an input was given, or there was no room for it and the session ended
-pub record Gave {H : Type 0} (told : H → BadgeState → List Reply → H → BadgeState → Type 0) (full : H → BadgeState → Type 0) (from : Origin H) (now : Progress H) (inputs : List Event) (event : Event) : Type 0 where
+pub record Gave {H : Type 0} (told : H → BadgeState → List Reply → H → BadgeState → Type 0) (refused : H → BadgeState → Fault → Type 0) (from : Origin H) (now : Progress H) (inputs : List Event) (event : Event) : Type 0 where
   pub given : List Event
-  pub settled : Settled told full from now given
+  pub settled : Settled told refused from now given false
   pub which : (given ≡ inputs ++ event ∷ []) ⊎ ((given ≡ inputs) × (is_closed now.trace.session.state ≡ true))
+
+-- an item couldn't be kept, and the session ended
+pub record Unkept {H : Type 0} (told : H → BadgeState → List Reply → H → BadgeState → Type 0) (refused : H → BadgeState → Fault → Type 0) (from : Origin H) (now : Progress H) (inputs : List Event) : Type 0 where
+  pub settled : Settled told refused from now inputs true
+  pub closed : is_closed now.trace.session.state ≡ true
+
+-- an item was given, or it couldn't be kept
+abbrev pub GaveItem : {H : Type 0} → (H → BadgeState → List Reply → H → BadgeState → Type 0) → (H → BadgeState → Fault → Type 0) → Origin H → Progress H → List Event → Item → Type 0
+GaveItem told refused from now inputs item = Gave told refused from now inputs (events.Said item) ⊎ Unkept told refused from now inputs
+
+-- while the session goes on, no write has failed
+abbrev pub WritesOn : TraceView → Bool → Type 0
+WritesOn trace failed = is_closed trace.session.state ≡ false → failed ≡ false
 
 -- how many answers are needed until no question stands
 abbrev pub left_of : TraceView → ℕ
@@ -100,8 +123,8 @@ pub record IsLoss (event : Event) : Type 0 where
   pub ends : ends_at_once event ≡ true
 
 -- what the hall made of a question: the event that tells it
-abbrev pub AnswerOf : {H : Type 0} → (H → BadgeState → List Reply → H → BadgeState → Type 0) → (H → BadgeState → Type 0) → H → BadgeState → H → BadgeState → Question → Event → Type 0
-AnswerOf told full old had new has question (events.Told answer) = told old had (record { question = question; answer = answer } ∷ []) new has
-AnswerOf told full old had new has question events.HallFull = told old had [] new has × full new has
-AnswerOf told full old had new has question events.NoMemory = told old had [] new has
-AnswerOf told full old had new has question other = ⊥
+abbrev pub AnswerOf : {H : Type 0} → (H → BadgeState → List Reply → H → BadgeState → Type 0) → (H → BadgeState → Fault → Type 0) → H → BadgeState → H → BadgeState → Question → Event → Type 0
+AnswerOf told refused old had new has question (events.Told answer) = told old had (record { question = question; answer = answer } ∷ []) new has
+AnswerOf told refused old had new has question events.HallFull = told old had [] new has × refused new has JournalFull
+AnswerOf told refused old had new has question events.NoMemory = told old had [] new has × refused new has Memory
+AnswerOf told refused old had new has question other = ⊥

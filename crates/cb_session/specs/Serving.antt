@@ -1,5 +1,5 @@
 -- Serving one connection: what was read, and what came of it.
-use Rattle.std.specs.Prelude.{◌≡◌, ℕ, ◌≤◌, ◌^◌, Bool, true, false, List, [], ◌∷◌, ◌++◌, length, map, filter, Option, Some, None}
+use Rattle.std.specs.Prelude.{◌≡◌, ◌≢◌, ◌⊎◌, ℕ, ◌≤◌, ◌^◌, Bool, true, false, List, [], ◌∷◌, ◌++◌, length, map, Option, Some, None}
 use Rattle.std.specs.List.{list_any}
 use Rattle.std.specs.Io.KnownBytes.{Consumes, IsAtEnd}
 use Rattle.cb_base.specs.declared.fault.Fault.{Fault}
@@ -17,7 +17,6 @@ use Rattle.cb_peer.specs.Event.{is_reader_end}
 use Rattle.cb_peer.specs.Session.{is_closed}
 use Rattle.cb_peer.specs.Fold.{EachOpen, first_account, inputs_of, session_of}
 use Rattle.cb_peer.specs.Prompt.{IsPrompt}
-use Rattle.cb_peer.specs.Trace.{StandsFor, TraceView}
 use Rattle.cb_session.specs.declared.reading.ReadEnd.{ReadEnd}
 use Rattle.cb_session.specs.declared.reading.ReadEnd.TheVariants as ends
 use Rattle.cb_session.specs.Conversation.{Origin, Progress, Settled}
@@ -58,11 +57,14 @@ has_end history = list_any (λ entry. is_reader_end entry.event) history
 -- ---- items and pieces
 
 -- the first of these items were given, and all of them if the session goes on
-pub record Took {H : Type 0} (told : H → BadgeState → List Reply → H → BadgeState → Type 0) (full : H → BadgeState → Type 0) (from : Origin H) (now : Progress H) (inputs : List Event) (items : List Item) : Type 0 where
+pub record Took {H : Type 0} (told : H → BadgeState → List Reply → H → BadgeState → Type 0) (refused : H → BadgeState → Fault → Type 0) (from : Origin H) (now : Progress H) (inputs : List Event) (items : List Item) : Type 0 where
   pub front : List Item
   pub rest : List Item
   pub parts : items ≡ front ++ rest
-  pub settled : Settled told full from now (inputs ++ said front)
+  pub unkept : Bool
+  pub settled : Settled told refused from now (inputs ++ said front) unkept
+  -- what couldn't be kept is an item that wasn't given
+  pub short : unkept ≡ true → rest ≢ []
   pub all : is_closed now.trace.session.state ≡ false → rest ≡ []
 
 -- nothing is left to be given
@@ -72,9 +74,13 @@ pub record IsCaughtUp (rest : List ℕ) (fault : Option Fault) (later : List Eve
   pub no_fault : fault ≡ None
   pub none_later : later ≡ []
 
+-- more was read than was given: an item or a fault of the stream, or bytes behind them
+abbrev pub IsShort : List Event → List Item → List ℕ → Option Fault → Type 0
+IsShort inputs items rest fault = (inputs ≢ said items ++ broken fault) ⊎ (rest ≢ [])
+
 -- What a connection has heard of these bytes: the inputs that were given are a beginning of what the bytes spell; while
 -- the session goes on they are all of it, and the assembler has what is left over.
-pub record Pieced {H : Type 0} (told : H → BadgeState → List Reply → H → BadgeState → Type 0) (full : H → BadgeState → Type 0) (from : Origin H) (now : Progress H) (bytes : List ℕ) (assembled : Assembled) : Type 0 where
+pub record Pieced {H : Type 0} (told : H → BadgeState → List Reply → H → BadgeState → Type 0) (refused : H → BadgeState → Fault → Type 0) (from : Origin H) (now : Progress H) (bytes : List ℕ) (assembled : Assembled) : Type 0 where
   pub items : List Item
   pub rest : List ℕ
   pub fault : Option Fault
@@ -82,15 +88,17 @@ pub record Pieced {H : Type 0} (told : H → BadgeState → List Reply → H →
   pub inputs : List Event
   pub later : List Event
   pub parts : inputs ++ later ≡ said items ++ broken fault
-  pub settled : Settled told full from now inputs
+  pub unkept : Bool
+  pub settled : Settled told refused from now inputs unkept
+  pub short : unkept ≡ true → IsShort inputs items rest fault
   pub going : is_closed now.trace.session.state ≡ false → IsCaughtUp rest fault later assembled
 
 -- the same of the bytes that a source gave, after so many reads
-pub record HeardBy {H : Type 0} (told : H → BadgeState → List Reply → H → BadgeState → Type 0) (full : H → BadgeState → Type 0) (from : Origin H) (input remaining : Option (List ℕ)) (now : Progress H) (assembled : Assembled) (turns : ℕ) : Type 0 where
+pub record HeardBy {H : Type 0} (told : H → BadgeState → List Reply → H → BadgeState → Type 0) (refused : H → BadgeState → Fault → Type 0) (from : Origin H) (input remaining : Option (List ℕ)) (now : Progress H) (assembled : Assembled) (turns : ℕ) : Type 0 where
   pub read : List ℕ
   pub consumed : Consumes input remaining read
   pub enough : turns ≤ length read
-  pub pieced : Pieced told full from now read assembled
+  pub pieced : Pieced told refused from now read assembled
 
 -- why reading ended is so
 abbrev pub EndsSo : ReadEnd → Option (List ℕ) → Bool → List ℕ → Type 0
@@ -100,15 +108,15 @@ EndsSo ends.Turns remaining failed read = 2 ^ 40 ≤ length read
 EndsSo ends.Stopped remaining failed read = Unit {0}
 
 -- what a connection has heard when reading has ended
-pub record Heard {H : Type 0} (told : H → BadgeState → List Reply → H → BadgeState → Type 0) (full : H → BadgeState → Type 0) (from : Origin H) (input remaining : Option (List ℕ)) (failed : Bool) (now : Progress H) (end : ReadEnd) : Type 0 where
+pub record Heard {H : Type 0} (told : H → BadgeState → List Reply → H → BadgeState → Type 0) (refused : H → BadgeState → Fault → Type 0) (from : Origin H) (input remaining : Option (List ℕ)) (failed : Bool) (now : Progress H) (end : ReadEnd) : Type 0 where
   pub read : List ℕ
   pub consumed : Consumes input remaining read
   pub assembled : Assembled
-  pub pieced : Pieced told full from now read assembled
+  pub pieced : Pieced told refused from now read assembled
   pub cause : EndsSo end remaining failed read
 
 -- what serving a connection comes to, from its source as it was (input) to its source as it is (remaining)
-pub record Serves {H : Type 0} (told : H → BadgeState → List Reply → H → BadgeState → Type 0) (full : H → BadgeState → Type 0) (from : Origin H) (input remaining : Option (List ℕ)) (read_failed : Bool) (now : Progress H) (end : ReadEnd) : Type 0 where
+pub record Serves {H : Type 0} (told : H → BadgeState → List Reply → H → BadgeState → Type 0) (refused : H → BadgeState → Fault → Type 0) (from : Origin H) (input remaining : Option (List ℕ)) (read_failed : Bool) (now : Progress H) (end : ReadEnd) : Type 0 where
   -- the bytes that were read: where the source tells its bytes, it gave these
   pub read : List ℕ
   pub consumed : Consumes input remaining read
@@ -119,7 +127,10 @@ pub record Serves {H : Type 0} (told : H → BadgeState → List Reply → H →
   pub stream : Stream read items rest fault
   -- what was written, asked and told
   pub inputs : List Event
-  pub settled : Settled told full from now inputs
+  pub unkept : Bool
+  pub settled : Settled told refused from now inputs unkept
+  -- what couldn't be kept, for want of memory, is something that was read and not given
+  pub short : unkept ≡ true → IsShort inputs items rest fault
   -- the items were processed in order, each once, none after the session's end
   pub in_order : IsInOrder (queue items fault end) from.settings settled.sent.accounts.history
   -- each had its answers before the next came

@@ -1,14 +1,14 @@
 //! One event of a connection at a time: the session is given it, what it sends is written, what it asks is asked.
-ghost use Rattle.std.specs.Prelude.{◌≡◌, ◌<◌, ◌≤◌, ◌++◌, true, false, Bool, List, ℕ, [], Option, Some, None, IfSome, if◌then◌else◌};
+ghost use Rattle.std.specs.Prelude.{◌≡◌, ◌≢◌, ◌⊎◌, ◌<◌, ◌≤◌, ◌++◌, true, false, Bool, List, ℕ, [], Option, Some, None, IfSome, if◌then◌else◌};
 ghost use Rattle.cb_wire.specs.Stream.{texts};
 ghost use Rattle.cb_wire.specs.declared.item.Item.{Item};
 ghost use Rattle.cb_io.specs.Writing.{IsOfSink};
 ghost use Rattle.cb_peer.specs.declared.event.Event.{Event};
 ghost use Rattle.cb_peer.specs.declared.event.Event.TheVariants as events;
-ghost use Rattle.cb_peer.specs.Event.{ends_at_once, is_input, is_write_fault, kind_of, loses};
+ghost use Rattle.cb_peer.specs.Event.{ends_at_once, is_input, is_no_memory, is_write_fault, kind_of, loses};
 ghost use Rattle.cb_peer.specs.Session.{is_closed, standing_question};
 ghost use Rattle.cb_peer.specs.Trace.{IsOpen};
-ghost use Rattle.cb_session.specs.Conversation.{Accounts, AnswerOf, Gave, IsLoss, Origin, Sent, Settled, Underway, left_of, open_question, progress};
+ghost use Rattle.cb_session.specs.Conversation.{Accounts, AnswerOf, Gave, GaveItem, IsLoss, Origin, Sent, Settled, Underway, WritesOn, left_of, open_question, progress};
 
 use cb_base::{Fault, Shared};
 use cb_hall::{Badge, Question};
@@ -71,9 +71,10 @@ impl<'a, W: Sink, H: Oracle> Conversation<'a, W, H> {
     pub fn give_item(&mut self, alloc: Global, item: Item)
         requires going { IsOpen self.old.trace.now }
         ensures ends { (self.new.trace.ghost_name ≡ self.old.trace.ghost_name) × (self.new.writer.ghost_name ≡ self.old.writer.ghost_name) × (self.new.hall.ghost_name ≡ self.old.hall.ghost_name) × (self.new.badge.ghost_name ≡ self.old.badge.ghost_name) }
+        ensures heeds { WritesOn self.old.trace.now (W.has_failed self.old.writer.now) → W.heeds_failure self.old.writer.now self.new.writer.now × WritesOn self.new.trace.now (W.has_failed self.new.writer.now) }
         ensures gave { (from : Origin _) (inputs : List Event) →
-            Settled H.told H.is_full from (progress self.old.trace.now self.old.hall.now self.old.badge.now (W.contents self.old.writer.now) (W.has_failed self.old.writer.now) self.old.written) inputs →
-            Gave H.told H.is_full from (progress self.new.trace.now self.new.hall.now self.new.badge.now (W.contents self.new.writer.now) (W.has_failed self.new.writer.now) self.new.written) inputs (events.Said item) }
+            Settled H.told H.refused from (progress self.old.trace.now self.old.hall.now self.old.badge.now (W.contents self.old.writer.now) (W.has_failed self.old.writer.now) self.old.written) inputs false →
+            GaveItem H.told H.refused from (progress self.new.trace.now self.new.hall.now self.new.badge.now (W.contents self.new.writer.now) (W.has_failed self.new.writer.now) self.new.written) inputs item }
     {
         let Some(shared) = share(alloc, item) else {
             self.lose(Event::NoMemory);
@@ -87,10 +88,11 @@ impl<'a, W: Sink, H: Oracle> Conversation<'a, W, H> {
         requires going { IsOpen self.old.trace.now }
         requires input { is_input (kind_of event) ≡ true }
         ensures ends { (self.new.trace.ghost_name ≡ self.old.trace.ghost_name) × (self.new.writer.ghost_name ≡ self.old.writer.ghost_name) × (self.new.hall.ghost_name ≡ self.old.hall.ghost_name) × (self.new.badge.ghost_name ≡ self.old.badge.ghost_name) }
+        ensures heeds { WritesOn self.old.trace.now (W.has_failed self.old.writer.now) → W.heeds_failure self.old.writer.now self.new.writer.now × WritesOn self.new.trace.now (W.has_failed self.new.writer.now) }
         ensures ended { ends_at_once event ≡ true → is_closed self.new.trace.now.session.state ≡ true }
         ensures gave { (from : Origin _) (inputs : List Event) →
-            Settled H.told H.is_full from (progress self.old.trace.now self.old.hall.now self.old.badge.now (W.contents self.old.writer.now) (W.has_failed self.old.writer.now) self.old.written) inputs →
-            Gave H.told H.is_full from (progress self.new.trace.now self.new.hall.now self.new.badge.now (W.contents self.new.writer.now) (W.has_failed self.new.writer.now) self.new.written) inputs event }
+            Settled H.told H.refused from (progress self.old.trace.now self.old.hall.now self.old.badge.now (W.contents self.old.writer.now) (W.has_failed self.old.writer.now) self.old.written) inputs false →
+            Gave H.told H.refused from (progress self.new.trace.now self.new.hall.now self.new.badge.now (W.contents self.new.writer.now) (W.has_failed self.new.writer.now) self.new.written) inputs event }
     {
         if !self.trace.ready() {
             return;
@@ -103,10 +105,11 @@ impl<'a, W: Sink, H: Oracle> Conversation<'a, W, H> {
     /// Asks the hall what the session asks, and writes what it sends to the answers, until no question stands.
     pub fn converse(&mut self, alloc: Global)
         ensures ends { (self.new.trace.ghost_name ≡ self.old.trace.ghost_name) × (self.new.writer.ghost_name ≡ self.old.writer.ghost_name) × (self.new.hall.ghost_name ≡ self.old.hall.ghost_name) × (self.new.badge.ghost_name ≡ self.old.badge.ghost_name) }
+        ensures heeds { WritesOn self.old.trace.now (W.has_failed self.old.writer.now) → W.heeds_failure self.old.writer.now self.new.writer.now × WritesOn self.new.trace.now (W.has_failed self.new.writer.now) }
         ensures stays { is_closed self.old.trace.now.session.state ≡ true → is_closed self.new.trace.now.session.state ≡ true }
         ensures settled { (from : Origin _) (inputs : List Event) →
-            Sent H.told H.is_full from (progress self.old.trace.now self.old.hall.now self.old.badge.now (W.contents self.old.writer.now) (W.has_failed self.old.writer.now) self.old.written) inputs →
-            Settled H.told H.is_full from (progress self.new.trace.now self.new.hall.now self.new.badge.now (W.contents self.new.writer.now) (W.has_failed self.new.writer.now) self.new.written) inputs }
+            Sent H.told H.refused from (progress self.old.trace.now self.old.hall.now self.old.badge.now (W.contents self.old.writer.now) (W.has_failed self.old.writer.now) self.old.written) inputs false →
+            Settled H.told H.refused from (progress self.new.trace.now self.new.hall.now self.new.badge.now (W.contents self.new.writer.now) (W.has_failed self.new.writer.now) self.new.written) inputs false }
     {
         while let Some(question) = self.question() {
             let messages = self.ask(alloc, question);
@@ -132,8 +135,8 @@ impl<'a, W: Sink, H: Oracle> Conversation<'a, W, H> {
         ensures sink { self.new.writer.now ≡ self.old.writer.now }
         ensures written { self.new.written ≡ self.old.written }
         ensures accounts { (from : Origin _) (inputs : List Event) (held : Option (List ℕ)) (failed : Bool) (written : ℕ) →
-            Accounts H.told H.is_full from (progress self.old.trace.now self.old.hall.now self.old.badge.now held failed written) inputs [] false →
-            Underway H.told H.is_full from (progress self.new.trace.now self.new.hall.now self.new.badge.now held failed written) inputs (texts result.items) }
+            Accounts H.told H.refused from (progress self.old.trace.now self.old.hall.now self.old.badge.now held failed written) inputs [] false false →
+            Underway H.told H.refused from (progress self.new.trace.now self.new.hall.now self.new.badge.now held failed written) inputs (texts result.items) false }
         ensures fewer { left_of self.new.trace.now < left_of self.old.trace.now }
         ensures silent { is_closed self.new.trace.now.session.state ≡ true → result.items ≡ [] }
     {
@@ -149,12 +152,14 @@ impl<'a, W: Sink, H: Oracle> Conversation<'a, W, H> {
     pub fn send(&mut self, alloc: Global, messages: &[BoundedMessage])
         requires silent { is_closed self.old.trace.now.session.state ≡ true → messages.now ≡ [] }
         ensures ends { (self.new.trace.ghost_name ≡ self.old.trace.ghost_name) × (self.new.writer.ghost_name ≡ self.old.writer.ghost_name) × (self.new.hall.ghost_name ≡ self.old.hall.ghost_name) × (self.new.badge.ghost_name ≡ self.old.badge.ghost_name) }
+        // Once a write has failed, no other is made.
+        ensures heeds { WritesOn self.old.trace.now (W.has_failed self.old.writer.now) → W.heeds_failure self.old.writer.now self.new.writer.now × WritesOn self.new.trace.now (W.has_failed self.new.writer.now) }
         ensures hall { self.new.hall.now ≡ self.old.hall.now }
         ensures badge { self.new.badge.now ≡ self.old.badge.now }
         ensures accounts { (from : Origin _) (inputs : List Event) (hall : _) (badge : _) →
-            Underway H.told H.is_full from (progress self.old.trace.now hall badge (W.contents self.old.writer.now) (W.has_failed self.old.writer.now) self.old.written) inputs (texts messages.now) →
+            Underway H.told H.refused from (progress self.old.trace.now hall badge (W.contents self.old.writer.now) (W.has_failed self.old.writer.now) self.old.written) inputs (texts messages.now) false →
             (W.has_failed self.old.writer.now ≡ true → from.failed ≡ true) →
-            Sent H.told H.is_full from (progress self.new.trace.now hall badge (W.contents self.new.writer.now) (W.has_failed self.new.writer.now) self.new.written) inputs }
+            Sent H.told H.refused from (progress self.new.trace.now hall badge (W.contents self.new.writer.now) (W.has_failed self.new.writer.now) self.new.written) inputs false }
         ensures kept { IsOpen self.new.trace.now → self.new.trace.now ≡ self.old.trace.now }
         ensures stays { is_closed self.old.trace.now.session.state ≡ true → is_closed self.new.trace.now.session.state ≡ true }
     {
@@ -176,10 +181,13 @@ impl<'a, W: Sink, H: Oracle> Conversation<'a, W, H> {
         ensures badge { self.new.badge.now ≡ self.old.badge.now }
         ensures sink { self.new.writer.now ≡ self.old.writer.now }
         ensures written { self.new.written ≡ self.old.written }
-        ensures accounts { (from : Origin _) (inputs : List Event) (missing : List ℕ) (lost : Bool) (hall : _) (badge : _) (held : Option (List ℕ)) (failed : Bool) (written : ℕ) →
+        // Each cause is to be true: a write that failed, bytes that are missing for want of memory, or (`unkept`) something
+        // that came of the peer and couldn't be kept.
+        ensures accounts { (from : Origin _) (inputs : List Event) (missing : List ℕ) (lost unkept : Bool) (hall : _) (badge : _) (held : Option (List ℕ)) (failed : Bool) (written : ℕ) →
             (is_write_fault (kind_of event) ≡ true → failed ≡ true) →
-            Accounts H.told H.is_full from (progress self.old.trace.now hall badge held failed written) inputs missing lost →
-            Accounts H.told H.is_full from (progress self.new.trace.now hall badge held failed written) inputs missing true }
+            (is_no_memory (kind_of event) ≡ true → (missing ≢ []) ⊎ (unkept ≡ true)) →
+            Accounts H.told H.refused from (progress self.old.trace.now hall badge held failed written) inputs missing lost false →
+            Accounts H.told H.refused from (progress self.new.trace.now hall badge held failed written) inputs missing true unkept }
         ensures closed { is_closed self.new.trace.now.session.state ≡ true }
     {
         if !self.trace.ready() {
@@ -198,7 +206,7 @@ fn share(alloc: Global, item: Item) -> Option<Shared<Item>>
 
 /// Asks the hall a question. What it makes of it is an event.
 fn ask_hall<H: Oracle>(hall: &mut H, badge: &mut Badge, question: Question) -> Event
-    ensures { AnswerOf H.told H.is_full hall.old badge.old hall.new badge.new question result }
+    ensures { AnswerOf H.told H.refused hall.old badge.old hall.new badge.new question result }
 {
     match hall.ask(badge, question) {
         Ok(answer) => Event::Told(answer),
@@ -212,6 +220,7 @@ fn lost_by(fault: WriteFault) -> Event
     ensures loss { IsLoss result }
     ensures sink { is_write_fault (kind_of result) ≡ true → IsOfSink fault }
     ensures told { IsOfSink fault → is_write_fault (kind_of result) ≡ true }
+    ensures lack { is_no_memory (kind_of result) ≡ true → fault ≡ WriteFault.Memory }
 {
     match fault {
         WriteFault::Io | WriteFault::Zero => Event::WriteFault,

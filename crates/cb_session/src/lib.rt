@@ -14,5 +14,5 @@ pub use cb_peer::{
     CloseReason, Counts, Event, Oracle, Session, Settings, Standing, State, Trace, TraceEntry,
 };
 pub use conversation::Conversation;
-pub use reading::ReadEnd;
+pub use reading::{ReadEnd, Reading};
 pub use serving::{Served, serve, serve_by};

@@ -1,4 +1,18 @@
-ghost use Rattle.std.specs.Prelude.{◌≡◌, ◌↔◌, IsTrue};
+//! Reading a peer's stream, to its end or to that of its session.
+ghost use Rattle.std.specs.Prelude.{◌≡◌, ◌≢◌, ◌≤◌, ◌↔◌, true, false, IsTrue, List, [], ℕ, Option, None, length};
+ghost use Rattle.cb_peer.specs.Session.{is_closed};
+ghost use Rattle.cb_session.specs.Conversation.{Origin, WritesOn, progress};
+ghost use Rattle.cb_session.specs.Serving.{Heard, HeardBy};
+
+use crate::conversation::Conversation;
+use crate::hearing::hear_piece;
+use cb_io::{Sink, Source};
+use cb_peer::Oracle;
+use cb_wire::Assembler;
+use std::alloc::Global;
+
+/// The most reads that are made of one source.
+const TURNS: u64 = 1 << 40;
 
 /// Why reading a stream ended.
 #[derive(Clone, Copy, Debug, PartialEq, Eq)]
@@ -24,5 +38,75 @@ impl ReadEnd {
             ReadEnd::Fault => false,
             ReadEnd::Turns => false,
         }
+    }
+}
+
+/// What a peer's stream is read with: its source, the buffer that its bytes are read into, and the assembler that keeps what is
+/// left over of its last envelope.
+#[derive(Drop)]
+pub struct Reading<'a, R> {
+    reader: &'a mut R,
+    buffer: &'a mut [u8],
+    assembler: &'a mut Assembler,
+}
+
+impl<'a, R: Source> Reading<'a, R> {
+    /// Reading with these. No more bytes are read at a time than the buffer has.
+    pub fn new(
+        reader: &'a mut R,
+        buffer: &'a mut [u8],
+        assembler: &'a mut Assembler,
+    ) -> Reading<'a, R>
+        ensures end { result.reader.ghost_name ≡ reader.entry.ghost_name }
+        ensures reader { result.reader.now ≡ reader.old }
+        ensures buffer { result.buffer.now ≡ buffer.old }
+        ensures assembler { result.assembler.now ≡ assembler.old }
+    {
+        Reading {
+            reader,
+            buffer,
+            assembler,
+        }
+    }
+
+    /// Reads the source to its end and gives the session all items that its bytes spell, or as many as it takes before it is
+    /// closed. The answer is why reading ended.
+    pub fn hear<'c, W: Sink, H: Oracle>(
+        &mut self,
+        alloc: Global,
+        conversation: &mut Conversation<'c, W, H>,
+    ) -> ReadEnd
+        requires room { 1 ≤ length self.old.buffer.now }
+        ensures end { self.new.reader.ghost_name ≡ self.old.reader.ghost_name }
+        ensures ends { (conversation.new.trace.ghost_name ≡ conversation.old.trace.ghost_name) × (conversation.new.writer.ghost_name ≡ conversation.old.writer.ghost_name) × (conversation.new.hall.ghost_name ≡ conversation.old.hall.ghost_name) × (conversation.new.badge.ghost_name ≡ conversation.old.badge.ghost_name) }
+        ensures heeds { WritesOn conversation.old.trace.now (W.has_failed conversation.old.writer.now) → W.heeds_failure conversation.old.writer.now conversation.new.writer.now × WritesOn conversation.new.trace.now (W.has_failed conversation.new.writer.now) }
+        ensures heard { (from : Origin _) (input : Option (List ℕ)) →
+            HeardBy H.told H.refused from input (R.remaining self.old.reader.now) (progress conversation.old.trace.now conversation.old.hall.now conversation.old.badge.now (W.contents conversation.old.writer.now) (W.has_failed conversation.old.writer.now) conversation.old.written) self.old.assembler.now 0 →
+            Heard H.told H.refused from input (R.remaining self.new.reader.now) (R.has_failed self.new.reader.now) (progress conversation.new.trace.now conversation.new.hall.now conversation.new.badge.now (W.contents conversation.new.writer.now) (W.has_failed conversation.new.writer.now) conversation.new.written) result }
+        ensures stopped { result ≡ ReadEnd.Stopped → is_closed conversation.new.trace.now.session.state ≡ true }
+        ensures going { result ≢ ReadEnd.Stopped → is_closed conversation.new.trace.now.session.state ≡ false }
+    {
+        let reader = &mut *self.reader;
+        let buffer = &mut *self.buffer;
+        let assembler = &mut *self.assembler;
+        for _ in 0..TURNS {
+            if conversation.state().is_closed() {
+                return ReadEnd::Stopped;
+            }
+            match reader.read(buffer) {
+                None => return ReadEnd::Fault,
+                Some(given) => {
+                    if given == 0 {
+                        return ReadEnd::Eof;
+                    }
+                    let (piece, _) = buffer.split_at(given);
+                    hear_piece(alloc, assembler, conversation, piece);
+                }
+            }
+        }
+        if conversation.state().is_closed() {
+            return ReadEnd::Stopped;
+        }
+        ReadEnd::Turns
     }
 }

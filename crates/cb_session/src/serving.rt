@@ -1,13 +1,12 @@
-ghost use Rattle.std.specs.Prelude.{◌≡◌, ◌≢◌, ◌≤◌, true, false, Bool, List, [], ℕ, Option, IfOk, IsOkUnless, OnErr, length};
+ghost use Rattle.std.specs.Prelude.{◌≡◌, ◌≢◌, ◌≤◌, true, false, Bool, List, [], ℕ, Option, None, IfOk, IsOkUnless, OnErr, length};
 ghost use Rattle.cb_base.specs.declared.fault.Fault.TheVariants.{Memory};
-ghost use Rattle.cb_hall.specs.Histories.{Asks, IsMarkedFull};
+ghost use Rattle.cb_hall.specs.Histories.{Asks, IsRefused};
 ghost use Rattle.cb_peer.specs.Session.{is_closed};
-ghost use Rattle.cb_session.specs.Conversation.{Origin, Settled, origin_of, progress};
+ghost use Rattle.cb_session.specs.Conversation.{Origin, Settled, WritesOn, origin_of, progress};
 ghost use Rattle.cb_session.specs.Serving.{Heard, Serves};
 
 use crate::conversation::Conversation;
-use crate::hearing::hear;
-use crate::reading::ReadEnd;
+use crate::reading::{ReadEnd, Reading};
 use cb_base::Fault;
 use cb_hall::{Badge, Hall};
 use cb_io::{Sink, Source};
@@ -43,10 +42,12 @@ pub fn serve<R: Source, W: Sink>(
     settings: Settings,
 ) -> Result<Served, Fault>
     // What the hall was asked and told is in its journal, which grew by exactly that.
-    ensures served { IfOk result (λ served. Serves (λ old had replies new has. Asks old new had has replies) IsMarkedFull
+    ensures served { IfOk result (λ served. Serves (λ old had replies new has. Asks old new had has replies) IsRefused
         (origin_of settings hall.old badge.old (W.contents writer.old) (W.has_failed writer.old))
         (R.remaining reader.old) (R.remaining reader.new) (R.has_failed reader.new)
         (progress served.trace hall.new badge.new (W.contents writer.new) (W.has_failed writer.new) served.written) served.read) }
+    // Once a write has failed, no other is made.
+    ensures heeds { W.has_failed writer.old ≡ false → W.heeds_failure writer.old writer.new }
     ensures memory { IsOkUnless result Memory }
     ensures unread { OnErr result (reader.new ≡ reader.old) }
     ensures unwritten { OnErr result (writer.new ≡ writer.old) }
@@ -65,10 +66,12 @@ pub fn serve_by<R: Source, W: Sink, H: Oracle>(
     badge: &mut Badge,
     settings: Settings,
 ) -> Result<Served, Fault>
-    ensures served { IfOk result (λ served. Serves H.told H.is_full
+    ensures served { IfOk result (λ served. Serves H.told H.refused
         (origin_of settings hall.old badge.old (W.contents writer.old) (W.has_failed writer.old))
         (R.remaining reader.old) (R.remaining reader.new) (R.has_failed reader.new)
         (progress served.trace hall.new badge.new (W.contents writer.new) (W.has_failed writer.new) served.written) served.read) }
+    // Once a write has failed, no other is made.
+    ensures heeds { W.has_failed writer.old ≡ false → W.heeds_failure writer.old writer.new }
     ensures memory { IsOkUnless result Memory }
     ensures unread { OnErr result (reader.new ≡ reader.old) }
     ensures unwritten { OnErr result (writer.new ≡ writer.old) }
@@ -77,9 +80,11 @@ pub fn serve_by<R: Source, W: Sink, H: Oracle>(
 {
     let (mut trace, messages) = Trace::new(alloc, settings)?;
     let mut buffer = vec![in alloc; 0u8; READ_SIZE]?;
+    let mut assembler = Assembler::new(alloc);
+    let mut reading = Reading::new(reader, buffer.as_mut_slice(), &mut assembler);
     let mut conversation = Conversation::new(&mut trace, writer, hall, badge, 0);
     conversation.send(alloc, messages.as_slice());
-    let read = hear_all(alloc, reader, buffer.as_mut_slice(), &mut conversation);
+    let read = hear_all(alloc, &mut reading, &mut conversation);
     let written = conversation.written();
     Ok(Served {
         trace,
@@ -90,20 +95,21 @@ pub fn serve_by<R: Source, W: Sink, H: Oracle>(
 
 /// Reads the peer's stream to its end, or to that of the session, and gives the session its end. The answer is why reading
 /// ended.
-fn hear_all<'a, R: Source, W: Sink, H: Oracle>(
+fn hear_all<'r, 'c, R: Source, W: Sink, H: Oracle>(
     alloc: Global,
-    reader: &mut R,
-    buffer: &mut [u8],
-    conversation: &mut Conversation<'a, W, H>,
+    reading: &mut Reading<'r, R>,
+    conversation: &mut Conversation<'c, W, H>,
 ) -> ReadEnd
-    requires room { 1 ≤ length buffer.old }
+    requires new { reading.old.assembler.now ≡ record { rest = []; fault = None } }
+    requires room { 1 ≤ length reading.old.buffer.now }
+    ensures end { reading.new.reader.ghost_name ≡ reading.old.reader.ghost_name }
     ensures ends { (conversation.new.trace.ghost_name ≡ conversation.old.trace.ghost_name) × (conversation.new.writer.ghost_name ≡ conversation.old.writer.ghost_name) × (conversation.new.hall.ghost_name ≡ conversation.old.hall.ghost_name) × (conversation.new.badge.ghost_name ≡ conversation.old.badge.ghost_name) }
+    ensures heeds { WritesOn conversation.old.trace.now (W.has_failed conversation.old.writer.now) → W.heeds_failure conversation.old.writer.now conversation.new.writer.now × WritesOn conversation.new.trace.now (W.has_failed conversation.new.writer.now) }
     ensures serves { (from : Origin _) →
-        Settled H.told H.is_full from (progress conversation.old.trace.now conversation.old.hall.now conversation.old.badge.now (W.contents conversation.old.writer.now) (W.has_failed conversation.old.writer.now) conversation.old.written) [] →
-        Serves H.told H.is_full from (R.remaining reader.old) (R.remaining reader.new) (R.has_failed reader.new) (progress conversation.new.trace.now conversation.new.hall.now conversation.new.badge.now (W.contents conversation.new.writer.now) (W.has_failed conversation.new.writer.now) conversation.new.written) result }
+        Settled H.told H.refused from (progress conversation.old.trace.now conversation.old.hall.now conversation.old.badge.now (W.contents conversation.old.writer.now) (W.has_failed conversation.old.writer.now) conversation.old.written) [] false →
+        Serves H.told H.refused from (R.remaining reading.old.reader.now) (R.remaining reading.new.reader.now) (R.has_failed reading.new.reader.now) (progress conversation.new.trace.now conversation.new.hall.now conversation.new.badge.now (W.contents conversation.new.writer.now) (W.has_failed conversation.new.writer.now) conversation.new.written) result }
 {
-    let mut assembler = Assembler::new(alloc);
-    let read = hear(alloc, reader, buffer, &mut assembler, conversation);
+    let read = reading.hear(alloc, conversation);
     finish(alloc, read, conversation);
     read
 }
@@ -117,9 +123,10 @@ fn finish<'a, W: Sink, H: Oracle>(
     requires stopped { read ≡ ReadEnd.Stopped → is_closed conversation.old.trace.now.session.state ≡ true }
     requires going { read ≢ ReadEnd.Stopped → is_closed conversation.old.trace.now.session.state ≡ false }
     ensures ends { (conversation.new.trace.ghost_name ≡ conversation.old.trace.ghost_name) × (conversation.new.writer.ghost_name ≡ conversation.old.writer.ghost_name) × (conversation.new.hall.ghost_name ≡ conversation.old.hall.ghost_name) × (conversation.new.badge.ghost_name ≡ conversation.old.badge.ghost_name) }
+    ensures heeds { WritesOn conversation.old.trace.now (W.has_failed conversation.old.writer.now) → W.heeds_failure conversation.old.writer.now conversation.new.writer.now × WritesOn conversation.new.trace.now (W.has_failed conversation.new.writer.now) }
     ensures serves { (from : Origin _) (input remaining : Option (List ℕ)) (read_failed : Bool) →
-        Heard H.told H.is_full from input remaining read_failed (progress conversation.old.trace.now conversation.old.hall.now conversation.old.badge.now (W.contents conversation.old.writer.now) (W.has_failed conversation.old.writer.now) conversation.old.written) read →
-        Serves H.told H.is_full from input remaining read_failed (progress conversation.new.trace.now conversation.new.hall.now conversation.new.badge.now (W.contents conversation.new.writer.now) (W.has_failed conversation.new.writer.now) conversation.new.written) read }
+        Heard H.told H.refused from input remaining read_failed (progress conversation.old.trace.now conversation.old.hall.now conversation.old.badge.now (W.contents conversation.old.writer.now) (W.has_failed conversation.old.writer.now) conversation.old.written) read →
+        Serves H.told H.refused from input remaining read_failed (progress conversation.new.trace.now conversation.new.hall.now conversation.new.badge.now (W.contents conversation.new.writer.now) (W.has_failed conversation.new.writer.now) conversation.new.written) read }
 {
     if read.is_stopped() {
         return;

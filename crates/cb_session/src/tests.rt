@@ -2,7 +2,7 @@ ghost use Rattle.std.specs.Prelude.{⊤};
 
 use super::*;
 use cb_base::{Fault, Shared};
-use cb_wire::{BoundedMessage, Item, Message, decode};
+use cb_wire::{Assembler, BoundedMessage, Item, Message, decode};
 use std::alloc::Global;
 use std::io::{Error, ErrorKind, Read, Result as IoResult, Write};
 use std::test::*;
@@ -245,7 +245,7 @@ struct TwoAnswers {
 impl Oracle for TwoAnswers {
     ghost told = { λ old had replies new has. ⊤ };
 
-    ghost is_full = { λ hall badge. ⊤ };
+    ghost refused = { λ hall badge fault. ⊤ };
 
     fn ask(&mut self, _badge: &mut Badge, _question: Question) -> Result<Answer, Fault> {
         if self.granted >= 2 {
@@ -291,6 +291,42 @@ fn a_third_question_that_is_refused_ends_the_session(rt: HostRuntime) -> Result<
     assert!(rt; full == (State::Closed(CloseReason::HallFull), 64));
     let starved = serve_two_answers(rt.alloc(), false)?;
     assert!(rt; starved == (State::Closed(CloseReason::Memory), 64));
+    Ok(())
+}
+
+#[test]
+fn a_conversation_takes_an_item_and_then_a_stream(rt: HostRuntime) -> Result<(), Fail> {
+    let alloc = rt.alloc();
+    let (mut hall, mut badges) = Hall::new(alloc, 1)?;
+    let mut badge = badges.pop().ok_or(Fault::Memory)?;
+    let mut writer = Out::new(writer_for(alloc, usize::MAX));
+    let (mut trace, _) = Trace::new(alloc, SETTINGS)?;
+    let mut given = reader_of(alloc, &[])?;
+    given.bytes = PING.repeat(alloc, 2)?;
+    let mut reader = In::new(given);
+    let mut buffer = vec![in alloc; 0u8; 10]?;
+    let mut assembler = Assembler::new(alloc);
+    let mut conversation = Conversation::new(&mut trace, &mut writer, &mut hall, &mut badge, 1000);
+    if !conversation.state().is_closed() {
+        conversation.give_item(alloc, Item::Good(BoundedMessage::new(Message::Ping(0))));
+    }
+    let first = conversation.written();
+    let mut reading = Reading::new(&mut reader, buffer.as_mut_slice(), &mut assembler);
+    let end = reading.hear(alloc, &mut conversation);
+    let all = conversation.written();
+    if !conversation.state().is_closed() {
+        conversation.lose(Event::NoMemory);
+    }
+    let state = conversation.state();
+    assert_eq!(rt; first, 1032);
+    assert_eq!(rt; end, ReadEnd::Eof);
+    assert_eq!(rt; all, 1096);
+    assert_eq!(rt; state, State::Closed(CloseReason::Memory));
+    assert_eq!(rt;
+        writer.into_inner().taken.as_slice(),
+        PONG.repeat(alloc, 3)?.as_slice()
+    );
+    assert_eq!(rt; hall.journal().len(), 3);
     Ok(())
 }
 

@@ -1,6 +1,7 @@
 pub mod Counting
 pub mod Cutting
 pub mod Entering
+pub mod Peers
 pub mod Reporting
 pub mod SimRead
 pub mod SimReportLemmas

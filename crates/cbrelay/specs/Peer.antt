@@ -3,7 +3,7 @@ use Rattle.std.specs.Prelude.{◌≡◌, ℕ, pos, Bool, true, false, ◌⊎◌,
 use Rattle.std.specs.Io.KnownBytes.{Appends}
 use Rattle.cb_hall.specs.declared.hall.Entry.{Entry}
 use Rattle.cb_hall.specs.Hall.{BadgeState, fresh_badge}
-use Rattle.cb_hall.specs.Histories.{Asks, IsMarkedFull}
+use Rattle.cb_hall.specs.Histories.{Asks, IsRefused}
 use Rattle.cb_peer.specs.declared.state.State.TheVariants.{Closed}
 use Rattle.cb_peer.specs.declared.state.CloseReason.{CloseReason}
 use Rattle.cb_peer.specs.Session.{reason_name}
@@ -28,7 +28,7 @@ pub record WasServed (input remaining : Option (List ℕ)) (read_failed : Bool) 
   pub badge : BadgeState
   pub written : ℕ
   pub end : ReadEnd
-  pub serves : Serves (λ old had replies new has. Asks old new had has replies) IsMarkedFull (peer_origin held had_failed) input remaining read_failed (progress trace journal badge holds write_failed written) end
+  pub serves : Serves (λ old had replies new has. Asks old new had has replies) IsRefused (peer_origin held had_failed) input remaining read_failed (progress trace journal badge holds write_failed written) end
   pub closed : trace.session.state ≡ Closed reason
 
 -- the line on standard error

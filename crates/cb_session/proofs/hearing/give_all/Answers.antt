@@ -1,18 +1,20 @@
-use Rattle.std.proofs.Common.{◌≡◌, List, [], ◌∷◌, ◌++◌, refl, sym, ap, ◌∙◌, append_assoc, arith}
+use Rattle.std.proofs.Common.{List, [], ◌∷◌, ◌++◌, refl, sym, ap, ◌∙◌, append_assoc}
 use Rattle.std.specs.Prelude.{reverse}
-use Rattle.std.proofs.lemmas.List.{append-nil, nil_from_length, reverse-reverse}
+use Rattle.std.proofs.lemmas.List.{reverse-reverse}
 use Rattle.cb_wire.specs.declared.item.Item.{Item}
 use Rattle.cb_peer.specs.Session.{is_closed}
-use Rattle.cb_session.proofs.Inputs.{next_waiting, took_all, took_more, took_none, took_stopped}
+use Rattle.cb_session.proofs.Accounts.{open_kept}
+use Rattle.cb_session.proofs.Inputs.{next_waiting, took_more, took_none, took_stopped}
 use Rattle.cb_session.proofs.hearing.give_all.Goals as goal
 
 pub loop-item-init : goal.loop-item-init
 loop-item-init g c =
     record {
       ends = (refl, refl, refl, refl);
+      heeds = λ h. (g.met.W.Sink.heeds_none _, h);
       taken = [];
       parts = sym (ap reverse c.reverse.ensures.items ∙ reverse-reverse c.args.items.items);
-      took = λ from inputs s. took_none g.H.Oracle.told g.H.Oracle.is_full from _ inputs s;
+      took = λ from inputs s. took_none g.H.Oracle.told g.H.Oracle.refused from _ inputs s;
     }
 
 pub loop-item-preserved : goal.loop-item-preserved
@@ -25,6 +27,11 @@ loop-item-preserved g c =
         c.give_item.ensures.ends.2 ∙ c.loop-item.invariant.ends.2,
         c.give_item.ensures.ends.3 ∙ c.loop-item.invariant.ends.3,
       );
+      heeds =
+          λ h.
+          let before = c.loop-item.invariant.heeds h in
+          let after = c.give_item.ensures.heeds before.1 in
+          (g.met.W.Sink.heeds_then _ _ _ before.0 after.0, after.1);
       taken = c.loop-item.invariant.taken ++ c.in-Some.item ∷ [];
       parts =
           c.loop-item.invariant.parts
@@ -33,11 +40,11 @@ loop-item-preserved g c =
       took =
           λ from inputs s.
           let t = c.loop-item.invariant.took from inputs s in
-          took_more g.H.Oracle.told g.H.Oracle.is_full from _ _ inputs c.loop-item.invariant.taken c.in-Some.item going t (c.give_item.ensures.gave from _ t.settled);
+          took_more g.H.Oracle.told g.H.Oracle.refused from _ _ inputs c.loop-item.invariant.taken c.in-Some.item going t (c.give_item.ensures.gave from _ (open_kept g.H.Oracle.told g.H.Oracle.refused from _ _ t.unkept going t.settled));
     }
 
 pub returns-then-is_closed-clause-took : goal.returns-then-is_closed-clause-took
 returns-then-is_closed-clause-took g c =
     let closed = ap is_closed (sym c.state.ensures) ∙ sym c.is_closed.ensures ∙ c.if-is_closed.true in
     λ from inputs s.
-    took_stopped g.H.Oracle.told g.H.Oracle.is_full from _ inputs c.loop-item.invariant.taken (reverse c.loop-item.waiting.items) c.args.items.items c.loop-item.invariant.parts closed (c.loop-item.invariant.took from inputs s)
+    took_stopped g.H.Oracle.told g.H.Oracle.refused from _ inputs c.loop-item.invariant.taken (reverse c.loop-item.waiting.items) c.args.items.items c.loop-item.invariant.parts closed (c.loop-item.invariant.took from inputs s)

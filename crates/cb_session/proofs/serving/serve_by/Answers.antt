@@ -1,12 +1,12 @@
-use Rattle.std.proofs.Common.{◌≡◌, [], ap, refl, rules, sym, ◌∙◌}
-use Rattle.cb_session.specs.Conversation.{origin_of, progress}
+use Rattle.std.proofs.Common.{[], ap, sym, ◌∙◌}
+use Rattle.cb_session.specs.Conversation.{origin_of}
 use Rattle.cb_session.proofs.Ending.{first_free, serves_at, underway_first}
 use Rattle.cb_session.proofs.serving.serve_by.Goals as goal
 
 pub returns-clause-served : goal.returns-clause-served
 returns-clause-served g c =
     let from = origin_of c.args.settings c.args.hall.now c.args.badge.now (g.W.Sink.contents c.args.writer.now) (g.W.Sink.has_failed c.args.writer.now) in
-    let first = underway_first g.H.Oracle.told g.H.Oracle.is_full (record { none = g.met.H.Oracle.told_none; next = g.met.H.Oracle.told_then; stays = g.met.H.Oracle.full_stays }) c.args.settings c.in_ok-trace.trace c.args.hall.now c.args.badge.now (g.W.Sink.contents c.args.writer.now) (g.W.Sink.has_failed c.args.writer.now)
+    let first = underway_first g.H.Oracle.told g.H.Oracle.refused (record { none = g.met.H.Oracle.told_none; next = g.met.H.Oracle.told_then; stays = g.met.H.Oracle.full_stays }) c.args.settings c.in_ok-trace.trace c.args.hall.now c.args.badge.now (g.W.Sink.contents c.args.writer.now) (g.W.Sink.has_failed c.args.writer.now)
     c.as_slice.result.now c.in_ok-trace.ensures.settings c.in_ok-trace.ensures.history (c.as_slice.ensures.value ∙ c.in_ok-trace.ensures.messages) in
     let opened = c.send.ensures.accounts from [] c.args.hall.now c.args.badge.now
     (rw (c.new-conversation.ensures.trace, c.new-conversation.ensures.writer, c.new-conversation.ensures.written) first) (rw c.new-conversation.ensures.writer (λ h. h)) in
@@ -15,12 +15,23 @@ returns-clause-served g c =
       sent = rw (c.send.ensures.hall, c.send.ensures.badge, c.new-conversation.ensures.hall, c.new-conversation.ensures.badge) opened;
       answered = first_free c.in_ok-trace.trace _ c.in_ok-trace.ensures.history (λ h. c.send.ensures.kept h ∙ c.new-conversation.ensures.trace);
     }) in
-    serves_at g.H.Oracle.told g.H.Oracle.is_full from (g.R.Source.remaining c.args.reader.now) (g.R.Source.remaining c.hear_all-read.new.reader) (g.R.Source.has_failed c.hear_all-read.new.reader)
+    serves_at g.H.Oracle.told g.H.Oracle.refused from (g.R.Source.remaining c.new-reading.result.reader.now) _ (g.R.Source.remaining c.hear_all-read.new.reading.reader.now) _ (g.R.Source.has_failed c.hear_all-read.new.reading.reader.now) _
     c.hear_all-read.new.conversation.trace.now _ c.hear_all-read.new.conversation.hall.now _ c.hear_all-read.new.conversation.badge.now _
     (g.W.Sink.contents c.hear_all-read.new.conversation.writer.now) _ (g.W.Sink.has_failed c.hear_all-read.new.conversation.writer.now) _ c.hear_all-read.new.conversation.written _ c.hear_all-read.result
+    (ap g.R.Source.remaining (sym c.new-reading.ensures.reader))
+    (ap g.R.Source.remaining (c.reader-1.given.1 (sym (c.hear_all-read.ensures.end ∙ c.new-reading.ensures.end))))
+    (ap g.R.Source.has_failed (c.reader-1.given.1 (sym (c.hear_all-read.ensures.end ∙ c.new-reading.ensures.end))))
     (c.trace-3-1.given.1 (sym (c.hear_all-read.ensures.ends.0 ∙ c.send.ensures.ends.0 ∙ c.new-conversation.ensures.ends.0)))
     (c.hall-1.given.1 (sym (c.hear_all-read.ensures.ends.2 ∙ c.send.ensures.ends.2 ∙ c.new-conversation.ensures.ends.2)))
     (c.badge-1.given.1 (sym (c.hear_all-read.ensures.ends.3 ∙ c.send.ensures.ends.3 ∙ c.new-conversation.ensures.ends.3)))
     (ap g.W.Sink.contents (c.writer-1.given.1 (sym (c.hear_all-read.ensures.ends.1 ∙ c.send.ensures.ends.1 ∙ c.new-conversation.ensures.ends.1))))
     (ap g.W.Sink.has_failed (c.writer-1.given.1 (sym (c.hear_all-read.ensures.ends.1 ∙ c.send.ensures.ends.1 ∙ c.new-conversation.ensures.ends.1))))
     c.written-written.ensures served
+
+pub returns-clause-heeds : goal.returns-clause-heeds
+returns-clause-heeds g c =
+    λ unfailed.
+    let opened = c.send.ensures.heeds (λ _. ap g.W.Sink.has_failed c.new-conversation.ensures.writer ∙ unfailed) in
+    let heard = c.hear_all-read.ensures.heeds opened.1 in
+    let last = c.writer-1.given.1 (sym (c.hear_all-read.ensures.ends.1 ∙ c.send.ensures.ends.1 ∙ c.new-conversation.ensures.ends.1)) in
+    rw (last, ← c.new-conversation.ensures.writer) (g.met.W.Sink.heeds_then _ _ _ opened.0 heard.0)

@@ -1,4 +1,4 @@
-use Rattle.std.proofs.Common.{◌≡◌, ℕ, List, [], refl, sym, ap, subst, ◌∙◌, arith, ◌-◌, vec_len}
+use Rattle.std.proofs.Common.{List, [], refl, sym, ap, subst, ◌∙◌, arith, ◌-◌, vec_len}
 use Rattle.std.specs.Prelude.{vec_capacity}
 use Rattle.cb_peer.specs.declared.trace.TraceEntry.{TraceEntry}
 use Rattle.cb_peer.specs.Trace.{IsTrace, StandsFor, held_of}

@@ -1,6 +1,6 @@
 use Rattle.std.proofs.Common.{◌≡◌, ◌≤◌, ◌-◌, ◌+◌, false, subst, sym, ap, ◌∙◌, arith, vec_len}
 use Rattle.std.specs.Prelude.{◌^◌, min, vec_capacity, ℕ}
-use Rattle.cb_peer.specs.Session.{is_closed, SessionState}
+use Rattle.cb_peer.specs.Session.{is_closed}
 use Rattle.cb_peer.specs.Trace.{IsOpen, TraceView}
 use Rattle.cb_peer.proofs.Traces.{Puts, are_counts, held_more, trace_more, trace_steps}
 use Rattle.cb_peer.proofs.trace.Trace.put.Goals as goal

@@ -1,7 +1,7 @@
-use Rattle.std.proofs.Common.{List, [], sym, ap, subst, ◌∙◌, true}
+use Rattle.std.proofs.Common.{List, [], sym, subst, true, false}
 use Rattle.cb_wire.specs.Stream.{texts}
 use Rattle.cb_wire.specs.declared.message.Message.{Message}
-use Rattle.cb_session.specs.Conversation.{Accounts, Underway, progress}
+use Rattle.cb_session.specs.Conversation.{Accounts, progress}
 use Rattle.cb_session.proofs.Accounts.{accounts_asked, accounts_ran, left_asked, left_over, question_open, rest_open, silent_step}
 use Rattle.cb_session.proofs.conversation.Conversation.ask.Goals as goal
 
@@ -11,8 +11,8 @@ returns-then-not-ready-clause-accounts g c =
     record {
       lost = true;
       accounts =
-          subst (λ (ms : List Message). Accounts g.H.Oracle.told g.H.Oracle.is_full from (progress c.ready.new.self c.args.self.now.hall.now c.args.self.now.badge.now held failed written) inputs (texts ms) true) (sym c.new.ensures.items)
-          (accounts_ran g.H.Oracle.told g.H.Oracle.is_full (record { none = g.met.H.Oracle.told_none; next = g.met.H.Oracle.told_then; stays = g.met.H.Oracle.full_stays }) from c.args.self.now.trace.now c.ready.new.self c.args.self.now.hall.now c.args.self.now.badge.now held failed written inputs [] _
+          subst (λ (ms : List Message). Accounts g.H.Oracle.told g.H.Oracle.refused from (progress c.ready.new.self c.args.self.now.hall.now c.args.self.now.badge.now held failed written) inputs (texts ms) true false) (sym c.new.ensures.items)
+          (accounts_ran g.H.Oracle.told g.H.Oracle.refused (record { none = g.met.H.Oracle.told_none; next = g.met.H.Oracle.told_then; stays = g.met.H.Oracle.full_stays }) from c.args.self.now.trace.now c.ready.new.self c.args.self.now.hall.now c.args.self.now.badge.now held failed written inputs [] _ false
           (question_open c.args.self.now.trace.now c.args.question c.requires.stands).0 c.if-not-ready.ensures.readied a);
     }
 
@@ -22,12 +22,12 @@ returns-then-not-ready-clause-fewer g c = left_over c.args.self.now.trace.now c.
 pub returns-clause-accounts : goal.returns-clause-accounts
 returns-clause-accounts g c =
     λ from inputs held failed written a.
-    accounts_asked g.H.Oracle.told g.H.Oracle.is_full (record { none = g.met.H.Oracle.told_none; next = g.met.H.Oracle.told_then; stays = g.met.H.Oracle.full_stays }) from c.args.self.now.trace.now c.ready.new.self c.step-messages.new.self c.args.self.now.hall.now c.ask_hall-event.new.hall c.args.self.now.badge.now c.ask_hall-event.new.badge
-    held failed written inputs c.args.question c.ask_hall-event.result _ _ c.if-not-ready.ensures.readied.rests (question_open c.args.self.now.trace.now c.args.question c.requires.stands).1 c.ask_hall-event.ensures c.step-messages.ensures a
+    accounts_asked g.H.Oracle.told g.H.Oracle.refused (record { none = g.met.H.Oracle.told_none; next = g.met.H.Oracle.told_then; stays = g.met.H.Oracle.full_stays }) from c.args.self.now.trace.now c.ready.new.self c.step-messages.new.self c.args.self.now.hall.now c.ask_hall-event.new.hall c.args.self.now.badge.now c.ask_hall-event.new.badge
+    held failed written inputs c.args.question c.ask_hall-event.result _ _ (question_open c.args.self.now.trace.now c.args.question c.requires.stands).0 c.if-not-ready.ensures.readied.rests (question_open c.args.self.now.trace.now c.args.question c.requires.stands).1 c.ask_hall-event.ensures c.step-messages.ensures a
 
 pub returns-clause-fewer : goal.returns-clause-fewer
 returns-clause-fewer g c =
-    left_asked g.H.Oracle.told g.H.Oracle.is_full c.args.self.now.hall.now c.ask_hall-event.new.hall c.args.self.now.badge.now c.ask_hall-event.new.badge c.args.self.now.trace.now c.ready.new.self c.step-messages.new.self c.args.question c.ask_hall-event.result _
+    left_asked g.H.Oracle.told g.H.Oracle.refused c.args.self.now.hall.now c.ask_hall-event.new.hall c.args.self.now.badge.now c.ask_hall-event.new.badge c.args.self.now.trace.now c.ready.new.self c.step-messages.new.self c.args.question c.ask_hall-event.result _
     c.requires.stands c.if-not-ready.ensures.readied.rests c.ask_hall-event.ensures c.step-messages.ensures.grows
 
 pub returns-clause-silent : goal.returns-clause-silent

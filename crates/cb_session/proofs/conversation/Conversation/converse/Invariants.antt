@@ -1,16 +1,17 @@
-use Rattle.std.proofs.Common.{◌≡◌, true, List}
+use Rattle.std.proofs.Common.{◌≡◌, true, false, List}
 use Rattle.cb_peer.specs.declared.event.Event.{Event}
 use Rattle.cb_peer.specs.Session.{is_closed}
-use Rattle.cb_session.specs.Conversation.{Origin, Sent, left_of, progress}
+use Rattle.cb_session.specs.Conversation.{Origin, Sent, WritesOn, left_of, progress}
 use Rattle.cb_session.proofs.conversation.Conversation.converse.Given as goal
 
 -- what was to be written went out, and nothing is on its way
 abbrev pub invariant-loop-question : goal.invariant-loop-question
 invariant-loop-question g l = record {
   ends : (l.self.trace.ghost_name ≡ l.fn.self.trace.ghost_name) × (l.self.writer.ghost_name ≡ l.fn.self.writer.ghost_name) × (l.self.hall.ghost_name ≡ l.fn.self.hall.ghost_name) × (l.self.badge.ghost_name ≡ l.fn.self.badge.ghost_name);
+  heeds : WritesOn l.fn.self.trace.now (g.W.Sink.has_failed l.fn.self.writer.now) → g.W.Sink.heeds_failure l.fn.self.writer.now l.self.writer.now × WritesOn l.self.trace.now (g.W.Sink.has_failed l.self.writer.now);
   stays : is_closed l.fn.self.trace.now.session.state ≡ true → is_closed l.self.trace.now.session.state ≡ true;
   sent : (from : Origin g.row.H.Denot) (inputs : List Event) →
-      Sent g.H.Oracle.told g.H.Oracle.is_full from (progress l.fn.self.trace.now l.fn.self.hall.now l.fn.self.badge.now (g.W.Sink.contents l.fn.self.writer.now) (g.W.Sink.has_failed l.fn.self.writer.now) l.fn.self.written) inputs → Sent g.H.Oracle.told g.H.Oracle.is_full from (progress l.self.trace.now l.self.hall.now l.self.badge.now (g.W.Sink.contents l.self.writer.now) (g.W.Sink.has_failed l.self.writer.now) l.self.written) inputs;
+      Sent g.H.Oracle.told g.H.Oracle.refused from (progress l.fn.self.trace.now l.fn.self.hall.now l.fn.self.badge.now (g.W.Sink.contents l.fn.self.writer.now) (g.W.Sink.has_failed l.fn.self.writer.now) l.fn.self.written) inputs false → Sent g.H.Oracle.told g.H.Oracle.refused from (progress l.self.trace.now l.self.hall.now l.self.badge.now (g.W.Sink.contents l.self.writer.now) (g.W.Sink.has_failed l.self.writer.now) l.self.written) inputs false;
 }
 
 -- each answer leaves fewer to be waited for

@@ -1,15 +1,17 @@
+use Rattle.std.proofs.Common.{inl, inr}
 use Rattle.cb_session.proofs.Accounts.{accounts_lost, accounts_ran, ended_more, rest_open}
 use Rattle.cb_session.proofs.conversation.Conversation.lose.Goals as goal
 
 pub returns-then-not-ready-clause-accounts : goal.returns-then-not-ready-clause-accounts
 returns-then-not-ready-clause-accounts g c =
-    λ from inputs missing lost hall badge held failed written write a.
-    accounts_ran g.H.Oracle.told g.H.Oracle.is_full (record { none = g.met.H.Oracle.told_none; next = g.met.H.Oracle.told_then; stays = g.met.H.Oracle.full_stays }) from c.args.self.now.trace.now c.ready.new.self hall badge held failed written inputs missing lost c.requires.going c.if-not-ready.ensures.readied a
+    λ from inputs missing lost unkept hall badge held failed written write lacked a.
+    accounts_ran g.H.Oracle.told g.H.Oracle.refused (record { none = g.met.H.Oracle.told_none; next = g.met.H.Oracle.told_then; stays = g.met.H.Oracle.full_stays }) from c.args.self.now.trace.now c.ready.new.self hall badge held failed written inputs missing lost unkept c.requires.going c.if-not-ready.ensures.readied a
 
 pub returns-clause-accounts : goal.returns-clause-accounts
 returns-clause-accounts g c =
-    λ from inputs missing lost hall badge held failed written write a.
-    accounts_lost g.H.Oracle.told g.H.Oracle.is_full (record { none = g.met.H.Oracle.told_none; next = g.met.H.Oracle.told_then; stays = g.met.H.Oracle.full_stays }) from c.args.self.now.trace.now c.ready.new.self c.step-silent.new.self hall badge held failed written inputs missing lost _ c.requires.going c.if-not-ready.ensures.readied.rests c.step-silent.ensures.grows c.requires.loss write a
+    λ from inputs missing lost unkept hall badge held failed written write lacked a.
+    accounts_lost g.H.Oracle.told g.H.Oracle.refused (record { none = g.met.H.Oracle.told_none; next = g.met.H.Oracle.told_then; stays = g.met.H.Oracle.full_stays }) from c.args.self.now.trace.now c.ready.new.self c.step-silent.new.self hall badge held failed written inputs missing lost unkept _ c.requires.going c.if-not-ready.ensures.readied.rests c.step-silent.ensures.grows c.requires.loss write
+    (λ e. elim (lacked e) [ inl some ↦ inl (inr (inr some)) | inr came ↦ inr came ]) a
 
 pub returns-clause-closed : goal.returns-clause-closed
 returns-clause-closed g c =
