@@ -2,8 +2,9 @@
 """Measures the chain: headers and blocks accepted per second at two heights, questions, reorganisations, and memory.
 
 It needs the built program crates/bench_chain/out/bench_chain (as ./build bench_chain leaves it there) and python3, and takes
-about a minute. Times are of the processor. What a play takes is the difference of two runs, with it and without it, and of some
-such differences the median; plays whose times are compared take turns.
+about a minute. With `--before` it tells what faults cost beside a program of before. Times are of the processor. What a play takes
+is the difference of two runs, with it and without it, and of some such differences the median; plays whose times are compared
+take turns.
 """
 
 import os
@@ -21,6 +22,8 @@ LOW, HIGH = 100, 10_000
 # Each question, and how often it is asked.
 QUESTIONS = [("tip and tip_height", 100_000_000), ("height", 5_000_000), ("has", 5_000_000), ("block", 5_000_000), ("locator", 2_000_000)]
 BLOCKS, HEADERS, SWITCHES = 5_000, 20_000, 1_000
+# How many faulty blocks are told to be so, and behind how many headers.
+FAULTS, FEW, MANY = 8_000, 8_000, 80_000
 
 
 def header(prev, root):
@@ -128,22 +131,22 @@ class Runs:
             file.write(data)
         return path
 
-    def once(self, path):
-        """The processor time of one run."""
+    def once(self, path, refused=0):
+        """The processor time of one run that refuses so many."""
         with open(path, "rb") as source:
             process = subprocess.Popen([self.program], stdin=source, stdout=subprocess.PIPE)
             told = process.stdout.read()
             _, ended, used = os.wait4(process.pid, 0)
         process.stdout.close()
         process.returncode = os.waitstatus_to_exitcode(ended)
-        if process.returncode != 0 or b" refused 0\n" not in told:
+        if process.returncode != 0 or f" refused {refused}\n".encode() not in told:
             sys.exit(f"the program ended with status {process.returncode}, and told {told!r}")
         return used.ru_utime + used.ru_stime
 
-    def seconds(self, plays, turns=RUNS):
-        """What each play takes behind its ground."""
+    def seconds(self, plays, turns=RUNS, refused=0):
+        """What each play takes behind its ground, which refuses none, where it refuses so many."""
         paths = [(self.write(f"whole{i}", ground + play), self.write(f"ground{i}", ground)) for i, (ground, play) in enumerate(plays)]
-        took = [[self.once(whole) - self.once(ground) for whole, ground in paths] for _ in range(turns)]
+        took = [[self.once(whole, refused) - self.once(ground) for whole, ground in paths] for _ in range(turns)]
         return [statistics.median(times) for times in zip(*took)]
 
     def memory(self, data):
@@ -208,6 +211,23 @@ def reorganisations(runs):
           f"{took / beside:.2f} times as long as 11 blocks that extend the tip")
 
 
+def faults(runs, before):
+    """Blocks beside the tip that can't be connected, headers behind them, and a block on each, whose fault marks both."""
+    marks = Marks()
+    main = branch(marks, GENESIS, LOW)
+    faulty = [Made(main[-2].name, marks.take(), [hash_twice(b"unknown")]) for _ in range(FAULTS)]
+    triggers = as_records([Made(block.name, marks.take()) for block in faulty])
+    later = [record(b"h", header(main[-1].name, struct.pack("<I", mark) + bytes(28))) for mark in range(MANY)]
+    ground = as_records(main + faulty)
+    plays = [(ground + b"".join(later[:count]), triggers) for count in (FEW, MANY)]
+    took = [program.seconds(plays, refused=FAULTS) for program in [runs] + before]
+    few, many = (seconds / FAULTS * 1e6 for seconds in took[0])
+    print(f"a fault that marks 2 blocks: {few:,.2f} microseconds behind {FEW:,} later headers with reading its block, {many:,.2f} behind {MANY:,}")
+    for old in took[1:]:
+        few, many = (seconds / FAULTS * 1e6 for seconds in old)
+        print(f"  before: {few:,.2f} and {many:,.2f} microseconds, {old[0] / took[0][0]:.2f} and {old[1] / took[0][1]:.1f} times as long")
+
+
 def memory(runs):
     """What twice as many blocks take more."""
     count = 2 * HIGH
@@ -217,11 +237,15 @@ def memory(runs):
 
 
 def main():
-    words = usage(__doc__, program="the program, if not crates/bench_chain/out/bench_chain").parse_args()
+    reader = usage(__doc__, program="the program, if not crates/bench_chain/out/bench_chain")
+    reader.add_argument("--before", metavar="PROGRAM", help="a bench_chain to compare with")
+    words = reader.parse_args()
     program = built(words.program, "bench_chain")
+    before = [built(words.before, "bench_chain")] if words.before else []
     adopt()
     with tempfile.TemporaryDirectory() as folder:
         runs = Runs(program, folder)
+        faults(runs, [Runs(other, folder) for other in before])
         both = AtBoth(runs)
         accepting(runs, both)
         for number, (name, count) in enumerate(QUESTIONS):

@@ -1,4 +1,5 @@
 pub mod Aside
+pub mod Branches
 pub mod Ends
 pub mod Exchanges
 pub mod Forks

@@ -75,7 +75,7 @@ pub record Found (nodes : List Node) (tree : Tree) (hash : Hash256) (place : ℕ
   pub entry : entry_of tree hash ≡ Some (entry_from node)
   pub height : height_of tree hash ≡ Some node.height
 
-found_above : (first : Node) (above : List Node) (hash : Hash256) (place : ℕ) → IsFirst first → AreNodes above → place_of (map entry_from above) hash ≡ Some place
+pub found_above : (first : Node) (above : List Node) (hash : Hash256) (place : ℕ) → IsFirst first → AreNodes above → place_of (map entry_from above) hash ≡ Some place
     → Found (first ∷ reverse above) (map entry_from above) hash place
 found_above first [] hash place is are e =
     elim (chosen (same hash genesis_hash) 0 None place e) [

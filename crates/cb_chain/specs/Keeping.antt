@@ -1,5 +1,5 @@
 -- How the code keeps a tree: the nodes in the order in which they came, each with what follows from those before it.
-use Rattle.std.specs.Prelude.{◌≡◌, ◌+◌, ◌++◌, ◌≤◌, ◌<◌, ◌⊎◌, ◌&&◌, not, ⊤, ℕ, suc, Bool, true, false, Ok, Err, is_some, if◌then◌else◌, List, [], ◌∷◌, length, take, drop, reverse, Option, None, Some, option_map, option_and_then, slice_get}
+use Rattle.std.specs.Prelude.{◌≡◌, ◌+◌, ◌++◌, ◌≤◌, ◌<◌, ◌⊎◌, ◌&&◌, not, ⊤, ℕ, suc, Bool, true, false, Ok, Err, is_some, nat_eq, if◌then◌else◌, List, [], ◌∷◌, length, take, drop, reverse, Option, None, Some, option_map, option_and_then, slice_get}
 use Rattle.std.specs.Prelude as lists
 use Rattle.std.specs.FinMap as map
 use Rattle.std.specs.List.{sum_by}
@@ -73,6 +73,19 @@ IsTree (first ∷ others) = IsFirst first × AreNodes (reverse others)
 pub record IsPlaced (nodes : List Node) (entries : List (Hash256 × ℕ)) : Type 0 where
   pub tree : IsTree nodes
   pub places : (hash : Hash256) → lookup (same hash) entries ≡ place_of (tree_of nodes) hash
+
+-- The place that follows each of the kept blocks, in an order in which all kept blocks above any one follow it at once: the
+-- newest block above another stands right behind it. 0 follows the last.
+abbrev pub next_of : List Node → ℕ → ℕ
+next_of [] place = 0
+next_of (node ∷ older) place =
+    if nat_eq place (suc (length older)) then (if is_some node.kept then next_of older node.parent else 0)
+    else (if is_some node.kept && nat_eq place node.parent then suc (length older) else next_of older place)
+
+-- what follows each of the nodes
+pub record AreNext (nodes : List Node) (next : List ℕ) : Type 0 where
+  pub long : length next ≡ length nodes
+  pub each : (place : ℕ) → place < length nodes → slice_get next place ≡ Some (next_of (above_first nodes) place)
 
 -- An entry on the way from the first block to a known one, at its place among the nodes.
 pub record Step : Type 0 where

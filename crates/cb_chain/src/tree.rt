@@ -1,8 +1,8 @@
-ghost use Rattle.std.specs.Prelude.{◌≡◌, ◌+◌, ◌<◌, ◌≤◌, ◌&&◌, ◌||◌, nat_eq, is_some, [], ◌∷◌, ◌++◌, length, slice_get, Some, option_map, option_copied, IfOk, IfSome, IsOk, IsOkUnless, IsSome, OnOk};
+ghost use Rattle.std.specs.Prelude.{◌≡◌, ◌+◌, ◌<◌, ◌≤◌, [], ◌∷◌, ◌++◌, length, slice_get, List, Some, option_map, option_copied, IfOk, IfSome, IsOk, IsOkUnless, IsSome, OnOk};
 ghost use Rattle.cb_base.specs.declared.fault.Fault.TheVariants.{Memory};
 ghost use Rattle.cb_chain.specs.Calls.{marked_above};
 ghost use Rattle.cb_chain.specs.Entries.{entry_of, height_of};
-ghost use Rattle.cb_chain.specs.Keeping.{IsFirst, IsNode, IsTree, block_at, entry_from, marked_nodes, place_of, tree_of};
+ghost use Rattle.cb_chain.specs.Keeping.{AreNext, IsFirst, IsNode, IsTree, block_at, entry_from, marked_nodes, place_of, tree_of};
 ghost use Rattle.cb_chain.specs.declared.node.Node.{Node};
 
 use crate::node::{Kept, Node};
@@ -20,18 +20,24 @@ pub(crate) struct Tree {
     nodes: Vec<Node>,
     // The place of the newest node of each hash.
     places: HashMap<Hash256, usize>,
+    // The place that follows each kept block's, in an order in which all kept blocks above any one follow it at once. 0
+    // follows the last, and stands for a header alone.
+    next: Vec<usize>,
 }
 
 impl Model for Tree {
     ghost use Rattle.std.specs.Prelude.{◌-◌, min, vec_len, vec_capacity};
     ghost use Rattle.std.specs.HashMap.{spare};
-    ghost use Rattle.cb_chain.specs.Keeping.{Grown, IsPlaced};
+    ghost use Rattle.cb_chain.specs.Keeping.{AreNext, Grown, IsPlaced};
 
     ghost Value = { Grown };
 
-    ghost view = { λ tree. record { nodes = tree.nodes.items; room = min (spare tree.places) (vec_capacity tree.nodes - vec_len tree.nodes) } };
+    ghost view = { λ tree. record {
+      nodes = tree.nodes.items;
+      room = min (spare tree.places) (min (vec_capacity tree.nodes - vec_len tree.nodes) (vec_capacity tree.next - vec_len tree.next));
+    } };
 
-    ghost invariant = { λ tree. IsPlaced tree.nodes.items tree.places.entries };
+    ghost invariant = { λ tree. IsPlaced tree.nodes.items tree.places.entries × AreNext tree.nodes.items tree.next.items };
 }
 
 // The first node.
@@ -63,10 +69,13 @@ impl Tree {
         places.insert(first.hash, 0)?;
         let mut nodes = Vec::with_capacity(alloc, 1)?;
         nodes.push(first)?;
+        let mut next = Vec::with_capacity(alloc, 1)?;
+        next.push(0)?;
         Ok(Tree {
             alloc,
             nodes,
             places,
+            next,
         })
     }
 
@@ -114,6 +123,7 @@ impl Tree {
         ensures memory { IsOkUnless result Memory }
     {
         self.nodes.reserve(1)?;
+        self.next.reserve(1)?;
         self.places.reserve(1)?;
         Ok(())
     }
@@ -124,7 +134,10 @@ impl Tree {
         requires node { IsNode node (tree_of self.old.nodes) }
         ensures { self.new.nodes ≡ self.old.nodes ++ node ∷ [] }
     {
-        let noted: Result<_, _> = self.places.insert(node.hash, self.nodes.len());
+        let place = self.nodes.len();
+        let after = put_behind(self.next.as_mut_slice(), &node, place);
+        self.next.push(after).unwrap();
+        let noted: Result<_, _> = self.places.insert(node.hash, place);
         noted.unwrap();
         self.nodes.push(node).unwrap();
     }
@@ -138,7 +151,7 @@ impl Tree {
         ensures len { length self.new.nodes ≡ length self.old.nodes }
         ensures tree { IsTree self.new.nodes }
     {
-        mark_from(self.nodes.as_mut_slice(), first);
+        mark_from(self.nodes.as_mut_slice(), self.next.as_slice(), first);
     }
 
     // A tree that equals it.
@@ -151,35 +164,47 @@ impl Tree {
             nodes.push(copy_node(node)?)?;
         }
         let places = self.places.clone()?;
+        let next = Vec::from_slice(self.alloc, self.next.as_slice())?;
         Ok(Tree {
             alloc: self.alloc,
             nodes,
             places,
+            next,
         })
     }
 }
 
-// Whether a kept block is the one at a place, or stands on one that is marked.
-fn is_bad(nodes: &[Node], first: usize, place: usize) -> bool
-    requires place { place < length nodes.now }
-    requires parent { (node : Node) → slice_get nodes.now place ≡ Some node → node.parent < length nodes.now }
-    ensures { (node parent : Node) → slice_get nodes.now place ≡ Some node → slice_get nodes.now node.parent ≡ Some parent
-        → result ≡ (is_some node.kept && (nat_eq place first || parent.marked)) }
+// Puts the place of the next node, where its block is kept, behind its parent's. Answers what follows it then.
+fn put_behind(next: &mut [usize], node: &Node, place: usize) -> usize
+    requires { node.now.parent < length next.old }
+    ensures len { length next.new ≡ length next.old }
+    ensures next { (nodes : List Node) → place ≡ length nodes → IsTree nodes → IsNode node.now (tree_of nodes) → AreNext nodes next.old
+        → AreNext (nodes ++ node.now ∷ []) (next.new ++ result ∷ []) }
 {
-    let node = &nodes[place];
-    node.kept.is_some() && (place == first || nodes[node.parent].marked)
+    if node.kept.is_none() {
+        return 0;
+    }
+    let after = next[node.parent];
+    next[node.parent] = place;
+    after
 }
 
 // Marks the block at a place and all kept blocks above it.
-fn mark_from(nodes: &mut [Node], first: usize)
+fn mark_from(nodes: &mut [Node], next: &[usize], first: usize)
     requires tree { IsTree nodes.old }
+    requires next { AreNext nodes.old next.now }
     requires above { 0 < first }
     requires kept { IsSome (block_at nodes.old first) }
     ensures marks { (node : Node) → slice_get nodes.old first ≡ Some node → nodes.new ≡ marked_nodes node.hash nodes.old }
 {
-    for place in first..nodes.len() {
-        if is_bad(nodes, first, place) {
-            nodes[place].marked = true;
+    let lowest = nodes[first].height;
+    let mut place = first;
+    // No more places follow it than come after it.
+    for _ in first..nodes.len() {
+        nodes[place].marked = true;
+        place = next[place];
+        if nodes[place].height <= lowest {
+            return;
         }
     }
 }

@@ -1,8 +1,6 @@
-use Rattle.std.proofs.Common.{◌≡◌, Some}
-use Rattle.std.specs.Prelude.{slice_get}
-use Rattle.cb_chain.specs.declared.node.Node.{Node}
-use Rattle.cb_chain.proofs.Marks.{Marked}
+use Rattle.std.proofs.Common.{◌<◌, length}
+use Rattle.cb_chain.proofs.Branches.{Walked}
 use Rattle.cb_chain.proofs.tree.mark_from.Given as goal
 
-abbrev pub invariant-loop-place : goal.invariant-loop-place
-invariant-loop-place l = (target : Node) → slice_get l.fn.nodes l.fn.first ≡ Some target → Marked l.fn.first target l.fn.nodes l.place l.nodes
+abbrev pub invariant-loop : goal.invariant-loop
+invariant-loop l = (l.place < length l.nodes) × Walked l.fn.nodes l.fn.first l.counter l.place l.nodes

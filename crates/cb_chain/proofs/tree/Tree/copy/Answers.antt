@@ -1,7 +1,7 @@
 use Rattle.std.proofs.Common.{◌≡◌, ◌≤◌, length, List, subst, sym, ◌∙◌}
 use Rattle.std.proofs.lemmas.List.{take_all}
 use Rattle.cb_chain.specs.declared.node.Node.{Node}
-use Rattle.cb_chain.specs.Keeping.{IsPlaced}
+use Rattle.cb_chain.specs.Keeping.{AreNext, IsPlaced}
 use Rattle.cb_chain.proofs.Nodes.{entries_like}
 use Rattle.cb_chain.proofs.tree.Tree.copy.Goals as goal
 
@@ -10,5 +10,8 @@ invariant_of-result c =
     let old = c.self.inside.nodes.items in
     let places = entries_like c.self.inside.places.entries c.in_ok-places.places.entries c.in_ok-places.ensures.cases in
     let long : length old ≤ c.loop-node.node-index = subst (λ (ns : List Node). length ns ≤ c.loop-node.node-index) c.deref-node-items.ensures.value c.loop-node-test.false in
-    let nodes : c.loop-node.nodes.items ≡ old = c.loop-node.invariant ∙ take_all c.loop-node.node-index old long in
-    subst (λ es. IsPlaced c.loop-node.nodes.items es) (sym places) (subst (λ (ns : List Node). IsPlaced ns c.self.inside.places.entries) (sym nodes) c.self.invariant)
+    let nodes : c.loop-node.nodes.items ≡ old = c.loop-node.invariant ∙ take_all c.loop-node.node-index old long in (
+      subst (λ es. IsPlaced c.loop-node.nodes.items es) (sym places) (subst (λ (ns : List Node). IsPlaced ns c.self.inside.places.entries) (sym nodes) c.self.invariant.0),
+      subst (λ (ns : List Node). AreNext ns c.in_ok-next.next.items) (sym nodes)
+          (subst (AreNext old) (sym (c.in_ok-next.ensures.items ∙ c.as_slice.ensures.value)) c.self.invariant.1),
+    )

@@ -4,7 +4,8 @@ use Rattle.std.specs.Map.{lookup}
 use Rattle.cb_base.specs.declared.hash.Hash256.{Hash256}
 use Rattle.cb_chain.specs.declared.node.Node.{Node}
 use Rattle.cb_chain.specs.Entries.{same}
-use Rattle.cb_chain.specs.Keeping.{IsPlaced}
+use Rattle.cb_chain.specs.Keeping.{AreNext, IsPlaced}
+use Rattle.cb_chain.proofs.Branches.{next_first}
 use Rattle.cb_chain.proofs.Nodes.{placed_first}
 use Rattle.cb_chain.proofs.tree.Tree.new.Goals as goal
 
@@ -12,7 +13,10 @@ pub invariant_of-result : goal.invariant_of-result
 invariant_of-result c =
     let first = c.in_ok-first.first in
     let items = c.in_ok-push.ensures.items ∙ ap (λ (ns : List Node). ns ++ first ∷ []) c.in_ok-nodes.ensures.items in
-    let updates = c.in_ok-insert.ensures.updates in
-    subst (λ (ns : List Node). IsPlaced ns c.insert.new.self.entries) (sym items)
-    (placed_first first c.insert.new.self.entries c.in_ok-first.ensures.first
-    (λ q. updates.0 q ∙ ap (λ es. cond (same first.hash q) (Some 0) (lookup {K = Hash256} {X = ℕ} (same q) es)) c.new-places.ensures.empty))
+    let updates = c.in_ok-insert.ensures.updates in (
+      subst (λ (ns : List Node). IsPlaced ns c.insert.new.self.entries) (sym items)
+          (placed_first first c.insert.new.self.entries c.in_ok-first.ensures.first
+          (λ q. updates.0 q ∙ ap (λ es. cond (same first.hash q) (Some 0) (lookup {K = Hash256} {X = ℕ} (same q) es)) c.new-places.ensures.empty)),
+      subst (λ (ns : List Node). AreNext ns c.push-2.new.self.items) (sym items)
+          (subst (AreNext (first ∷ [])) (sym (c.in_ok-push-2.ensures.items ∙ ap (λ (ns : List ℕ). ns ++ 0 ∷ []) c.in_ok-next.ensures.items)) (next_first first)),
+    )

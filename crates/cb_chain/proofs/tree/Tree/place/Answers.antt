@@ -6,12 +6,12 @@ use Rattle.cb_chain.proofs.tree.Tree.place.Goals as goal
 
 pub returns-clause-place : goal.returns-clause-place
 returns-clause-place c =
-    c.copied.ensures ∙ c.get.ensures.value ∙ c.self.invariant.places c.args.hash.now ∙ ap (λ (g : Grown). place_of (tree_of g.nodes) c.args.hash.now) c.self.view_is
+    c.copied.ensures ∙ c.get.ensures.value ∙ c.self.invariant.0.places c.args.hash.now ∙ ap (λ (g : Grown). place_of (tree_of g.nodes) c.args.hash.now) c.self.view_is
 
 pub returns-clause-within : goal.returns-clause-within
 returns-clause-within c =
     subst (λ (g : Grown). IfSome c.copied.result (λ place. place < length g.nodes)) c.self.view_is
-    (place_within c.self.inside.nodes.items c.args.hash.now c.copied.result c.self.invariant.tree (c.copied.ensures ∙ c.get.ensures.value ∙ c.self.invariant.places c.args.hash.now))
+    (place_within c.self.inside.nodes.items c.args.hash.now c.copied.result c.self.invariant.0.tree (c.copied.ensures ∙ c.get.ensures.value ∙ c.self.invariant.0.places c.args.hash.now))
 
 pub returns-clause-tree : goal.returns-clause-tree
-returns-clause-tree c = subst (λ (g : Grown). IsTree g.nodes) c.self.view_is c.self.invariant.tree
+returns-clause-tree c = subst (λ (g : Grown). IsTree g.nodes) c.self.view_is c.self.invariant.0.tree
