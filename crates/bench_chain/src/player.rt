@@ -1,5 +1,7 @@
-ghost use Rattle.std.specs.Prelude.{◌≡◌};
-ghost use Rattle.bench_chain.specs.Playing.{GoesOn};
+ghost use Rattle.std.specs.Prelude.{◌≡◌, ◌⊎◌, ◌++◌, [], IfOk, OnErr, OnOk};
+ghost use Rattle.cb_block.specs.Text.{IsBlock, block_text};
+ghost use Rattle.cb_chain.specs.History.{BlockCall, HeaderCall};
+ghost use Rattle.bench_chain.specs.Playing.{HasHad, Plays};
 
 use crate::asking::{Question, answer_sizes};
 use crate::copying::copy_sizes;
@@ -33,7 +35,10 @@ pub struct Player {
 }
 
 impl Player {
-    pub fn new(alloc: Global) -> Result<Player, Fault> {
+    /// A player of a new chain. The only error is `Fault::Memory`.
+    pub fn new(alloc: Global) -> Result<Player, Fault>
+        ensures { IfOk result (λ player. player.chain ≡ []) }
+    {
         Ok(Player {
             alloc,
             chain: Chain::new(alloc)?,
@@ -54,10 +59,10 @@ impl Player {
     /// each call is made beside a copy, `t`, from which on each call tells in a line how it ended, or a question that is
     /// answered by a line (`answer_line`).
     ///
-    /// The chain has had the calls of before, and then some more.
-    #[tactic(auto, using(crate::proofs::Goings::goes_on))]
+    /// A refused record has made its call or left the chain as it was.
     pub fn play(&mut self, kind: u8, payload: &[u8]) -> Result<(), Fault>
-        ensures { GoesOn self.old.chain self.new.chain }
+        ensures ok { OnOk result (Plays kind payload.now self.old.chain self.new.chain) }
+        ensures err { OnErr result ((self.new.chain ≡ self.old.chain) ⊎ Plays kind payload.now self.old.chain self.new.chain) }
     {
         let mut cursor = Cursor::new(payload);
         match kind {
@@ -133,9 +138,9 @@ impl Player {
         Ok(())
     }
 
-    #[tactic(auto, using(crate::proofs::Goings::goes_on))]
     fn take_header(&mut self, header: Header) -> Result<(), Fault>
-        ensures { GoesOn self.old.chain self.new.chain }
+        ensures ok { OnOk result (HasHad (HeaderCall header) self.old.chain self.new.chain) }
+        ensures err { OnErr result ((self.new.chain ≡ self.old.chain) ⊎ HasHad (HeaderCall header) self.old.chain self.new.chain) }
     {
         if self.careful {
             return self.take_header_with_care(header);
@@ -143,14 +148,14 @@ impl Player {
         if self.telling {
             return self.tell_header(header);
         }
-        let accepted = put_header(&mut self.chain, header)?;
-        self.count(accepted);
+        let ended = offer_header(&mut self.chain, header)?;
+        self.count(ended.is_ok());
         Ok(())
     }
 
-    #[tactic(auto, using(crate::proofs::Goings::goes_on))]
     fn take_block(&mut self, block: SoundBlock) -> Result<(), Fault>
-        ensures { GoesOn self.old.chain self.new.chain }
+        ensures ok { OnOk result (HasHad (BlockCall block) self.old.chain self.new.chain) }
+        ensures err { OnErr result ((self.new.chain ≡ self.old.chain) ⊎ HasHad (BlockCall block) self.old.chain self.new.chain) }
     {
         if self.careful {
             return self.take_block_with_care(block);
@@ -158,27 +163,27 @@ impl Player {
         if self.telling {
             return self.tell_block(block);
         }
-        let accepted = put_block(&mut self.chain, block)?;
-        self.count(accepted);
+        let ended = offer_block(&mut self.chain, block)?;
+        self.count(ended.is_ok());
         Ok(())
     }
 
-    #[tactic(auto, using(crate::proofs::Goings::goes_on))]
     fn tell_header(&mut self, header: Header) -> Result<(), Fault>
-        ensures { GoesOn self.old.chain self.new.chain }
+        ensures ok { OnOk result (HasHad (HeaderCall header) self.old.chain self.new.chain) }
+        ensures err { OnErr result ((self.new.chain ≡ self.old.chain) ⊎ HasHad (HeaderCall header) self.old.chain self.new.chain) }
     {
-        let ended = offer_header(&mut self.chain, header);
+        let ended = offer_header(&mut self.chain, header)?;
         self.count(ended.is_ok());
         let line = header_line(self.alloc, ended)?;
         self.lines.push_str(line.as_str())?;
         Ok(())
     }
 
-    #[tactic(auto, using(crate::proofs::Goings::goes_on))]
     fn tell_block(&mut self, block: SoundBlock) -> Result<(), Fault>
-        ensures { GoesOn self.old.chain self.new.chain }
+        ensures ok { OnOk result (HasHad (BlockCall block) self.old.chain self.new.chain) }
+        ensures err { OnErr result ((self.new.chain ≡ self.old.chain) ⊎ HasHad (BlockCall block) self.old.chain self.new.chain) }
     {
-        let ended = offer_block(&mut self.chain, block);
+        let ended = offer_block(&mut self.chain, block)?;
         self.count(ended.is_ok());
         let line = block_line(self.alloc, &ended)?;
         self.lines.push_str(line.as_str())?;
@@ -186,35 +191,35 @@ impl Player {
     }
 
     // Where memory runs out the chain must be as its copy is, and the call is made again.
-    #[tactic(auto, using(crate::proofs::Goings::goes_on))]
     fn take_header_with_care(&mut self, header: Header) -> Result<(), Fault>
-        ensures { GoesOn self.old.chain self.new.chain }
+        ensures ok { OnOk result (HasHad (HeaderCall header) self.old.chain self.new.chain) }
+        ensures err { OnErr result (self.new.chain ≡ self.old.chain) }
     {
         self.names.push(header.hash())?;
         let before = self.chain.copy()?;
-        let mut ended = put_header(&mut self.chain, header);
+        let mut ended = offer_header(&mut self.chain, header);
         if ended.is_err() {
             self.compare(&before);
-            ended = put_header(&mut self.chain, header);
+            ended = offer_header(&mut self.chain, header);
         }
-        self.count(ended.unwrap_or(false));
+        self.count(ended?.is_ok());
         Ok(())
     }
 
-    #[tactic(auto, using(crate::proofs::Goings::goes_on))]
     fn take_block_with_care(&mut self, block: SoundBlock) -> Result<(), Fault>
-        ensures { GoesOn self.old.chain self.new.chain }
+        ensures ok { OnOk result (HasHad (BlockCall block) self.old.chain self.new.chain) }
+        ensures err { OnErr result (self.new.chain ≡ self.old.chain) }
     {
         self.names.push(block.block().header.hash())?;
         push_points(&mut self.points, block.txids())?;
         let before = self.chain.copy()?;
         let again = block.copy()?;
-        let mut ended = put_block(&mut self.chain, block);
+        let mut ended = offer_block(&mut self.chain, block);
         if ended.is_err() {
             self.compare(&before);
-            ended = put_block(&mut self.chain, again);
+            ended = offer_block(&mut self.chain, again);
         }
-        self.count(ended.unwrap_or(false));
+        self.count(ended?.is_ok());
         Ok(())
     }
 
@@ -264,39 +269,29 @@ impl Player {
     }
 }
 
-// Gives a header to a chain.
-fn offer_header(chain: &mut Chain, header: Header) -> Result<(), Fault>
-    ensures { GoesOn chain.old chain.new }
+// Gives a header to a chain, and tells how that ended. The only error is `Fault::Memory`, which changes nothing.
+#[tactic(auto, unfolding(crate::specs::Playing::HasHad))]
+fn offer_header(chain: &mut Chain, header: Header) -> Result<Result<(), Fault>, Fault>
+    ensures ok { OnOk result (HasHad (HeaderCall header) chain.old chain.new) }
+    ensures err { OnErr result (chain.new ≡ chain.old) }
 {
-    chain.accept_header(header)
-}
-
-// Gives a block to a chain.
-fn offer_block(chain: &mut Chain, block: SoundBlock) -> Result<Change, Fault>
-    ensures { GoesOn chain.old chain.new }
-{
-    chain.accept_block(block)
-}
-
-// Gives a header to a chain: whether it was accepted, or that memory was wanting.
-fn put_header(chain: &mut Chain, header: Header) -> Result<bool, Fault>
-    ensures { GoesOn chain.old chain.new }
-{
-    match offer_header(chain, header) {
-        Ok(()) => Ok(true),
+    match chain.accept_header(header) {
+        Ok(()) => Ok(Ok(())),
         Err(fault) if fault == Fault::Memory => Err(fault),
-        Err(_) => Ok(false),
+        Err(fault) => Ok(Err(fault)),
     }
 }
 
-// Gives a block to a chain: whether it was accepted, or that memory was wanting.
-fn put_block(chain: &mut Chain, block: SoundBlock) -> Result<bool, Fault>
-    ensures { GoesOn chain.old chain.new }
+// Gives a block to a chain, and tells how that ended. The only error is `Fault::Memory`, which changes nothing.
+#[tactic(auto, unfolding(crate::specs::Playing::HasHad))]
+fn offer_block(chain: &mut Chain, block: SoundBlock) -> Result<Result<Change, Fault>, Fault>
+    ensures ok { OnOk result (HasHad (BlockCall block) chain.old chain.new) }
+    ensures err { OnErr result (chain.new ≡ chain.old) }
 {
-    match offer_block(chain, block) {
-        Ok(_) => Ok(true),
+    match chain.accept_block(block) {
+        Ok(change) => Ok(Ok(change)),
         Err(fault) if fault == Fault::Memory => Err(fault),
-        Err(_) => Ok(false),
+        Err(fault) => Ok(Err(fault)),
     }
 }
 
@@ -311,7 +306,10 @@ fn push_points(points: &mut Vec<OutPoint>, txids: &[Hash256]) -> Result<(), Faul
     Ok(())
 }
 
-fn read_sound<'a>(alloc: Global, cursor: &mut Cursor<'a>) -> Result<SoundBlock, Fault> {
+// Reads a block, which must be sound.
+fn read_sound<'a>(alloc: Global, cursor: &mut Cursor<'a>) -> Result<SoundBlock, Fault>
+    ensures { IfOk result (λ block. IsBlock block × (cursor.old ≡ block_text block ++ cursor.new)) }
+{
     let block = read_block(alloc, cursor)?;
     match sound(alloc, Shared::new(alloc, block)?) {
         Ok(block) => Ok(block),

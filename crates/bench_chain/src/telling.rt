@@ -29,7 +29,6 @@ pub fn header_line(alloc: Global, ended: Result<(), Fault>) -> Result<String, Fa
     let mut line = String::new(alloc);
     match ended {
         Ok(()) => writeln!(line, "taken")?,
-        Err(Fault::Memory) => return Err(Fault::Memory),
         Err(fault) => writeln!(line, "{fault}")?,
     }
     Ok(line)
@@ -46,7 +45,6 @@ pub fn block_line(alloc: Global, ended: &Result<Change, Fault>) -> Result<String
             push_hashes(alloc, &mut line, change.on.as_slice())?;
             line.push('\n')?;
         }
-        Err(Fault::Memory) => return Err(Fault::Memory),
         Err(fault) => writeln!(line, "{fault}")?,
     }
     Ok(line)

@@ -121,6 +121,7 @@ impl Chain {
         ensures history { (calls : List Call) → IsHistory calls self.old
             → MatchResult result (λ _. IsHistory (HeaderCall header ∷ calls) self.new)
             (λ fault. ((fault ≡ Memory) × IsHistory calls self.new) ⊎ IsHistory (HeaderCall header ∷ calls) self.new) }
+        ensures unchanged { result ≡ Err Memory → self.new ≡ self.old }
         // Memory is wanted only of a header that nothing speaks against.
         ensures unpaid { result ≡ Err Memory → HasWork header × (header_fault self.old header ≡ None) }
     {
@@ -150,6 +151,7 @@ impl Chain {
         ensures history { (calls : List Call) → IsHistory calls self.old
             → MatchResult result (λ _. IsHistory (BlockCall block ∷ calls) self.new)
             (λ fault. ((fault ≡ Memory) × IsHistory calls self.new) ⊎ IsHistory (BlockCall block ∷ calls) self.new) }
+        ensures unchanged { result ≡ Err Memory → self.new ≡ self.old }
         // Memory is wanted only of a block whose header nothing speaks against.
         ensures unpaid { result ≡ Err Memory → HasWork block.header × (block_fault self.old block.header ≡ None) }
     {
@@ -176,6 +178,7 @@ impl Chain {
         ensures ok { IfOk result (λ change. (Ok change, self.new) ≡ joined self.old kept) }
         ensures moves { IfOk result (λ change. LeadsOver (active_hashes self.old) change (active_hashes self.new)) }
         ensures err { IfErr result (λ fault. ((fault ≡ Memory) × (self.new ≡ self.old)) ⊎ ((Err fault, self.new) ≡ joined self.old kept)) }
+        ensures unchanged { result ≡ Err Memory → self.new ≡ self.old }
     {
         if spot.height > self.tip_height() {
             return self.lead(spot, kept);

@@ -185,6 +185,7 @@ impl Chain {
         ensures ok { IfOk result (λ change. (Ok change, self.new) ≡ joined self.old kept) }
         ensures moves { IfOk result (λ change. LeadsOver (active_hashes self.old) change (active_hashes self.new)) }
         ensures err { IfErr result (λ fault. ((fault ≡ Memory) × (self.new ≡ self.old)) ⊎ ((Err fault, self.new) ≡ joined self.old kept)) }
+        ensures unchanged { result ≡ Err Memory → self.new ≡ self.old }
     {
         self.tree.reserve()?;
         let Plan {

@@ -107,5 +107,6 @@ returns c =
       moves = tt;
       err = inr told;
       history = λ calls past. inr (c.args.self.now, past, (Err c.in-Err.fault, told));
+      unchanged = λ e. let same : c.in-Err.fault ≡ Memory = cc in absurd (other same);
       unpaid = λ e. let same : c.in-Err.fault ≡ Memory = cc in absurd (other same);
     }
