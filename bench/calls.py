@@ -3,8 +3,9 @@
 
 Without words 2,000 calls from seed 1, in some seconds. It needs the built program crates/bench_chain/out/bench_chain (as
 ./build bench_chain leaves it) and python3. The plain chain was written apart from the program, from the rules in
-docs/PROTOCOL.md: it keeps what came, and finds the best chain and what is unspent anew for each answer. After each call the
-tip, the locator and what is drawn are compared, now and then all that came.
+docs/PROTOCOL.md: it keeps what came, and finds the best chain and what is unspent anew after each call. Then the tip, the
+locator and what is drawn are compared, now and then all that came. Half of the calls belong to a story: faults low down on
+branches that are met late, faulty blocks on the ends of side branches, and branches that overtake each other.
 """
 
 import os
@@ -18,12 +19,14 @@ from bench import built, compact_size, hash_twice, merkle_root, usage
 from chain import GENESIS, TARGET, record
 
 # So many calls go to one chain; after so many of them all that came is compared.
-CALLS, SWEEP = 250, 50
+CALLS, SWEEP = 400, 50
 NOBODY = bytes([9]) * 32
 MOST_MONEY = 2_100_000_000_000_000
-# What a full run has to meet: each fault that a chain can tell, but want of memory and 1,000,000,000 blocks.
+# What a full run has to meet: each fault that a chain can tell, but want of memory and 1,000,000,000 blocks; a block that can't be
+# connected beside the tip, and one below the block that is tried; and a reorganisation of so many blocks.
+DEEP = 25
 FAULTS = {"F5 BadTx 4", "F5 BadTx 6", "F10 BadCoinbase", "F11 BadWork", "F13 Oversize", "F18 Known", "F19 NoInput",
-          "F21 Overspent", "F22 Remade", "F23 NoParent", "F24 BadParent"}
+          "F21 Overspent", "F22 Remade", "F23 NoParent", "F24 BadParent", "a fault beside the tip", "a fault below", "a deep reorganisation"}
 
 
 # ---- what is made
@@ -115,8 +118,10 @@ class Plain:
 
     def __init__(self):
         self.headers = {}
+        self.heights = {GENESIS: 0}
         self.kept = {}
         self.marked = set()
+        self.best = GENESIS
 
     def is_known(self, name):
         return name == GENESIS or name in self.headers
@@ -132,7 +137,11 @@ class Plain:
         return way[::-1]
 
     def height(self, name):
-        return len(self.way(name)) - 1
+        return self.heights[name]
+
+    def add(self, header):
+        self.headers[header.name] = header
+        self.heights[header.name] = self.heights[header.prev] + 1
 
     def unspent(self, name):
         """What is unspent after a kept block, or the first block on its way that can't be connected, and why."""
@@ -144,9 +153,12 @@ class Plain:
         return unspent, None
 
     def tip(self):
+        return self.best
+
+    def found(self):
         """The highest block that can be connected, and of equals the one that came first."""
         for name in sorted(self.kept, key=self.height, reverse=True):
-            if self.unspent(name)[0] is not None:
+            if name not in self.marked and self.unspent(name)[0] is not None:
                 return name
         return GENESIS
 
@@ -162,7 +174,7 @@ class Plain:
     def take_header(self, header):
         fault = self.header_fault(header)
         if fault is None:
-            self.headers[header.name] = header
+            self.add(header)
         return fault or "taken"
 
     def header_fault(self, header):
@@ -189,7 +201,7 @@ class Plain:
         if fault:
             return fault
         name, old = block.header.name, self.tip()
-        self.headers[name] = block.header
+        self.add(block.header)
         fault = block.fault()
         if fault:
             self.marked.add(name)
@@ -201,6 +213,7 @@ class Plain:
         if first:
             self.marked |= {above for above in self.kept if first[0] in self.way(above)}
             return first[1]
+        self.best = self.found()
         one, other = self.way(old), self.way(name)
         return [step for step in reversed(one) if step not in other], [step for step in other if step not in one]
 
@@ -241,6 +254,7 @@ class Drawing:
         self.points = []
         self.branch = GENESIS
         self.marks = 0
+        self.stories = Stories(self)
 
     def near(self, things, count):
         return self.rng.choice(things[-count:])
@@ -277,9 +291,12 @@ class Drawing:
         values = [worth] if self.rng.random() < 0.6 else [worth // 2, worth - worth // 2]
         return Tx(mark, list(drawn), values)
 
-    def txs(self, prev):
+    def mark(self):
         self.marks += 1
-        mark, dice = self.marks, self.rng.randrange(60)
+        return self.marks
+
+    def txs(self, prev):
+        mark, dice = self.mark(), self.rng.randrange(60)
         if dice == 0:
             return [Tx(mark, [], [50]), Tx(mark + 1_000_000, [], [50])]
         if dice == 1:
@@ -298,19 +315,24 @@ class Drawing:
             txs.append(Tx(mark, [self.rng.choice(txs[-1].points())], [txs[-1].values[0]]))
         return txs
 
-    def made(self):
-        """A block that is new, mostly."""
-        prev = self.parent()
-        block = Block(prev, self.txs(prev), self.rng.randrange(40) > 0)
+    def drawn(self, block):
         self.blocks.append(block)
         self.headers.append(block.header)
         self.points += [point for tx in block.txs for point in tx.points()]
+        return block
+
+    def made(self):
+        """A block that is new, mostly."""
+        prev = self.parent()
+        block = self.drawn(Block(prev, self.txs(prev), self.rng.randrange(40) > 0))
         if prev == self.branch and self.rng.random() < 0.95:
             self.branch = block.header.name
         return block
 
     def call(self):
-        """A header or a block: a new one, a header before its block, a header alone, or one that was made before."""
+        """A header or a block: a story's next, a new one, a header before its block, a header alone, or one that was made before."""
+        if self.rng.random() < 0.5:
+            return self.drawn(self.stories.next())
         dice = self.rng.randrange(20)
         if dice == 0:
             header = Header(header_text(self.parent(), bytes([self.rng.randrange(256)]) * 32, self.rng.randrange(10) > 0))
@@ -321,6 +343,106 @@ class Drawing:
         if dice == 2 and self.blocks:
             return self.near(self.blocks, 40)
         return self.made().header if dice == 3 else self.made()
+
+
+class Stories:
+    """Blocks that belong together, with other calls between them. A story looks at the chain before each of its blocks."""
+
+    def __init__(self, drawing):
+        self.drawing, self.rng, self.plain = drawing, drawing.rng, drawing.plain
+        self.story = self.raised(GENESIS, lambda: 2 * DEEP)
+        # The ends of side branches of the stories so far.
+        self.ends = []
+
+    def next(self):
+        for block in self.story:
+            return block
+        self.story = self.rng.choice([self.late_faults, self.faulty_ends, self.turns])()
+        return next(self.story)
+
+    def top(self):
+        return self.plain.height(self.plain.tip())
+
+    def fork(self, depths):
+        """A block of the best chain, so deep; now and then an end of before."""
+        if self.ends and self.rng.random() < 0.4:
+            return self.drawing.near(self.ends, 6)
+        way = self.plain.way(self.plain.tip())
+        return way[-1 - min(self.rng.choice(depths), len(way) - 1)]
+
+    def moved(self, prev, unspent):
+        """The transactions of a block elsewhere, if they can be connected here, too."""
+        block = Block(prev, self.drawing.near(self.drawing.blocks, 60).txs)
+        can = block.fault() is None and connected(dict(unspent), block) is None
+        return block if can and not self.plain.is_known(block.header.name) else None
+
+    def whole(self, prev):
+        """A block that can be connected where its parent can: such as stands elsewhere, or one that spends what is unspent."""
+        mark, unspent = self.drawing.mark(), self.plain.unspent(prev)[0]
+        block = self.moved(prev, unspent) if unspent and self.rng.random() < 0.3 else None
+        if block is not None:
+            return block
+        txs = [Tx(mark, [], [50])]
+        if unspent and self.rng.random() < 0.7:
+            point, value = self.drawing.near(list(unspent.items()), 30)
+            txs.append(Tx(mark, [point], [value // 2, value - value // 2]))
+        return Block(prev, txs)
+
+    def faulty(self, prev):
+        """A block that can't be connected: it spends what isn't there, or the same twice, or more than there is."""
+        mark, unspent = self.drawing.mark(), self.plain.unspent(prev)[0] or {}
+        first = Tx(mark, [], [50])
+        spent, value = self.rng.choice([*unspent.items()][-30:] + [(first.points()[0], 50)])
+        dice = self.rng.randrange(3)
+        if dice == 0:
+            return Block(prev, [first, Tx(mark, [(NOBODY, mark)], [1])])
+        if dice == 1:
+            return Block(prev, [first, Tx(mark, [spent], [value]), Tx(mark + 1_000_000, [spent], [value])])
+        return Block(prev, [first, Tx(mark, [spent], [value + 1])])
+
+    def raised(self, end, height):
+        """Blocks on a branch until it is so high, and then its end."""
+        while self.plain.height(end) < height():
+            block = self.whole(end)
+            yield block
+            end = block.header.name
+        return end
+
+    def late_faults(self):
+        """Faulty blocks low down, and on each so many that its branch is higher than the tip, unless it is met before."""
+        low = self.fork([2, 5, 12])
+        ends = []
+        for _ in range(self.rng.randrange(1, 5)):
+            block = self.faulty(low)
+            yield block
+            ends.append(block.header.name)
+        for end in ends:
+            while end not in self.plain.marked:
+                block = self.whole(end)
+                yield block
+                end = block.header.name
+
+    def faulty_ends(self):
+        """Faulty blocks on ends that share a branch, each as high as the tip, which goes up between them."""
+        stem = yield from self.raised(self.fork([2, 6, 12, 25]), lambda: self.top() - self.rng.randrange(12))
+        ends = [stem] * self.rng.randrange(1, 4)
+        for _ in range(self.rng.randrange(4, 10)):
+            if self.rng.random() < 0.3:
+                yield self.whole(self.plain.tip())
+            i = self.rng.randrange(len(ends))
+            ends[i] = yield from self.raised(ends[i], self.top)
+            yield self.faulty(ends[i])
+        self.ends += ends
+
+    def turns(self):
+        """Branches that overtake each other."""
+        end = self.fork([2, 8, 30])
+        for _ in range(self.rng.randrange(2, 6)):
+            end = yield from self.raised(end, self.top)
+            left = self.plain.tip()
+            yield self.whole(end)
+            end = left
+        self.ends.append(end)
 
 
 # ---- what is told
@@ -350,15 +472,24 @@ class Play:
         if isinstance(what, Header):
             ended = self.plain.take_header(what)
             self.ask(b"h", what.text, ended)
+            self.ended[ended] += 1
         else:
-            ended = self.plain.take_block(what)
-            if isinstance(ended, tuple):
-                off, on = ended
-                self.deepest = max(self.deepest, len(off))
-                ended = "a reorganisation" if off else "a higher tip" if on else "a block aside"
-                self.ask(b"b", what.text, line("off", off) + line(" on", on))
-            else:
-                self.ask(b"b", what.text, ended)
+            self.call_block(what)
+
+    def call_block(self, block):
+        tip, marked = self.plain.tip(), len(self.plain.marked)
+        ended = self.plain.take_block(block)
+        if isinstance(ended, tuple):
+            off, on = ended
+            self.deepest = max(self.deepest, len(off))
+            self.ended["a deep reorganisation"] += len(off) >= DEEP
+            ended = "a reorganisation" if off else "a higher tip" if on else "a block aside"
+            self.ask(b"b", block.text, line("off", off) + line(" on", on))
+        else:
+            self.ask(b"b", block.text, ended)
+            is_new = len(self.plain.marked) > marked
+            self.ended["a fault beside the tip"] += is_new and block.fault() is None and block.header.prev != tip
+            self.ended["a fault below"] += len(self.plain.marked) > marked + 1
         self.ended[ended] += 1
 
     def ask_tip(self):
@@ -433,7 +564,7 @@ def main():
     for difference in differences:
         print(difference)
     print(", ".join(f"{name} {times}" for name, times in sorted(ended.items())))
-    unmet = sorted(FAULTS - set(ended)) if count >= 2_000 else []
+    unmet = sorted(name for name in FAULTS if not ended[name]) if count >= 2_000 else []
     if unmet:
         print("never met:", ", ".join(unmet))
     print(f"{count} calls, {answers} answers, {deepest} blocks off in the deepest reorganisation, {len(differences)} chains that differ")

@@ -2,17 +2,17 @@
 """Measures the chain: headers and blocks accepted per second at two heights, questions, reorganisations, and memory.
 
 It needs the built program crates/bench_chain/out/bench_chain (as ./build bench_chain leaves it there) and python3, and takes
-about a minute. With `--before` it tells what faults cost beside a program of before. Times are of the processor. What a play takes
-is the difference of two runs, with it and without it, and of some such differences the median; plays whose times are compared
-take turns.
+some two minutes. With `--before` it tells what faults, side branches and blocks at the tip cost beside a program of before.
+Times are of the processor. What a play takes is the least time of some runs with it, less that of as many without it; plays and
+programs whose times are compared take turns.
 """
 
 import os
-import statistics
 import struct
 import subprocess
 import sys
 import tempfile
+from typing import NamedTuple
 
 from bench import RUNS, adopt, built, compact_size, ended, hash_twice, in_turns, merkle_root, usage
 
@@ -24,6 +24,14 @@ QUESTIONS = [("tip and tip_height", 100_000_000), ("height", 5_000_000), ("has",
 BLOCKS, HEADERS, SWITCHES = 5_000, 20_000, 1_000
 # How many faulty blocks are told to be so, and behind how many headers.
 FAULTS, FEW, MANY = 8_000, 8_000, 80_000
+# How long side branches are, and how many faulty blocks are tried where one costs what it holds, and where one costs a whole branch.
+SHORT, LONG, TRIES, STEPS = 1_000, 10_000, 8_000, 200_000
+# How many ends share a branch, and how many blocks each of them has to itself: few, and more than the chain calls near.
+ENDS, OWN = 4, (5, 50)
+# How deep branches fork that overtake each other, how often such are made near the tip, and how often one overtakes far from it.
+NEAR, FAR, ROUNDS, FAR_TURNS = 10, 4_000, 400, 40
+# How many blocks extend the tip, how many of them behind each side branch that is tried, and in how many turns of the programs.
+EXTENDED, BEHIND, EXTENDED_TURNS = 20_000, 500, 3 * RUNS
 
 
 def header(prev, root):
@@ -93,6 +101,11 @@ def branch(marks, prev, count):
     return blocks
 
 
+def faulty_on(marks, prev):
+    """A block that can't be connected."""
+    return Made(prev, marks.take(), [hash_twice(b"unknown")])
+
+
 def as_records(blocks, kind=b"b"):
     return b"".join(record(kind, block.text) for block in blocks)
 
@@ -110,12 +123,45 @@ def careful_play():
             + record(b"h", after))
 
 
+def careful_turns():
+    """Faulty blocks on a side branch's ends, the tip's extension between them, and turns to the branch and back, each beside a copy."""
+    marks = Marks()
+    main = branch(marks, GENESIS, 2)
+    side = branch(marks, GENESIS, 1)
+    side.append(Made(side[-1].name, marks.take(), [side[0].made]))
+    first = faulty_on(marks, side[-1].name)
+    main.append(Made(main[-1].name, marks.take(), [main[0].made]))
+    ends = [Made(side[-1].name, marks.take(), [side[1].made]), Made(side[-1].name, marks.take())]
+    tried = [faulty_on(marks, end.name) for end in ends]
+    turn = Made(ends[0].name, marks.take(), [ends[0].made])
+    back = branch(marks, main[-1].name, 1)
+    back.append(Made(back[-1].name, marks.take(), [main[2].made, back[0].made]))
+    again = branch(marks, turn.name, 2)
+    last = faulty_on(marks, again[0].name)
+    careful = [first, main[2], *ends, *tried, turn, *back, again[0], last, again[1]]
+    return as_records(main[:2] + side) + record(b"c") + as_records(careful)
+
+
 def copying_play():
     """Copies of a chain of three blocks, of a block that spends, and of a message that holds it."""
     marks = Marks()
     blocks = branch(marks, GENESIS, 2)
     blocks.append(Made(blocks[-1].name, marks.take(), [blocks[0].made]))
     return as_records(blocks) + copies(0, 1) + b"".join(copies(original, 1, blocks[-1].text) for original in (1, 2))
+
+
+class Play(NamedTuple):
+    """Records, others whose time is taken off, and how many of each are refused."""
+
+    whole: bytes
+    ground: bytes
+    refused: int = 0
+    refused_below: int = 0
+
+
+def behind(ground, records, refused=0, refused_below=0):
+    """Records behind others whose time is taken off, and how many of each are refused."""
+    return Play(ground + records, ground, refused_below + refused, refused_below)
 
 
 class Runs:
@@ -131,7 +177,7 @@ class Runs:
             file.write(data)
         return path
 
-    def once(self, path, refused=0):
+    def once(self, path, refused):
         """The processor time of one run that refuses so many."""
         with open(path, "rb") as source:
             process = subprocess.Popen([self.program], stdin=source, stdout=subprocess.PIPE)
@@ -143,11 +189,9 @@ class Runs:
             sys.exit(f"the program ended with status {process.returncode}, and told {told!r}")
         return used.ru_utime + used.ru_stime
 
-    def seconds(self, plays, turns=RUNS, refused=0):
-        """What each play takes behind its ground, which refuses none, where it refuses so many."""
-        paths = [(self.write(f"whole{i}", ground + play), self.write(f"ground{i}", ground)) for i, (ground, play) in enumerate(plays)]
-        took = [[self.once(whole, refused) - self.once(ground) for whole, ground in paths] for _ in range(turns)]
-        return [statistics.median(times) for times in zip(*took)]
+    def seconds(self, plays, turns=RUNS):
+        """What each play takes beyond its ground."""
+        return seconds_of([(self, play) for play in plays], turns)
 
     def memory(self, data):
         """The memory of a run at its greatest, in bytes."""
@@ -155,6 +199,14 @@ class Runs:
         ended([self.program], path, 0)
         [cost] = in_turns(([self.program], path))
         return cost.memory
+
+
+def seconds_of(plays, turns=RUNS):
+    """What each play takes beyond its ground, by the program that is named with it."""
+    paths = [(runs.write(f"whole{i}", play.whole), runs.write(f"ground{i}", play.ground)) for i, (runs, play) in enumerate(plays)]
+    took = [[(runs.once(whole, play.refused), runs.once(ground, play.refused_below))
+             for (runs, play), (whole, ground) in zip(plays, paths)] for _ in range(turns)]
+    return [min(whole for whole, _ in times) - min(ground for _, ground in times) for times in zip(*took)]
 
 
 class Ground:
@@ -175,7 +227,7 @@ class AtBoth:
         self.grounds = [Ground(LOW), Ground(HIGH)]
 
     def tell(self, name, count, play, turns=RUNS):
-        low, high = self.runs.seconds([(ground.records, play(ground)) for ground in self.grounds], turns)
+        low, high = self.runs.seconds([behind(ground.records, play(ground)) for ground in self.grounds], turns)
         print(f"{name}: {count / low:,.0f} a second at height {LOW}, {count / high:,.0f} at height {HIGH:,}: "
               f"{high / low:.2f} times as long")
 
@@ -191,7 +243,7 @@ def accepting(runs, both):
               lambda ground: as_records(branch(ground.marks, ground.tip, BLOCKS)), 4 * RUNS)
     both.tell(f"{HEADERS:,} headers, with reading them", HEADERS, headers, 4 * RUNS)
     count = 10 * BLOCKS
-    [took] = runs.seconds([(b"", as_records(branch(Marks(), GENESIS, count), b"s"))])
+    [took] = runs.seconds([behind(b"", as_records(branch(Marks(), GENESIS, count), b"s"))])
     print(f"blocks that are read and judged by themselves: {count / took:,.0f} a second")
 
 
@@ -206,34 +258,149 @@ def reorganisations(runs):
         other = branch(marks, main[-11].name, 11)
         switched.append(as_records(other))
         main = main[:-10] + other
-    took, beside = runs.seconds([(ground, b"".join(switched)), (ground, extended)], 2 * RUNS)
+    took, beside = runs.seconds([behind(ground, b"".join(switched)), behind(ground, extended)], 2 * RUNS)
     print(f"a reorganisation of 10 blocks for 11: {took / SWITCHES * 1e6:,.0f} microseconds with reading its 11 blocks, "
           f"{took / beside:.2f} times as long as 11 blocks that extend the tip")
 
 
-def faults(runs, before):
-    """Blocks beside the tip that can't be connected, headers behind them, and a block on each, whose fault marks both."""
+def faults(count):
+    """Blocks beside the tip that can't be connected, so many headers behind them, and a block on each, whose fault marks both."""
     marks = Marks()
     main = branch(marks, GENESIS, LOW)
-    faulty = [Made(main[-2].name, marks.take(), [hash_twice(b"unknown")]) for _ in range(FAULTS)]
+    faulty = [faulty_on(marks, main[-2].name) for _ in range(FAULTS)]
     triggers = as_records([Made(block.name, marks.take()) for block in faulty])
-    later = [record(b"h", header(main[-1].name, struct.pack("<I", mark) + bytes(28))) for mark in range(MANY)]
-    ground = as_records(main + faulty)
-    plays = [(ground + b"".join(later[:count]), triggers) for count in (FEW, MANY)]
-    took = [program.seconds(plays, refused=FAULTS) for program in [runs] + before]
-    few, many = (seconds / FAULTS * 1e6 for seconds in took[0])
-    print(f"a fault that marks 2 blocks: {few:,.2f} microseconds behind {FEW:,} later headers with reading its block, {many:,.2f} behind {MANY:,}")
-    for old in took[1:]:
-        few, many = (seconds / FAULTS * 1e6 for seconds in old)
-        print(f"  before: {few:,.2f} and {many:,.2f} microseconds, {old[0] / took[0][0]:.2f} and {old[1] / took[0][1]:.1f} times as long")
+    later = [record(b"h", header(main[-1].name, struct.pack("<I", mark) + bytes(28))) for mark in range(count)]
+    return behind(as_records(main + faulty) + b"".join(later), triggers, FAULTS)
+
+
+def tried_on(ends_of, length, count):
+    """So many faulty blocks on the ends of side branches that are as high as the tip, behind one on each, in turns."""
+    marks = Marks()
+    main = branch(marks, GENESIS, length)
+    blocks, ends = ends_of(marks, length)
+    first = [faulty_on(marks, end) for end in ends]
+    tried = [faulty_on(marks, ends[i % len(ends)]) for i in range(count)]
+    return behind(as_records(main + blocks + first), as_records(tried), count, len(first))
+
+
+def one_end(marks, length):
+    side = branch(marks, GENESIS, length)
+    return side, [side[-1].name]
+
+
+def shared_ends(own):
+    """Branches that part so many blocks below their ends."""
+    def ends_of(marks, length):
+        stem = branch(marks, GENESIS, length - own)
+        ends = [branch(marks, stem[-1].name, own) for _ in range(ENDS)]
+        return sum(ends, stem), [end[-1].name for end in ends]
+
+    return ends_of
+
+
+def two_sides(marks, length):
+    """Branches that part at the first block."""
+    sides = [branch(marks, GENESIS, length) for _ in range(2)]
+    return sum(sides, []), [side[-1].name for side in sides]
+
+
+def overtaking(marks, sides, turns):
+    """Two blocks on the lower of two branches, again and again; the first time it is one, since they are as high. The last is the tip."""
+    ends = [side[-1].name for side in sides]
+    blocks = []
+    for i in range(turns):
+        pair = branch(marks, ends[(i + 1) % 2], 2 if i else 1)
+        ends[(i + 1) % 2] = pair[-1].name
+        blocks += pair
+    return blocks
+
+
+def far_turns():
+    """Branches from the first block that overtake each other."""
+    marks = Marks()
+    sides = [branch(marks, GENESIS, FAR) for _ in range(2)]
+    return behind(as_records(sum(sides, [])), as_records(overtaking(marks, sides, FAR_TURNS)))
+
+
+def near_turns():
+    """Branches that overtake each other NEAR // 2 to NEAR + NEAR // 2 deep, and then others on the tip; beside branches that don't."""
+    marks = Marks()
+    whole, ground, tip, low = [], [], GENESIS, GENESIS
+    for _ in range(ROUNDS):
+        sides = [branch(marks, tip, NEAR // 2) for _ in range(2)]
+        turns = overtaking(marks, sides, NEAR + 1)
+        whole += sum(sides, []) + turns
+        tip = turns[-1].name
+        still = [branch(marks, low, NEAR // 2) for _ in range(2)]
+        ground += sum(still, [])
+        low = still[0][-1].name
+    return Play(as_records(whole), as_records(ground))
+
+
+def extending(is_beside):
+    """Blocks that extend the tip; now and then a branch of one block beside it is tried, so that one is kept all the time."""
+    marks = Marks()
+    main = branch(marks, GENESIS, LOW)
+    ground, records, below, tip, refused = as_records(main), [], main[-2].name, main[-1].name, 0
+    for _ in range(EXTENDED // BEHIND):
+        if is_beside:
+            side = Made(below, marks.take())
+            records += [side, faulty_on(marks, side.name)]
+            refused += 1
+        records += branch(marks, tip, BEHIND)
+        below, tip = records[-2].name, records[-1].name
+    return behind(ground, as_records(records), refused)
+
+
+class Beside:
+    """Plays that are timed by the program, and by those of before."""
+
+    def __init__(self, runs, before):
+        self.programs = [runs] + before
+
+    def tell(self, name, plays_of, turns=2 * RUNS):
+        """What one of so many takes in each of two plays: they are given for each program, with their counts."""
+        given = [(runs, play, count) for number, runs in enumerate(self.programs) for play, count in plays_of(number)]
+        took = seconds_of([(runs, play) for runs, play, _ in given], turns)
+        each = [seconds / count * 1e6 for seconds, (_, _, count) in zip(took, given)]
+        print(f"{name}: {each[0]:,.2f} and {each[1]:,.2f} microseconds with reading, {each[1] / each[0]:,.2f} times as long")
+        for number in range(2, len(each), 2):
+            one, two = each[number : number + 2]
+            print(f"  before: {one:,.2f} and {two:,.2f} microseconds, {one / each[0]:,.2f} and {two / each[1]:,.2f} times as long as now", flush=True)
+
+    def tell_tried(self, name, ends_of, tries=TRIES):
+        """What a faulty block takes on the ends of short and of long branches, by so many of them."""
+        def plays_of(number):
+            counts = [tries if tries and number == 0 else STEPS // length for length in (SHORT, LONG)]
+            return [(tried_on(ends_of, length, count), count) for length, count in zip((SHORT, LONG), counts)]
+
+        self.tell(f"a faulty block on {name}, {SHORT:,} and {LONG:,} blocks long", plays_of)
+
+    def tell_faults(self):
+        self.tell(f"a fault that marks 2 blocks, behind {FEW:,} and {MANY:,} later headers",
+                  lambda _: [(faults(count), FAULTS) for count in (FEW, MANY)])
+        self.tell_tried("the end of a side branch that was tried", one_end)
+        for own in OWN:
+            self.tell_tried(f"one of {ENDS} ends in turns, with {own} blocks of its own on a shared branch", shared_ends(own))
+        self.tell_tried("one of two branches in turns, which part at the first block", two_sides, None)
+
+    def tell_turns(self):
+        self.tell(f"a turn of two branches that overtake each other, {NEAR} and {FAR:,} blocks deep",
+                  lambda _: [(near_turns(), ROUNDS * (NEAR + 1)), (far_turns(), FAR_TURNS)])
+        self.tell("a block that extends the tip, beside no branch and beside one that was tried below it",
+                  lambda _: [(extending(is_beside), EXTENDED) for is_beside in (False, True)], EXTENDED_TURNS)
 
 
 def memory(runs):
-    """What twice as many blocks take more."""
-    count = 2 * HIGH
-    blocks = branch(Marks(), GENESIS, 2 * count)
-    one, two = runs.memory(as_records(blocks[:count])), runs.memory(as_records(blocks))
-    print(f"memory: {(two - one) / count:,.0f} bytes for each block of {len(blocks[0].text)} bytes; {two / 1e6:,.0f} MB for {2 * count:,} blocks")
+    """What twice as many blocks take more: alone, and beside a branch of a block that was tried low down."""
+    marks, count = Marks(), 2 * HIGH
+    blocks = branch(marks, GENESIS, 2 * count)
+    side = Made(GENESIS, marks.take())
+    tried = as_records([blocks[0], side, faulty_on(marks, side.name)])
+    alone, beside = (runs.memory(low + as_records(blocks[1:count])) for low in (as_records(blocks[:1]), tried))
+    twice, twice_beside = (runs.memory(low + as_records(blocks[1:])) for low in (as_records(blocks[:1]), tried))
+    print(f"memory: {(twice - alone) / count:,.0f} bytes for each block of {len(blocks[0].text)} bytes, "
+          f"{(twice_beside - beside) / count:,.0f} beside a branch that was tried; {twice / 1e6:,.0f} and {twice_beside / 1e6:,.0f} MB for {2 * count:,} blocks")
 
 
 def main():
@@ -245,7 +412,9 @@ def main():
     adopt()
     with tempfile.TemporaryDirectory() as folder:
         runs = Runs(program, folder)
-        faults(runs, [Runs(other, folder) for other in before])
+        beside = Beside(runs, [Runs(other, folder) for other in before])
+        beside.tell_faults()
+        beside.tell_turns()
         both = AtBoth(runs)
         accepting(runs, both)
         for number, (name, count) in enumerate(QUESTIONS):

@@ -16,7 +16,7 @@ from typing import NamedTuple
 
 from bench import block, pings, unknown, usage
 from calls import told_play
-from chain import careful_play, copying_play
+from chain import careful_play, careful_turns, copying_play
 
 ROOT = os.path.dirname(os.path.dirname(os.path.abspath(__file__)))
 
@@ -70,6 +70,7 @@ RUNS = [
     ("serve, a checkpoint between three large messages and a ping", "cbrelay", ["serve"], unknown(3) + pings(1)),
     ("sound, a block of 5 transactions", "bench_sound", [], block(5, 10)),
     ("chain, a block at the tip and three blocks for two", "bench_chain", [], careful_play()),
+    ("chain, faults on a side branch, and turns to it and back", "bench_chain", [], careful_turns()),
     ("chain, calls that are told and questions", "bench_chain", [], told_play(10)),
     ("chain, copies of it, of a block and of a message", "bench_chain", [], copying_play()),
 ]

@@ -214,12 +214,14 @@ impl Player {
         push_points(&mut self.points, block.txids())?;
         let before = self.chain.copy()?;
         let again = block.copy()?;
-        let mut ended = offer_block(&mut self.chain, block);
-        if ended.is_err() {
-            self.compare(&before);
-            ended = offer_block(&mut self.chain, again);
-        }
-        self.count(ended?.is_ok());
+        let ended = match offer_block(&mut self.chain, block) {
+            Ok(ended) => ended,
+            Err(_) => {
+                self.compare(&before);
+                offer_block(&mut self.chain, again)?
+            }
+        };
+        self.count(ended.is_ok());
         Ok(())
     }
 

@@ -3,7 +3,6 @@ use Rattle.std.proofs.Common as common
 use Rattle.std.proofs.Common.{◌≡◌, ℕ, zero, suc, ◌+◌, ◌<◌, ◌≤◌, Bool, true, false, cond, List, [], ◌∷◌, ◌++◌, append-nil, length, Some, None, Option, refl, sym, ap, subst, ◌∙◌, arith, inl, inr, ◌⊎◌, nat_lt}
 use Rattle.std.proofs.lemmas.Bool.Decides.{nat_tests}
 use Rattle.std.specs.Prelude.{slice_get, is_ok, is_some, not, reverse, ◌&&◌, IfErr, Result, Ok, Err}
-use Rattle.std.specs.FinMap as map
 use Rattle.std.proofs.lemmas.Bool.{cases_Bool, false≢true}
 use Rattle.cb_base.specs.declared.fault.Fault.{Fault}
 use Rattle.cb_base.specs.declared.fault.Fault.TheVariants.{BadParent, Known, Memory, NoParent, TooMany}
@@ -12,7 +11,6 @@ use Rattle.cb_block.specs.declared.block.Block.{Block}
 use Rattle.cb_block.specs.declared.header.Header.{Header}
 use Rattle.cb_block.specs.Blocks.{IsRefused}
 use Rattle.cb_block.specs.Work.{HasWork}
-use Rattle.cb_ledger.specs.declared.undo.Change.{Change}
 use Rattle.cb_ledger.specs.Unspent.{Unspent}
 use Rattle.cb_chain.specs.declared.accepting.Spot.{Spot}
 use Rattle.cb_chain.specs.declared.node.Node.{Node}
@@ -21,10 +19,9 @@ use Rattle.cb_chain.specs.Entries.{Entry, Tree, block_hash, same, entry_of, has_
 use Rattle.cb_chain.specs.declared.change.Change as Moves
 use Rattle.cb_chain.specs.Calls.AcceptsBlock.{breaks_rule, refused}
 use Rattle.cb_chain.specs.Calls.{AcceptsBlock, bad_entry, header_entry, header_fault, block_entry, block_fault, is_full_under, joined, no_change}
-use Rattle.cb_chain.specs.Keeping.{Step, entry_from, tree_of, place_of, way, climb, turn_of, node_on, parent_fault, Connects, IsChain, IsNode, IsSpot, IsTree}
+use Rattle.cb_chain.specs.Keeping.{Step, entry_from, tree_of, place_of, way, climb, node_on, parent_fault, IsNode, IsSpot, IsTree}
 use Rattle.cb_chain.specs.Laws.{LeadsOver, active_hashes}
 use Rattle.cb_chain.proofs.Nodes.{found, unfound, same-refl, same-true, tree_grown}
-use Rattle.cb_chain.proofs.Ways.{best_kept}
 
 -- ---- where a header will stand
 
@@ -204,11 +201,6 @@ not_second : (one other : Bool) → other ≡ false → (one && other) ≡ false
 not_second true other e = e
 not_second false other e = refl
 
--- a new node is no tip of the older ones
-pub aside_other : (nodes : List Node) (node : Node) → IsTree nodes → IsNode node (tree_of nodes) → same (best (tree_of nodes)) (block_hash node.header) ≡ false
-aside_other nodes node is one =
-    kept_other (tree_of nodes) (best (tree_of nodes)) (block_hash node.header) (best_kept nodes is) (subst (λ (h : Hash256). is_kept (tree_of nodes) h ≡ false) one.hash one.once)
-
 pub bare_err : (entry : Entry) (below : Result Unspent Stop) → entry.block ≡ None → is_ok (then_spend entry below) ≡ false
 bare_err entry (Ok u) bare = rw bare refl
 bare_err entry (Err stop) bare = refl
@@ -229,27 +221,11 @@ low_best entry older low =
     let not_both = not_second (is_ok (unspent_after (entry ∷ older) (block_hash entry.header))) (is_higher (entry ∷ older) (block_hash entry.header) (best older)) low in
     ap (λ (b : Bool). cond b (block_hash entry.header) (best older)) not_both
 
-climb_aside : (entry : Entry) (older : Tree) → best (entry ∷ older) ≡ best older → same (best older) (block_hash entry.header) ≡ false → climb (entry ∷ older) (best (entry ∷ older)) ≡ climb older (best older)
+pub climb_aside : (entry : Entry) (older : Tree) → best (entry ∷ older) ≡ best older → same (best older) (block_hash entry.header) ≡ false → climb (entry ∷ older) (best (entry ∷ older)) ≡ climb older (best older)
 unfolding way
 climb_aside entry older stays other =
     let ways : way (entry ∷ older) (best older) ≡ way older (best older) = rw other refl in
     ap (climb (entry ∷ older)) stays ∙ ap (λ (steps : List Step). reverse steps) ways
-
-chain_aside : (entry : Entry) (older : Tree) (path : List ℕ) (records : List (List Change)) (u : Unspent) → best (entry ∷ older) ≡ best older → same (best older) (block_hash entry.header) ≡ false
-    → IsChain older path records u → IsChain (entry ∷ older) path records u
-chain_aside entry older path records u stays other is =
-    let climbs = sym (climb_aside entry older stays other) in
-    record {
-      places = is.places ∙ ap (λ (steps : List Step). 0 ∷ common.map (λ step. step.place) steps) climbs;
-      ledger = subst (λ (steps : List Step). Connects map.empty (common.map turn_of steps) records u) climbs is.ledger;
-    }
-
--- the same of the nodes, where one more doesn't become the tip
-pub chain_more : (nodes more : List Node) (node : Node) (path : List ℕ) (records : List (List Change)) (u : Unspent) → IsTree nodes → IsNode node (tree_of nodes) → more ≡ nodes ++ node ∷ []
-    → best (entry_from node ∷ tree_of nodes) ≡ best (tree_of nodes) → IsChain (tree_of nodes) path records u → IsChain (tree_of more) path records u
-chain_more nodes more node path records u is one grown stays chain =
-    let tree : entry_from node ∷ tree_of nodes ≡ tree_of more = sym (ap tree_of grown ∙ tree_grown nodes node is) in
-    subst (λ (t : Tree). IsChain t path records u) tree (chain_aside (entry_from node) (tree_of nodes) path records u stays (aside_other nodes node is one) chain)
 
 -- a chain at rest with one node more, whose room was made before: what the code has in hand, and the new tree
 pub record Grows (nodes : List Node) (roomy : List Node) (tree : Tree) (node : Node) : Type 0 where
@@ -258,18 +234,8 @@ pub record Grows (nodes : List Node) (roomy : List Node) (tree : Tree) (node : N
   pub view : tree_of nodes ≡ tree
   pub one : IsNode node tree
 
-pub grows_node : (nodes roomy : List Node) (tree : Tree) (node : Node) → Grows nodes roomy tree node → IsNode node (tree_of roomy)
-grows_node nodes roomy tree node g = subst (λ (t : Tree). IsNode node t) (sym (ap tree_of g.same ∙ g.view)) g.one
-
 pub grows_tree : (nodes roomy more : List Node) (tree : Tree) (node : Node) → Grows nodes roomy tree node → more ≡ roomy ++ node ∷ [] → tree_of more ≡ entry_from node ∷ tree
 grows_tree nodes roomy more tree node g grown = ap tree_of grown ∙ tree_grown roomy node g.is ∙ ap (λ (t : Tree). entry_from node ∷ t) (ap tree_of g.same ∙ g.view)
-
-pub grows_chain : (nodes roomy more : List Node) (tree : Tree) (node : Node) (path : List ℕ) (records : List (List Change)) (u : Unspent) → Grows nodes roomy tree node → more ≡ roomy ++ node ∷ []
-    → best (entry_from node ∷ tree) ≡ best tree → IsChain (tree_of nodes) path records u → IsChain (tree_of more) path records u
-grows_chain nodes roomy more tree node path records u g grown stays chain =
-    let here : tree_of roomy ≡ tree = ap tree_of g.same ∙ g.view in
-    chain_more roomy more node path records u g.is (grows_node nodes roomy tree node g) grown (subst (λ (t : Tree). best (entry_from node ∷ t) ≡ best t) (sym here) stays)
-    (subst (λ (ns : List Node). IsChain (tree_of ns) path records u) (sym g.same) chain)
 
 -- how a new entry stands to the tip
 higher_is : (entry : Entry) (older : Tree) (spot : Spot) (tip : ℕ) → IsSpot spot entry.header older → height_of older (best older) ≡ Some tip → same (best older) (block_hash entry.header) ≡ false

@@ -1,27 +1,25 @@
 -- Marks: they change nothing of a tree but themselves.
 use Rattle.std.proofs.Common.{◌≡◌, ◌++◌, ◌⊎◌, ◌<◌, take, drop, arith, inl, inr, ℕ, zero, suc, Bool, true, false, cond, List, [], ◌∷◌, length, map, Some, None, Option, refl, sym, ap, subst, ◌∙◌}
 use Rattle.std.specs.Prelude.{◌&&◌, ◌||◌, is_ok, is_some, IsSome, nat_lt, option_and_then, option_map, reverse, slice_get, unwrap_or, Result, Ok, Err}
-use Rattle.std.specs.FinMap as finmap
 use Rattle.std.proofs.lemmas.Bool.{cases_Bool, false≢true}
 use Rattle.std.proofs.lemmas.List.{reverse-reverse, length-reverse, take_at}
 use Rattle.cb_base.specs.declared.hash.Hash256.{Hash256}
 use Rattle.cb_block.specs.declared.header.Header.{Header}
-use Rattle.cb_ledger.specs.declared.undo.Change.{Change}
 use Rattle.cb_ledger.specs.Unspent.{Unspent}
 use Rattle.cb_chain.specs.Entries.{Entry, Tree, block_hash, same, entry_of, has_block, height_of, is_known, is_kept, is_marked}
-use Rattle.cb_chain.specs.Best.{Stop, active, best, branch, leads_through, then_spend, unspent_after}
+use Rattle.cb_chain.specs.Best.{Stop, best, branch, leads_through, then_spend, unspent_after}
 use Rattle.cb_chain.specs.Calls.{marked_above}
 use Rattle.cb_chain.specs.declared.node.Node.{Node}
-use Rattle.cb_chain.specs.Keeping.{Step, Turn, Connects, IsChain, IsNode, AreNodes, IsTree, IsPlaced, active_places, block_at, climb, entry_from, mark_node, mark_nodes, marked_nodes, place_of, tree_of, turn_of, way}
+use Rattle.cb_chain.specs.Keeping.{Step, IsNode, AreNodes, IsTree, IsPlaced, active_places, block_at, climb, entry_from, mark_node, mark_nodes, marked_nodes, place_of, tree_of, way}
 use Rattle.cb_chain.proofs.Nodes.{map_reverse, same-refl, same-true}
 
 -- ---- what an entry becomes
 
-abbrev with_mark : Bool → Entry → Entry
+abbrev pub with_mark : Bool → Entry → Entry
 with_mark b entry = cond b (record { header = entry.header; block = entry.block; marked = true }) entry
 
 -- whether it is marked
-abbrev marks : Hash256 → Entry → Tree → Bool
+abbrev pub marks : Hash256 → Entry → Tree → Bool
 marks first entry older = is_some entry.block && leads_through (entry ∷ older) first (block_hash entry.header)
 
 pub marks_keep_length : (first : Hash256) (tree : Tree) → length (marked_above first tree) ≡ length tree
@@ -55,7 +53,7 @@ known_step : (t b : Bool) (entry : Entry) (o p : Option Entry) → is_some p ≡
 known_step true b entry o p like = refl
 known_step false b entry o p like = like
 
-mark_header : (b : Bool) (entry : Entry) → (with_mark b entry).header ≡ entry.header
+pub mark_header : (b : Bool) (entry : Entry) → (with_mark b entry).header ≡ entry.header
 mark_header true entry = refl
 mark_header false entry = refl
 
@@ -142,61 +140,34 @@ marks_keep_branch first [] hash = refl
 marks_keep_branch first (entry ∷ older) hash =
     branch_step entry (with_mark (marks first entry older) entry) older (marked_above first older) hash (mark_header (marks first entry older) entry) (marks_keep_branch first older)
 
-pub marks_keep_active : (first : Hash256) (tree : Tree) → active (marked_above first tree) ≡ active tree
-marks_keep_active first tree = ap reverse (marks_keep_branch first tree (best (marked_above first tree)) ∙ ap (branch tree) (marks_keep_best first tree))
-
 -- ---- ways
 
-way_step : {A : Type 0} (f : Step → A) (t : Bool) (step other : Step) (one two three four : List Step) → f other ≡ f step → map f three ≡ map f one → map f four ≡ map f two
-    → map f (cond t (other ∷ three) four) ≡ map f (cond t (step ∷ one) two)
-way_step f true step other one two three four here along past = rw (here, along) refl
-way_step f false step other one two three four here along past = past
+abbrev place_at : Step → ℕ
+place_at step = step.place
 
-way_like : {A : Type 0} (f : Step → A) (entry other : Entry) (older newer : Tree) (hash : Hash256) → other.header ≡ entry.header → length newer ≡ length older
-    → ((place : ℕ) → f (record { place = place; entry = other }) ≡ f (record { place = place; entry = entry })) → ((h : Hash256) → map f (way newer h) ≡ map f (way older h))
-    → map f (way (other ∷ newer) hash) ≡ map f (way (entry ∷ older) hash)
+way_step : (t : Bool) (step other : Step) (one two three four : List Step) → other.place ≡ step.place → map place_at three ≡ map place_at one → map place_at four ≡ map place_at two
+    → map place_at (cond t (other ∷ three) four) ≡ map place_at (cond t (step ∷ one) two)
+way_step true step other one two three four here along past = rw (here, along) refl
+way_step false step other one two three four here along past = past
+
+marks_keep_way : (first : Hash256) (tree : Tree) (hash : Hash256) → map place_at (way (marked_above first tree) hash) ≡ map place_at (way tree hash)
 unfolding way
-way_like f entry other older newer hash header long here like =
-    ap (λ (h : Header). map f (cond (same hash (block_hash h)) (record { place = suc (length newer); entry = other } ∷ way newer h.prev) (way newer hash))) header
-    ∙ way_step f (same hash (block_hash entry.header)) (record { place = suc (length older); entry = entry }) (record { place = suc (length newer); entry = other })
-    (way older entry.header.prev) (way older hash) (way newer entry.header.prev) (way newer hash)
-    (here (suc (length newer)) ∙ ap (λ (n : ℕ). f (record { place = suc n; entry = entry })) long) (like entry.header.prev) (like hash)
-
-pub marks_keep_way : (first : Hash256) (tree : Tree) (hash : Hash256) → map turn_of (way (marked_above first tree) hash) ≡ map turn_of (way tree hash)
 marks_keep_way first [] hash = refl
 marks_keep_way first (entry ∷ older) hash =
     let b = marks first entry older in
-    way_like turn_of entry (with_mark b entry) older (marked_above first older) hash (mark_header b entry) (marks_keep_length first older)
-    (λ place. ap (λ o. record { place = place; block = o }) (mark_block b entry)) (marks_keep_way first older)
+    let newer = marked_above first older in
+    ap (λ (h : Header). map place_at (cond (same hash (block_hash h)) (record { place = suc (length newer); entry = with_mark b entry } ∷ way newer h.prev) (way newer hash))) (mark_header b entry)
+    ∙ way_step (same hash (block_hash entry.header)) (record { place = suc (length older); entry = entry }) (record { place = suc (length newer); entry = with_mark b entry })
+    (way older entry.header.prev) (way older hash) (way newer entry.header.prev) (way newer hash)
+    (ap suc (marks_keep_length first older)) (marks_keep_way first older entry.header.prev) (marks_keep_way first older hash)
 
-marks_keep_way_places : (first : Hash256) (tree : Tree) (hash : Hash256) → map (λ (step : Step). step.place) (way (marked_above first tree) hash) ≡ map (λ (step : Step). step.place) (way tree hash)
-marks_keep_way_places first [] hash = refl
-marks_keep_way_places first (entry ∷ older) hash =
-    let b = marks first entry older in
-    way_like (λ (step : Step). step.place) entry (with_mark b entry) older (marked_above first older) hash (mark_header b entry) (marks_keep_length first older)
-    (λ place. refl) (marks_keep_way_places first older)
-
-back_like : {A : Type 0} (f : Step → A) (xs ys : List Step) → map f xs ≡ map f ys → map f (reverse xs) ≡ map f (reverse ys)
-back_like f xs ys like = map_reverse f xs ∙ ap reverse like ∙ sym (map_reverse f ys)
-
-pub marks_keep_climb : (first : Hash256) (tree : Tree) (hash : Hash256) → map turn_of (climb (marked_above first tree) hash) ≡ map turn_of (climb tree hash)
-marks_keep_climb first tree hash = back_like turn_of (way (marked_above first tree) hash) (way tree hash) (marks_keep_way first tree hash)
-
-pub marks_keep_climb_places : (first : Hash256) (tree : Tree) (hash : Hash256) → map (λ (step : Step). step.place) (climb (marked_above first tree) hash) ≡ map (λ (step : Step). step.place) (climb tree hash)
-marks_keep_climb_places first tree hash = back_like (λ (step : Step). step.place) (way (marked_above first tree) hash) (way tree hash) (marks_keep_way_places first tree hash)
+marks_keep_climb : (first : Hash256) (tree : Tree) (hash : Hash256) → map place_at (climb (marked_above first tree) hash) ≡ map place_at (climb tree hash)
+marks_keep_climb first tree hash =
+    map_reverse place_at (way (marked_above first tree) hash) ∙ ap reverse (marks_keep_way first tree hash) ∙ sym (map_reverse place_at (way tree hash))
 
 pub marks_keep_active_places : (first : Hash256) (tree : Tree) → active_places (marked_above first tree) ≡ active_places tree
 marks_keep_active_places first tree =
-    ap (λ (ps : List ℕ). 0 ∷ ps) (marks_keep_climb_places first tree (best (marked_above first tree)) ∙ ap (λ (h : Hash256). map (λ (step : Step). step.place) (climb tree h)) (marks_keep_best first tree))
-
-pub marks_keep_chain : (first : Hash256) (tree : Tree) (path : List ℕ) (records : List (List Change)) (unspent : Unspent) → IsChain tree path records unspent → IsChain (marked_above first tree) path records unspent
-marks_keep_chain first tree path records unspent is =
-    let turns : map turn_of (climb (marked_above first tree) (best (marked_above first tree))) ≡ map turn_of (climb tree (best tree)) =
-    marks_keep_climb first tree (best (marked_above first tree)) ∙ ap (λ (h : Hash256). map turn_of (climb tree h)) (marks_keep_best first tree) in
-    record {
-      places = is.places ∙ sym (marks_keep_active_places first tree);
-      ledger = subst (λ (ts : List Turn). Connects finmap.empty ts records unspent) (sym turns) is.ledger;
-    }
+    ap (λ (ps : List ℕ). 0 ∷ ps) (marks_keep_climb first tree (best (marked_above first tree)) ∙ ap (λ (h : Hash256). map place_at (climb tree h)) (marks_keep_best first tree))
 
 -- ---- nodes that are marked
 

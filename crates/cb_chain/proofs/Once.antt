@@ -141,7 +141,7 @@ one_block old one other block a b (AcceptsBlock.meets_rules _ _ _ e) (AcceptsBlo
 
 one_step : (old one other : Tree) (call : Call) → IsStep old call one → IsStep old call other → one ≡ other
 one_step old one other (HeaderCall header) s t = (one_header old one other header s.0 t.0 s.1 t.1).1
-one_step old one other (BlockCall block) s t = (one_block old one other block s.0 t.0 s.1 t.1).1
+one_step old one other (BlockCall block) s t = (one_block old one other block s.1 t.1 s.2 t.2).1
 
 pub one_history : (calls : List Call) (one other : Tree) → IsHistory calls one → IsHistory calls other → one ≡ other
 one_history [] one other h k = h ∙ sym k

@@ -1,6 +1,6 @@
 -- What a block will change, by the places of the nodes.
-use Rattle.std.proofs.Common.{◌≡◌, ℕ, suc, ◌+◌, ◌-◌, ◌<◌, List, [], ◌∷◌, ◌++◌, length, map, take, drop, Some, sym, ap, subst, ◌∙◌, arith, All}
-use Rattle.std.specs.Prelude.{reverse}
+use Rattle.std.proofs.Common.{◌≡◌, ℕ, suc, ◌+◌, ◌-◌, ◌<◌, List, [], ◌∷◌, ◌++◌, length, map, take, drop, Option, Some, refl, sym, ap, subst, ◌∙◌, arith, All}
+use Rattle.std.specs.Prelude.{option_map, reverse, unwrap_or}
 use Rattle.std.specs.List.{AllByRecursion}
 use Rattle.std.proofs.lemmas.List.{drop-map, take_rest}
 use Rattle.std.proofs.lemmas.List.Elements.{All-from_recursion}
@@ -8,14 +8,33 @@ use Rattle.std.proofs.lemmas.Option.{slice_get_within}
 use Rattle.cb_base.specs.declared.hash.Hash256.{Hash256}
 use Rattle.cb_block.specs.declared.header.Header.{Header}
 use Rattle.cb_chain.specs.declared.node.Node.{Node}
-use Rattle.cb_chain.specs.Entries.{block_hash}
+use Rattle.cb_chain.specs.Entries.{block_hash, genesis_hash}
 use Rattle.cb_chain.specs.Best.{active, best}
 use Rattle.cb_chain.specs.Keeping.{IsTree, Step, active_places, climb, place_of, tree_of}
 use Rattle.cb_chain.specs.Plans.{change_at, hash_at}
 use Rattle.cb_chain.proofs.Nodes.{found}
-use Rattle.cb_chain.proofs.Steps.{Stands, all_drop, steps_stand}
-use Rattle.cb_chain.proofs.Rising.{Answer, all_hashes, changes_same, map_map}
+use Rattle.cb_chain.proofs.Steps.{Stands, all_drop, all_more, same_map, steps_stand}
 use Rattle.cb_chain.proofs.Ways.{active_way}
+
+-- what a call answers
+abbrev pub Answer : Type 0
+Answer = Rattle.cb_chain.specs.declared.change.Change.Change
+
+pub changes_same : {off other : List Hash256} {on more : List Hash256} → off ≡ other → on ≡ more → ◌≡◌ {A = Answer} (record { off = off; on = on }) (record { off = other; on = more })
+changes_same {off} {other} {on} {more} e f = ap (λ (hs : List Hash256). record { off = hs; on = on }) e ∙ ap (λ (hs : List Hash256). record { off = other; on = hs }) f
+
+hash_stands : (nodes : List Node) (step : Step) → Stands nodes step → hash_at nodes step.place ≡ block_hash step.entry.header
+hash_stands nodes step h = ap (λ (o : Option Node). unwrap_or (option_map (λ (n : Node). n.hash) o) genesis_hash) h.at ∙ h.hash
+
+pub map_map : {A B C : Type 0} (f : B → C) (g : A → B) (xs : List A) → map f (map g xs) ≡ map (λ x. f (g x)) xs
+map_map f g [] = refl
+map_map f g (x ∷ xs) = ap (λ ys. f (g x) ∷ ys) (map_map f g xs)
+
+pub all_hashes : (nodes : List Node) (steps : List Step) → AllByRecursion (Stands nodes) steps → map (hash_at nodes) (map (λ (s : Step). s.place) steps) ≡ map (λ (s : Step). block_hash s.entry.header) steps
+all_hashes nodes steps h =
+    map_map (hash_at nodes) (λ (s : Step). s.place) steps
+    ∙ same_map (λ (s : Step). hash_at nodes s.place) (λ (s : Step). block_hash s.entry.header) steps
+    (all_more (Stands nodes) (λ (s : Step). hash_at nodes s.place ≡ block_hash s.entry.header) steps (hash_stands nodes) h)
 
 pub place_low : (nodes : List Node) (hash : Hash256) (place : ℕ) → IsTree nodes → place_of (tree_of nodes) hash ≡ Some place → place < length nodes
 place_low nodes hash place is e =

@@ -1,22 +1,24 @@
--- What holds of each tree that calls leave, by recursion on the list of calls: how its entries stand on one another, and that
--- no path to a marked one can be spent.
+-- What holds of each tree that calls leave, by recursion on the list of calls: how its entries stand on one another, that
+-- their blocks meet the rules, and that no path to a marked one can be spent.
 use Rattle.std.proofs.Common.{◌≡◌, Bool, true, false, cond, List, [], ◌∷◌, Some, None, Option, refl, sym, ap, subst, ◌∙◌, inl, inr, ◌⊎◌}
-use Rattle.std.specs.Prelude.{⊤, ◌&&◌, ◌||◌, not, is_ok, is_some, Result, Ok, Err, IsErr}
+use Rattle.std.specs.Prelude.{⊤, ◌||◌, not, is_ok, is_some, IfSome, Result, Ok, Err, IsErr}
 use Rattle.std.proofs.lemmas.Bool.{and_parts, cases_Bool, false≢true}
 use Rattle.cb_base.specs.declared.fault.Fault.{Fault}
 use Rattle.cb_base.specs.declared.fault.Fault.TheVariants.{BadParent, Known, NoParent, TooMany}
 use Rattle.cb_base.specs.declared.hash.Hash256.{Hash256}
 use Rattle.cb_block.specs.declared.block.Block.{Block}
 use Rattle.cb_block.specs.declared.header.Header.{Header}
+use Rattle.cb_block.specs.Blocks.{IsSoundBlock, MeetsBlockRules}
+use Rattle.cb_ledger.specs.Spend.{spend}
 use Rattle.cb_ledger.specs.Unspent.{Unspent}
 use Rattle.cb_chain.specs.declared.change.Change.{Change}
 use Rattle.cb_chain.specs.Entries.{Entry, Tree, block_hash, genesis_hash, same, entry_of, has_block, is_known, is_kept, is_marked}
-use Rattle.cb_chain.specs.Best.{Stop, best, is_higher, leads_through, spend_block, stopped_at, then_spend, unspent_after}
+use Rattle.cb_chain.specs.Best.{Stop, faulty, missing, best, is_higher, leads_through, spend_block, stopped_at, then_spend, unspent_after}
 use Rattle.cb_chain.specs.Calls.{AcceptsBlock, AcceptsHeader, bad_entry, block_entry, block_fault, header_entry, header_fault, is_full_under, joined, marked_above, settled}
 use Rattle.cb_chain.specs.History.{BlockCall, Call, HeaderCall, IsHistoric, IsHistory, IsStep}
+use Rattle.cb_chain.specs.Laws.{CannotConnect}
 use Rattle.cb_chain.proofs.Aside.{bare_err, block_free, known_is_kept, none_first, not_false}
-use Rattle.cb_chain.proofs.Laws.{spent_kept}
-use Rattle.cb_chain.proofs.Marks.{marked_is, marks_keep_kept, marks_keep_known, marks_keep_unspent}
+use Rattle.cb_chain.proofs.Marks.{leads_none, mark_header, marked_is, marks, with_mark, marks_keep_kept, marks_keep_known, marks_keep_unspent}
 use Rattle.cb_chain.proofs.Nodes.{same-refl, same-true}
 use Rattle.cb_chain.proofs.Roots.{AreRooted}
 
@@ -26,6 +28,9 @@ pub record IsPlanted (entry : Entry) (older : Tree) : Type 0 where
   pub parent : is_known older entry.header.prev ≡ true
   pub once : is_kept older (block_hash entry.header) ≡ false
   pub under : is_some entry.block ≡ true → is_kept older entry.header.prev ≡ true
+  pub own : IfSome entry.block (λ block. block.header ≡ entry.header)
+  pub rules : IfSome entry.block MeetsBlockRules
+  pub sound : IfSome entry.block IsSoundBlock
 
 abbrev pub ArePlanted : Tree → Type 0
 ArePlanted [] = ⊤
@@ -45,6 +50,30 @@ spent_behind : (entry : Entry) (older : Tree) (hash : Hash256) → same hash (bl
 unfolding unspent_after
 spent_behind entry older hash isnt = rw isnt refl
 
+spends_kept : (entry : Entry) (before : Result Unspent Stop) → is_ok (then_spend entry before) ≡ true → is_some entry.block ≡ true
+spends_kept entry (Err stop) e = absurd (false≢true e)
+spends_kept entry (Ok v) e =
+    elim entry.block as (λ (o : Option Block). is_ok (spend_block (block_hash entry.header) o v) ≡ true → is_some o ≡ true) [
+      | None ↦ λ none. absurd (false≢true none)
+      | Some block ↦ λ _. refl
+    ] e
+
+-- a block that can be spent with its whole path is kept
+pub spent_kept : (tree : Tree) (hash : Hash256) → is_ok (unspent_after tree hash) ≡ true → is_kept tree hash ≡ true
+unfolding unspent_after
+spent_kept [] hash ok =
+    elim (cases_Bool (same hash genesis_hash)) [
+      | inl is ↦ rw is refl
+      | inr isnt ↦ let none : false ≡ true = rw isnt at ok in absurd (false≢true none)
+    ]
+spent_kept (entry ∷ older) hash ok =
+    elim (cases_Bool (same hash (block_hash entry.header))) [
+      | inl is ↦
+          let here : is_ok (then_spend entry (unspent_after older entry.header.prev)) ≡ true = rw is at ok in
+          rw is (spends_kept entry (unspent_after older entry.header.prev) here)
+      | inr isnt ↦ let there : is_ok (unspent_after older hash) ≡ true = rw isnt at ok in rw isnt (spent_kept older hash there)
+    ]
+
 -- what isn't kept can't be spent
 unkept_bad : (tree : Tree) (hash : Hash256) → is_kept tree hash ≡ false → is_ok (unspent_after tree hash) ≡ false
 unkept_bad tree hash unkept =
@@ -53,41 +82,24 @@ unkept_bad tree hash unkept =
       | inr bad ↦ bad
     ]
 
--- ---- where a kept block's path stops
+-- ---- what is kept
 
--- it is kept, and its own path stops there
-pub record IsStop (tree : Tree) (stop : Stop) : Type 0 where
-  pub kept : is_kept tree stop.first ≡ true
-  pub at : unspent_after tree stop.first ≡ Err stop
-
-stopped_first : (hash : Hash256) (r : Result Unspent Fault) (stop : Stop) → stopped_at hash r ≡ Err stop → stop.first ≡ hash
-stopped_first hash (Ok u) stop e = absurd (let none : Ok u ≡ Err stop = e in cc)
-stopped_first hash (Err fault) stop e =
-    let one : record { first = hash; fault = fault } ≡ stop = cc in
-    ap (λ (s : Stop). s.first) (sym one)
-
-stop_here : (entry : Entry) (below : Result Unspent Stop) (stop : Stop) → then_spend entry below ≡ Err stop → (below ≡ Err stop) ⊎ (stop.first ≡ block_hash entry.header)
-stop_here entry (Ok u) stop e = inr (stopped_first (block_hash entry.header) (spend_block entry.block u) stop e)
-stop_here entry (Err other) stop e = inl e
-
-kept_own : (entry : Entry) (older : Tree) (hash : Hash256) → same hash (block_hash entry.header) ≡ true → is_kept (entry ∷ older) hash ≡ is_some entry.block
+pub kept_own : (entry : Entry) (older : Tree) (hash : Hash256) → same hash (block_hash entry.header) ≡ true → is_kept (entry ∷ older) hash ≡ is_some entry.block
 kept_own entry older hash is = rw is refl
 
-kept_behind : (entry : Entry) (older : Tree) (hash : Hash256) → same hash (block_hash entry.header) ≡ false → is_kept (entry ∷ older) hash ≡ is_kept older hash
+pub kept_behind : (entry : Entry) (older : Tree) (hash : Hash256) → same hash (block_hash entry.header) ≡ false → is_kept (entry ∷ older) hash ≡ is_kept older hash
 kept_behind entry older hash isnt = rw isnt refl
 
 -- a kept block isn't the newest one, where that is a new one
-kept_apart : (entry : Entry) (older : Tree) (hash : Hash256) → IsPlanted entry older → is_kept older hash ≡ true → same hash (block_hash entry.header) ≡ false
+pub kept_apart : (entry : Entry) (older : Tree) (hash : Hash256) → IsPlanted entry older → is_kept older hash ≡ true → same hash (block_hash entry.header) ≡ false
 kept_apart entry older hash is kept =
     elim (cases_Bool (same hash (block_hash entry.header))) [
       | inl own ↦ absurd (false≢true (sym is.once ∙ subst (λ (h : Hash256). is_kept older h ≡ true) (same-true hash (block_hash entry.header) own) kept))
       | inr other ↦ other
     ]
 
-stop_more : (entry : Entry) (older : Tree) (stop : Stop) → IsPlanted entry older → IsStop older stop → IsStop (entry ∷ older) stop
-stop_more entry older stop is before =
-    let other = kept_apart entry older stop.first is before.kept in
-    record { kept = kept_behind entry older stop.first other ∙ before.kept; at = spent_behind entry older stop.first other ∙ before.at }
+bare_unkept : (o : Option Block) → o ≡ None → is_some o ≡ true → ⊥
+bare_unkept o none kept = false≢true (sym (ap is_some none) ∙ kept)
 
 first_spent : (hash : Hash256) (stop : Stop) → is_kept [] hash ≡ true → unspent_after [] hash ≡ Err stop → ⊥
 unfolding unspent_after
@@ -97,18 +109,106 @@ first_spent hash stop kept e =
       | inr isnt ↦ let none : false ≡ true = rw isnt at kept in false≢true none
     ]
 
-stop_is : (tree : Tree) (hash : Hash256) (stop : Stop) → ArePlanted tree → is_kept tree hash ≡ true → unspent_after tree hash ≡ Err stop → IsStop tree stop
-stop_is [] hash stop are kept e = absurd (first_spent hash stop kept e)
-stop_is (entry ∷ older) hash stop are kept e =
+-- ---- no block of a kept block's path is missing
+
+never_missing : (hash lacking : Hash256) (r : Result Unspent Fault) → stopped_at hash r ≡ Err (missing lacking) → ⊥
+never_missing hash lacking (Ok u) e = let none : Ok u ≡ Err (missing lacking) = e in cc
+never_missing hash lacking (Err fault) e = let none : Err (faulty hash fault) ≡ Err (missing lacking) = e in cc
+
+lacks_block : (hash lacking : Hash256) (o : Option Block) (u : Unspent) → spend_block hash o u ≡ Err (missing lacking) → o ≡ None
+lacks_block hash lacking None u e = refl
+lacks_block hash lacking (Some block) u e = absurd (never_missing hash lacking (spend u block.txs) e)
+
+missing_here : (entry : Entry) (below : Result Unspent Stop) (lacking : Hash256) → then_spend entry below ≡ Err (missing lacking) → (below ≡ Err (missing lacking)) ⊎ (entry.block ≡ None)
+missing_here entry (Ok u) lacking e = inr (lacks_block (block_hash entry.header) lacking entry.block u e)
+missing_here entry (Err stop) lacking e = inl e
+
+none_missing : (tree : Tree) (hash lacking : Hash256) → ArePlanted tree → is_kept tree hash ≡ true → unspent_after tree hash ≡ Err (missing lacking) → ⊥
+none_missing [] hash lacking are kept e = first_spent hash (missing lacking) kept e
+none_missing (entry ∷ older) hash lacking are kept e =
     elim (cases_Bool (same hash (block_hash entry.header))) [
       | inl is ↦
-          elim (stop_here entry (unspent_after older entry.header.prev) stop (sym (spent_own entry older hash is) ∙ e)) [
-            | inl below ↦ stop_more entry older stop are.0 (stop_is older entry.header.prev stop are.1 (are.0.under (sym (kept_own entry older hash is) ∙ kept)) below)
-            | inr here ↦
-                let it : hash ≡ stop.first = same-true hash (block_hash entry.header) is ∙ sym here in
-                record { kept = ap (is_kept (entry ∷ older)) (sym it) ∙ kept; at = ap (unspent_after (entry ∷ older)) (sym it) ∙ e }
+          let here = sym (kept_own entry older hash is) ∙ kept in
+          elim (missing_here entry (unspent_after older entry.header.prev) lacking (sym (spent_own entry older hash is) ∙ e)) [
+            | inl below ↦ none_missing older entry.header.prev lacking are.1 (are.0.under here) below
+            | inr none ↦ bare_unkept entry.block none here
           ]
-      | inr isnt ↦ stop_more entry older stop are.0 (stop_is older hash stop are.1 (sym (kept_behind entry older hash isnt) ∙ kept) (sym (spent_behind entry older hash isnt) ∙ e))
+      | inr isnt ↦ none_missing older hash lacking are.1 (sym (kept_behind entry older hash isnt) ∙ kept) (sym (spent_behind entry older hash isnt) ∙ e)
+    ]
+
+-- ---- where a kept block's path stops
+
+-- it is kept, its own path stops there, and it can't be connected
+pub record IsStop (tree : Tree) (first : Hash256) (fault : Fault) : Type 0 where
+  pub kept : is_kept tree first ≡ true
+  pub at : unspent_after tree first ≡ Err (faulty first fault)
+  pub why : CannotConnect tree first fault
+
+-- an entry's block can't be spent over what is unspent below
+record Fails (entry : Entry) (below : Result Unspent Stop) (first : Hash256) (fault : Fault) : Type 0 where
+  here : first ≡ block_hash entry.header
+  block : Block
+  unspent : Unspent
+  kept : entry.block ≡ Some block
+  parent : below ≡ Ok unspent
+  why : spend unspent block.txs ≡ Err fault
+
+stopped_first : (hash first : Hash256) (fault : Fault) (r : Result Unspent Fault) → stopped_at hash r ≡ Err (faulty first fault) → (first ≡ hash) × (r ≡ Err fault)
+stopped_first hash first fault (Ok u) e = absurd (let none : Ok u ≡ Err (faulty first fault) = e in cc)
+stopped_first hash first fault (Err other) e =
+    let both : Err (faulty hash other) ≡ Err (faulty first fault) = e in
+    let one : first ≡ hash = cc in
+    let again : other ≡ fault = cc in (one, ap Err again)
+
+fails_at : (entry : Entry) (first : Hash256) (fault : Fault) (o : Option Block) (u : Unspent) → entry.block ≡ o → spend_block (block_hash entry.header) o u ≡ Err (faulty first fault) → Fails entry (Ok u) first fault
+fails_at entry first fault None u is e = absurd (let none : Err (missing (block_hash entry.header)) ≡ Err (faulty first fault) = e in cc)
+fails_at entry first fault (Some block) u is e =
+    let both = stopped_first (block_hash entry.header) first fault (spend u block.txs) e in
+    record { here = both.0; block = block; unspent = u; kept = is; parent = refl; why = both.1 }
+
+stop_here : (entry : Entry) (below : Result Unspent Stop) (first : Hash256) (fault : Fault) → then_spend entry below ≡ Err (faulty first fault)
+    → (below ≡ Err (faulty first fault)) ⊎ Fails entry below first fault
+stop_here entry (Ok u) first fault e = inr (fails_at entry first fault entry.block u refl e)
+stop_here entry (Err other) first fault e = inl e
+
+-- it can't be connected where one more entry stands before it too
+cannot_more : (entry : Entry) (older : Tree) (first : Hash256) (fault : Fault) → IsPlanted entry older → same first (block_hash entry.header) ≡ false → CannotConnect older first fault
+    → CannotConnect (entry ∷ older) first fault
+cannot_more entry older first fault is other before =
+    let prev = before.block.header.prev in
+    let parent = kept_apart entry older prev is (spent_kept older prev (ap is_ok before.parent)) in
+    record { block = before.block; unspent = before.unspent; kept = rw other before.kept; parent = spent_behind entry older prev parent ∙ before.parent; why = before.why }
+
+cannot_here : (entry : Entry) (older : Tree) (first : Hash256) (fault : Fault) → IsPlanted entry older → Fails entry (unspent_after older entry.header.prev) first fault → CannotConnect (entry ∷ older) first fault
+cannot_here entry older first fault is fails =
+    let prev = entry.header.prev in
+    let own : fails.block.header ≡ entry.header = subst (λ (o : Option Block). IfSome o (λ block. block.header ≡ entry.header)) fails.kept is.own in
+    let parent : unspent_after (entry ∷ older) prev ≡ Ok fails.unspent = spent_behind entry older prev (kept_apart entry older prev is (spent_kept older prev (ap is_ok fails.parent))) ∙ fails.parent in
+    record {
+      block = fails.block;
+      unspent = fails.unspent;
+      kept = rw fails.here (rw (same-refl (block_hash entry.header)) fails.kept);
+      parent = ap (λ (header : Header). unspent_after (entry ∷ older) header.prev) own ∙ parent;
+      why = fails.why;
+    }
+
+stop_more : (entry : Entry) (older : Tree) (first : Hash256) (fault : Fault) → IsPlanted entry older → IsStop older first fault → IsStop (entry ∷ older) first fault
+stop_more entry older first fault is before =
+    let other = kept_apart entry older first is before.kept in
+    record { kept = kept_behind entry older first other ∙ before.kept; at = spent_behind entry older first other ∙ before.at; why = cannot_more entry older first fault is other before.why }
+
+pub stop_is : (tree : Tree) (hash first : Hash256) (fault : Fault) → ArePlanted tree → is_kept tree hash ≡ true → unspent_after tree hash ≡ Err (faulty first fault) → IsStop tree first fault
+stop_is [] hash first fault are kept e = absurd (first_spent hash (faulty first fault) kept e)
+stop_is (entry ∷ older) hash first fault are kept e =
+    elim (cases_Bool (same hash (block_hash entry.header))) [
+      | inl is ↦
+          elim (stop_here entry (unspent_after older entry.header.prev) first fault (sym (spent_own entry older hash is) ∙ e)) [
+            | inl below ↦ stop_more entry older first fault are.0 (stop_is older entry.header.prev first fault are.1 (are.0.under (sym (kept_own entry older hash is) ∙ kept)) below)
+            | inr fails ↦
+                let it : hash ≡ first = same-true hash (block_hash entry.header) is ∙ sym fails.here in
+                record { kept = ap (is_kept (entry ∷ older)) (sym it) ∙ kept; at = ap (unspent_after (entry ∷ older)) (sym it) ∙ e; why = cannot_here entry older first fault are.0 fails }
+          ]
+      | inr isnt ↦ stop_more entry older first fault are.0 (stop_is older hash first fault are.1 (sym (kept_behind entry older hash isnt) ∙ kept) (sym (spent_behind entry older hash isnt) ∙ e))
     ]
 
 -- ---- what leads through a block whose path stops
@@ -121,10 +221,6 @@ leads_own entry older first hash is = rw is refl
 leads_behind : (entry : Entry) (older : Tree) (first hash : Hash256) → same hash (block_hash entry.header) ≡ false → leads_through (entry ∷ older) first hash ≡ leads_through older first hash
 unfolding leads_through
 leads_behind entry older first hash isnt = rw isnt refl
-
-leads_none : (first hash : Hash256) → leads_through [] first hash ≡ false
-unfolding leads_through
-leads_none first hash = refl
 
 -- what stands on the path of a kept block is kept
 leads_kept : (tree : Tree) (first hash : Hash256) → ArePlanted tree → is_kept tree hash ≡ true → leads_through tree first hash ≡ true → is_kept tree first ≡ true
@@ -170,23 +266,22 @@ either true = refl
 either false = refl
 
 -- a kept block's path leads through the block where it stops
-stop_leads : (tree : Tree) (hash : Hash256) (stop : Stop) → ArePlanted tree → is_kept tree hash ≡ true → unspent_after tree hash ≡ Err stop → leads_through tree stop.first hash ≡ true
-stop_leads [] hash stop are kept e = absurd (first_spent hash stop kept e)
-stop_leads (entry ∷ older) hash stop are kept e =
-    let first = stop.first in
+pub stop_leads : (tree : Tree) (hash first : Hash256) (fault : Fault) → ArePlanted tree → is_kept tree hash ≡ true → unspent_after tree hash ≡ Err (faulty first fault) → leads_through tree first hash ≡ true
+stop_leads [] hash first fault are kept e = absurd (first_spent hash (faulty first fault) kept e)
+stop_leads (entry ∷ older) hash first fault are kept e =
     let prev = entry.header.prev in
     elim (cases_Bool (same hash (block_hash entry.header))) [
       | inl is ↦
           leads_own entry older first hash is
-          ∙ elim (stop_here entry (unspent_after older prev) stop (sym (spent_own entry older hash is) ∙ e)) [
+          ∙ elim (stop_here entry (unspent_after older prev) first fault (sym (spent_own entry older hash is) ∙ e)) [
             | inl below ↦
-                let leads = stop_leads older prev stop are.1 (are.0.under (sym (kept_own entry older hash is) ∙ kept)) below in
+                let leads = stop_leads older prev first fault are.1 (are.0.under (sym (kept_own entry older hash is) ∙ kept)) below in
                 ap (cond (same hash first) true) leads ∙ either (same hash first)
-            | inr here ↦
-                let it : same hash first ≡ true = ap (same hash) (here ∙ sym (same-true hash (block_hash entry.header) is)) ∙ same-refl hash in
+            | inr fails ↦
+                let it : same hash first ≡ true = ap (same hash) (fails.here ∙ sym (same-true hash (block_hash entry.header) is)) ∙ same-refl hash in
                 ap (λ (b : Bool). cond b true (leads_through older first prev)) it
           ]
-      | inr isnt ↦ leads_behind entry older first hash isnt ∙ stop_leads older hash stop are.1 (sym (kept_behind entry older hash isnt) ∙ kept) (sym (spent_behind entry older hash isnt) ∙ e)
+      | inr isnt ↦ leads_behind entry older first hash isnt ∙ stop_leads older hash first fault are.1 (sym (kept_behind entry older hash isnt) ∙ kept) (sym (spent_behind entry older hash isnt) ∙ e)
     ]
 
 -- ---- what a call finds where it keeps something
@@ -196,7 +291,7 @@ record IsNew (tree : Tree) (header : Header) : Type 0 where
   once : is_kept tree (block_hash header) ≡ false
   parent : is_known tree header.prev ≡ true
 
-kept_known : (o : Option Entry) → has_block o ≡ true → is_some o ≡ true
+pub kept_known : (o : Option Entry) → has_block o ≡ true → is_some o ≡ true
 kept_known None kept = absurd (false≢true kept)
 kept_known (Some entry) kept = refl
 
@@ -226,9 +321,9 @@ block_new tree header e =
 pub record IsReached (tree : Tree) : Type 0 where
   pub planted : ArePlanted tree
   pub marks : (hash : Hash256) → is_marked tree hash ≡ true → is_ok (unspent_after tree hash) ≡ false
-  pub stops : (hash : Hash256) (stop : Stop) → is_kept tree hash ≡ true → unspent_after tree hash ≡ Err stop → is_marked tree hash ≡ is_marked tree stop.first
+  pub stops : (hash first : Hash256) (fault : Fault) → is_kept tree hash ≡ true → unspent_after tree hash ≡ Err (faulty first fault) → is_marked tree hash ≡ is_marked tree first
 
-first_unmarked : (hash : Hash256) → is_marked [] hash ≡ true → ⊥
+pub first_unmarked : (hash : Hash256) → is_marked [] hash ≡ true → ⊥
 first_unmarked hash marked =
     elim (cases_Bool (same hash genesis_hash)) [
       | inl is ↦ let none : false ≡ true = rw is at marked in false≢true none
@@ -236,23 +331,24 @@ first_unmarked hash marked =
     ]
 
 reached_first : IsReached []
-reached_first = record { planted = tt; marks = λ hash marked. absurd (first_unmarked hash marked); stops = λ hash stop kept e. absurd (first_spent hash stop kept e) }
+reached_first = record { planted = tt; marks = λ hash marked. absurd (first_unmarked hash marked); stops = λ hash first fault kept e. absurd (first_spent hash (faulty first fault) kept e) }
 
-marked_own : (entry : Entry) (older : Tree) (hash : Hash256) → same hash (block_hash entry.header) ≡ true → is_marked (entry ∷ older) hash ≡ entry.marked
+pub marked_own : (entry : Entry) (older : Tree) (hash : Hash256) → same hash (block_hash entry.header) ≡ true → is_marked (entry ∷ older) hash ≡ entry.marked
 marked_own entry older hash is = rw is refl
 
-marked_behind : (entry : Entry) (older : Tree) (hash : Hash256) → same hash (block_hash entry.header) ≡ false → is_marked (entry ∷ older) hash ≡ is_marked older hash
+pub marked_behind : (entry : Entry) (older : Tree) (hash : Hash256) → same hash (block_hash entry.header) ≡ false → is_marked (entry ∷ older) hash ≡ is_marked older hash
 marked_behind entry older hash isnt = rw isnt refl
 
-bare_unkept : (o : Option Block) → o ≡ None → is_some o ≡ true → ⊥
-bare_unkept o none kept = false≢true (sym (ap is_some none) ∙ kept)
-
--- what a new entry must be: a block stands on a kept one that isn't marked, and what is marked at once has no block
+-- what a new entry must be: a block meets the rules and stands on a kept one that isn't marked, and what is marked at once
+-- has no block
 record IsFit (entry : Entry) (older : Tree) : Type 0 where
   new : IsNew older entry.header
   under : is_some entry.block ≡ true → is_kept older entry.header.prev ≡ true
   clean : is_some entry.block ≡ true → is_marked older entry.header.prev ≡ false
   bare : entry.marked ≡ true → entry.block ≡ None
+  own : IfSome entry.block (λ block. block.header ≡ entry.header)
+  rules : IfSome entry.block MeetsBlockRules
+  sound : IfSome entry.block IsSoundBlock
 
 -- a kept block isn't marked at once
 fit_unmarked : (entry : Entry) (older : Tree) → IsFit entry older → is_some entry.block ≡ true → entry.marked ≡ false
@@ -266,79 +362,67 @@ fit_unmarked entry older is kept =
 reached_more : (entry : Entry) (older : Tree) → IsReached older → IsFit entry older → IsReached (entry ∷ older)
 reached_more entry older is fit =
     let prev = entry.header.prev in
-    let planted : IsPlanted entry older = record { parent = fit.new.parent; once = fit.new.once; under = fit.under } in
-    let behind : (stop : Stop) → IsStop older stop → is_marked older stop.first ≡ is_marked (entry ∷ older) stop.first =
-    λ stop at. sym (marked_behind entry older stop.first (kept_apart entry older stop.first planted at.kept)) in
+    let planted : IsPlanted entry older = record { parent = fit.new.parent; once = fit.new.once; under = fit.under; own = fit.own; rules = fit.rules; sound = fit.sound } in
+    let behind : (first : Hash256) (fault : Fault) → IsStop older first fault → is_marked older first ≡ is_marked (entry ∷ older) first =
+    λ first fault at. sym (marked_behind entry older first (kept_apart entry older first planted at.kept)) in
     record {
       planted = (planted, is.planted);
       marks = λ hash marked. elim (cases_Bool (same hash (block_hash entry.header))) [
         | inl own ↦ ap is_ok (spent_own entry older hash own) ∙ bare_err entry (unspent_after older prev) (fit.bare (sym (marked_own entry older hash own) ∙ marked))
         | inr other ↦ ap is_ok (spent_behind entry older hash other) ∙ is.marks hash (sym (marked_behind entry older hash other) ∙ marked)
       ];
-      stops = λ hash stop kept e. elim (cases_Bool (same hash (block_hash entry.header))) [
+      stops = λ hash first fault kept e. elim (cases_Bool (same hash (block_hash entry.header))) [
         | inl own ↦
             let there = sym (kept_own entry older hash own) ∙ kept in
-            elim (stop_here entry (unspent_after older prev) stop (sym (spent_own entry older hash own) ∙ e)) [
+            elim (stop_here entry (unspent_after older prev) first fault (sym (spent_own entry older hash own) ∙ e)) [
               | inl below ↦
-                  marked_own entry older hash own ∙ fit_unmarked entry older fit there ∙ sym (fit.clean there) ∙ is.stops prev stop (fit.under there) below
-                  ∙ behind stop (stop_is older prev stop is.planted (fit.under there) below)
-              | inr here ↦ ap (is_marked (entry ∷ older)) (same-true hash (block_hash entry.header) own ∙ sym here)
+                  marked_own entry older hash own ∙ fit_unmarked entry older fit there ∙ sym (fit.clean there) ∙ is.stops prev first fault (fit.under there) below
+                  ∙ behind first fault (stop_is older prev first fault is.planted (fit.under there) below)
+              | inr fails ↦ ap (is_marked (entry ∷ older)) (same-true hash (block_hash entry.header) own ∙ sym fails.here)
             ]
         | inr other ↦
             let there = sym (kept_behind entry older hash other) ∙ kept in
             let before = sym (spent_behind entry older hash other) ∙ e in
-            marked_behind entry older hash other ∙ is.stops hash stop there before ∙ behind stop (stop_is older hash stop is.planted there before)
+            marked_behind entry older hash other ∙ is.stops hash first fault there before ∙ behind first fault (stop_is older hash first fault is.planted there before)
       ];
     }
 
 -- ---- marks
 
-abbrev mark : Bool → Entry → Entry
-mark b entry = cond b (record { header = entry.header; block = entry.block; marked = true }) entry
-
-planted_as : (b : Bool) (entry : Entry) (older newer : Tree) → IsPlanted entry older → ((h : Hash256) → is_known newer h ≡ is_known older h) → ((h : Hash256) → is_kept newer h ≡ is_kept older h) → IsPlanted (mark b entry) newer
+planted_as : (b : Bool) (entry : Entry) (older newer : Tree) → IsPlanted entry older → ((h : Hash256) → is_known newer h ≡ is_known older h) → ((h : Hash256) → is_kept newer h ≡ is_kept older h) → IsPlanted (with_mark b entry) newer
 planted_as true entry older newer is known kept =
-    record { parent = known entry.header.prev ∙ is.parent; once = kept (block_hash entry.header) ∙ is.once; under = λ there. kept entry.header.prev ∙ is.under there }
+    record { parent = known entry.header.prev ∙ is.parent; once = kept (block_hash entry.header) ∙ is.once; under = λ there. kept entry.header.prev ∙ is.under there; own = is.own; rules = is.rules; sound = is.sound }
 planted_as false entry older newer is known kept =
-    record { parent = known entry.header.prev ∙ is.parent; once = kept (block_hash entry.header) ∙ is.once; under = λ there. kept entry.header.prev ∙ is.under there }
+    record { parent = known entry.header.prev ∙ is.parent; once = kept (block_hash entry.header) ∙ is.once; under = λ there. kept entry.header.prev ∙ is.under there; own = is.own; rules = is.rules; sound = is.sound }
 
 planted_marked : (first : Hash256) (tree : Tree) → ArePlanted tree → ArePlanted (marked_above first tree)
 planted_marked first [] are = tt
-planted_marked first (entry ∷ older) are = (
-  planted_as (is_some entry.block && leads_through (entry ∷ older) first (block_hash entry.header)) entry older (marked_above first older) are.0 (marks_keep_known first older) (marks_keep_kept first older),
-  planted_marked first older are.1,
-)
+planted_marked first (entry ∷ older) are =
+    (planted_as (marks first entry older) entry older (marked_above first older) are.0 (marks_keep_known first older) (marks_keep_kept first older), planted_marked first older are.1)
 
 -- an entry that was marked before, or now
-mark_cases : (b : Bool) (entry : Entry) → (mark b entry).marked ≡ true → (entry.marked ≡ true) ⊎ (b ≡ true)
+mark_cases : (b : Bool) (entry : Entry) → (with_mark b entry).marked ≡ true → (entry.marked ≡ true) ⊎ (b ≡ true)
 mark_cases true entry e = inr refl
 mark_cases false entry e = inl e
 
-mark_hash : (b : Bool) (entry : Entry) → block_hash (mark b entry).header ≡ block_hash entry.header
-mark_hash true entry = refl
-mark_hash false entry = refl
-
 -- A block and all kept blocks above it are marked: the entry of a hash, and those behind it.
-abbrev through : Hash256 → Entry → Tree → Bool
-through first entry older = is_some entry.block && leads_through (entry ∷ older) first (block_hash entry.header)
-
-now_own : (first : Hash256) (entry : Entry) (older : Tree) (hash : Hash256) → same hash (block_hash entry.header) ≡ true → is_marked (marked_above first (entry ∷ older)) hash ≡ (mark (through first entry older) entry).marked
+now_own : (first : Hash256) (entry : Entry) (older : Tree) (hash : Hash256) → same hash (block_hash entry.header) ≡ true → is_marked (marked_above first (entry ∷ older)) hash ≡ (with_mark (marks first entry older) entry).marked
 now_own first entry older hash is =
-    let b = through first entry older in
-    marked_own (mark b entry) (marked_above first older) hash (ap (same hash) (mark_hash b entry) ∙ is)
+    let b = marks first entry older in
+    marked_own (with_mark b entry) (marked_above first older) hash (ap (λ (header : Header). same hash (block_hash header)) (mark_header b entry) ∙ is)
 
 now_behind : (first : Hash256) (entry : Entry) (older : Tree) (hash : Hash256) → same hash (block_hash entry.header) ≡ false → is_marked (marked_above first (entry ∷ older)) hash ≡ is_marked (marked_above first older) hash
 now_behind first entry older hash isnt =
-    let b = through first entry older in
-    marked_behind (mark b entry) (marked_above first older) hash (ap (same hash) (mark_hash b entry) ∙ isnt)
+    let b = marks first entry older in
+    marked_behind (with_mark b entry) (marked_above first older) hash (ap (λ (header : Header). same hash (block_hash header)) (mark_header b entry) ∙ isnt)
 
 -- what is marked was marked before, or is kept and leads through the first
-marked_then : (first : Hash256) (tree : Tree) (hash : Hash256) → is_marked (marked_above first tree) hash ≡ true → (is_marked tree hash ≡ true) ⊎ ((is_kept tree hash ≡ true) × (leads_through tree first hash ≡ true))
+pub marked_then : (first : Hash256) (tree : Tree) (hash : Hash256) → is_marked (marked_above first tree) hash ≡ true → (is_marked tree hash ≡ true) ⊎ ((is_kept tree hash ≡ true) × (leads_through tree first hash ≡ true))
 marked_then first [] hash marked = inl marked
 marked_then first (entry ∷ older) hash marked =
     elim (cases_Bool (same hash (block_hash entry.header))) [
       | inl is ↦
-          elim (mark_cases (through first entry older) entry (sym (now_own first entry older hash is) ∙ marked)) [
+          elim (mark_cases (marks first entry older) entry (sym (now_own first entry older hash is) ∙ marked)) [
             | inl before ↦ inl (marked_own entry older hash is ∙ before)
             | inr leads ↦
                 let both = and_parts (is_some entry.block) (leads_through (entry ∷ older) first (block_hash entry.header)) leads in
@@ -351,45 +435,44 @@ marked_then first (entry ∷ older) hash marked =
           ]
     ]
 
-one_stop : (tree : Tree) (hash : Hash256) (stop other : Stop) → unspent_after tree hash ≡ Err stop → unspent_after tree hash ≡ Err other → other ≡ stop
-one_stop tree hash stop other e f = let one : Err other ≡ Err stop = sym f ∙ e in cc
+one_stop : (r : Result Unspent Stop) (first other : Hash256) (fault again : Fault) → r ≡ Err (faulty first fault) → r ≡ Err (faulty other again) → other ≡ first
+one_stop r first other fault again e f = let one : Err (faulty other again) ≡ Err (faulty first fault) = sym f ∙ e in cc
 
 -- What leads through a block leads through that block's stop, or neither does: for both the path stops at the same block.
-alike : (tree : Tree) (hash : Hash256) (stop other : Stop) → ArePlanted tree → IsStop tree stop → IsStop tree other → is_kept tree hash ≡ true → unspent_after tree hash ≡ Err other
-    → leads_through tree stop.first hash ≡ leads_through tree stop.first other.first
-alike tree hash stop other are at there kept e =
-    elim (cases_Bool (leads_through tree stop.first hash)) [
+alike : (tree : Tree) (hash first other : Hash256) (fault again : Fault) → ArePlanted tree → IsStop tree first fault → IsStop tree other again → is_kept tree hash ≡ true
+    → unspent_after tree hash ≡ Err (faulty other again) → leads_through tree first hash ≡ leads_through tree first other
+alike tree hash first other fault again are at there kept e =
+    elim (cases_Bool (leads_through tree first hash)) [
       | inl leads ↦
-          let one : other ≡ stop = one_stop tree hash stop other (leads_stop tree stop.first hash stop are at.at kept leads) e in
-          let own : leads_through tree stop.first stop.first ≡ true = stop_leads tree stop.first stop are at.kept at.at in
-          leads ∙ sym own ∙ ap (λ (s : Stop). leads_through tree stop.first s.first) (sym one)
+          let one : other ≡ first = one_stop (unspent_after tree hash) first other fault again (leads_stop tree first hash (faulty first fault) are at.at kept leads) e in
+          let own : leads_through tree first first ≡ true = stop_leads tree first first fault are at.kept at.at in
+          leads ∙ sym own ∙ ap (leads_through tree first) (sym one)
       | inr apart ↦
-          elim (cases_Bool (leads_through tree stop.first other.first)) [
+          elim (cases_Bool (leads_through tree first other)) [
             | inl leads ↦
-                let one : other ≡ stop = one_stop tree other.first stop other (leads_stop tree stop.first other.first stop are at.at there.kept leads) there.at in
-                let through : leads_through tree stop.first hash ≡ true = ap (λ (s : Stop). leads_through tree s.first hash) (sym one) ∙ stop_leads tree hash other are kept e in
+                let one : other ≡ first = one_stop (unspent_after tree other) first other fault again (leads_stop tree first other (faulty first fault) are at.at there.kept leads) there.at in
+                let through : leads_through tree first hash ≡ true = ap (λ (h : Hash256). leads_through tree h hash) (sym one) ∙ stop_leads tree hash other again are kept e in
                 absurd (false≢true (sym apart ∙ through))
             | inr also ↦ apart ∙ sym also
           ]
     ]
 
-reached_marked : (tree : Tree) (stop : Stop) → IsStop tree stop → IsReached tree → IsReached (marked_above stop.first tree)
-reached_marked tree stop at is =
-    let first = stop.first in
+reached_marked : (tree : Tree) (first : Hash256) (fault : Fault) → IsStop tree first fault → IsReached tree → IsReached (marked_above first tree)
+reached_marked tree first fault at is =
     record {
       planted = planted_marked first tree is.planted;
       marks = λ hash marked.
           ap is_ok (marks_keep_unspent first tree hash)
           ∙ elim (marked_then first tree hash marked) [
             | inl before ↦ is.marks hash before
-            | inr leads ↦ ap is_ok (leads_stop tree first hash stop is.planted at.at leads.0 leads.1)
+            | inr leads ↦ ap is_ok (leads_stop tree first hash (faulty first fault) is.planted at.at leads.0 leads.1)
           ];
-      stops = λ hash other kept e.
-          let was : unspent_after tree hash ≡ Err other = sym (marks_keep_unspent first tree hash) ∙ e in
+      stops = λ hash other again kept e.
+          let was : unspent_after tree hash ≡ Err (faulty other again) = sym (marks_keep_unspent first tree hash) ∙ e in
           let there : is_kept tree hash ≡ true = sym (marks_keep_kept first tree hash) ∙ kept in
-          let end = stop_is tree hash other is.planted there was in
-          marked_is tree first hash there ∙ ap (λ (b : Bool). b || leads_through tree first hash) (is.stops hash other there was)
-          ∙ ap (λ (b : Bool). is_marked tree other.first || b) (alike tree hash stop other is.planted at end there was) ∙ sym (marked_is tree first other.first end.kept);
+          let end = stop_is tree hash other again is.planted there was in
+          marked_is tree first hash there ∙ ap (λ (b : Bool). b || leads_through tree first hash) (is.stops hash other again there was)
+          ∙ ap (λ (b : Bool). is_marked tree other || b) (alike tree hash first other fault again is.planted at end there was) ∙ sym (marked_is tree first other end.kept);
     }
 
 -- ---- calls
@@ -397,19 +480,20 @@ reached_marked tree stop at is =
 -- a header alone
 bare_fit : (header : Header) (marked : Bool) (old : Tree) → IsNew old header → IsFit (record { header = header; block = None; marked = marked }) old
 bare_fit header marked old new =
-    record { new = new; under = λ there. absurd (false≢true there); clean = λ there. absurd (false≢true there); bare = λ _. refl }
+    record { new = new; under = λ there. absurd (false≢true there); clean = λ there. absurd (false≢true there); bare = λ _. refl; own = tt; rules = tt; sound = tt }
 
 reached_settled : (old new : Tree) (hash : Hash256) (r : Result Unspent Stop) → unspent_after new hash ≡ r → is_kept new hash ≡ true → IsReached new → IsReached (settled old new r).1
 reached_settled old new hash (Ok u) e kept is = is
-reached_settled old new hash (Err stop) e kept is = reached_marked new stop (stop_is new hash stop is.planted kept e) is
+reached_settled old new hash (Err (faulty first fault)) e kept is = reached_marked new first fault (stop_is new hash first fault is.planted kept e) is
+reached_settled old new hash (Err (missing lacking)) e kept is = is
 
-reached_joined : (old : Tree) (block : Block) → block_fault old block.header ≡ None → IsReached old → IsReached (joined old block).1
-reached_joined old block none is =
+reached_joined : (old : Tree) (block : Block) → block_fault old block.header ≡ None → MeetsBlockRules block → IsSoundBlock block → IsReached old → IsReached (joined old block).1
+reached_joined old block none rules sound is =
     let new = block_entry block ∷ old in
     let hash = block_hash block.header in
     let free = block_free old block.header none in
     let fit : IsFit (block_entry block) old =
-    record { new = block_new old block.header none; under = λ _. free.under; clean = λ _. free.marks; bare = λ marked. absurd (false≢true marked) } in
+    record { new = block_new old block.header none; under = λ _. free.under; clean = λ _. free.marks; bare = λ marked. absurd (false≢true marked); own = refl; rules = rules; sound = sound } in
     let more : IsReached new = reached_more (block_entry block) old is fit in
     let kept : is_kept new hash ≡ true = rw (same-refl hash) refl in
     elim (cases_Bool (is_higher new hash (best old))) [
@@ -423,24 +507,24 @@ reached_header old header answer new (AcceptsHeader.refused _ _ _ _ e) is = subs
 reached_header old header answer new (AcceptsHeader.kept _ none _ e) is =
     subst IsReached (sym e) (reached_more (header_entry header) old is (bare_fit header false old (header_new old header none)))
 
-reached_block : (old : Tree) (block : Block) (answer : Result Change Fault) (new : Tree) → AcceptsBlock old block answer new → IsReached old → IsReached new
-reached_block old block answer new (AcceptsBlock.without_work _ _ e) is = subst IsReached (sym e) is
-reached_block old block answer new (AcceptsBlock.refused _ _ _ _ e) is = subst IsReached (sym e) is
-reached_block old block answer new (AcceptsBlock.breaks_rule _ none _ _ _ e) is =
+reached_block : (old : Tree) (block : Block) (answer : Result Change Fault) (new : Tree) → IsSoundBlock block → AcceptsBlock old block answer new → IsReached old → IsReached new
+reached_block old block answer new sound (AcceptsBlock.without_work _ _ e) is = subst IsReached (sym e) is
+reached_block old block answer new sound (AcceptsBlock.refused _ _ _ _ e) is = subst IsReached (sym e) is
+reached_block old block answer new sound (AcceptsBlock.breaks_rule _ none _ _ _ e) is =
     subst IsReached (sym e) (reached_more (bad_entry block.header) old is (bare_fit block.header true old (block_new old block.header none)))
-reached_block old block answer new (AcceptsBlock.meets_rules _ none _ e) is =
-    subst IsReached (sym (ap (λ (both : Result Change Fault × Tree). both.1) e)) (reached_joined old block none is)
+reached_block old block answer new sound (AcceptsBlock.meets_rules _ none rules e) is =
+    subst IsReached (sym (ap (λ (both : Result Change Fault × Tree). both.1) e)) (reached_joined old block none rules sound is)
 
 reached_step : (old : Tree) (call : Call) (new : Tree) → IsStep old call new → IsReached old → IsReached new
 reached_step old (HeaderCall header) new step is = reached_header old header step.0 new step.1 is
-reached_step old (BlockCall block) new step is = reached_block old block step.0 new step.1 is
+reached_step old (BlockCall block) new step is = reached_block old block step.1 new step.0 step.2 is
 
 pub reached : (calls : List Call) (tree : Tree) → IsHistory calls tree → IsReached tree
 reached [] tree h = subst IsReached (sym h) reached_first
 reached (call ∷ calls) tree h = reached_step h.0 call tree h.2 (reached calls h.0 h.1)
 
-pub rooted_after : (tree : Tree) → IsHistoric tree → AreRooted tree
-rooted_after tree is = rooted_planted tree (reached is.0 tree is.1).planted
+pub planted_after : (tree : Tree) → IsHistoric tree → ArePlanted tree
+planted_after tree is = (reached is.0 tree is.1).planted
 
 -- ---- what can't be spent
 
@@ -454,5 +538,9 @@ marked_err tree hash is marked = err_of (unspent_after tree hash) ((reached is.0
 pub unkept_err : (tree : Tree) (hash : Hash256) → is_kept tree hash ≡ false → IsErr (unspent_after tree hash)
 unkept_err tree hash unkept = err_of (unspent_after tree hash) (unkept_bad tree hash unkept)
 
-pub marked_stop : (tree : Tree) (hash : Hash256) (stop : Stop) → IsHistoric tree → is_kept tree hash ≡ true → unspent_after tree hash ≡ Err stop → is_marked tree hash ≡ is_marked tree stop.first
-marked_stop tree hash stop is kept e = (reached is.0 tree is.1).stops hash stop kept e
+pub marked_stop : (tree : Tree) (hash first : Hash256) (fault : Fault) → IsHistoric tree → is_kept tree hash ≡ true → unspent_after tree hash ≡ Err (faulty first fault)
+    → is_marked tree hash ≡ is_marked tree first
+marked_stop tree hash first fault is kept e = (reached is.0 tree is.1).stops hash first fault kept e
+
+pub nothing_missing : (tree : Tree) (hash lacking : Hash256) → IsHistoric tree → is_kept tree hash ≡ true → unspent_after tree hash ≡ Err (missing lacking) → ⊥
+nothing_missing tree hash lacking is kept e = none_missing tree hash lacking (planted_after tree is) kept e

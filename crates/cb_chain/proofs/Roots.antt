@@ -1,11 +1,11 @@
 -- What is known: each header's parent was known before it.
 use Rattle.std.proofs.Common.{◌≡◌, ℕ, suc, true, false, List, [], ◌∷◌, length, map, Some, None, refl, inl, inr}
-use Rattle.std.specs.Prelude.{⊤, reverse}
+use Rattle.std.specs.Prelude.{⊤}
 use Rattle.std.proofs.lemmas.Bool.{cases_Bool, false≢true}
 use Rattle.cb_base.specs.declared.hash.Hash256.{Hash256}
 use Rattle.cb_chain.specs.declared.node.Node.{Node}
 use Rattle.cb_chain.specs.Entries.{Entry, Tree, block_hash, genesis_hash, same, is_known}
-use Rattle.cb_chain.specs.Keeping.{AreNodes, IsTree, entry_from, place_of, tree_of}
+use Rattle.cb_chain.specs.Keeping.{AreNodes, entry_from, place_of}
 use Rattle.cb_chain.proofs.Nodes.{chosen}
 
 -- the parents of all are known among those behind them
@@ -40,7 +40,3 @@ known_placed (entry ∷ older) hash p e =
 rooted_above : (above : List Node) → AreNodes above → AreRooted (map entry_from above)
 rooted_above [] are = tt
 rooted_above (node ∷ older) are = (known_placed (map entry_from older) node.header.prev node.parent are.0.parent, rooted_above older are.1)
-
-pub rooted : (nodes : List Node) → IsTree nodes → AreRooted (tree_of nodes)
-rooted [] is = absurd is
-rooted (first ∷ others) is = rooted_above (reverse others) is.1

@@ -10,7 +10,7 @@ use Rattle.cb_block.specs.Genesis.{genesis_header}
 use Rattle.cb_chain.specs.declared.node.Node.{Node}
 use Rattle.cb_chain.specs.Entries.{Entry, Tree, block_hash, same, height_of, is_kept}
 use Rattle.cb_chain.specs.Best.{branch}
-use Rattle.cb_chain.specs.Keeping.{AreNodes, IsTree, Step, above_first, climb, entry_from, place_of, tree_of, way}
+use Rattle.cb_chain.specs.Keeping.{AreNodes, IsTree, Step, climb, entry_from, place_of, tree_of, way}
 use Rattle.cb_chain.proofs.Nodes.{get_front, get_last, map_reverse, reverse_cons, reverse_push}
 use Rattle.cb_chain.proofs.Ways.{branch_way, height_way}
 
@@ -73,10 +73,6 @@ stand_above first (node ∷ older) hash are =
           rw isnt (all_more (Stands (first ∷ reverse older)) (Stands (first ∷ reverse (node ∷ older))) (way (map entry_from older) hash) more (stand_above first older hash are.1))
     ]
 
-pub are_above : (nodes : List Node) → IsTree nodes → AreNodes (above_first nodes)
-are_above [] is = absurd is
-are_above (first ∷ others) is = is.1
-
 -- the nodes of a way's steps
 pub steps_stand : (nodes : List Node) (hash : Hash256) → IsTree nodes → AllByRecursion (Stands nodes) (climb (tree_of nodes) hash)
 steps_stand [] hash is = absurd is
@@ -102,10 +98,6 @@ kept_above (node ∷ older) hash are kept =
           rw is (here, kept_above older node.header.prev are.1 (are.0.under here))
       | inr isnt ↦ rw isnt (kept_above older hash are.1 (kept_below (entry_from node) (map entry_from older) hash isnt kept))
     ]
-
-pub steps_kept : (nodes : List Node) (hash : Hash256) → IsTree nodes → is_kept (tree_of nodes) hash ≡ true → AllByRecursion (λ (s : Step). is_some s.entry.block ≡ true) (climb (tree_of nodes) hash)
-steps_kept nodes hash is kept =
-    all_reverse (λ (s : Step). is_some s.entry.block ≡ true) (way (tree_of nodes) hash) (kept_above (above_first nodes) hash (are_above nodes is) kept)
 
 -- ---- the branch of a known hash
 

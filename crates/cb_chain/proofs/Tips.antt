@@ -1,6 +1,6 @@
--- The tip among the active blocks, and what is unspent after it.
-use Rattle.std.proofs.Common.{◌≡◌, ℕ, suc, ◌+◌, ◌-◌, ◌<◌, Bool, true, false, cond, List, [], ◌∷◌, ◌++◌, length, map, get_or, Some, None, Option, refl, sym, ap, subst, ◌∙◌, arith, inl, inr, length-append}
-use Rattle.std.specs.Prelude.{reverse, is_ok, slice_get, unwrap_or, ◌&&◌, Ok}
+-- A new chain, and the tip among the active blocks.
+use Rattle.std.proofs.Common.{◌≡◌, ℕ, zero, suc, ◌+◌, ◌-◌, ◌<◌, Bool, true, false, cond, List, [], ◌∷◌, ◌++◌, length, map, get_or, Some, None, Option, refl, sym, ap, subst, ◌∙◌, arith, inl, inr, length-append}
+use Rattle.std.specs.Prelude.{reverse, is_ok, slice_get, unwrap_or, ◌&&◌}
 use Rattle.std.specs.FinMap as finite
 use Rattle.std.proofs.lemmas.Bool.{cases_Bool}
 use Rattle.std.proofs.lemmas.List.{get_or_push, map-append}
@@ -9,19 +9,34 @@ use Rattle.std.proofs.lemmas.List.Elements.{All-nil, All-cons, All-append, All-m
 use Rattle.cb_base.specs.declared.hash.Hash256.{Hash256}
 use Rattle.cb_ledger.specs.declared.undo.Change.{Change}
 use Rattle.cb_ledger.specs.Unspent.{Unspent}
-use Rattle.cb_chain.specs.Entries.{Entry, Tree, block_hash, genesis_hash, height_of, is_known, same}
-use Rattle.cb_chain.specs.Best.{best, is_higher, spend_block, stopped_at, then_spend, unspent_after}
-use Rattle.cb_chain.specs.Keeping.{Connects, IsChain, IsTree, Step, Turn, active_places, climb, place_of, tree_of, turn_of, way}
+use Rattle.cb_chain.specs.Entries.{Entry, Tree, block_hash, genesis_hash, height_of, same}
+use Rattle.cb_chain.specs.Best.{best, is_higher, unspent_after}
+use Rattle.cb_chain.specs.Keeping.{IsTree, Step, active_places, climb, place_of, tree_of, way}
+use Rattle.cb_chain.specs.Sides.{IsChain, record_at}
 use Rattle.cb_chain.specs.declared.node.Node.{Node}
-use Rattle.cb_chain.proofs.Roots.{AreRooted, known_behind, known_first}
 use Rattle.cb_chain.proofs.Nodes.{same-refl, chosen, found, length_tree, reverse_cons}
 
 -- ---- a new chain
 
-pub chain_first : (tree : Tree) (path : List ℕ) (records : List (List Change)) (u : Unspent) → tree ≡ [] → path ≡ 0 ∷ [] → records ≡ [] → u ≡ finite.empty → IsChain tree path records u
-unfolding way
-chain_first tree path records u none first no_records empty =
-    rw (none, first, no_records, empty) (record { places = refl; ledger = refl })
+no_record : (place : ℕ) (changes : List Change) → record_at (None ∷ []) place ≡ Some changes → ⊥
+no_record zero changes has = let none : None ≡ Some changes = has in cc
+no_record (suc place) changes has = let none : None ≡ Some changes = has in cc
+
+-- of the first block alone
+alone : IsChain [] (0 ∷ []) (None ∷ []) finite.empty None
+unfolding best unspent_after way
+alone =
+    let own = same-refl genesis_hash in
+    record {
+      places = refl;
+      ledger = rw own refl;
+      undos_are = record { long = refl; each = λ hash place changes at has. absurd (no_record place changes has) };
+      tip = record { place = 0; at = rw own refl; kept = rw own refl; has = inl refl };
+      side_is = tt;
+    }
+
+pub chain_first : (tree : Tree) (path : List ℕ) (undos : List (Option (List Change))) (unspent : Unspent) → tree ≡ [] → path ≡ 0 ∷ [] → undos ≡ None ∷ [] → unspent ≡ finite.empty → IsChain tree path undos unspent None
+chain_first tree path undos unspent bare first unnoted nothing = rw (bare, first, unnoted, nothing) alone
 
 -- ---- the tip is known
 
@@ -77,47 +92,6 @@ tip_last tree path is =
       some = omega (arith, long);
       last = λ d. ap (λ (xs : List ℕ). get_or xs (length path - 1) d) ends ∙ get_or_push down.0 known.0 d (length path - 1) (omega (arith, long));
     }
-
--- ---- what is unspent after a way
-
--- blocks in turn but for the last, and the last
-record Parted (before : Unspent) (turns : List Turn) (last : Turn) (after : Unspent) : Type 0 where
-  between : Unspent
-  records : List (List Change)
-  front : Connects before turns records between
-  spends : spend_block last.block between ≡ Ok after
-
-parted : (before : Unspent) (turns : List Turn) (last : Turn) (records : List (List Change)) (after : Unspent) → Connects before (turns ++ last ∷ []) records after → Parted before turns last after
-parted before [] last [] after h = absurd h
-parted before [] last (changes ∷ []) after h = record { between = before; records = []; front = refl; spends = h.1 ∙ ap Ok h.3 }
-parted before [] last (changes ∷ more ∷ records) after h = absurd h.3
-parted before (turn ∷ turns) last [] after h = absurd h
-parted before (turn ∷ turns) last (changes ∷ records) after h =
-    let rest = parted h.0 turns last records after h.3 in
-    record { between = rest.between; records = changes ∷ rest.records; front = (h.0, h.1, h.2, rest.front); spends = rest.spends }
-
-no_turns : (before : Unspent) (records : List (List Change)) (after : Unspent) → Connects before [] records after → before ≡ after
-no_turns before [] after h = h
-no_turns before (changes ∷ records) after h = absurd h
-
--- what connects along a way is what is unspent after it
-pub connected : (tree : Tree) (hash : Hash256) (records : List (List Change)) (u : Unspent) → AreRooted tree → is_known tree hash ≡ true → Connects finite.empty (map turn_of (climb tree hash)) records u → unspent_after tree hash ≡ Ok u
-unfolding way unspent_after
-connected [] hash records u are known h = rw (known_first hash known) (ap Ok (no_turns finite.empty records u h))
-connected (entry ∷ older) hash records u are known h =
-    elim (cases_Bool (same hash (block_hash entry.header))) [
-      | inl is ↦
-          let step : Step = record { place = suc (length older); entry = entry } in
-          let below = climb older entry.header.prev in
-          let whole : climb (entry ∷ older) hash ≡ below ++ step ∷ [] = rw is (reverse_cons (way older entry.header.prev) step) in
-          let turns : map turn_of (climb (entry ∷ older) hash) ≡ map turn_of below ++ turn_of step ∷ [] = ap (map turn_of) whole ∙ map-append turn_of below (step ∷ []) in
-          let parts = parted finite.empty (map turn_of below) (turn_of step) records u (subst (λ (ts : List Turn). Connects finite.empty ts records u) turns h) in
-          let front = connected older entry.header.prev parts.records parts.between are.1 are.0 parts.front in
-          rw is (ap (then_spend entry) front ∙ ap (stopped_at (block_hash entry.header)) parts.spends)
-      | inr isnt ↦
-          let same_way : climb (entry ∷ older) hash ≡ climb older hash = rw isnt refl in
-          rw isnt (connected older hash records u are.1 (known_behind entry older hash isnt known) (subst (λ (steps : List Step). Connects finite.empty (map turn_of steps) records u) same_way h))
-    ]
 
 -- ---- the places of a way are places among the nodes
 

@@ -12,7 +12,7 @@ use Rattle.cb_block.specs.Genesis.{genesis_header}
 use Rattle.cb_ledger.specs.Unspent.{Unspent}
 use Rattle.cb_chain.specs.declared.node.Node.{Node}
 use Rattle.cb_chain.specs.Entries.{Entry, Tree, block_hash, genesis_hash, same, height_of, is_kept}
-use Rattle.cb_chain.specs.Best.{Stop, active, best, branch, is_higher, spend_block, stopped_at, then_spend, unspent_after}
+use Rattle.cb_chain.specs.Best.{Stop, active, best, branch, is_higher, spend_block, then_spend, unspent_after}
 use Rattle.cb_chain.specs.Following.{stands_at}
 use Rattle.cb_chain.specs.Keeping.{Step, entry_from, tree_of, place_of, way, climb, active_places, IsNode, AreNodes, IsFirst, IsTree}
 use Rattle.cb_chain.proofs.Nodes.{same-true, same-refl, reverse_cons, get_front, map_reverse, chosen, Found, found}
@@ -350,7 +350,7 @@ kept_at nodes hash place is e kept =
 has_spent : (entry : Entry) (before : Result Unspent Stop) → is_ok (then_spend entry before) ≡ true → is_some entry.block ≡ true
 has_spent entry (Err stop) e = absurd (false≢true e)
 has_spent entry (Ok u) e =
-    elim entry.block as (λ (o : Option Block). is_ok (stopped_at (block_hash entry.header) (spend_block o u)) ≡ true → is_some o ≡ true) [
+    elim entry.block as (λ (o : Option Block). is_ok (spend_block (block_hash entry.header) o u) ≡ true → is_some o ≡ true) [
       | None ↦ λ no. absurd (false≢true no)
       | Some block ↦ λ yes. refl
     ] e

@@ -3,7 +3,6 @@
 use Rattle.std.specs.Prelude.{Bool, true, false, ◌&&◌, nat_lt, is_ok, if◌then◌else◌, List, [], ◌∷◌, reverse, Option, None, Some, unwrap_or, Result, Ok, Err}
 use Rattle.std.specs.FinMap as map
 use Rattle.cb_base.specs.declared.fault.Fault.{Fault}
-use Rattle.cb_base.specs.declared.fault.Fault.TheVariants.{NoParent}
 use Rattle.cb_base.specs.declared.hash.Hash256.{Hash256}
 use Rattle.cb_block.specs.declared.header.Header.{Header}
 use Rattle.cb_block.specs.declared.block.Block.{Block}
@@ -12,29 +11,29 @@ use Rattle.cb_ledger.specs.Spend.{spend}
 use Rattle.cb_ledger.specs.Unspent.{Unspent}
 use Rattle.cb_chain.specs.Entries.{Entry, Tree, block_hash, genesis_hash, same, height_of}
 
--- the first block of a path that can't be spent, and why
-pub record Stop : Type 0 where
-  pub first : Hash256
-  pub fault : Fault
-
--- a header alone can't be spent
-abbrev pub spend_block : Option Block → Unspent → Result Unspent Fault
-spend_block None u = Err NoParent
-spend_block (Some block) u = spend u block.txs
+-- why the path to a block can't be spent: a block of it isn't kept, or is the first that can't be spent behind those below it
+pub data Stop : Type 0 where
+  missing : Hash256 → Stop
+  faulty : Hash256 → Fault → Stop
 
 abbrev pub stopped_at : Hash256 → Result Unspent Fault → Result Unspent Stop
 stopped_at hash (Ok u) = Ok u
-stopped_at hash (Err fault) = Err (record { first = hash; fault = fault })
+stopped_at hash (Err fault) = Err (faulty hash fault)
+
+-- a block that is kept, or isn't, over what is unspent
+abbrev pub spend_block : Hash256 → Option Block → Unspent → Result Unspent Stop
+spend_block hash None u = Err (missing hash)
+spend_block hash (Some block) u = stopped_at hash (spend u block.txs)
 
 -- a block behind its path
 abbrev pub then_spend : Entry → Result Unspent Stop → Result Unspent Stop
-then_spend entry (Ok u) = stopped_at (block_hash entry.header) (spend_block entry.block u)
+then_spend entry (Ok u) = spend_block (block_hash entry.header) entry.block u
 then_spend entry (Err stop) = Err stop
 
 -- What is unspent after a block's whole path, or where the path stops: at a hash that isn't known too. The outputs of the
 -- first block aren't unspent.
 unfoldable pub unspent_after : Tree → Hash256 → Result Unspent Stop
-unspent_after [] hash = if same hash genesis_hash then Ok map.empty else stopped_at hash (Err NoParent)
+unspent_after [] hash = if same hash genesis_hash then Ok map.empty else Err (missing hash)
 unspent_after (entry ∷ older) hash = if same hash (block_hash entry.header) then then_spend entry (unspent_after older entry.header.prev) else unspent_after older hash
 
 -- one known header stands higher than another

@@ -11,7 +11,7 @@ use Rattle.cb_block.specs.Work.{HasWork}
 use Rattle.cb_ledger.specs.Unspent.{Unspent}
 use Rattle.cb_chain.specs.declared.change.Change.{Change}
 use Rattle.cb_chain.specs.Entries.{Entry, Tree, block_hash, height_of, is_known, is_kept, is_marked}
-use Rattle.cb_chain.specs.Best.{Stop, active, best, branch, is_higher, leads_through, unspent_after}
+use Rattle.cb_chain.specs.Best.{Stop, faulty, missing, active, best, branch, is_higher, leads_through, unspent_after}
 use Rattle.cb_chain.specs.Following.{above_branch}
 
 -- what stands on it would be too high
@@ -65,10 +65,11 @@ change_of old new = record {
 abbrev pub no_change : Change
 no_change = record { off = []; on = [] }
 
--- what becomes of a block that is higher than the tip
+-- What becomes of a block that is higher than the tip. Since its parent is kept, no block of its path is missing.
 abbrev pub settled : Tree → Tree → Result Unspent Stop → Result Change Fault × Tree
 settled old new (Ok u) = (Ok (change_of old new), new)
-settled old new (Err stop) = (Err stop.fault, marked_above stop.first new)
+settled old new (Err (faulty first fault)) = (Err fault, marked_above first new)
+settled old new (Err (missing hash)) = (Err NoParent, new)
 
 -- What becomes of a block that breaks no rule: no higher than the tip it is kept aside. Higher it is the tip, or its
 -- path stops: then all from there on is marked.

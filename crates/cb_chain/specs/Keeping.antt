@@ -1,8 +1,6 @@
 -- How the code keeps a tree: the nodes in the order in which they came, each with what follows from those before it.
-use Rattle.std.specs.Prelude.{◌≡◌, ◌+◌, ◌++◌, ◌≤◌, ◌<◌, ◌⊎◌, ◌&&◌, not, ⊤, ℕ, suc, Bool, true, false, Ok, Err, is_some, nat_eq, if◌then◌else◌, List, [], ◌∷◌, length, take, drop, reverse, Option, None, Some, option_map, option_and_then, slice_get}
+use Rattle.std.specs.Prelude.{◌≡◌, ◌+◌, ◌++◌, ◌≤◌, ◌<◌, ◌⊎◌, ◌&&◌, not, ⊤, ℕ, suc, Bool, true, false, Ok, Err, is_some, nat_eq, if◌then◌else◌, List, [], ◌∷◌, length, take, drop, reverse, Option, None, Some, option_map, option_and_then, slice_get, slice_index_or}
 use Rattle.std.specs.Prelude as lists
-use Rattle.std.specs.FinMap as map
-use Rattle.std.specs.List.{sum_by}
 use Rattle.std.specs.Map.{lookup}
 use Rattle.cb_base.specs.declared.fault.Fault.{Fault}
 use Rattle.cb_base.specs.declared.fault.Fault.TheVariants.{BadParent, NoParent, TooMany}
@@ -13,16 +11,16 @@ use Rattle.cb_block.specs.Genesis.{genesis_block, genesis_header}
 use Rattle.cb_chain.specs.declared.accepting.Spot.{Spot}
 use Rattle.cb_chain.specs.declared.node.Node.{Node}
 use Rattle.cb_ledger.specs.declared.undo.Change.{Change}
-use Rattle.cb_ledger.specs.Undo.{changed}
-use Rattle.cb_ledger.specs.Unspent.{Held, Unspent}
 use Rattle.cb_chain.specs.Entries.{Entry, Tree, block_hash, genesis_hash, same, height_of, is_kept, is_known, is_marked}
-use Rattle.cb_chain.specs.Best.{active, best, branch, leads_through, spend_block}
+use Rattle.cb_chain.specs.Best.{active, best, branch, leads_through}
 use Rattle.cb_chain.specs.Calls.{is_full_under}
 use Rattle.cb_chain.specs.Following.{above_branch}
 
--- What a tree of the code shows: its nodes, and for how many more there is room.
+-- What a tree of the code shows: its nodes, what takes the block at each place back, where it was connected once, and for
+-- how many more there is room.
 pub record Grown : Type 0 where
   pub nodes : List Node
+  pub undos : List (Option (List Change))
   pub room : ℕ
 
 -- a node, without what follows from others
@@ -74,18 +72,21 @@ pub record IsPlaced (nodes : List Node) (entries : List (Hash256 × ℕ)) : Type
   pub tree : IsTree nodes
   pub places : (hash : Hash256) → lookup (same hash) entries ≡ place_of (tree_of nodes) hash
 
--- The place that follows each of the kept blocks, in an order in which all kept blocks above any one follow it at once: the
--- newest block above another stands right behind it. 0 follows the last.
-abbrev pub next_of : List Node → ℕ → ℕ
-next_of [] place = 0
-next_of (node ∷ older) place =
-    if nat_eq place (suc (length older)) then (if is_some node.kept then next_of older node.parent else 0)
-    else (if is_some node.kept && nat_eq place node.parent then suc (length older) else next_of older place)
+-- the places of the kept blocks that stand on the one at a place, the newest first
+abbrev pub above_at : List Node → ℕ → List ℕ
+above_at [] place = []
+above_at (node ∷ older) place = if is_some node.kept && nat_eq node.parent place then suc (length older) ∷ above_at older place else above_at older place
 
--- what follows each of the nodes
-pub record AreNext (nodes : List Node) (next : List ℕ) : Type 0 where
-  pub long : length next ≡ length nodes
-  pub each : (place : ℕ) → place < length nodes → slice_get next place ≡ Some (next_of (above_first nodes) place)
+-- From the newest each leads to the one before it, and the last to 0.
+abbrev pub AreLinked : List ℕ → ℕ → List ℕ → Type 0
+AreLinked elder newest [] = newest ≡ 0
+AreLinked elder newest (place ∷ places) = (newest ≡ place) × (0 < place) × (place < length elder) × AreLinked elder (slice_index_or elder place 0) places
+
+-- so the kept blocks on each of the nodes are found
+pub record AreLinks (nodes : List Node) (newest elder : List ℕ) : Type 0 where
+  pub newest_long : length newest ≡ length nodes
+  pub elder_long : length elder ≡ length nodes
+  pub each : (place : ℕ) → AreLinked elder (slice_index_or newest place 0) (above_at (above_first nodes) place)
 
 -- An entry on the way from the first block to a known one, at its place among the nodes.
 pub record Step : Type 0 where
@@ -105,75 +106,8 @@ climb tree hash = reverse (way tree hash)
 abbrev pub active_places : Tree → List ℕ
 active_places tree = 0 ∷ lists.map (λ step. step.place) (climb tree (best tree))
 
--- A block to be connected, by its place.
-pub record Turn : Type 0 where
-  pub place : ℕ
-  pub block : Option Block
-
-abbrev pub turn_of : Step → Turn
-turn_of step = record { place = step.place; block = step.entry.block }
-
 abbrev pub block_at : List Node → ℕ → Option Block
 block_at nodes place = option_and_then (λ node. node.kept) (slice_get nodes place)
-
-abbrev pub turn_at : List Node → ℕ → Turn
-turn_at nodes place = record { place = place; block = block_at nodes place }
-
--- Blocks lead in turn from what is unspent to what is unspent after them, and the records lead back: each from what is
--- unspent after its block to what was before.
-abbrev pub Connects : Unspent → List Turn → List (List Change) → Unspent → Type 0
-Connects before [] [] after = before ≡ after
-Connects before [] (changes ∷ records) after = ⊥
-Connects before (turn ∷ turns) [] after = ⊥
-Connects before (turn ∷ turns) (changes ∷ records) after =
-    (next : Unspent) × (spend_block turn.block before ≡ Ok next) × (changed next changes ≡ before) × Connects next turns records after
-
--- Of blocks in turn the one at this place is the first that can't be connected, for this fault.
-abbrev pub Halts : Unspent → List Turn → ℕ → Fault → Type 0
-Halts before [] place fault = ⊥
-Halts before (turn ∷ turns) place fault =
-    ((spend_block turn.block before ≡ Err fault) × (turn.place ≡ place)) ⊎ ((next : Unspent) × (spend_block turn.block before ≡ Ok next) × Halts next turns place fault)
-
--- what is unspent after blocks are taken back by these records, the highest first
-abbrev pub taken_back : Unspent → List (List Change) → Unspent
-taken_back unspent [] = unspent
-taken_back unspent (changes ∷ records) = taken_back (changed unspent changes) records
-
--- records that take back alike, the highest first
-abbrev pub LikeBack : Unspent → List (List Change) → List (List Change) → Type 0
-LikeBack unspent [] [] = ⊤
-LikeBack unspent [] (other ∷ others) = ⊥
-LikeBack unspent (changes ∷ records) [] = ⊥
-LikeBack unspent (changes ∷ records) (other ∷ others) = (changed unspent other ≡ changed unspent changes) × LikeBack (changed unspent changes) records others
-
--- Records are exchanged in turn: each changes what is unspent, and the one that stands in its place then leads back.
-abbrev pub Turned : Unspent → List (List Change) → List (List Change) → Unspent → Type 0
-Turned before [] [] after = before ≡ after
-Turned before [] (other ∷ others) after = ⊥
-Turned before (changes ∷ records) [] after = ⊥
-Turned before (changes ∷ records) (other ∷ others) after =
-    (changed (changed before changes) other ≡ before) × Turned (changed before changes) records others after
-
--- A block is connected, and its record put behind the others. There is room for taking it back and for so many places more.
-pub record Adds (block : Option Block) (room : ℕ) (before : Held) (records : List (List Change)) (places : ℕ) (after : Held) (more : List (List Change)) : Type 0 where
-  pub changes : List Change
-  pub spent : spend_block block before.unspent ≡ Ok after.unspent
-  pub back : changed after.unspent changes ≡ before.unspent
-  pub record_is : more ≡ records ++ changes ∷ []
-  pub places_are : places ≡ room + length changes
-  pub kept : places ≤ after.room
-
--- Blocks are connected in turn, with room for taking them back and for so many places more.
-pub record Standing (before : Unspent) (turns : List Turn) (room : ℕ) (records : List (List Change)) (places : ℕ) (after : Held) : Type 0 where
-  pub connects : Connects before turns records after.unspent
-  pub places_are : places ≡ room + sum_by length records
-  pub kept : places ≤ after.room
-
--- What a chain keeps follows from its tree: the places of the active blocks by their heights, what is unspent after them,
--- and what takes each back, from height 1 on.
-pub record IsChain (tree : Tree) (path : List ℕ) (records : List (List Change)) (unspent : Unspent) : Type 0 where
-  pub places : path ≡ active_places tree
-  pub ledger : Connects map.empty (lists.map turn_of (climb tree (best tree))) records unspent
 
 -- Where a branch leaves the active chain, by the height of the highest on both: what stands above it on the active chain,
 -- and for a kept block the way below it, which is the active one's.

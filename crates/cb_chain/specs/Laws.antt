@@ -1,17 +1,20 @@
 -- What holds of each chain that a node keeps (Bitcoin's consensus): how its active headers are linked, what their blocks
 -- leave unspent, which of its blocks stands highest, and how a block changes it.
-use Rattle.std.specs.Prelude.{◌≡◌, ◌≢◌, ◌≤◌, ◌⊎◌, ⊤, ℕ, true, List, [], ◌∷◌, ◌++◌, Option, Some, Ok, drop, map, option_and_then, reverse, unwrap_or}
+use Rattle.std.specs.Prelude.{◌≡◌, ◌≢◌, ◌≤◌, ◌⊎◌, ⊤, ℕ, true, List, [], ◌∷◌, ◌++◌, Contains, Err, Option, Some, Ok, drop, map, option_and_then, reverse, unwrap_or}
 use Rattle.std.specs.FinMap as finite
+use Rattle.cb_base.specs.declared.fault.Fault.{Fault}
 use Rattle.cb_base.specs.declared.hash.Hash256.{Hash256}
 use Rattle.cb_block.specs.declared.header.Header.{Header}
 use Rattle.cb_block.specs.declared.block.Block.{Block}
+use Rattle.cb_block.specs.Blocks.{IsRefused}
 use Rattle.cb_block.specs.Genesis.{genesis_header}
 use Rattle.cb_ledger.specs.Spend.{spend}
 use Rattle.cb_ledger.specs.Unspent.{Unspent}
 use Rattle.cb_tx.specs.declared.tx.Tx.{Tx}
 use Rattle.cb_chain.specs.declared.change.Change.{Change}
-use Rattle.cb_chain.specs.Entries.{Entry, Tree, block_hash, entry_of, height_of, is_kept}
-use Rattle.cb_chain.specs.Best.{active, best}
+use Rattle.cb_chain.specs.Entries.{Entry, Tree, block_hash, entry_of, height_of, is_kept, is_marked}
+use Rattle.cb_chain.specs.Best.{active, best, leads_through, unspent_after}
+use Rattle.cb_chain.specs.History.{BlockCall, Call}
 
 -- Headers from above one hash up to another: each names the one before it, and the last one has the other hash.
 abbrev pub AreLinked : Hash256 → List Header → Hash256 → Type 0
@@ -40,6 +43,26 @@ txs_of (block ∷ blocks) = block.txs ++ txs_of blocks
 -- order, from nothing, without a fault.
 abbrev pub IsLeftBy : Tree → Unspent → Type 0
 IsLeftBy tree unspent = (blocks : List Block) × AreBlocksOf tree (drop 1 (active tree)) blocks × (spend finite.empty (txs_of blocks) ≡ Ok unspent)
+
+-- a block is kept that can't be connected: over what is unspent after its parent it can't be spent, for this fault
+pub record CannotConnect (tree : Tree) (hash : Hash256) (fault : Fault) : Type 0 where
+  pub block : Block
+  pub unspent : Unspent
+  pub kept : kept_under tree hash ≡ Some block
+  pub parent : unspent_after tree block.header.prev ≡ Ok unspent
+  pub why : spend unspent block.txs ≡ Err fault
+
+-- a kept block is marked for one that can't be connected: itself, or one that it stands on, which is marked too
+pub record IsMarkedFor (tree : Tree) (hash : Hash256) : Type 0 where
+  pub first : Hash256
+  pub fault : Fault
+  pub through : leads_through tree first hash ≡ true
+  pub marked : is_marked tree first ≡ true
+  pub why : CannotConnect tree first fault
+
+-- a call gave a block of this hash that breaks a rule by itself
+abbrev pub BrokeRule : List Call → Hash256 → Type 0
+BrokeRule calls hash = (block : Block) × (fault : Fault) × Contains calls (BlockCall block) × (block_hash block.header ≡ hash) × IsRefused block fault
 
 -- how far above the first block a known header stands
 abbrev pub height_in : Tree → Hash256 → ℕ

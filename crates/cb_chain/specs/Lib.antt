@@ -7,3 +7,4 @@ pub mod Keeping
 pub mod Laws
 pub mod Locator
 pub mod Plans
+pub mod Sides

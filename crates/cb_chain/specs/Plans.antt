@@ -1,12 +1,12 @@
 -- What a block changes of the active chain that stands on a branch of it.
-use Rattle.std.specs.Prelude.{ℕ, suc, List, [], ◌∷◌, ◌++◌, map, drop, reverse, unwrap_or, option_map, slice_get}
+use Rattle.std.specs.Prelude.{◌≡◌, ◌+◌, take, ℕ, suc, List, [], ◌∷◌, ◌++◌, map, drop, reverse, unwrap_or, option_map, slice_get}
 use Rattle.cb_base.specs.declared.hash.Hash256.{Hash256}
 use Rattle.cb_block.specs.declared.header.Header.{Header}
 use Rattle.cb_chain.specs.declared.change.Change.{Change}
 use Rattle.cb_chain.specs.declared.node.Node.{Node}
 use Rattle.cb_chain.specs.Entries.{Tree, block_hash, genesis_hash}
 use Rattle.cb_chain.specs.Best.{active}
-use Rattle.cb_chain.specs.Keeping.{climb}
+use Rattle.cb_chain.specs.Keeping.{IsFork, climb}
 
 -- the hash of the node at a place
 abbrev pub hash_at : List Node → ℕ → Hash256
@@ -18,3 +18,10 @@ change_at tree header fork = record {
   off = reverse (map block_hash (drop (suc fork) (active tree)));
   on = map (λ step. block_hash step.entry.header) (drop fork (climb tree header.prev)) ++ block_hash header ∷ [];
 }
+
+-- The active chain leaves all above a height for the branch of a header's parent, and the header's place.
+pub record Moved (tree : Tree) (header : Header) (path : List ℕ) (last : ℕ) (now : List ℕ) (change : Change) : Type 0 where
+  pub fork : ℕ
+  pub fork_is : IsFork tree header.prev fork
+  pub now_is : now ≡ take (fork + 1) path ++ map (λ step. step.place) (drop fork (climb tree header.prev)) ++ last ∷ []
+  pub change_is : change ≡ change_at tree header fork

@@ -128,7 +128,7 @@ impl Chain {
         check_header(&header)?;
         let spot = self.header_spot(header)?;
         self.tree.reserve()?;
-        self.tree.add(spot.node(None, false));
+        self.tree.add(spot.node(None, false), None);
         Ok(())
     }
 
@@ -163,7 +163,7 @@ impl Chain {
             Err(fault) if fault == Fault::Memory => Err(fault),
             Err(fault) => {
                 self.tree.reserve()?;
-                self.tree.add(spot.node(None, true));
+                self.tree.add(spot.node(None, true), None);
                 Err(fault)
             }
         }
@@ -184,7 +184,7 @@ impl Chain {
             return self.lead(spot, kept);
         }
         self.tree.reserve()?;
-        self.tree.add(spot.node(Some(kept), false));
+        self.tree.add(spot.node(Some(kept), false), None);
         Ok(Change {
             off: Hashes::new(Vec::new(self.alloc)),
             on: Hashes::new(Vec::new(self.alloc)),

@@ -5,10 +5,11 @@ ghost use Rattle.cb_chain.specs.Entries.{block_of, height_of, is_lacking, sound_
 ghost use Rattle.cb_chain.specs.Keeping.{entry_from};
 
 use crate::node::Node;
+use crate::side::Side;
 use crate::tree::Tree;
 use cb_base::{Fault, Hash256};
 use cb_block::SoundBlock;
-use cb_ledger::{Ledger, Undo};
+use cb_ledger::Ledger;
 use std::alloc::Global;
 use std::marker::Model;
 
@@ -21,9 +22,10 @@ pub struct Chain {
     pub(crate) tree: Tree,
     // The nodes of the best chain, by their heights.
     pub(crate) active: Vec<usize>,
-    // What takes each of its blocks back, from height 1 on.
-    pub(crate) undos: Vec<Undo>,
+    // What is unspent after it.
     pub(crate) ledger: Ledger,
+    // The branch beside it that was tried last.
+    pub(crate) side: Option<Side>,
 }
 
 impl Model for Chain {
@@ -33,11 +35,12 @@ impl Model for Chain {
     ghost Value = { List Entry };
 
     ghost use Rattle.cb_chain.specs.History.{IsHistoric};
-    ghost use Rattle.cb_chain.specs.Keeping.{IsChain, tree_of};
+    ghost use Rattle.cb_chain.specs.Keeping.{tree_of};
+    ghost use Rattle.cb_chain.specs.Sides.{IsChain};
 
     ghost view = { λ chain. tree_of chain.tree.nodes };
 
-    ghost invariant = { λ chain. IsChain (tree_of chain.tree.nodes) chain.active.items chain.undos.items chain.ledger.unspent
+    ghost invariant = { λ chain. IsChain (tree_of chain.tree.nodes) chain.active.items chain.tree.undos chain.ledger.unspent chain.side
         × IsHistoric (tree_of chain.tree.nodes) };
 }
 
@@ -50,14 +53,13 @@ impl Chain {
         let tree = Tree::new(alloc)?;
         let mut active = Vec::with_capacity(alloc, 1)?;
         active.push(0)?;
-        let undos = Vec::new(alloc);
         let ledger = Ledger::new(alloc);
         Ok(Chain {
             alloc,
             tree,
             active,
-            undos,
             ledger,
+            side: None,
         })
     }
 
@@ -127,14 +129,13 @@ impl Chain {
     {
         let tree = self.tree.copy()?;
         let active = Vec::from_slice(self.alloc, self.active.as_slice())?;
-        let undos = copy_undos(self.alloc, self.undos.as_slice())?;
         let ledger = self.ledger.copy()?;
         Ok(Chain {
             alloc: self.alloc,
             tree,
             active,
-            undos,
             ledger,
+            side: None,
         })
     }
 }
@@ -150,15 +151,4 @@ fn shown_block(node: &Node) -> Option<&SoundBlock>
         Some(kept) => Some(kept.block()),
         None => None,
     }
-}
-
-fn copy_undos(alloc: Global, undos: &[Undo]) -> Result<Vec<Undo>, Fault>
-    ensures same { IfOk result (λ copies. copies.items ≡ undos.now) }
-    ensures memory { IsOkUnless result Memory }
-{
-    let mut copies = Vec::with_capacity(alloc, undos.len())?;
-    for undo in undos {
-        copies.push(undo.copy(alloc)?)?;
-    }
-    Ok(copies)
 }

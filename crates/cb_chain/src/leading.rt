@@ -1,23 +1,25 @@
-ghost use Rattle.std.specs.Prelude.{◌≡◌, ◌≢◌, ◌⊎◌, ◌+◌, ◌<◌, ◌≤◌, ◌∷◌, ◌++◌, [], length, drop, take, map, reverse, slice_get, true, None, Some, Ok, Err, All, IfErr, IfOk, IsOkUnless, IsSome, OnErr, OnOk, vec_capacity, vec_len};
+ghost use Rattle.std.specs.Prelude.{◌≡◌, ◌≢◌, ◌⊎◌, ◌+◌, ◌<◌, ◌≤◌, ◌∷◌, ◌++◌, [], length, drop, take, map, reverse, slice_get, true, None, Some, Ok, Err, All, IfErr, IfOk, IfSome, IsOkUnless, IsSome, OnErr, OnOk, vec_capacity, vec_len};
 ghost use Rattle.cb_base.specs.declared.fault.Fault.TheVariants.{Memory};
+ghost use Rattle.cb_ledger.specs.Undo.{changed};
 ghost use Rattle.cb_chain.specs.Best.{best, is_higher};
 ghost use Rattle.cb_chain.specs.Calls.{block_entry, block_fault, joined, marked_above};
 ghost use Rattle.cb_chain.specs.Entries.{block_hash, is_kept};
 ghost use Rattle.cb_chain.specs.History.{IsHistoric};
-ghost use Rattle.cb_chain.specs.Keeping.{Connects, Halts, IsFork, IsNode, IsSpot, IsTree, LikeBack, active_places, block_at, climb, taken_back, tree_of, turn_at};
+ghost use Rattle.cb_chain.specs.Keeping.{IsFork, IsNode, IsSpot, IsTree, active_places, block_at, climb, tree_of};
 ghost use Rattle.cb_chain.specs.Laws.{LeadsOver, active_hashes};
-ghost use Rattle.cb_chain.specs.Plans.{change_at, hash_at};
+ghost use Rattle.cb_chain.specs.Plans.{Moved, change_at, hash_at};
+ghost use Rattle.cb_chain.specs.Sides.{RestsOn};
 ghost use Rattle.cb_chain.specs.declared.node.Node.{Node};
 
 use crate::accepting::Spot;
 use crate::chain::Chain;
 use crate::change::{Change, Hashes};
 use crate::node::{Kept, Node};
-use crate::switching::{Stop, switch};
+use crate::side::{Side, Stop, keep_side, not_far_below, rest_on, starts_from};
 use crate::tree::Tree;
 use crate::walking::{branch_above, fork_of};
 use cb_base::{Fault, Hash256};
-use cb_ledger::{Ledger, Undo};
+use cb_ledger::Ledger;
 use std::alloc::Global;
 
 // How a block becomes the tip.
@@ -30,43 +32,17 @@ struct Plan {
     change: Change,
 }
 
-// Room for so many more blocks on the active chain.
-fn reserve_all(active: &mut Vec<usize>, undos: &mut Vec<Undo>, count: usize) -> Result<(), Fault>
-    ensures active { active.new.items ≡ active.old.items }
-    ensures undos { undos.new.items ≡ undos.old.items }
-    ensures places { OnOk result (vec_len active.new + count ≤ vec_capacity active.new) }
-    ensures records { OnOk result (vec_len undos.new + count ≤ vec_capacity undos.new) }
-    ensures memory { IsOkUnless result Memory }
-{
-    active.reserve(count)?;
-    undos.reserve(count)?;
-    Ok(())
-}
-
 // The active chain leaves what stands above a height for a branch and the node that comes next. There is room.
-fn put_on(
-    active: &mut Vec<usize>,
-    undos: &mut Vec<Undo>,
-    fork: usize,
-    branch: Vec<usize>,
-    last: usize,
-    on: Vec<Undo>,
-)
+fn put_on(active: &mut Vec<usize>, fork: usize, branch: Vec<usize>, last: usize)
     requires fork { fork < length active.old.items }
     requires places { vec_len active.old + (vec_len branch + 1) ≤ vec_capacity active.old }
-    requires records { vec_len undos.old + vec_len on ≤ vec_capacity undos.old }
-    ensures active { active.new.items ≡ take (fork + 1) active.old.items ++ branch.items ++ last ∷ [] }
-    ensures undos { undos.new.items ≡ take fork undos.old.items ++ on.items }
+    ensures { active.new.items ≡ take (fork + 1) active.old.items ++ branch.items ++ last ∷ [] }
 {
     active.truncate(fork + 1);
     for place in branch {
         active.push(place).unwrap();
     }
     active.push(last).unwrap();
-    undos.truncate(fork);
-    for undo in on {
-        undos.push(undo).unwrap();
-    }
 }
 
 // The hashes of nodes.
@@ -134,54 +110,67 @@ fn plan_for(alloc: Global, tree: &Tree, active: &[usize], spot: Spot) -> Result<
     })
 }
 
-// As `switch`, with the records above a height.
-fn switch_above(
-    alloc: Global,
-    ledger: &mut Ledger,
-    undos: &mut Vec<Undo>,
-    fork: usize,
-    tree: &Tree,
-    branch: &[usize],
-    last: &Kept,
-) -> Result<Vec<Undo>, Stop>
-    requires fork { fork ≤ length undos.old.items }
-    requires branch { All (λ place. place < length tree.now.nodes) branch.now }
-    ensures ok { IfOk result (λ on. Connects (taken_back ledger.old.unspent (reverse (drop fork undos.old.items)))
-        (map (turn_at tree.now.nodes) branch.now ++ record { place = length tree.now.nodes; block = Some last.now } ∷ []) on.items ledger.new.unspent) }
-    ensures err { IfErr result (λ stop. (stop.fault ≡ Memory) ⊎ Halts (taken_back ledger.old.unspent (reverse (drop fork undos.old.items)))
-        (map (turn_at tree.now.nodes) branch.now ++ record { place = length tree.now.nodes; block = Some last.now } ∷ []) stop.place stop.fault) }
-    ensures same { OnErr result (ledger.new.unspent ≡ ledger.old.unspent) }
-    ensures back { OnErr result (LikeBack ledger.old.unspent (reverse (drop fork undos.old.items)) (reverse (drop fork undos.new.items))) }
-    ensures below { take fork undos.new.items ≡ take fork undos.old.items }
-    ensures len { vec_len undos.new ≡ vec_len undos.old }
-    ensures capacity { vec_capacity undos.new ≡ vec_capacity undos.old }
-{
-    switch(alloc, ledger, &mut undos[fork..], tree, branch, last)
-}
-
 // Keeps a block whose path stops, and marks from there on. Where memory was wanting it keeps nothing.
 fn mark_stop(tree: &mut Tree, node: Node, stop: Stop)
     requires room { 0 < tree.old.room }
     requires node { IsNode node (tree_of tree.old.nodes) }
     requires place { (stop.fault ≡ Memory) ⊎ ((0 < stop.place) × IsSome (block_at (tree.old.nodes ++ node ∷ []) stop.place)) }
-    ensures { ((stop.fault ≡ Memory) × (tree.new.nodes ≡ tree.old.nodes))
-        ⊎ ((stop.fault ≢ Memory) × ((first : Node) → slice_get (tree.old.nodes ++ node ∷ []) stop.place ≡ Some first
+    ensures { ((stop.fault ≡ Memory) × (tree.new.nodes ≡ tree.old.nodes) × (tree.new.undos ≡ tree.old.undos))
+        ⊎ ((stop.fault ≢ Memory) × (tree.new.undos ≡ tree.old.undos ++ None ∷ []) × ((first : Node) → slice_get (tree.old.nodes ++ node ∷ []) stop.place ≡ Some first
         → tree_of tree.new.nodes ≡ marked_above first.hash (tree_of (tree.old.nodes ++ node ∷ [])))) }
 {
     if stop.fault == Fault::Memory {
         return;
     }
-    tree.add(node);
+    tree.add(node, None);
     tree.mark_above(stop.place);
 }
 
+// The active chain leaves for a branch that was tried and a block on it. Where memory is wanting it stays, and so does the
+// ledger. The branch that was tried last rests on the ledger anew, or else the tip that was left takes its place.
+fn switch(
+    alloc: Global,
+    tree: &Tree,
+    active: &mut Vec<usize>,
+    ledger: &mut Ledger,
+    side: &mut Option<Side>,
+    spot: Spot,
+    tried: Side,
+) -> Result<Change, Fault>
+    requires tree { IsTree tree.now.nodes }
+    requires active { active.old.items ≡ active_places (tree_of tree.now.nodes) }
+    requires spot { IsSpot spot spot.header (tree_of tree.now.nodes) }
+    requires kept { is_kept (tree_of tree.now.nodes) spot.header.prev ≡ true }
+    ensures moved { IfOk result (λ change. Moved (tree_of tree.now.nodes) spot.header active.old.items (length tree.now.nodes) active.new.items change) }
+    ensures ledger { OnOk result (ledger.new.unspent ≡ changed ledger.old.unspent tried.overlay) }
+    ensures side { OnOk result (IfSome side.new (RestsOn active.old.items ledger.old.unspent ledger.new.unspent side.old)) }
+    ensures same { OnErr result ((active.new.items ≡ active.old.items) × (ledger.new.unspent ≡ ledger.old.unspent) × (side.new ≡ side.old)) }
+    ensures memory { IsOkUnless result Memory }
+{
+    let Plan {
+        fork,
+        branch,
+        change,
+    } = plan_for(alloc, tree, active.as_slice(), spot)?;
+    active.reserve(branch.len() + 1)?;
+    let mut back = tried.into_changes(alloc)?;
+    ledger.reserve(back.len())?;
+    ledger.exchange(&mut back);
+    let tip = active[active.len() - 1];
+    let last = side.take().unwrap_or(Side::at(alloc, tip));
+    *side = rest_on(Some(last), &back);
+    put_on(active, fork, branch, tree.len());
+    Ok(change)
+}
+
 impl Chain {
-    // Keeps a block that is higher than the tip: it becomes the tip, or its path stops.
-    pub(crate) fn lead(&mut self, spot: Spot, kept: Kept) -> Result<Change, Fault>
+    // Keeps a block that stands on the tip: it becomes the tip, or can't be spent.
+    fn extend(&mut self, spot: Spot, kept: Kept) -> Result<Change, Fault>
         requires spot { IsSpot spot kept.header self.old }
         requires none { block_fault self.old kept.header ≡ None }
         requires higher { is_higher (block_entry kept ∷ self.old) (block_hash kept.header) (best self.old) ≡ true }
         requires calls { IsHistoric (joined self.old kept).1 }
+        requires tip { kept.header.prev ≡ best self.old }
         ensures ok { IfOk result (λ change. (Ok change, self.new) ≡ joined self.old kept) }
         ensures moves { IfOk result (λ change. LeadsOver (active_hashes self.old) change (active_hashes self.new)) }
         ensures err { IfErr result (λ fault. ((fault ≡ Memory) × (self.new ≡ self.old)) ⊎ ((Err fault, self.new) ≡ joined self.old kept)) }
@@ -193,26 +182,74 @@ impl Chain {
             branch,
             change,
         } = plan_for(self.alloc, &self.tree, self.active.as_slice(), spot)?;
-        reserve_all(&mut self.active, &mut self.undos, branch.len() + 1)?;
-        let switched = switch_above(
-            self.alloc,
-            &mut self.ledger,
-            &mut self.undos,
-            fork,
-            &self.tree,
-            branch.as_slice(),
-            &kept,
-        );
-        let on = match switched {
-            Ok(on) => on,
+        self.active.reserve(branch.len() + 1)?;
+        let last = self.tree.len();
+        let undo = match self.ledger.connect(kept.block()) {
+            Ok(undo) => undo,
+            Err(fault) => {
+                let stop = Stop { place: last, fault };
+                mark_stop(&mut self.tree, spot.node(Some(kept), false), stop);
+                return Err(fault);
+            }
+        };
+        let side = not_far_below(&self.tree, self.side.take(), spot.height);
+        self.side = rest_on(side, &undo);
+        put_on(&mut self.active, fork, branch, last);
+        self.tree.add(spot.node(Some(kept), false), Some(undo));
+        Ok(change)
+    }
+
+    // Keeps a block that stands on another branch: that becomes the active chain, or its path stops.
+    fn turn(&mut self, spot: Spot, kept: Kept) -> Result<Change, Fault>
+        requires spot { IsSpot spot kept.header self.old }
+        requires none { block_fault self.old kept.header ≡ None }
+        requires higher { is_higher (block_entry kept ∷ self.old) (block_hash kept.header) (best self.old) ≡ true }
+        requires calls { IsHistoric (joined self.old kept).1 }
+        ensures ok { IfOk result (λ change. (Ok change, self.new) ≡ joined self.old kept) }
+        ensures moves { IfOk result (λ change. LeadsOver (active_hashes self.old) change (active_hashes self.new)) }
+        ensures err { IfErr result (λ fault. ((fault ≡ Memory) × (self.new ≡ self.old)) ⊎ ((Err fault, self.new) ≡ joined self.old kept)) }
+        ensures unchanged { result ≡ Err Memory → self.new ≡ self.old }
+    {
+        self.tree.reserve()?;
+        let tip = self.active[self.active.len() - 1];
+        let mut side = starts_from(self.alloc, &self.tree, tip, &mut self.side, spot.parent);
+        let tried = side.try_on(self.alloc, &self.ledger, &mut self.tree, spot.parent, &kept);
+        let undo = match tried {
+            Ok(undo) => undo,
             Err(stop) => {
+                keep_side(&mut self.side, side);
                 mark_stop(&mut self.tree, spot.node(Some(kept), false), stop);
                 return Err(stop.fault);
             }
         };
-        let last = self.tree.len();
-        put_on(&mut self.active, &mut self.undos, fork, branch, last, on);
-        self.tree.add(spot.node(Some(kept), false));
+        let change = switch(
+            self.alloc,
+            &self.tree,
+            &mut self.active,
+            &mut self.ledger,
+            &mut self.side,
+            spot,
+            side,
+        )?;
+        self.tree.add(spot.node(Some(kept), false), Some(undo));
         Ok(change)
+    }
+
+    // Keeps a block that is higher than the tip: it becomes the tip, or its path stops.
+    pub(crate) fn lead(&mut self, spot: Spot, kept: Kept) -> Result<Change, Fault>
+        requires spot { IsSpot spot kept.header self.old }
+        requires none { block_fault self.old kept.header ≡ None }
+        requires higher { is_higher (block_entry kept ∷ self.old) (block_hash kept.header) (best self.old) ≡ true }
+        requires calls { IsHistoric (joined self.old kept).1 }
+        ensures ok { IfOk result (λ change. (Ok change, self.new) ≡ joined self.old kept) }
+        ensures moves { IfOk result (λ change. LeadsOver (active_hashes self.old) change (active_hashes self.new)) }
+        ensures err { IfErr result (λ fault. ((fault ≡ Memory) × (self.new ≡ self.old)) ⊎ ((Err fault, self.new) ≡ joined self.old kept)) }
+        ensures unchanged { result ≡ Err Memory → self.new ≡ self.old }
+    {
+        if spot.parent == self.active[self.active.len() - 1] {
+            self.extend(spot, kept)
+        } else {
+            self.turn(spot, kept)
+        }
     }
 }

@@ -8,7 +8,7 @@ mod following;
 mod law;
 mod leading;
 mod node;
-mod switching;
+mod side;
 mod tree;
 mod walking;
 
@@ -17,8 +17,8 @@ pub use chain::Chain;
 pub use change::{Change, Hashes};
 pub use following::MOST_HEADERS;
 pub use law::{
-    active_is_linked, has_history, kept_once, ledger_is_folded, marked_is_never_spent, none_higher,
-    one_tree,
+    active_is_linked, has_history, kept_meet_rules, kept_once, ledger_is_folded,
+    marked_for_a_reason, marked_is_never_spent, none_higher, one_tree,
 };
 
 #[cfg(test)]

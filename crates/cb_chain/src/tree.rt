@@ -1,43 +1,54 @@
-ghost use Rattle.std.specs.Prelude.{◌≡◌, ◌+◌, ◌<◌, ◌≤◌, [], ◌∷◌, ◌++◌, length, slice_get, List, Some, option_map, option_copied, IfOk, IfSome, IsOk, IsOkUnless, IsSome, OnOk};
+ghost use Rattle.std.specs.Prelude.{◌≡◌, ◌+◌, ℕ, ◌<◌, ◌≤◌, [], ◌∷◌, ◌++◌, length, set, slice_get, vec_len, vec_capacity, List, None, Some, option_map, option_copied, IfOk, IfSome, IsOk, IsOkUnless, IsSome, OnOk};
 ghost use Rattle.cb_base.specs.declared.fault.Fault.TheVariants.{Memory};
 ghost use Rattle.cb_chain.specs.Calls.{marked_above};
 ghost use Rattle.cb_chain.specs.Entries.{entry_of, height_of};
-ghost use Rattle.cb_chain.specs.Keeping.{AreNext, IsFirst, IsNode, IsTree, block_at, entry_from, marked_nodes, place_of, tree_of};
+ghost use Rattle.cb_chain.specs.Keeping.{AreLinked, AreLinks, IsFirst, IsNode, IsTree, block_at, entry_from, marked_nodes, place_of, tree_of};
+ghost use Rattle.cb_chain.specs.Sides.{record_at};
 ghost use Rattle.cb_chain.specs.declared.node.Node.{Node};
 
 use crate::node::{Kept, Node};
 use cb_base::{Fault, Hash256};
 use cb_block::genesis;
+use cb_ledger::Undo;
 use std::alloc::Global;
 use std::collections::HashMap;
 use std::marker::Model;
 
 // The headers and blocks, in the order in which they came. A header comes before those that stand on it. It is seen as the
-// list of its nodes, and for how many more there is room.
+// list of its nodes, the records at their places, and for how many more there is room.
 #[derive(Drop)]
 pub(crate) struct Tree {
     alloc: Global,
     nodes: Vec<Node>,
     // The place of the newest node of each hash.
     places: HashMap<Hash256, usize>,
-    // The place that follows each kept block's, in an order in which all kept blocks above any one follow it at once. 0
-    // follows the last, and stands for a header alone.
-    next: Vec<usize>,
+    // The place of the newest kept block that stands on each node. 0 stands for none.
+    newest: Vec<usize>,
+    // The place of the kept block that came before each on the same parent. 0 stands for none.
+    elder: Vec<usize>,
+    // What takes a block back, at the place of each that was connected once.
+    undos: Vec<Option<Undo>>,
+    // The places that were marked last. It has room for all nodes, so that marking needs no memory.
+    found: Vec<usize>,
 }
 
 impl Model for Tree {
-    ghost use Rattle.std.specs.Prelude.{◌-◌, min, vec_len, vec_capacity};
+    ghost use Rattle.std.specs.Prelude.{◌-◌, ◌≤◌, min, vec_len, vec_capacity};
     ghost use Rattle.std.specs.HashMap.{spare};
-    ghost use Rattle.cb_chain.specs.Keeping.{AreNext, Grown, IsPlaced};
+    ghost use Rattle.cb_chain.specs.Keeping.{AreLinks, Grown, IsPlaced};
 
     ghost Value = { Grown };
 
     ghost view = { λ tree. record {
       nodes = tree.nodes.items;
-      room = min (spare tree.places) (min (vec_capacity tree.nodes - vec_len tree.nodes) (vec_capacity tree.next - vec_len tree.next));
+      undos = tree.undos.items;
+      room = min (spare tree.places) (min (vec_capacity tree.nodes - vec_len tree.nodes)
+          (min (min (vec_capacity tree.newest - vec_len tree.newest) (vec_capacity tree.elder - vec_len tree.elder))
+          (min (vec_capacity tree.undos - vec_len tree.undos) (vec_capacity tree.found - vec_len tree.nodes))));
     } };
 
-    ghost invariant = { λ tree. IsPlaced tree.nodes.items tree.places.entries × AreNext tree.nodes.items tree.next.items };
+    ghost invariant = { λ tree. IsPlaced tree.nodes.items tree.places.entries × AreLinks tree.nodes.items tree.newest.items tree.elder.items
+        × (vec_len tree.nodes ≤ vec_capacity tree.found) };
 }
 
 // The first node.
@@ -61,6 +72,7 @@ impl Tree {
     // The tree of the first block alone.
     pub(crate) fn new(alloc: Global) -> Result<Tree, Fault>
         ensures nodes { IfOk result (λ tree. tree_of tree.nodes ≡ []) }
+        ensures undos { IfOk result (λ tree. tree.undos ≡ None ∷ []) }
         ensures tree { IfOk result (λ tree. IsTree tree.nodes) }
         ensures memory { IsOkUnless result Memory }
     {
@@ -69,13 +81,21 @@ impl Tree {
         places.insert(first.hash, 0)?;
         let mut nodes = Vec::with_capacity(alloc, 1)?;
         nodes.push(first)?;
-        let mut next = Vec::with_capacity(alloc, 1)?;
-        next.push(0)?;
+        let mut newest = Vec::with_capacity(alloc, 1)?;
+        newest.push(0)?;
+        let mut elder = Vec::with_capacity(alloc, 1)?;
+        elder.push(0)?;
+        let mut undos = Vec::with_capacity(alloc, 1)?;
+        undos.push(None)?;
+        let found = Vec::with_capacity(alloc, 1)?;
         Ok(Tree {
             alloc,
             nodes,
             places,
-            next,
+            newest,
+            elder,
+            undos,
+            found,
         })
     }
 
@@ -115,28 +135,55 @@ impl Tree {
         }
     }
 
+    // What takes the block at a place back, where it was connected once.
+    pub(crate) fn undo(&self, place: usize) -> Option<&Undo>
+        ensures { option_copied result ≡ record_at self.now.undos place }
+    {
+        match self.undos.get(place) {
+            Some(Some(undo)) => Some(undo),
+            _ => None,
+        }
+    }
+
+    // Notes what takes the block at a place back.
+    pub(crate) fn note(&mut self, place: usize, undo: Undo)
+        requires { place < length self.old.undos }
+        ensures nodes { self.new.nodes ≡ self.old.nodes }
+        ensures undos { self.new.undos ≡ set self.old.undos place (Some undo) }
+        ensures room { self.new.room ≡ self.old.room }
+    {
+        self.undos[place] = Some(undo);
+    }
+
     // Room for one node more.
     pub(crate) fn reserve(&mut self) -> Result<(), Fault>
         ensures same { self.new.nodes ≡ self.old.nodes }
+        ensures undos { self.new.undos ≡ self.old.undos }
         ensures tree { IsTree self.new.nodes }
         ensures room { OnOk result (0 < self.new.room) }
         ensures memory { IsOkUnless result Memory }
     {
         self.nodes.reserve(1)?;
-        self.next.reserve(1)?;
+        self.newest.reserve(1)?;
+        self.elder.reserve(1)?;
+        self.undos.reserve(1)?;
+        self.found.reserve(self.nodes.len() + 1)?;
         self.places.reserve(1)?;
         Ok(())
     }
 
-    // One node more, for which there is room.
-    pub(crate) fn add(&mut self, node: Node)
+    // One node more, for which there is room, and what takes its block back, where that is connected.
+    pub(crate) fn add(&mut self, node: Node, undo: Option<Undo>)
         requires room { 0 < self.old.room }
         requires node { IsNode node (tree_of self.old.nodes) }
-        ensures { self.new.nodes ≡ self.old.nodes ++ node ∷ [] }
+        ensures nodes { self.new.nodes ≡ self.old.nodes ++ node ∷ [] }
+        ensures undos { self.new.undos ≡ self.old.undos ++ undo ∷ [] }
     {
         let place = self.nodes.len();
-        let after = put_behind(self.next.as_mut_slice(), &node, place);
-        self.next.push(after).unwrap();
+        let elder = put_above(self.newest.as_mut_slice(), &node, place);
+        self.newest.push(0).unwrap();
+        self.elder.push(elder).unwrap();
+        self.undos.push(undo).unwrap();
         let noted: Result<_, _> = self.places.insert(node.hash, place);
         noted.unwrap();
         self.nodes.push(node).unwrap();
@@ -149,14 +196,22 @@ impl Tree {
         ensures marks { (node : Node) → slice_get self.old.nodes first ≡ Some node
             → tree_of self.new.nodes ≡ marked_above node.hash (tree_of self.old.nodes) }
         ensures len { length self.new.nodes ≡ length self.old.nodes }
+        ensures undos { self.new.undos ≡ self.old.undos }
         ensures tree { IsTree self.new.nodes }
     {
-        mark_from(self.nodes.as_mut_slice(), self.next.as_slice(), first);
+        mark_from(
+            self.nodes.as_mut_slice(),
+            self.newest.as_slice(),
+            self.elder.as_slice(),
+            &mut self.found,
+            first,
+        );
     }
 
     // A tree that equals it.
     pub(crate) fn copy(&self) -> Result<Tree, Fault>
         ensures same { IfOk result (λ copy. copy.nodes ≡ self.now.nodes) }
+        ensures undos { IfOk result (λ copy. copy.undos ≡ self.now.undos) }
         ensures memory { IsOkUnless result Memory }
     {
         let mut nodes = Vec::with_capacity(self.alloc, self.nodes.len())?;
@@ -164,48 +219,74 @@ impl Tree {
             nodes.push(copy_node(node)?)?;
         }
         let places = self.places.clone()?;
-        let next = Vec::from_slice(self.alloc, self.next.as_slice())?;
+        let newest = Vec::from_slice(self.alloc, self.newest.as_slice())?;
+        let elder = Vec::from_slice(self.alloc, self.elder.as_slice())?;
+        let undos = copy_undos(self.alloc, self.undos.as_slice())?;
+        let found = Vec::with_capacity(self.alloc, self.nodes.len())?;
         Ok(Tree {
             alloc: self.alloc,
             nodes,
             places,
-            next,
+            newest,
+            elder,
+            undos,
+            found,
         })
     }
 }
 
-// Puts the place of the next node, where its block is kept, behind its parent's. Answers what follows it then.
-fn put_behind(next: &mut [usize], node: &Node, place: usize) -> usize
-    requires { node.now.parent < length next.old }
-    ensures len { length next.new ≡ length next.old }
-    ensures next { (nodes : List Node) → place ≡ length nodes → IsTree nodes → IsNode node.now (tree_of nodes) → AreNext nodes next.old
-        → AreNext (nodes ++ node.now ∷ []) (next.new ++ result ∷ []) }
+// Makes the next node, where its block is kept, the newest on its parent. Answers which was the newest before.
+fn put_above(newest: &mut [usize], node: &Node, place: usize) -> usize
+    requires { node.now.parent < length newest.old }
+    ensures len { length newest.new ≡ length newest.old }
+    ensures links { (nodes : List Node) (elder : List ℕ) → place ≡ length nodes → IsTree nodes → IsNode node.now (tree_of nodes) → AreLinks nodes newest.old elder
+        → AreLinks (nodes ++ node.now ∷ []) (newest.new ++ 0 ∷ []) (elder ++ result ∷ []) }
 {
     if node.kept.is_none() {
         return 0;
     }
-    let after = next[node.parent];
-    next[node.parent] = place;
-    after
+    let elder = newest[node.parent];
+    newest[node.parent] = place;
+    elder
 }
 
-// Marks the block at a place and all kept blocks above it.
-fn mark_from(nodes: &mut [Node], next: &[usize], first: usize)
+// Adds the places of kept blocks on one parent, from the newest on. There is room.
+fn push_linked(found: &mut Vec<usize>, elder: &[usize], newest: usize)
+    requires links { (places : List ℕ) × AreLinked elder.now newest places × (vec_len found.old + length places ≤ vec_capacity found.old) }
+    ensures found { (places : List ℕ) → AreLinked elder.now newest places → found.new.items ≡ found.old.items ++ places }
+    ensures room { vec_capacity found.old ≤ vec_capacity found.new }
+{
+    let mut place = newest;
+    while place != 0 {
+        found.push(place).unwrap();
+        place = elder[place];
+    }
+}
+
+// Marks the block at a place and all kept blocks above it, whose places it leaves in `found`. There is room for all.
+fn mark_from(
+    nodes: &mut [Node],
+    newest: &[usize],
+    elder: &[usize],
+    found: &mut Vec<usize>,
+    first: usize,
+)
     requires tree { IsTree nodes.old }
-    requires next { AreNext nodes.old next.now }
+    requires links { AreLinks nodes.old newest.now elder.now }
     requires above { 0 < first }
     requires kept { IsSome (block_at nodes.old first) }
+    requires room { length nodes.old ≤ vec_capacity found.old }
     ensures marks { (node : Node) → slice_get nodes.old first ≡ Some node → nodes.new ≡ marked_nodes node.hash nodes.old }
+    ensures room { vec_capacity found.old ≤ vec_capacity found.new }
 {
-    let lowest = nodes[first].height;
-    let mut place = first;
-    // No more places follow it than come after it.
-    for _ in first..nodes.len() {
+    found.clear();
+    found.push(first).unwrap();
+    let mut turn = 0;
+    while turn < found.len() {
+        let place = found[turn];
         nodes[place].marked = true;
-        place = next[place];
-        if nodes[place].height <= lowest {
-            return;
-        }
+        push_linked(found, elder, newest[place]);
+        turn += 1;
     }
 }
 
@@ -233,4 +314,25 @@ fn copy_node(node: &Node) -> Result<Node, Fault>
         kept,
         marked: node.marked,
     })
+}
+
+fn copy_undo(alloc: Global, undo: &Option<Undo>) -> Result<Option<Undo>, Fault>
+    ensures same { IfOk result (λ copy. copy ≡ undo.now) }
+    ensures memory { IsOkUnless result Memory }
+{
+    match undo {
+        Some(undo) => Ok(Some(undo.copy(alloc)?)),
+        None => Ok(None),
+    }
+}
+
+fn copy_undos(alloc: Global, undos: &[Option<Undo>]) -> Result<Vec<Option<Undo>>, Fault>
+    ensures same { IfOk result (λ copies. copies.items ≡ undos.now) }
+    ensures memory { IsOkUnless result Memory }
+{
+    let mut copies = Vec::with_capacity(alloc, undos.len())?;
+    for undo in undos {
+        copies.push(copy_undo(alloc, undo)?)?;
+    }
+    Ok(copies)
 }

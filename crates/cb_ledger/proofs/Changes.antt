@@ -1,23 +1,24 @@
 -- Changes over the unspent outputs: what an outpoint has after them, one more, and taking them back.
-use Rattle.std.proofs.Common.{◌≡◌, ℕ, zero, suc, ◌+◌, ◌<◌, ◌≤◌, ℤ, Bool, true, false, cond, List, [], ◌∷◌, ◌++◌, length, get_or, set, take, drop, Some, None, Option, refl, sym, ap, subst, ◌∙◌, arith, inl, inr, drop-cons, append_assoc}
+use Rattle.std.proofs.Common.{◌≡◌, ℕ, zero, suc, ◌+◌, ◌<◌, ◌≤◌, ℤ, Bool, true, false, cond, List, [], ◌∷◌, ◌++◌, length, get_or, set, take, drop, Some, None, Option, Ok, refl, sym, ap, subst, ◌∙◌, arith, inl, inr, is_some, drop-cons, append_assoc}
 use Rattle.std.proofs.lemmas.List.{append-nil, take_all, drop_all}
-use Rattle.std.specs.Prelude.{◌≢◌}
+use Rattle.std.specs.Prelude.{◌≢◌, unwrap_or}
 use Rattle.std.specs.List.{AllByRecursion, IsDistinct}
 use Rattle.std.specs.FinMap as map
 use Rattle.std.specs.Map.{lookup, keys_of}
 use Rattle.std.proofs.lemmas.Bool.{cases_Bool, false≢true}
 use Rattle.std.proofs.lemmas.List.{take_more, length-take}
 use Rattle.cb_tx.specs.declared.tx.OutPoint.{OutPoint}
+use Rattle.cb_tx.specs.declared.tx.Tx.{Tx}
 use Rattle.cb_tx.proofs.Repeats.{same, same-refl}
 use Rattle.cb_ledger.specs.declared.undo.Change.{Change}
 use Rattle.cb_ledger.specs.Unspent.{Unspent}
-use Rattle.cb_ledger.specs.Undo.{set_at, changed, changes_of, values_of, StandOnce}
+use Rattle.cb_ledger.specs.Spend.{spend}
+use Rattle.cb_ledger.specs.Undo.{set_at, changed, changes_of, values_of, StandOnce, LeadsBack}
 use Rattle.cb_ledger.proofs.Outpoints.{is_same, is_same-true, same_is, flipped, maps_same, get_insert, get_remove}
 
 -- what stands at an outpoint, or else what was there
 abbrev pub over : Option (Option ℤ) → Option ℤ → Option ℤ
-over None old = old
-over (Some value) old = value
+over = unwrap_or
 
 -- what the changes have at an outpoint
 abbrev pub found : OutPoint → List Change → Option (Option ℤ)
@@ -53,6 +54,98 @@ pub changed_note : (es fs : List (OutPoint × Option ℤ)) (k : OutPoint) (v : O
 changed_note es fs k v h u =
     maps_same _ _ (λ q. value_is u fs q ∙ ap (λ o. over o (map.get u q)) (h q) ∙ over_cond (same k q) v (lookup (same q) es) (map.get u q)
     ∙ ap (λ b. cond b v (over (lookup (same q) es) (map.get u q))) (flipped k q) ∙ ap (cond (is_same q k) v) (sym (value_is u es q)) ∙ sym (get_set_at (changed u (changes_of es)) k v q))
+
+-- the same everywhere
+pub changed_same : (es fs : List (OutPoint × Option ℤ)) → ((q : OutPoint) → lookup (same q) fs ≡ lookup (same q) es) → (u : Unspent) → changed u (changes_of fs) ≡ changed u (changes_of es)
+changed_same es fs h u = maps_same _ _ (λ q. value_is u fs q ∙ ap (λ o. over o (map.get u q)) (h q) ∙ sym (value_is u es q))
+
+-- ---- one change under those of a hash map
+
+-- an outpoint that they touch: a value under them isn't seen
+pub kept_under : (es : List (OutPoint × Option ℤ)) (k : OutPoint) (v : Option ℤ) → is_some (lookup (same k) es) ≡ true → (u : Unspent) → changed u (changes_of es) ≡ changed (set_at u k v) (changes_of es)
+kept_under es k v there u =
+    maps_same _ _ (λ q. value_is u es q ∙ hidden q ∙ ap (over (lookup (same q) es)) (sym (get_set_at u k v q)) ∙ sym (value_is (set_at u k v) es q)) where
+      by : (o : Option (Option ℤ)) (x y : Option ℤ) → is_some o ≡ true → over o x ≡ over o y
+      by None x y e = absurd (false≢true e)
+      by (Some value) x y e = refl
+
+      hidden : (q : OutPoint) → over (lookup (same q) es) (map.get u q) ≡ over (lookup (same q) es) (cond (is_same q k) v (map.get u q))
+      hidden q =
+          elim (cases_Bool (is_same q k)) [
+            | inl is ↦ by (lookup (same q) es) (map.get u q) (cond (is_same q k) v (map.get u q)) (subst (λ (x : OutPoint). is_some (lookup (same x) es) ≡ true) (sym (is_same-true q k is)) there)
+            | inr isnt ↦ rw isnt refl
+          ]
+
+-- another one: one entry more
+pub added_under : (es fs : List (OutPoint × Option ℤ)) (k : OutPoint) (v : Option ℤ) → ((q : OutPoint) → lookup (same q) fs ≡ cond (same k q) (Some v) (lookup (same q) es)) → is_some (lookup (same k) es) ≡ false
+    → (u : Unspent) → changed u (changes_of fs) ≡ changed (set_at u k v) (changes_of es)
+added_under es fs k v h absent u =
+    maps_same _ _ (λ q. value_is u fs q ∙ ap (λ o. over o (map.get u q)) (h q) ∙ over_cond (same k q) v (lookup (same q) es) (map.get u q) ∙ ap (λ b. cond b v (over (lookup (same q) es) (map.get u q))) (flipped k q)
+    ∙ seen q ∙ ap (over (lookup (same q) es)) (sym (get_set_at u k v q)) ∙ sym (value_is (set_at u k v) es q)) where
+      by : (o : Option (Option ℤ)) (x : Option ℤ) → is_some o ≡ false → x ≡ over o x
+      by None x e = refl
+      by (Some value) x e = absurd (false≢true (sym e))
+
+      seen : (q : OutPoint) → cond (is_same q k) v (over (lookup (same q) es) (map.get u q)) ≡ over (lookup (same q) es) (cond (is_same q k) v (map.get u q))
+      seen q =
+          elim (cases_Bool (is_same q k)) [
+            | inl is ↦ rw is (by (lookup (same q) es) v (subst (λ (x : OutPoint). is_some (lookup (same x) es) ≡ false) (sym (is_same-true q k is)) absent))
+            | inr isnt ↦ rw isnt refl
+          ]
+
+-- a change behind others is made first
+pub changed_behind : (u : Unspent) (cs : List Change) (c : Change) → changed u (cs ++ c ∷ []) ≡ changed (set_at u c.point c.value) cs
+unfolding changed
+changed_behind u [] c = refl
+changed_behind u (d ∷ cs) c = ap (λ m. set_at m d.point d.value) (changed_behind u cs c)
+
+-- ---- changes put over those of a hash map, from the last to the first
+
+pub over_step : (first es fs : List (OutPoint × Option ℤ)) (cs : List Change) (left j : ℕ) (d : Change) → left ≡ suc j → j < length cs
+    → ((q : OutPoint) → lookup (same q) fs ≡ cond (same (get_or cs j d).point q) (Some (get_or cs j d).value) (lookup (same q) es))
+    → ((u : Unspent) → changed u (changes_of es) ≡ changed (changed u (changes_of first)) (drop left cs)) → (u : Unspent) → changed u (changes_of fs) ≡ changed (changed u (changes_of first)) (drop j cs)
+unfolding changed
+over_step first es fs cs left j d e lt h so_far u =
+    let c = get_or cs j d in
+    let drop_is : drop j cs ≡ c ∷ drop left cs = drop-cons cs j d lt ∙ ap (λ (n : ℕ). c ∷ drop n cs) (sym e) in
+    changed_note es fs c.point c.value h u ∙ ap (λ m. set_at m c.point c.value) (so_far u) ∙ ap (changed (changed u (changes_of first))) (sym drop_is)
+
+pub over_starts : (es : List (OutPoint × Option ℤ)) (cs : List Change) (u : Unspent) → changed u (changes_of es) ≡ changed (changed u (changes_of es)) (drop (length cs) cs)
+unfolding changed
+over_starts es cs u = let none : drop (length cs) cs ≡ [] = drop_all (length cs) cs (omega arith) in rw none refl
+
+pub over_ends : (es first : List (OutPoint × Option ℤ)) (cs : List Change) (left : ℕ) → left ≡ 0
+    → ((u : Unspent) → changed u (changes_of es) ≡ changed (changed u (changes_of first)) (drop left cs)) → (u : Unspent) → changed u (changes_of es) ≡ changed (changed u (changes_of first)) cs
+over_ends es first cs left e so_far u = so_far u ∙ ap (λ (n : ℕ). changed (changed u (changes_of first)) (drop n cs)) e
+
+-- ---- changes put under them, from the first to the last
+
+pub under_step : (first es fs : List (OutPoint × Option ℤ)) (cs : List Change) (i : ℕ) (d : Change) → i < length cs
+    → ((u : Unspent) → changed u (changes_of fs) ≡ changed (set_at u (get_or cs i d).point (get_or cs i d).value) (changes_of es))
+    → ((u : Unspent) → changed u (changes_of es) ≡ changed (changed u (take i cs)) (changes_of first)) → (u : Unspent) → changed u (changes_of fs) ≡ changed (changed u (take (i + 1) cs)) (changes_of first)
+under_step first es fs cs i d lt one so_far u =
+    let c = get_or cs i d in
+    let more : take (i + 1) cs ≡ take i cs ++ c ∷ [] = take_more cs i d lt in
+    one u ∙ so_far (set_at u c.point c.value) ∙ ap (λ m. changed m (changes_of first)) (sym (changed_behind u (take i cs) c)) ∙ ap (λ (l : List Change). changed (changed u l) (changes_of first)) (sym more)
+
+pub under_starts : (es : List (OutPoint × Option ℤ)) (cs : List Change) (u : Unspent) → changed u (changes_of es) ≡ changed (changed u (take 0 cs)) (changes_of es)
+unfolding changed
+under_starts es cs u = refl
+
+pub under_ends : (es first : List (OutPoint × Option ℤ)) (cs : List Change) (i : ℕ) → length cs ≤ i
+    → ((u : Unspent) → changed u (changes_of es) ≡ changed (changed u (take i cs)) (changes_of first)) → (u : Unspent) → changed u (changes_of es) ≡ changed (changed u cs) (changes_of first)
+under_ends es first cs i le so_far u = so_far u ∙ ap (λ (l : List Change). changed (changed u l) (changes_of first)) (take_all i cs le)
+
+-- ---- no changes
+
+pub changed_none : (u : Unspent) (cs : List Change) → cs ≡ [] → changed u cs ≡ u
+unfolding changed
+changed_none u cs e = rw e refl
+
+pub changed_empty : (u : Unspent) (es : List (OutPoint × Option ℤ)) → length es ≡ 0 → changed u (changes_of es) ≡ u
+unfolding changed
+changed_empty u [] e = refl
+changed_empty u (entry ∷ es) e = cc
 
 -- ---- each outpoint once
 
@@ -92,6 +185,12 @@ pub length_values : (u : Unspent) (cs : List Change) → length (values_of u cs)
 length_values u [] = refl
 length_values u (c ∷ cs) = ap suc (length_values u cs)
 
+-- what outpoints have, once all are looked at
+pub values_end : (u : Unspent) (xs cs : List Change) (i : ℕ) → length cs ≤ i → xs ++ values_of u (drop i cs) ≡ values_of u cs → xs ≡ values_of u cs
+values_end u xs cs i le so_far =
+    let none : drop i cs ≡ [] = drop_all i cs le in
+    sym (append-nil xs) ∙ ap (λ (l : List Change). xs ++ values_of u l) (sym none) ∙ so_far
+
 -- ---- taking changes back
 
 found_values : (u : Unspent) (cs : List Change) (q : OutPoint) (x : Option ℤ) → over (found q (values_of u cs)) (over (found q cs) (map.get u q)) ≡ map.get u q
@@ -106,6 +205,16 @@ found_values u (c ∷ cs) q x =
 pub changed_back : (u : Unspent) (cs : List Change) → changed (changed u cs) (values_of u cs) ≡ u
 changed_back u cs =
     maps_same _ _ (λ q. get_changed (changed u cs) (values_of u cs) q ∙ ap (over (found q (values_of u cs))) (get_changed u cs q) ∙ found_values u cs q None)
+
+-- changes over others lead back, if what the outpoints had before is kept
+pub leads_over : (u base : Unspent) (old next changes undo : List Change) (txs : List Tx) → base ≡ changed u old → spend base txs ≡ Ok (changed base changes) → undo ≡ values_of base changes
+    → changed u next ≡ changed (changed u old) changes → LeadsBack undo txs (changed u old) (changed u next)
+leads_over u base old next changes undo txs base_is told undo_is next_is =
+    let after : changed base changes ≡ changed u next = ap (λ m. changed m changes) base_is ∙ sym next_is in
+    record {
+      spent = ap (λ m. spend m txs) (sym base_is) ∙ told ∙ ap Ok after;
+      back = ap (changed (changed u next)) undo_is ∙ ap (λ m. changed m (values_of base changes)) (sym after) ∙ changed_back base changes ∙ base_is;
+    }
 
 -- ---- exchanging from the last to the first
 

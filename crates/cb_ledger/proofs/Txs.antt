@@ -1,6 +1,6 @@
 -- Spending one transaction, and transactions one after the other.
 use Rattle.std.proofs.Common.{◌≡◌, ℕ, zero, suc, ◌+◌, ◌<◌, ◌≤◌, ◌⊎◌, ℤ, Bool, true, false, List, [], ◌∷◌, ◌++◌, length, get_or, drop, replicate, Result, Ok, Err, refl, sym, ap, subst, ◌∙◌, arith, inl, inr, drop-cons}
-use Rattle.std.specs.Prelude.{◌↔◌, ◌&&◌, ◌==◌, ◌<ℤ◌, ◌≤ℤ◌, int_lt, IsTrue, nat_eq}
+use Rattle.std.specs.Prelude.{◌≢◌, IfOk, IsOk, IsOkUnless, ◌↔◌, ◌&&◌, ◌==◌, ◌<ℤ◌, ◌≤ℤ◌, int_lt, IsTrue, nat_eq}
 use Rattle.std.proofs.lemmas.Bool.{false≢true, eqb-true, eq-eqb}
 use Rattle.std.proofs.lemmas.Int.{ints}
 use Rattle.std.proofs.lemmas.List.{drop_all}
@@ -142,6 +142,17 @@ spend_from u none txs all e are = rw (e, are) refl
 pub fault_from : (u : Unspent) (none : List Change) (txs all : List Tx) (fault : Fault) → none ≡ [] → txs ≡ all → (fault ≡ Memory) ⊎ (spend (changed u none) txs ≡ Err fault) → (fault ≡ Memory) ⊎ (spend u all ≡ Err fault)
 fault_from u none txs all fault e are (inl memory) = inl memory
 fault_from u none txs all fault e are (inr h) = inr (spend_from u none txs all e are ∙ h)
+
+-- changes that are written out, unless memory runs out
+pub told_out : (u : Unspent) (draft : List Change) (expected : Result Unspent Fault) (r : Result (List Change) Fault) → expected ≡ Ok (changed u draft) → IfOk r (λ changes. changes ≡ draft) → IsOkUnless r Memory
+    → Tells expected (λ changes. changed u changes) r
+told_out u draft expected (Ok changes) told same memory = told ∙ ap (λ cs. Ok (changed u cs)) (sym same)
+told_out u draft expected (Err fault) told same memory = inl memory
+
+-- none are written out without memory
+pub none_out : (draft : List Change) (r : Result (List Change) Fault) → draft ≡ [] → IfOk r (λ changes. changes ≡ draft) → (draft ≡ [] → IsOk r) → IfOk r (λ changes. changes ≡ []) × (r ≢ Err Memory)
+none_out draft (Ok changes) e same none = (same ∙ e, λ clash. absurd cc)
+none_out draft (Err fault) e same none = absurd (false≢true (none e))
 
 -- transactions behind others
 pub spend-append : (u w : Unspent) (txs others : List Tx) → spend u txs ≡ Ok w → spend u (txs ++ others) ≡ spend w others

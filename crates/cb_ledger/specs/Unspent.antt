@@ -20,6 +20,9 @@ coded_outpoint =
 abbrev pub Unspent : Type 0
 Unspent = map.FinMap outpoint_cmp ℤ
 
+abbrev pub coded_unspent : Coded Unspent
+coded_unspent = map.code coded_outpoint coded_ℤ
+
 -- the values, added up
 abbrev pub sum_of : List (OutPoint × ℤ) → ℤ
 sum_of [] = pos 0
@@ -36,4 +39,4 @@ pub record Held : Type 0 where
 
 abbrev pub coded_held : Coded Held
 coded_held =
-    code_by (Unspent × ℕ) (coded× (map.code coded_outpoint coded_ℤ) coded_ℕ) (λ h. (h.unspent, h.room)) (λ p. record { unspent = p.0; room = p.1 }) (λ _. refl)
+    code_by (Unspent × ℕ) (coded× coded_unspent coded_ℕ) (λ h. (h.unspent, h.room)) (λ p. record { unspent = p.0; room = p.1 }) (λ _. refl)

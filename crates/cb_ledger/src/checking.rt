@@ -1,4 +1,4 @@
-ghost use Rattle.std.specs.Prelude.{◌≡◌, ◌≢◌, ◌⊎◌, ◌<◌, ◌^◌, length, All, Err};
+ghost use Rattle.std.specs.Prelude.{◌≡◌, ◌≢◌, ◌⊎◌, ◌<◌, ◌^◌, [], length, All, Err, IfOk};
 ghost use Rattle.cb_base.specs.declared.fault.Fault.TheVariants.{Memory};
 ghost use Rattle.cb_base.specs.DoubleHash.{double_hash};
 ghost use Rattle.cb_tx.specs.Rules.{value_sum};
@@ -9,10 +9,13 @@ ghost use Rattle.cb_ledger.specs.Spend.{make_outputs as outputs_made, spend, spe
 ghost use Rattle.cb_ledger.specs.Touched.{MakesFirst, SpendsFirst, Touches, TouchesOne};
 ghost use Rattle.cb_ledger.specs.Undo.{changed};
 
-use crate::draft::Draft;
-use crate::ledger::Ledger;
+use crate::base::Base;
+use crate::overlay::Overlay;
+use crate::undo::Undo;
 use cb_base::{Fault, Hash256, Shared};
+use cb_block::SoundBlock;
 use cb_tx::{OutPoint, Tx, TxIn, TxOut};
+use std::alloc::Global;
 
 // The values of the outputs, added up.
 fn sum_of(outputs: &[TxOut]) -> i128
@@ -26,13 +29,13 @@ fn sum_of(outputs: &[TxOut]) -> i128
 }
 
 // Spends the inputs in order, and adds up what they are worth.
-fn spend_inputs(ledger: &Ledger, draft: &mut Draft, inputs: &[TxIn]) -> Result<i128, Fault>
-    ensures told { Tells (inputs_spent (changed ledger.now.unspent draft.old) inputs.now) (λ sum. (sum, changed ledger.now.unspent draft.new)) result }
-    ensures unpaid { SpendsFirst (changed ledger.now.unspent draft.old) inputs.now ⊎ ((draft.new ≡ draft.old) × (result ≢ Err Memory)) }
+fn spend_inputs(base: &Base<'_>, draft: &mut Overlay, inputs: &[TxIn]) -> Result<i128, Fault>
+    ensures told { Tells (inputs_spent (changed base.now draft.old) inputs.now) (λ sum. (sum, changed base.now draft.new)) result }
+    ensures unpaid { SpendsFirst (changed base.now draft.old) inputs.now ⊎ ((draft.new ≡ draft.old) × (result ≢ Err Memory)) }
 {
     let mut sum = 0i128;
     for input in inputs {
-        match draft.value(ledger, &input.prev) {
+        match draft.value(base, &input.prev) {
             Some(value) => {
                 draft.note(input.prev, None)?;
                 sum += i128::from(value);
@@ -45,19 +48,19 @@ fn spend_inputs(ledger: &Ledger, draft: &mut Draft, inputs: &[TxIn]) -> Result<i
 
 // Makes the outputs in order.
 fn make_outputs(
-    ledger: &Ledger,
-    draft: &mut Draft,
+    base: &Base<'_>,
+    draft: &mut Overlay,
     txid: Hash256,
     outputs: &[TxOut],
 ) -> Result<(), Fault>
     requires { length outputs.now < 2 ^ 32 }
-    ensures told { Tells (outputs_made (changed ledger.now.unspent draft.old) txid 0 outputs.now) (λ _. changed ledger.now.unspent draft.new) result }
-    ensures unpaid { MakesFirst (changed ledger.now.unspent draft.old) txid outputs.now ⊎ ((draft.new ≡ draft.old) × (result ≢ Err Memory)) }
+    ensures told { Tells (outputs_made (changed base.now draft.old) txid 0 outputs.now) (λ _. changed base.now draft.new) result }
+    ensures unpaid { MakesFirst (changed base.now draft.old) txid outputs.now ⊎ ((draft.new ≡ draft.old) × (result ≢ Err Memory)) }
 {
     let mut index = 0u32;
     for output in outputs {
         let point = OutPoint { txid, index };
-        if draft.value(ledger, &point).is_some() {
+        if draft.value(base, &point).is_some() {
             return Err(Fault::Remade);
         }
         draft.note(point, Some(output.value))?;
@@ -67,37 +70,53 @@ fn make_outputs(
 }
 
 // Spends a transaction's inputs and makes its outputs.
-fn spend_tx(ledger: &Ledger, draft: &mut Draft, txid: Hash256, tx: &Tx) -> Result<(), Fault>
+fn spend_tx(base: &Base<'_>, draft: &mut Overlay, txid: Hash256, tx: &Tx) -> Result<(), Fault>
     requires name { txid ≡ double_hash (tx_text tx.now) }
     requires few { length tx.now.outputs < 2 ^ 32 }
-    ensures told { Tells (tx_spent (changed ledger.now.unspent draft.old) tx.now) (λ _. changed ledger.now.unspent draft.new) result }
-    ensures unpaid { TouchesOne (changed ledger.now.unspent draft.old) tx.now ⊎ ((draft.new ≡ draft.old) × (result ≢ Err Memory)) }
+    ensures told { Tells (tx_spent (changed base.now draft.old) tx.now) (λ _. changed base.now draft.new) result }
+    ensures unpaid { TouchesOne (changed base.now draft.old) tx.now ⊎ ((draft.new ≡ draft.old) × (result ≢ Err Memory)) }
 {
     let outputs = tx.outputs.as_slice();
     if tx.is_coinbase() {
-        return make_outputs(ledger, draft, txid, outputs);
+        return make_outputs(base, draft, txid, outputs);
     }
-    let spent = spend_inputs(ledger, draft, tx.inputs.as_slice())?;
+    let spent = spend_inputs(base, draft, tx.inputs.as_slice())?;
     if spent < sum_of(outputs) {
         return Err(Fault::Overspent);
     }
-    make_outputs(ledger, draft, txid, outputs)
+    make_outputs(base, draft, txid, outputs)
 }
 
-// The transactions in order, over the ledger: what they change, or the first fault.
-pub(crate) fn spend_txs(
-    ledger: &Ledger,
-    draft: &mut Draft,
+// The transactions in order, over the base: what they change, or the first fault.
+fn spend_txs(
+    base: &Base<'_>,
+    draft: &mut Overlay,
     txs: &[Shared<Tx>],
     txids: &[Hash256],
 ) -> Result<(), Fault>
     requires named { txids.now ≡ names (texts txs.now) }
     requires few { All (λ tx. length tx.outputs < 2 ^ 32) txs.now }
-    ensures told { Tells (spend (changed ledger.now.unspent draft.old) txs.now) (λ _. changed ledger.now.unspent draft.new) result }
-    ensures unpaid { Touches (changed ledger.now.unspent draft.old) txs.now ⊎ ((draft.new ≡ draft.old) × (result ≢ Err Memory)) }
+    ensures told { Tells (spend (changed base.now draft.old) txs.now) (λ _. changed base.now draft.new) result }
+    ensures unpaid { Touches (changed base.now draft.old) txs.now ⊎ ((draft.new ≡ draft.old) × (result ≢ Err Memory)) }
 {
     for place in 0..txs.len() {
-        spend_tx(ledger, draft, txids[place], &txs[place])?;
+        spend_tx(base, draft, txids[place], &txs[place])?;
     }
     Ok(())
+}
+
+// What a block changes over the base, which stays as it is, or its first fault.
+pub(crate) fn changes_over(
+    alloc: Global,
+    base: &Base<'_>,
+    block: &SoundBlock,
+) -> Result<Undo, Fault>
+    requires { All (λ tx. length tx.outputs < 2 ^ 32) block.now.txs }
+    ensures told { Tells (spend base.now block.now.txs) (λ changes. changed base.now changes) result }
+    ensures unpaid { Touches base.now block.now.txs ⊎ (IfOk result (λ changes. changes ≡ []) × (result ≢ Err Memory)) }
+{
+    let mut draft = Overlay::new(alloc);
+    let txs = block.block().txs.as_slice();
+    spend_txs(base, &mut draft, txs, block.txids())?;
+    draft.into_undo(alloc)
 }

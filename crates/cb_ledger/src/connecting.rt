@@ -5,9 +5,10 @@ ghost use Rattle.cb_ledger.specs.Touched.{Touches};
 ghost use Rattle.cb_ledger.specs.Undo.{LeadsBack, StandOnce, changed, values_of};
 ghost use Rattle.cb_ledger.specs.Unspent.{Unspent};
 
-use crate::checking::spend_txs;
-use crate::draft::Draft;
+use crate::base::Base;
+use crate::checking::changes_over;
 use crate::ledger::Ledger;
+use crate::overlay::Overlay;
 use crate::undo::{Change, Undo};
 use cb_base::Fault;
 use cb_block::SoundBlock;
@@ -34,15 +35,8 @@ fn changes_of(ledger: &Ledger, block: &SoundBlock) -> Result<Undo, Fault>
     ensures told { Tells (spend ledger.now.unspent block.now.txs) (λ changes. changed ledger.now.unspent changes) result }
     ensures unpaid { Touches ledger.now.unspent block.now.txs ⊎ (IfOk result (λ changes. changes ≡ []) × (result ≢ Err Memory)) }
 {
-    let mut draft = Draft::new(ledger.alloc);
-    spend_txs(
-        ledger,
-        &mut draft,
-        block.block().txs.as_slice(),
-        block.txids(),
-    )?;
-    let changes = draft.into_changes(ledger.alloc)?;
-    Ok(Undo { changes })
+    let none = Overlay::new(ledger.alloc);
+    changes_over(ledger.alloc, &Base::new(ledger, &none), block)
 }
 
 // Room for the changes, for taking them back, and for so many more.

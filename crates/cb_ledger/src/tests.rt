@@ -566,3 +566,66 @@ fn back_and_forth(rt: HostRuntime) -> Result<(), Fail> {
     shows(&rt, &ledger, &spent, &made, true);
     Ok(())
 }
+
+fn overlaid(
+    rt: &impl Abort,
+    overlay: &mut Overlay,
+    ledger: &Ledger,
+    block: &SoundBlock,
+) -> Result<Undo, Fault> {
+    assert!(rt; has_few(block));
+    overlay.connect(ledger, block)
+}
+
+// Makes an overlay's changes in its ledger.
+fn settle(alloc: Global, ledger: &mut Ledger, overlay: Overlay) -> Result<(), Fault> {
+    let mut undo = overlay.into_undo(alloc)?;
+    ledger.reserve(undo.len())?;
+    ledger.exchange(&mut undo);
+    Ok(())
+}
+
+// A block over an overlay leaves the ledger as it is, until the changes are made there: then it can be taken back.
+#[test]
+fn overlay_as_a_record(rt: HostRuntime) -> Result<(), Fail> {
+    let (mut ledger, block, spent, made) = over_one(&rt, rt.alloc())?;
+    let mut overlay = Overlay::new(rt.alloc());
+    let undo = overlaid(&rt, &mut overlay, &ledger, &block)?;
+    shows(&rt, &ledger, &spent, &made, true);
+    settle(rt.alloc(), &mut ledger, overlay)?;
+    shows(&rt, &ledger, &spent, &made, false);
+    assert!(rt; ledger.disconnect(&block, undo).is_ok());
+    shows(&rt, &ledger, &spent, &made, true);
+    Ok(())
+}
+
+// The block comes twice, which its outputs forbid, and again once it was taken back.
+#[test]
+fn overlay_taken_back(rt: HostRuntime) -> Result<(), Fail> {
+    let (ledger, block, _, _) = over_one(&rt, rt.alloc())?;
+    let mut overlay = Overlay::new(rt.alloc());
+    let undo = overlaid(&rt, &mut overlay, &ledger, &block)?;
+    let twice = overlaid(&rt, &mut overlay, &ledger, &block).err();
+    assert_eq!(rt; twice, Some(Fault::Remade));
+    overlay.take_back(&undo)?;
+    let again = overlaid(&rt, &mut overlay, &ledger, &block)?;
+    assert_eq!(rt; again.len(), undo.len());
+    Ok(())
+}
+
+// The ledger loses the block on which the overlay's stands, and then gets both.
+#[test]
+fn overlay_rests_on_less(rt: HostRuntime) -> Result<(), Fail> {
+    let (mut ledger, block, spent, made) = scene(rt.alloc())?;
+    let txs = txs_of(rt.alloc(), &ROW_15[1])?;
+    let first = block_of(rt.alloc(), txs.as_slice(), [0].as_slice())?;
+    assert!(rt; has_few(&first));
+    let mut undo = ledger.connect(&first)?;
+    let mut overlay = Overlay::new(rt.alloc());
+    overlaid(&rt, &mut overlay, &ledger, &block)?;
+    ledger.exchange(&mut undo);
+    overlay.rest_on(&undo)?;
+    settle(rt.alloc(), &mut ledger, overlay)?;
+    shows(&rt, &ledger, &spent, &made, false);
+    Ok(())
+}

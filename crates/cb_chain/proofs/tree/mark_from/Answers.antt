@@ -1,58 +1,59 @@
-use Rattle.std.proofs.Common.{◌<◌, ◌≤◌, ◌∷◌, [], ◌++◌, get_or, rules, refl, ap, ◌∙◌, arith}
-use Rattle.cb_chain.specs.Keeping.{above_first, marked_nodes, next_of}
+use Rattle.std.proofs.Common.{◌<◌, ◌≤◌, length, rules, refl, ap, ◌∙◌, arith}
+use Rattle.cb_chain.specs.Keeping.{above_at, above_first, marked_nodes}
 use Rattle.cb_chain.specs.declared.node.Node.{Node}
-use Rattle.cb_chain.proofs.Branches.{has, high, long_still, turned, walked_ends, walked_goes, walked_low, walked_short, walked_starts}
+use Rattle.cb_chain.proofs.Branches.{turned, walked_ends, walked_goes}
 use Rattle.cb_chain.proofs.Marks.{one_node, target_at}
 use Rattle.cb_chain.proofs.tree.mark_from.Goals as goal
 
-pub loop-init : goal.loop-init
-loop-init c =
-    let target = target_at c.args.nodes.now c.args.first c.requires.kept in
-    let walked = walked_starts c.args.nodes.now c.args.first target.0 c.requires.tree c.requires.above target.1 target.2 in
-    (walked_low c.args.nodes.now c.args.first c.args.first c.args.first c.args.nodes.now c.requires.tree walked, walked)
-
-pub offset_bounds-nodes-place-in-loop : goal.offset_bounds-nodes-place-in-loop
-offset_bounds-nodes-place-in-loop c =
-    let target = target_at c.args.nodes.now c.args.first c.requires.kept in
-    let turn = turned c.args.nodes.now c.args.next.now c.args.first c.loop.counter c.loop.place c.loop.nodes c.index-nodes-place.result c.index-nodes-first.result target.0 c.requires.tree c.requires.next target.1 c.loop.invariant.1 in
-    let within = turn.within in
-    search rules
-
-pub bounds-nodes-place-in-loop-2 : goal.bounds-nodes-place-in-loop-2
-bounds-nodes-place-in-loop-2 c =
-    let target = target_at c.args.nodes.now c.args.first c.requires.kept in
-    let turn = turned c.args.nodes.now c.args.next.now c.args.first c.loop.counter c.loop.place c.loop.nodes c.index-nodes-place.result c.index-nodes-first.result target.0 c.requires.tree c.requires.next target.1 c.loop.invariant.1 in
-    long_still c.args.nodes.now _ (λ p. has p (c.loop.invariant.1.done ++ c.loop.place ∷ [])) (get_or c.args.next.now c.loop.place 0) turn.within turn.are
-
-pub bounds-nodes-place-in-loop-3 : goal.bounds-nodes-place-in-loop-3
-bounds-nodes-place-in-loop-3 c =
-    let target = target_at c.args.nodes.now c.args.first c.requires.kept in
-    let turn = turned c.args.nodes.now c.args.next.now c.args.first c.loop.counter c.loop.place c.loop.nodes c.index-nodes-place.result c.index-nodes-first.result target.0 c.requires.tree c.requires.next target.1 c.loop.invariant.1 in
-    long_still c.args.nodes.now _ (λ p. has p (c.loop.invariant.1.done ++ c.loop.place ∷ [])) (get_or c.args.next.now c.loop.place 0) turn.within turn.are
-
-pub returns-then-nodes-place : goal.returns-then-nodes-place
-returns-then-nodes-place c =
+within : (c : goal.After-row_known-1) → c.index-place.result.now < length c.loop-turn.nodes
+within c =
     let nodes = c.args.nodes.now in
     let target = target_at nodes c.args.first c.requires.kept in
-    let turn = turned nodes c.args.next.now c.args.first c.loop.counter c.loop.place c.loop.nodes c.index-nodes-place.result c.index-nodes-first.result target.0 c.requires.tree c.requires.next target.1 c.loop.invariant.1 in
-    record {
-      marks = λ node at.
-          let one = one_node nodes c.args.first c.args.first target.0 node target.1 at refl in
-          let low : high (above_first nodes) (next_of (above_first nodes) c.loop.place) ≤ high (above_first nodes) c.args.first = omega (arith, c.if-nodes-place.true, turn.limit, turn.height_is c.index-nodes-place-in-loop.result) in
-          walked_ends nodes c.args.first c.loop.counter c.loop.place c.loop.nodes _ target.0 c.requires.tree c.requires.above target.1 target.2 c.loop.invariant.1 turn.are low
-          ∙ ap (λ (n : Node). marked_nodes n.hash nodes) one;
-    }
+    let lt : c.loop-turn.turn < length c.loop-turn.found.items = omega (arith, c.loop-turn-test.true, c.len.ensures, c.loop-turn.found.ok.0) in
+    (turned nodes c.args.first c.loop-turn.turn c.index-place.result.now c.loop-turn.found.items c.loop-turn.nodes target.0 c.requires.tree c.requires.above target.1 c.loop-turn.invariant.0 lt c.index-place.ensures).0
 
-pub loop-preserved : goal.loop-preserved
-loop-preserved c =
+pub offset_bounds-nodes-place : goal.offset_bounds-nodes-place
+offset_bounds-nodes-place c = let low = within c in search rules
+
+pub bounds-nodes-place : goal.bounds-nodes-place
+bounds-nodes-place c = within c
+
+pub bounds-nodes-place-in-loop-turn : goal.bounds-nodes-place-in-loop-turn
+bounds-nodes-place-in-loop-turn c = within c
+
+pub push_linked-requires : goal.push_linked-requires
+push_linked-requires c =
+    let nodes = c.args.nodes.now in
+    let place = c.index-place.result.now in
+    let target = target_at nodes c.args.first c.requires.kept in
+    let lt : c.loop-turn.turn < length c.loop-turn.found.items = omega (arith, c.loop-turn-test.true, c.len.ensures, c.loop-turn.found.ok.0) in
+    let turn = turned nodes c.args.first c.loop-turn.turn place c.loop-turn.found.items c.loop-turn.nodes target.0 c.requires.tree c.requires.above target.1 c.loop-turn.invariant.0 lt c.index-place.ensures in
+    record { links = (above_at (above_first nodes) place, c.requires.links.each place, omega (arith, turn.2, c.loop-turn.invariant.1, c.requires.room, c.loop-turn.found.ok.0)) }
+
+pub loop-turn-smaller : goal.loop-turn-smaller
+loop-turn-smaller c =
     let nodes = c.args.nodes.now in
     let target = target_at nodes c.args.first c.requires.kept in
-    let turn = turned nodes c.args.next.now c.args.first c.loop.counter c.loop.place c.loop.nodes c.index-nodes-place.result c.index-nodes-first.result target.0 c.requires.tree c.requires.next target.1 c.loop.invariant.1 in
-    let up : high (above_first nodes) c.args.first < high (above_first nodes) (next_of (above_first nodes) c.loop.place) = omega (arith, c.if-nodes-place.false, turn.limit, turn.height_is c.index-nodes-place-in-loop.result) in
-    walked_goes nodes c.args.first c.loop.counter c.loop.place (get_or c.args.next.now c.loop.place 0) c.loop.nodes _ (get_or nodes c.args.first c.index-nodes-first.result) target.0 c.requires.tree c.requires.above target.1 target.2 c.loop.invariant.1 turn up
+    let lt : c.loop-turn.turn < length c.loop-turn.found.items = omega (arith, c.loop-turn-test.true, c.len.ensures, c.loop-turn.found.ok.0) in
+    omega (arith, (turned nodes c.args.first c.loop-turn.turn c.index-place.result.now c.loop-turn.found.items c.loop-turn.nodes target.0 c.requires.tree c.requires.above target.1 c.loop-turn.invariant.0 lt c.index-place.ensures).1)
 
-pub returns : goal.returns
-returns c =
-    let target = target_at c.args.nodes.now c.args.first c.requires.kept in
-    let short = walked_short c.args.nodes.now c.args.first c.loop.counter c.loop.place c.loop.nodes target.0 c.requires.tree c.requires.above target.1 target.2 c.loop.invariant.1 in
-    absurd (omega (arith, short, c.loop-test.false))
+pub loop-turn-preserved : goal.loop-turn-preserved
+loop-turn-preserved c =
+    let nodes = c.args.nodes.now in
+    let place = c.index-place.result.now in
+    let target = target_at nodes c.args.first c.requires.kept in
+    let lt : c.loop-turn.turn < length c.loop-turn.found.items = omega (arith, c.loop-turn-test.true, c.len.ensures, c.loop-turn.found.ok.0) in
+    let pushed = c.push_linked.ensures.found (above_at (above_first nodes) place) (c.requires.links.each place) in (
+      walked_goes nodes c.args.first c.loop-turn.turn place c.loop-turn.found.items c.push_linked.new.found.items c.loop-turn.nodes c.index-nodes-place.result target.0 c.requires.tree c.requires.above target.1
+          c.loop-turn.invariant.0 lt c.index-place.ensures pushed,
+      omega (arith, c.loop-turn.invariant.1, c.push_linked.ensures.room),
+    )
+
+pub returns-clause-marks : goal.returns-clause-marks
+returns-clause-marks c = λ node at.
+    let nodes = c.args.nodes.now in
+    let target = target_at nodes c.args.first c.requires.kept in
+    let one = one_node nodes c.args.first c.args.first target.0 node target.1 at refl in
+    let done : length c.loop-turn.found.items ≤ c.loop-turn.turn = omega (arith, c.loop-turn-test.false, c.len.ensures, c.loop-turn.found.ok.0) in
+    walked_ends nodes c.args.first c.loop-turn.turn c.loop-turn.found.items c.loop-turn.nodes target.0 c.requires.tree c.requires.above target.1 target.2 c.loop-turn.invariant.0 done
+    ∙ ap (λ (n : Node). marked_nodes n.hash nodes) one

@@ -11,7 +11,7 @@ use Rattle.cb_ledger.proofs.checking.make_outputs.Goals as goal
 
 pub returns-then-is_some-clause-told : goal.returns-then-is_some-clause-told
 returns-then-is_some-clause-told c =
-    let u = c.args.ledger.now.unspent in
+    let u = c.args.base.now in
     let point : OutPoint = record { txid = c.args.txid; index = c.loop-output.index } in
     let there : is_some (map.get (changed u c.loop-output.draft) point) ≡ true = ap is_some (sym c.value.ensures) ∙ sym c.is_some.ensures ∙ c.if-is_some.true in
     let there_by_place : is_some (map.get (changed u c.loop-output.draft) (record { txid = c.args.txid; index = c.loop-output.output-index })) ≡ true =
@@ -20,7 +20,7 @@ returns-then-is_some-clause-told c =
 
 pub loop-output-preserved : goal.loop-output-preserved
 loop-output-preserved c =
-    let u = c.args.ledger.now.unspent in
+    let u = c.args.base.now in
     let at : ℕ → OutPoint = λ n. record { txid = c.args.txid; index = n } in
     let absent : map.get (changed u c.loop-output.draft) (at c.loop-output.index) ≡ None = sym c.value.ensures ∙ is_none c.value.result (sym c.is_some.ensures ∙ c.if-is_some.false) in
     let fits : SFits w64 c.output-item.result.value = search rules in
@@ -38,7 +38,7 @@ loop-output-preserved c =
 
 pub returns-clause-told : goal.returns-clause-told
 returns-clause-told c =
-    let u = c.args.ledger.now.unspent in
+    let u = c.args.base.now in
     outputs_end (changed u c.loop-output.draft) c.args.txid c.args.outputs.now c.loop-output.output-index (make_outputs (changed u c.args.draft.now) c.args.txid 0 c.args.outputs.now) c.loop-output-test.false c.loop-output.invariant.made
 
 pub returns-then-is_some-clause-unpaid : goal.returns-then-is_some-clause-unpaid
@@ -46,7 +46,7 @@ returns-then-is_some-clause-unpaid c = elim c.loop-output.invariant.quiet [ inl 
 
 pub returns-in_err-note-clause-unpaid : goal.returns-in_err-note-clause-unpaid
 returns-in_err-note-clause-unpaid c =
-    let u = c.args.ledger.now.unspent in
+    let u = c.args.base.now in
     let at : ℕ → OutPoint = λ n. record { txid = c.args.txid; index = n } in
     let absent : map.get (changed u c.loop-output.draft) (at c.loop-output.index) ≡ None = sym c.value.ensures ∙ is_none c.value.result (sym c.is_some.ensures ∙ c.if-is_some.false) in
     inl (output_touched u c.args.draft.now c.loop-output.draft c.args.txid c.args.outputs.now c.loop-output.output-index c.loop-output.invariant.quiet c.loop-output-test.true

@@ -8,8 +8,8 @@ use Rattle.cb_ledger.proofs.checking.spend_inputs.Given as goal
 -- each value is one of 64 bits
 abbrev pub invariant-loop-input : goal.invariant-loop-input
 invariant-loop-input l = record {
-  spent : with_sum l.sum (spend_inputs (changed l.ledger.unspent l.draft) (drop l.input-index l.inputs)) ≡ spend_inputs (changed l.ledger.unspent l.fn.draft) l.inputs;
+  spent : with_sum l.sum (spend_inputs (changed l.base l.draft) (drop l.input-index l.inputs)) ≡ spend_inputs (changed l.base l.fn.draft) l.inputs;
   least : neg_ℤ (pos (2 ^ 63 * l.input-index)) ≤ℤ l.sum;
   most : l.sum ≤ℤ pos (2 ^ 63 * l.input-index);
-  quiet : SpendsFirst (changed l.ledger.unspent l.fn.draft) l.inputs ⊎ ((l.draft ≡ l.fn.draft) × (l.input-index ≡ 0));
+  quiet : SpendsFirst (changed l.base l.fn.draft) l.inputs ⊎ ((l.draft ≡ l.fn.draft) × (l.input-index ≡ 0));
 }

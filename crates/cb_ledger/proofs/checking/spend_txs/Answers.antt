@@ -14,13 +14,13 @@ spend_tx-requires-clause-name c =
 
 pub returns-in_err-spend_tx-clause-told : goal.returns-in_err-spend_tx-clause-told
 returns-in_err-spend_tx-clause-told c =
-    let u = c.args.ledger.now.unspent in
+    let u = c.args.base.now in
     let p = err_from_is_err_and c.from_residual.result c.from_residual.ensures.1 in
     rw (p.1, p.2) (txs_refused (changed u c.loop-place.draft) c.args.txs.now c.loop-place.place c.deref.result.now c.in_err-spend_tx.field-0.0 (spend (changed u c.args.draft.now) c.args.txs.now) c.loop-place-test.true (rw c.deref.ensures c.index-txs-place.is) c.in_err-spend_tx.ensures.told c.loop-place.invariant.spent)
 
 pub loop-place-preserved : goal.loop-place-preserved
 loop-place-preserved c =
-    let u = c.args.ledger.now.unspent in
+    let u = c.args.base.now in
     let here = changed u c.loop-place.draft in
     let next = changed u c.spend_tx.new.draft in
     let txs = c.args.txs.now in
@@ -36,14 +36,14 @@ loop-place-preserved c =
 
 pub returns-clause-told : goal.returns-clause-told
 returns-clause-told c =
-    let u = c.args.ledger.now.unspent in
+    let u = c.args.base.now in
     txs_end (changed u c.loop-place.draft) c.args.txs.now c.loop-place.place (spend (changed u c.args.draft.now) c.args.txs.now) c.loop-place-test.false c.loop-place.invariant.spent
 
 pub returns-in_err-spend_tx-clause-unpaid : goal.returns-in_err-spend_tx-clause-unpaid
 returns-in_err-spend_tx-clause-unpaid c =
     let p = err_from_is_err_and c.from_residual.result c.from_residual.ensures.1 in
     rw (p.1, p.2) (elim c.in_err-spend_tx.ensures.unpaid [
-      | inl one ↦ inl (c.loop-place.invariant.behind (touches_here (changed c.args.ledger.now.unspent c.loop-place.draft) c.args.txs.now c.loop-place.place c.deref.result.now c.loop-place-test.true (rw c.deref.ensures c.index-txs-place.is) one))
+      | inl one ↦ inl (c.loop-place.invariant.behind (touches_here (changed c.args.base.now c.loop-place.draft) c.args.txs.now c.loop-place.place c.deref.result.now c.loop-place-test.true (rw c.deref.ensures c.index-txs-place.is) one))
       | inr still ↦ elim c.loop-place.invariant.quiet [ inl touched ↦ inl touched | inr same ↦ inr (still.0 ∙ same, still.1) ]
     ])
 

@@ -12,8 +12,9 @@ use Rattle.cb_chain.specs.Calls.{AcceptsBlock, bad_entry, block_fault, joined}
 use Rattle.cb_chain.specs.Entries.{Entry}
 use Rattle.cb_chain.specs.History.{IsHistoric}
 use Rattle.cb_chain.specs.Keeping.{IsNode, IsSpot, entry_from, tree_of}
-use Rattle.cb_chain.proofs.Aside.{Grows, bad_on, bare_best, bare_node, block_free, grows_chain, grows_tree, told_broken, told_refused}
+use Rattle.cb_chain.proofs.Aside.{Grows, bad_on, bare_best, bare_node, block_free, grows_tree, told_broken, told_refused}
 use Rattle.cb_chain.proofs.Histories.{historic_block, historic_joined, history_block, history_joined}
+use Rattle.cb_chain.proofs.Undos.{grows_chain}
 use Rattle.cb_chain.proofs.chain.Chain.accept_block.Goals as goal
 
 pub returns-in_err-spot-clause-err : goal.returns-in_err-spot-clause-err
@@ -31,7 +32,7 @@ returns-in_err-spot-clause-history c =
     let has : HasWork c.block-2.result.now.header = c.in_ok-check_header.ensures in
     let none : block_fault c.args.self.now c.block-2.result.now.header ≡ Some c.in_err-spot.field-0.0 = c.in_err-spot.ensures.err in
     let p = err_from_is_err_and c.from_residual-in_err-spot.result c.from_residual-in_err-spot.ensures.1 in
-    history_block c.args.self.now c.args.block c.from_residual-in_err-spot.result c.in_err-spot.field-0.0 (p.1 ∙ ap Err p.2)
+    history_block c.args.self.now c.args.block c.from_residual-in_err-spot.result c.in_err-spot.field-0.0 (p.1 ∙ ap Err p.2) c.block-2.ensures.sound
     (refused (subst HasWork header has) c.in_err-spot.field-0.0 (subst (λ (h : Header). block_fault c.args.self.now h ≡ Some c.in_err-spot.field-0.0) header none) refl refl)
 
 pub new-requires : goal.new-requires
@@ -43,7 +44,7 @@ join-requires-clause-calls c =
     let has : HasWork c.block-2.result.now.header = c.in_ok-check_header.ensures in
     let none : block_fault c.args.self.now c.block-2.result.now.header ≡ None = c.in_ok-spot.ensures.none in
     subst (λ (b : Block). IsHistoric (joined c.args.self.now b).1) (sym c.new.ensures)
-    (historic_joined c.args.self.now c.args.block (subst HasWork header has) (subst (λ (h : Header). block_fault c.args.self.now h ≡ None) header none) c.in-Ok.ensures.exact
+    (historic_joined c.args.self.now c.args.block c.block-2.ensures.sound (subst HasWork header has) (subst (λ (h : Header). block_fault c.args.self.now h ≡ None) header none) c.in-Ok.ensures.exact
     (subst IsHistoric c.self.view_is c.self.invariant.1))
 
 pub returns-in-Ok-clause-history : goal.returns-in-Ok-clause-history
@@ -51,7 +52,7 @@ returns-in-Ok-clause-history c =
     let header : c.block-2.result.now.header ≡ c.args.block.header = ap (λ (b : Block). b.header) c.block-2.ensures.same in
     let has : HasWork c.block-2.result.now.header = c.in_ok-check_header.ensures in
     let none : block_fault c.args.self.now c.block-2.result.now.header ≡ None = c.in_ok-spot.ensures.none in
-    history_joined c.args.self.now c.join.new.self c.args.block c.join.result (subst HasWork header has) (subst (λ (h : Header). block_fault c.args.self.now h ≡ None) header none) c.in-Ok.ensures.exact
+    history_joined c.args.self.now c.join.new.self c.args.block c.join.result c.block-2.ensures.sound (subst HasWork header has) (subst (λ (h : Header). block_fault c.args.self.now h ≡ None) header none) c.in-Ok.ensures.exact
     (subst (λ (b : Block). IfOk c.join.result (λ change. (Ok change, c.join.new.self) ≡ joined c.args.self.now b)) c.new.ensures c.join.ensures.ok)
     (subst (λ (b : Block). IfErr c.join.result (λ fault. ((fault ≡ Memory) × (c.join.new.self ≡ c.args.self.now)) ⊎ ((Err fault, c.join.new.self) ≡ joined c.args.self.now b))) c.new.ensures c.join.ensures.err)
 
@@ -69,16 +70,16 @@ invariant_of-self-in-Err-2 c =
     let has : HasWork c.block-2.result.now.header = c.in_ok-check_header.ensures in
     let entry : entry_from c.node.result ≡ bad_entry c.args.block.header = ap entry_from c.node.ensures ∙ bad_on c.in_ok-spot.spot c.args.block.header (spot.header ∙ header) in
     let grown : tree_of c.add.new.self.nodes ≡ bad_entry c.args.block.header ∷ c.args.self.now =
-    grows_tree c.self.inside.tree.nodes c.reserve.new.self.nodes c.add.new.self.nodes c.args.self.now c.node.result grows c.add.ensures ∙ ap (λ (e : Entry). e ∷ c.args.self.now) entry
+    grows_tree c.self.inside.tree.nodes c.reserve.new.self.nodes c.add.new.self.nodes c.args.self.now c.node.result grows c.add.ensures.nodes ∙ ap (λ (e : Entry). e ∷ c.args.self.now) entry
     in
     let other : ¬ c.in-Err.fault ≡ Memory = search rules in
     let told : AcceptsBlock c.args.self.now c.args.block (Err c.in-Err.fault) (tree_of c.add.new.self.nodes) =
     told_broken c.args.self.now (tree_of c.add.new.self.nodes) c.args.block c.in-Err.fault (subst HasWork header has) (subst (λ (h : Header). block_fault c.args.self.now h ≡ None) header none) other c.in-Err.ensures.exact
     grown
     in (
-      grows_chain c.self.inside.tree.nodes c.reserve.new.self.nodes c.add.new.self.nodes c.args.self.now c.node.result c.self.inside.active.items c.self.inside.undos.items c.self.inside.ledger.unspent
-          grows c.add.ensures (bare_best (entry_from c.node.result) c.args.self.now (ap (λ (n : Node). n.kept) c.node.ensures)) c.self.invariant.0,
-      historic_block c.args.self.now (tree_of c.add.new.self.nodes) c.args.block (Err c.in-Err.fault) (subst IsHistoric c.self.view_is c.self.invariant.1) told,
+      grows_chain c.self.inside.tree.nodes c.reserve.new.self.nodes c.add.new.self.nodes c.args.self.now c.node.result c.self.inside.active.items c.self.inside.tree.undos c.reserve.new.self.undos c.add.new.self.undos
+          c.self.inside.ledger.unspent c.self.inside.side grows c.add.ensures.nodes c.in_ok-reserve-in-Err-2.ensures.undos c.add.ensures.undos (bare_best (entry_from c.node.result) c.args.self.now (ap (λ (n : Node). n.kept) c.node.ensures)) c.self.invariant.0,
+      historic_block c.args.self.now (tree_of c.add.new.self.nodes) c.args.block (Err c.in-Err.fault) c.block-2.ensures.sound (subst IsHistoric c.self.view_is c.self.invariant.1) told,
     )
 
 pub returns : goal.returns
@@ -95,7 +96,7 @@ returns c =
     let has : HasWork c.block-2.result.now.header = c.in_ok-check_header.ensures in
     let entry : entry_from c.node.result ≡ bad_entry c.args.block.header = ap entry_from c.node.ensures ∙ bad_on c.in_ok-spot.spot c.args.block.header (spot.header ∙ header) in
     let grown : tree_of c.add.new.self.nodes ≡ bad_entry c.args.block.header ∷ c.args.self.now =
-    grows_tree c.self.inside.tree.nodes c.reserve.new.self.nodes c.add.new.self.nodes c.args.self.now c.node.result grows c.add.ensures ∙ ap (λ (e : Entry). e ∷ c.args.self.now) entry
+    grows_tree c.self.inside.tree.nodes c.reserve.new.self.nodes c.add.new.self.nodes c.args.self.now c.node.result grows c.add.ensures.nodes ∙ ap (λ (e : Entry). e ∷ c.args.self.now) entry
     in
     let other : ¬ c.in-Err.fault ≡ Memory = search rules in
     let told : AcceptsBlock c.args.self.now c.args.block (Err c.in-Err.fault) (tree_of c.add.new.self.nodes) =
@@ -106,7 +107,7 @@ returns c =
       ok = tt;
       moves = tt;
       err = inr told;
-      history = λ calls past. inr (c.args.self.now, past, (Err c.in-Err.fault, told));
+      history = λ calls past. inr (c.args.self.now, past, (c.block-2.ensures.sound, Err c.in-Err.fault, told));
       unchanged = λ e. let same : c.in-Err.fault ≡ Memory = cc in absurd (other same);
       unpaid = λ e. let same : c.in-Err.fault ≡ Memory = cc in absurd (other same);
     }

@@ -6,8 +6,9 @@ use Rattle.cb_chain.specs.Calls.{AcceptsHeader, header_entry}
 use Rattle.cb_chain.specs.Entries.{Entry}
 use Rattle.cb_chain.specs.History.{IsHistoric}
 use Rattle.cb_chain.specs.Keeping.{IsNode, entry_from, tree_of}
-use Rattle.cb_chain.proofs.Aside.{Grows, bare_best, bare_node, bare_on, grows_chain, grows_tree, header_free}
+use Rattle.cb_chain.proofs.Aside.{Grows, bare_best, bare_node, bare_on, grows_tree, header_free}
 use Rattle.cb_chain.proofs.Histories.{historic_header, history_header}
+use Rattle.cb_chain.proofs.Undos.{grows_chain}
 use Rattle.cb_chain.proofs.chain.Chain.accept_header.Goals as goal
 
 pub returns-in_err-spot-clause-err : goal.returns-in_err-spot-clause-err
@@ -24,11 +25,11 @@ invariant_of-self-2 c =
     in
     let entry : entry_from c.node.result ≡ header_entry c.args.header = ap entry_from c.node.ensures ∙ bare_on c.in_ok-spot.spot c.args.header c.in_ok-spot.ensures.ok.header in
     let grown : tree_of c.add.new.self.nodes ≡ header_entry c.args.header ∷ c.args.self.now =
-    grows_tree c.self.inside.tree.nodes c.reserve.new.self.nodes c.add.new.self.nodes c.args.self.now c.node.result grows c.add.ensures ∙ ap (λ (e : Entry). e ∷ c.args.self.now) entry
+    grows_tree c.self.inside.tree.nodes c.reserve.new.self.nodes c.add.new.self.nodes c.args.self.now c.node.result grows c.add.ensures.nodes ∙ ap (λ (e : Entry). e ∷ c.args.self.now) entry
     in
     let told : AcceptsHeader c.args.self.now c.args.header None (tree_of c.add.new.self.nodes) = kept c.in_ok-check_header.ensures c.in_ok-spot.ensures.none refl grown in (
-      grows_chain c.self.inside.tree.nodes c.reserve.new.self.nodes c.add.new.self.nodes c.args.self.now c.node.result c.self.inside.active.items c.self.inside.undos.items c.self.inside.ledger.unspent
-          grows c.add.ensures (bare_best (entry_from c.node.result) c.args.self.now (ap (λ (n : Node). n.kept) c.node.ensures)) c.self.invariant.0,
+      grows_chain c.self.inside.tree.nodes c.reserve.new.self.nodes c.add.new.self.nodes c.args.self.now c.node.result c.self.inside.active.items c.self.inside.tree.undos c.reserve.new.self.undos c.add.new.self.undos
+          c.self.inside.ledger.unspent c.self.inside.side grows c.add.ensures.nodes c.in_ok-reserve.ensures.undos c.add.ensures.undos (bare_best (entry_from c.node.result) c.args.self.now (ap (λ (n : Node). n.kept) c.node.ensures)) c.self.invariant.0,
       historic_header c.args.self.now (tree_of c.add.new.self.nodes) c.args.header None (subst IsHistoric c.self.view_is c.self.invariant.1) told,
     )
 

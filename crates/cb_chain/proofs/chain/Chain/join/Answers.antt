@@ -4,8 +4,9 @@ use Rattle.cb_chain.specs.Best.{best}
 use Rattle.cb_chain.specs.Calls.{block_entry, no_change}
 use Rattle.cb_chain.specs.Entries.{Entry}
 use Rattle.cb_chain.specs.Keeping.{IsNode, entry_from, tree_of}
-use Rattle.cb_chain.proofs.Aside.{Grows, Joins, block_node, entry_on, grows_chain, grows_tree, joined_aside, joins_aside, joins_higher, low_best, over_aside}
+use Rattle.cb_chain.proofs.Aside.{Grows, Joins, block_node, entry_on, grows_tree, joined_aside, joins_aside, joins_higher, low_best, over_aside}
 use Rattle.cb_chain.proofs.Histories.{historic_after}
+use Rattle.cb_chain.proofs.Undos.{grows_chain}
 use Rattle.cb_chain.proofs.chain.Chain.join.Goals as goal
 
 pub lead-requires-clause-higher : goal.lead-requires-clause-higher
@@ -24,10 +25,10 @@ invariant_of-self-2 c =
     let low = joins_aside c.args.self.now c.args.kept c.args.spot c.tip_height.result joins c.if-spot-tip_height.false in
     let stays = subst (λ (e : Entry). best (e ∷ c.args.self.now) ≡ best c.args.self.now) entry (low_best (block_entry c.args.kept) c.args.self.now low) in
     let grown : tree_of c.add.new.self.nodes ≡ block_entry c.args.kept ∷ c.args.self.now =
-    grows_tree c.self.inside.tree.nodes c.reserve.new.self.nodes c.add.new.self.nodes c.args.self.now c.node.result grows c.add.ensures ∙ ap (λ (e : Entry). e ∷ c.args.self.now) (sym entry)
+    grows_tree c.self.inside.tree.nodes c.reserve.new.self.nodes c.add.new.self.nodes c.args.self.now c.node.result grows c.add.ensures.nodes ∙ ap (λ (e : Entry). e ∷ c.args.self.now) (sym entry)
     in (
-      grows_chain c.self.inside.tree.nodes c.reserve.new.self.nodes c.add.new.self.nodes c.args.self.now c.node.result c.self.inside.active.items c.self.inside.undos.items c.self.inside.ledger.unspent
-          grows c.add.ensures stays c.self.invariant.0,
+      grows_chain c.self.inside.tree.nodes c.reserve.new.self.nodes c.add.new.self.nodes c.args.self.now c.node.result c.self.inside.active.items c.self.inside.tree.undos c.reserve.new.self.undos c.add.new.self.undos
+          c.self.inside.ledger.unspent c.self.inside.side grows c.add.ensures.nodes c.in_ok-reserve.ensures.undos c.add.ensures.undos stays c.self.invariant.0,
       historic_after c.args.self.now (tree_of c.add.new.self.nodes) c.args.kept (Ok no_change) c.requires.calls
           (sym (joined_aside c.args.self.now (tree_of c.add.new.self.nodes) c.args.kept no_change low grown refl)),
     )
@@ -42,7 +43,7 @@ returns-clause-ok c =
     let entry : entry_from c.node.result ≡ block_entry c.args.kept = ap entry_from c.node.ensures ∙ entry_on c.args.spot c.args.kept c.requires.spot.header in
     let low = joins_aside c.args.self.now c.args.kept c.args.spot c.tip_height.result joins c.if-spot-tip_height.false in
     sym (joined_aside c.args.self.now (tree_of c.add.new.self.nodes) c.args.kept (record { off = c.new-2.result; on = c.new-4.result }) low
-    (grows_tree c.self.inside.tree.nodes c.reserve.new.self.nodes c.add.new.self.nodes c.args.self.now c.node.result grows c.add.ensures ∙ ap (λ (e : Entry). e ∷ c.args.self.now) entry)
+    (grows_tree c.self.inside.tree.nodes c.reserve.new.self.nodes c.add.new.self.nodes c.args.self.now c.node.result grows c.add.ensures.nodes ∙ ap (λ (e : Entry). e ∷ c.args.self.now) entry)
     (rw (c.new-2.ensures, c.new.ensures.items, c.new-4.ensures, c.new-3.ensures.items) refl))
 
 pub returns-clause-moves : goal.returns-clause-moves
@@ -54,5 +55,5 @@ returns-clause-moves c =
     in
     let entry : entry_from c.node.result ≡ block_entry c.args.kept = ap entry_from c.node.ensures ∙ entry_on c.args.spot c.args.kept c.requires.spot.header in
     over_aside c.args.self.now (tree_of c.add.new.self.nodes) c.args.kept c.args.spot c.tip_height.result (record { off = c.new-2.result; on = c.new-4.result }) joins c.if-spot-tip_height.false
-    (grows_tree c.self.inside.tree.nodes c.reserve.new.self.nodes c.add.new.self.nodes c.args.self.now c.node.result grows c.add.ensures ∙ ap (λ (e : Entry). e ∷ c.args.self.now) entry)
+    (grows_tree c.self.inside.tree.nodes c.reserve.new.self.nodes c.add.new.self.nodes c.args.self.now c.node.result grows c.add.ensures.nodes ∙ ap (λ (e : Entry). e ∷ c.args.self.now) entry)
     (rw (c.new-2.ensures, c.new.ensures.items, c.new-4.ensures, c.new-3.ensures.items) refl)

@@ -6,5 +6,7 @@ use Rattle.cb_chain.proofs.chain.Chain.new.Goals as goal
 
 pub invariant_of-result : goal.invariant_of-result
 invariant_of-result c =
-    let first : c.push.new.self.items ≡ 0 ∷ [] = grind (arith, common_steps) in
-    (chain_first (tree_of c.in_ok-tree.tree.nodes) c.push.new.self.items c.new-undos.result.items c.new-ledger.result.unspent c.in_ok-tree.ensures.nodes first c.new-undos.ensures.items c.new-ledger.ensures, ([], c.in_ok-tree.ensures.nodes))
+    let first : c.push.new.self.items ≡ 0 ∷ [] = grind (arith, common_steps) in (
+      chain_first (tree_of c.in_ok-tree.tree.nodes) c.push.new.self.items c.in_ok-tree.tree.undos c.new-ledger.result.unspent c.in_ok-tree.ensures.nodes first c.in_ok-tree.ensures.undos c.new-ledger.ensures,
+      ([], c.in_ok-tree.ensures.nodes),
+    )

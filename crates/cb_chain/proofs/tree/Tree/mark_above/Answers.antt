@@ -1,9 +1,9 @@
-use Rattle.std.proofs.Common.{◌≡◌, ◌∙◌, List, Some, sym, ap, subst}
+use Rattle.std.proofs.Common.{◌≡◌, ◌∙◌, List, Some, sym, ap, subst, arith}
 use Rattle.std.specs.Prelude.{slice_get, IsSome}
 use Rattle.cb_chain.specs.declared.node.Node.{Node}
 use Rattle.cb_chain.specs.Calls.{marked_above}
-use Rattle.cb_chain.specs.Keeping.{AreNext, Grown, IsPlaced, IsTree, block_at, tree_of}
-use Rattle.cb_chain.proofs.Branches.{next_marked}
+use Rattle.cb_chain.specs.Keeping.{AreLinks, Grown, IsPlaced, IsTree, block_at, tree_of}
+use Rattle.cb_chain.proofs.Links.{links_marked}
 use Rattle.cb_chain.proofs.Marks.{is_marked_tree, lent_back, placed_marked, target_at, tree_marked}
 use Rattle.cb_chain.proofs.tree.Tree.mark_above.Goals as goal
 
@@ -14,7 +14,9 @@ invariant_of-self c =
     let target = target_at old first (subst (λ (g : Grown). IsSome (block_at g.nodes first)) (sym c.self.view_is) c.requires.kept) in
     let new = lent_back first target.0 old c.as_mut_slice.result.now c.mark_from.new.nodes c.self.inside.nodes.len c.as_mut_slice.ensures.value c.self.inside.nodes.ok.0 target.1 c.mark_from.ensures.marks in (
       subst (λ (ns : List Node). IsPlaced ns c.self.inside.places.entries) (sym new) (placed_marked target.0.hash old c.self.inside.places.entries c.self.invariant.0),
-      subst (λ (ns : List Node). AreNext ns c.self.inside.next.items) (sym new) (next_marked target.0.hash old c.self.inside.next.items c.self.invariant.1),
+      subst (λ (ns : List Node). AreLinks ns c.self.inside.newest.items c.self.inside.elder.items) (sym new)
+          (links_marked target.0.hash old c.self.inside.newest.items c.self.inside.elder.items c.self.invariant.1),
+      omega (arith, c.mark_from.ensures.room, c.self.invariant.2),
     )
 
 pub returns-clause-marks : goal.returns-clause-marks

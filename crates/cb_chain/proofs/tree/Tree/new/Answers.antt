@@ -1,11 +1,11 @@
 use Rattle.std.proofs.Common.{ℕ, subst, sym, ◌∙◌, ap, List, cond, []}
-use Rattle.std.proofs.Common.{Some, ◌++◌, ◌∷◌}
+use Rattle.std.proofs.Common.{Some, ◌++◌, ◌∷◌, rules}
 use Rattle.std.specs.Map.{lookup}
 use Rattle.cb_base.specs.declared.hash.Hash256.{Hash256}
 use Rattle.cb_chain.specs.declared.node.Node.{Node}
 use Rattle.cb_chain.specs.Entries.{same}
-use Rattle.cb_chain.specs.Keeping.{AreNext, IsPlaced}
-use Rattle.cb_chain.proofs.Branches.{next_first}
+use Rattle.cb_chain.specs.Keeping.{AreLinks, IsPlaced}
+use Rattle.cb_chain.proofs.Links.{links_first}
 use Rattle.cb_chain.proofs.Nodes.{placed_first}
 use Rattle.cb_chain.proofs.tree.Tree.new.Goals as goal
 
@@ -17,6 +17,8 @@ invariant_of-result c =
       subst (λ (ns : List Node). IsPlaced ns c.insert.new.self.entries) (sym items)
           (placed_first first c.insert.new.self.entries c.in_ok-first.ensures.first
           (λ q. updates.0 q ∙ ap (λ es. cond (same first.hash q) (Some 0) (lookup {K = Hash256} {X = ℕ} (same q) es)) c.new-places.ensures.empty)),
-      subst (λ (ns : List Node). AreNext ns c.push-2.new.self.items) (sym items)
-          (subst (AreNext (first ∷ [])) (sym (c.in_ok-push-2.ensures.items ∙ ap (λ (ns : List ℕ). ns ++ 0 ∷ []) c.in_ok-next.ensures.items)) (next_first first)),
+      subst (λ (ns : List Node). AreLinks ns c.push-2.new.self.items c.push-3.new.self.items) (sym items)
+          (subst (λ (ps : List ℕ). AreLinks (first ∷ []) ps c.push-3.new.self.items) (sym (c.in_ok-push-2.ensures.items ∙ ap (λ (ps : List ℕ). ps ++ 0 ∷ []) c.in_ok-newest.ensures.items))
+          (subst (AreLinks (first ∷ []) (0 ∷ [])) (sym (c.in_ok-push-3.ensures.items ∙ ap (λ (ps : List ℕ). ps ++ 0 ∷ []) c.in_ok-elder.ensures.items)) (links_first first))),
+      search rules,
     )

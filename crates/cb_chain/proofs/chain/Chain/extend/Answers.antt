@@ -1,0 +1,108 @@
+use Rattle.std.proofs.Common.{◌≡◌, ℕ, ◌+◌, take, drop, map, Err, ◌⊎◌, ◌++◌, ◌∷◌, [], length, List, Option, ap, sym, subst, ◌∙◌, None, inl, inr, refl, ◌<◌}
+use Rattle.std.specs.Prelude.{IfSome}
+use Rattle.cb_base.specs.declared.fault.Fault.TheVariants.{Memory}
+use Rattle.cb_block.specs.declared.block.Block.{Block}
+use Rattle.cb_ledger.specs.Spend.{spend}
+use Rattle.cb_ledger.specs.Undo.{LeadsBack}
+use Rattle.cb_ledger.specs.Unspent.{Unspent}
+use Rattle.cb_chain.specs.History.{IsHistoric}
+use Rattle.cb_chain.specs.Keeping.{climb, tree_of}
+use Rattle.cb_chain.specs.Plans.{Moved}
+use Rattle.cb_chain.specs.Sides.{IsChain}
+use Rattle.cb_chain.specs.declared.side.Side.{Side}
+use Rattle.cb_chain.proofs.Ledgers.{rests_let_go, rests_still}
+use Rattle.cb_chain.proofs.Outcomes.{IsEnd, IsStopped, moves, ready, stop_place, stop_tip, stops, tops_tip, why}
+use Rattle.cb_chain.proofs.Starts.{chain_as, sides_low}
+use Rattle.cb_chain.proofs.chain.Chain.extend.Goals as goal
+use Rattle.cb_chain.proofs.chain.Chain.extend.Goals.{After-add, After-drop-branch-in-Err}
+
+-- the block is the tip
+ended : (c : After-add) → IsEnd c.args.self.now (tree_of c.add.new.self.nodes) c.args.kept c.in_ok-fork.field-0.change c.put_on.new.active.items c.add.new.self.undos c.connect.new.self.unspent c.rest_on.result
+ended c =
+    let was = c.self.inside in
+    let nodes = c.reserve.new.self.nodes in
+    let undos = c.reserve.new.self.undos in
+    let path = c.reserve-2.new.self.items in
+    let unspent = was.ledger.unspent in
+    let node = c.node-2.result in
+    let is =
+    ready c.args.self.now was.tree.nodes nodes c.args.spot c.args.kept node was.active.items path was.tree.undos undos unspent was.side c.self.view_is c.reserve.ensures.same c.reserve.ensures.tree c.self.invariant.0
+    c.in_ok-reserve-2.ensures.items c.reserve.ensures.undos c.requires.spot c.requires.none c.requires.higher c.node-2.ensures in
+    let plan = c.in_ok-fork.field-0 in
+    let after = c.connect.new.self.unspent in
+    let leads : LeadsBack c.in-Ok.undo c.args.kept.txs unspent after = subst (λ (b : Block). LeadsBack c.in-Ok.undo b.txs unspent after) c.block.ensures.same c.in-Ok.ensures.undo in
+    let tops = tops_tip c.args.self.now nodes c.args.spot c.args.kept node path undos unspent was.side c.in-Ok.undo after is c.requires.tip leads in
+    let moved : Moved (tree_of nodes) c.args.spot.header path (length nodes) c.put_on.new.active.items plan.change =
+    record {
+      fork = plan.fork;
+      fork_is = c.in_ok-fork.ensures.fork;
+      now_is = c.put_on.ensures ∙ ap (λ (ps : List ℕ). take (plan.fork + 1) path ++ ps ++ c.len-last.result ∷ []) c.in_ok-fork.ensures.branch ∙ ap (λ (n : ℕ). take (plan.fork + 1) path ++ map (λ step. step.place) (drop plan.fork (climb (tree_of nodes) c.args.spot.header.prev)) ++ n ∷ []) c.len-last.ensures;
+      change_is = c.in_ok-fork.ensures.change;
+    }
+    in
+    let kept = c.not_far_below-side.result in
+    let why_kept : (kept ≡ None) ⊎ (kept ≡ was.side) = elim c.not_far_below-side.ensures [ inl none ↦ inl none | inr same ↦ inr (same ∙ c.take.ensures.value) ] in
+    let rest = rests_let_go path unspent after was.side kept c.rest_on.result why_kept (rests_still path unspent after c.in-Ok.undo kept c.rest_on.result leads.back c.rest_on.ensures) in
+    moves c.args.self.now nodes c.add.new.self.nodes c.args.spot c.args.kept node path c.put_on.new.active.items undos undos c.add.new.self.undos unspent after was.side was.side c.rest_on.result c.in-Ok.undo plan.change is is.chain c.requires.calls
+    tops moved rest c.add.ensures.nodes c.add.ensures.undos
+
+pub invariant_of-self-2 : goal.invariant_of-self-2
+invariant_of-self-2 c = let end = ended c in (end.chain, end.historic)
+
+pub returns-clause-ok : goal.returns-clause-ok
+returns-clause-ok c = (ended c).answer
+
+pub returns-clause-moves : goal.returns-clause-moves
+returns-clause-moves c = (ended c).over
+
+pub not_far_below-side-requires-clause-side : goal.not_far_below-side-requires-clause-side
+not_far_below-side-requires-clause-side c =
+    let was = c.self.inside in
+    let nodes = c.reserve.new.self.nodes in
+    let undos = c.reserve.new.self.undos in
+    let chain =
+    chain_as nodes was.tree.nodes was.active.items was.active.items was.tree.undos undos was.ledger.unspent was.ledger.unspent was.side was.side c.reserve.ensures.same refl c.reserve.ensures.undos refl refl c.self.invariant.0 in
+    subst (λ (o : Option Side). IfSome o (λ (side : Side). side.end < length nodes)) (sym c.take.ensures.value) (sides_low nodes undos was.ledger.unspent was.side c.reserve.ensures.tree chain.side_is)
+
+pub mark_stop-requires-clause-place : goal.mark_stop-requires-clause-place
+mark_stop-requires-clause-place c =
+    let was = c.self.inside in
+    let nodes = c.reserve.new.self.nodes in
+    let undos = c.reserve.new.self.undos in
+    let path = c.reserve-2.new.self.items in
+    let unspent = was.ledger.unspent in
+    let node = c.node.result in
+    let is =
+    ready c.args.self.now was.tree.nodes nodes c.args.spot c.args.kept node was.active.items path was.tree.undos undos unspent was.side c.self.view_is c.reserve.ensures.same c.reserve.ensures.tree c.self.invariant.0
+    c.in_ok-reserve-2.ensures.items c.reserve.ensures.undos c.requires.spot c.requires.none c.requires.higher c.node.ensures in
+    let fault = c.in-Err.fault in
+    let last = c.len-last.result in
+    let told : (fault ≡ Memory) ⊎ (spend unspent c.args.kept.txs ≡ Err fault) = subst (λ (b : Block). (fault ≡ Memory) ⊎ (spend unspent b.txs ≡ Err fault)) c.block.ensures.same c.in-Err.ensures.exact in
+    let stop = stop_tip c.args.self.now nodes c.args.spot c.args.kept node path undos unspent was.side last fault is c.requires.tip told c.len-last.ensures in
+    stop_place nodes c.args.kept node last fault (why c.args.self.now nodes c.args.spot c.args.kept node path undos unspent was.side last fault is stop)
+
+-- it can't be spent
+stopped : (c : After-drop-branch-in-Err) → IsStopped c.args.self.now (tree_of c.mark_stop.new.tree.nodes) c.args.kept c.in-Err.fault c.reserve-2.new.self.items c.mark_stop.new.tree.undos c.self.inside.ledger.unspent c.self.inside.side
+stopped c =
+    let was = c.self.inside in
+    let nodes = c.reserve.new.self.nodes in
+    let undos = c.reserve.new.self.undos in
+    let path = c.reserve-2.new.self.items in
+    let unspent = was.ledger.unspent in
+    let node = c.node.result in
+    let is =
+    ready c.args.self.now was.tree.nodes nodes c.args.spot c.args.kept node was.active.items path was.tree.undos undos unspent was.side c.self.view_is c.reserve.ensures.same c.reserve.ensures.tree c.self.invariant.0
+    c.in_ok-reserve-2.ensures.items c.reserve.ensures.undos c.requires.spot c.requires.none c.requires.higher c.node.ensures in
+    let fault = c.in-Err.fault in
+    let last = c.len-last.result in
+    let told : (fault ≡ Memory) ⊎ (spend unspent c.args.kept.txs ≡ Err fault) = subst (λ (b : Block). (fault ≡ Memory) ⊎ (spend unspent b.txs ≡ Err fault)) c.block.ensures.same c.in-Err.ensures.exact in
+    let stop = stop_tip c.args.self.now nodes c.args.spot c.args.kept node path undos unspent was.side last fault is c.requires.tip told c.len-last.ensures in
+    stops c.args.self.now nodes c.mark_stop.new.tree.nodes c.args.spot c.args.kept node path undos undos c.mark_stop.new.tree.undos unspent was.side was.side last fault is is.chain (subst IsHistoric c.self.view_is c.self.invariant.1) c.requires.calls stop c.mark_stop.ensures
+
+pub invariant_of-self-in-Err : goal.invariant_of-self-in-Err
+invariant_of-self-in-Err c =
+    let end = stopped c in
+    (subst (λ (u : Unspent). IsChain (tree_of c.mark_stop.new.tree.nodes) c.reserve-2.new.self.items c.mark_stop.new.tree.undos u c.self.inside.side) (sym c.in-Err.ensures.err) end.chain, end.historic)
+
+pub returns-in-Err-clause-err : goal.returns-in-Err-clause-err
+returns-in-Err-clause-err c = (stopped c).answer

@@ -1,0 +1,151 @@
+use Rattle.std.proofs.Common.{◌≡◌, ◌-◌, ◌<◌, ◌⊎◌, ◌++◌, ◌∷◌, [], length, List, Some, refl, ap, sym, subst, ◌∙◌, arith}
+use Rattle.std.specs.Prelude.{IsSome}
+use Rattle.cb_base.specs.declared.fault.Fault.TheVariants.{Memory}
+use Rattle.cb_chain.specs.declared.node.Node.{Node}
+use Rattle.cb_chain.specs.Best.{best}
+use Rattle.cb_chain.specs.Entries.{Tree}
+use Rattle.cb_chain.specs.History.{IsHistoric}
+use Rattle.cb_chain.specs.Keeping.{block_at, place_of, tree_of}
+use Rattle.cb_chain.specs.Plans.{Moved}
+use Rattle.cb_chain.specs.Sides.{Tops}
+use Rattle.cb_chain.proofs.Outcomes.{IsEnd, IsStopped, MarkedFrom, moves, ready, stop_place, stops, why}
+use Rattle.cb_chain.proofs.Planning.{place_low}
+use Rattle.cb_chain.proofs.Starts.{chain_as, kept_chain, sides_low, starts, tip_at, tried_chain}
+use Rattle.cb_chain.proofs.chain.Chain.turn.Goals as goal
+
+pub starts_from-side-requires-clause-tip : goal.starts_from-side-requires-clause-tip
+starts_from-side-requires-clause-tip c =
+    let was = c.self.inside in
+    let nodes = c.reserve.new.self.nodes in
+    let undos = c.reserve.new.self.undos in
+    let path = was.active.items in
+    let unspent = was.ledger.unspent in
+    let chain = chain_as nodes was.tree.nodes path path was.tree.undos undos unspent unspent was.side was.side c.reserve.ensures.same refl c.reserve.ensures.undos refl refl c.self.invariant.0 in
+    let tip = tip_at (tree_of nodes) path (c.len.result - 1) c.index-tip.result.now chain.places (omega (arith, c.len.ensures, was.active.ok.0)) c.index-tip.ensures in
+    place_low nodes (best (tree_of nodes)) c.index-tip.result.now c.reserve.ensures.tree tip
+
+pub starts_from-side-requires-clause-parent : goal.starts_from-side-requires-clause-parent
+starts_from-side-requires-clause-parent c =
+    let prev = c.args.kept.header.prev in
+    let view : c.args.self.now ≡ tree_of c.reserve.new.self.nodes = sym c.self.view_is ∙ ap tree_of (sym c.reserve.ensures.same) in
+    place_low c.reserve.new.self.nodes prev c.args.spot.parent c.reserve.ensures.tree (subst (λ (t : Tree). place_of t prev ≡ Some c.args.spot.parent) view c.requires.spot.parent)
+
+pub starts_from-side-requires-clause-side : goal.starts_from-side-requires-clause-side
+starts_from-side-requires-clause-side c =
+    let was = c.self.inside in
+    let nodes = c.reserve.new.self.nodes in
+    let undos = c.reserve.new.self.undos in
+    let path = was.active.items in
+    let unspent = was.ledger.unspent in
+    let chain = chain_as nodes was.tree.nodes path path was.tree.undos undos unspent unspent was.side was.side c.reserve.ensures.same refl c.reserve.ensures.undos refl refl c.self.invariant.0 in
+    sides_low nodes undos unspent was.side c.reserve.ensures.tree chain.side_is
+
+pub try_on-tried-requires-clause-side : goal.try_on-tried-requires-clause-side
+try_on-tried-requires-clause-side c =
+    let was = c.self.inside in
+    let nodes = c.reserve.new.self.nodes in
+    let undos = c.reserve.new.self.undos in
+    let path = was.active.items in
+    let unspent = was.ledger.unspent in
+    let chain = chain_as nodes was.tree.nodes path path was.tree.undos undos unspent unspent was.side was.side c.reserve.ensures.same refl c.reserve.ensures.undos refl refl c.self.invariant.0 in
+    let tip = tip_at (tree_of nodes) path (c.len.result - 1) c.index-tip.result.now chain.places (omega (arith, c.len.ensures, was.active.ok.0)) c.index-tip.ensures in
+    starts (tree_of nodes) path undos unspent was.side c.starts_from-side.result c.index-tip.result.now chain tip c.starts_from-side.ensures.from
+
+pub mark_stop-requires-clause-place : goal.mark_stop-requires-clause-place
+mark_stop-requires-clause-place c =
+    let was = c.self.inside in
+    let nodes = c.reserve.new.self.nodes in
+    let undos = c.reserve.new.self.undos in
+    let path = was.active.items in
+    let unspent = was.ledger.unspent in
+    let node = c.node.result in
+    let is =
+    ready c.args.self.now was.tree.nodes nodes c.args.spot c.args.kept node path path was.tree.undos undos unspent was.side c.self.view_is c.reserve.ensures.same c.reserve.ensures.tree c.self.invariant.0 refl c.reserve.ensures.undos
+    c.requires.spot c.requires.none c.requires.higher c.node.ensures in
+    let place = c.in-Err.stop.place in
+    let fault = c.in-Err.stop.fault in
+    subst (λ (ns : List Node). (fault ≡ Memory) ⊎ ((0 < place) × IsSome (block_at (ns ++ node ∷ []) place))) (sym c.try_on-tried.ensures.nodes)
+    (stop_place nodes c.args.kept node place fault (why c.args.self.now nodes c.args.spot c.args.kept node path undos unspent was.side place fault is c.in-Err.ensures.err))
+
+-- its path stops
+stopped : (c : goal.After-mark_stop) → IsStopped c.args.self.now (tree_of c.mark_stop.new.tree.nodes) c.args.kept c.in-Err.stop.fault c.self.inside.active.items c.mark_stop.new.tree.undos c.self.inside.ledger.unspent c.keep_side.new.side
+stopped c =
+    let was = c.self.inside in
+    let nodes = c.reserve.new.self.nodes in
+    let undos = c.reserve.new.self.undos in
+    let path = was.active.items in
+    let unspent = was.ledger.unspent in
+    let chain = chain_as nodes was.tree.nodes path path was.tree.undos undos unspent unspent was.side was.side c.reserve.ensures.same refl c.reserve.ensures.undos refl refl c.self.invariant.0 in
+    let node = c.node.result in
+    let is =
+    ready c.args.self.now was.tree.nodes nodes c.args.spot c.args.kept node path path was.tree.undos undos unspent was.side c.self.view_is c.reserve.ensures.same c.reserve.ensures.tree c.self.invariant.0 refl c.reserve.ensures.undos
+    c.requires.spot c.requires.none c.requires.higher c.node.ensures in
+    let tried = c.try_on-tried.new.tree.undos in
+    let last = c.starts_from-side.new.side in
+    let same : c.try_on-tried.new.tree.nodes ≡ nodes = c.try_on-tried.ensures.nodes in
+    let more = tried_chain nodes c.try_on-tried.new.tree.nodes path undos tried unspent was.side last chain same c.try_on-tried.ensures.undos c.try_on-tried.ensures.records c.starts_from-side.ensures.side in
+    let place = c.in-Err.stop.place in
+    let fault = c.in-Err.stop.fault in
+    let kept = c.keep_side.new.side in
+    let with_it = kept_chain nodes c.try_on-tried.new.tree.nodes path tried unspent last kept c.try_on-tried.new.self more same c.in-Err.ensures.side c.keep_side.ensures in
+    let marks = subst (λ (ns : List Node). MarkedFrom ns node tried place fault c.mark_stop.new.tree.nodes c.mark_stop.new.tree.undos) same c.mark_stop.ensures in
+    stops c.args.self.now nodes c.mark_stop.new.tree.nodes c.args.spot c.args.kept node path undos tried c.mark_stop.new.tree.undos unspent was.side kept place fault is with_it (subst IsHistoric c.self.view_is c.self.invariant.1) c.requires.calls
+    c.in-Err.ensures.err marks
+
+pub invariant_of-self-in-Err : goal.invariant_of-self-in-Err
+invariant_of-self-in-Err c = let end = stopped c in (end.chain, end.historic)
+
+pub returns-in-Err-clause-err : goal.returns-in-Err-clause-err
+returns-in-Err-clause-err c = (stopped c).answer
+
+-- memory is wanting once it was tried
+pub invariant_of-self-in_err-change : goal.invariant_of-self-in_err-change
+invariant_of-self-in_err-change c =
+    let was = c.self.inside in
+    let nodes = c.reserve.new.self.nodes in
+    let undos = c.reserve.new.self.undos in
+    let path = was.active.items in
+    let unspent = was.ledger.unspent in
+    let chain = chain_as nodes was.tree.nodes path path was.tree.undos undos unspent unspent was.side was.side c.reserve.ensures.same refl c.reserve.ensures.undos refl refl c.self.invariant.0 in
+    let tried = c.try_on-tried.new.tree.undos in
+    let last = c.starts_from-side.new.side in
+    let same : c.try_on-tried.new.tree.nodes ≡ nodes = c.try_on-tried.ensures.nodes in
+    let more = tried_chain nodes c.try_on-tried.new.tree.nodes path undos tried unspent was.side last chain same c.try_on-tried.ensures.undos c.try_on-tried.ensures.records c.starts_from-side.ensures.side in
+    let kept = c.in_err-change.ensures.same in (
+      chain_as c.try_on-tried.new.tree.nodes nodes path c.switch.new.active.items tried tried unspent c.switch.new.ledger.unspent last c.switch.new.side same kept.0 refl kept.1 kept.2 more,
+      subst IsHistoric (sym (ap tree_of (same ∙ c.reserve.ensures.same))) c.self.invariant.1,
+    )
+
+-- the chain moves
+ended : (c : goal.After-add) → IsEnd c.args.self.now (tree_of c.add.new.self.nodes) c.args.kept c.in_ok-change.change c.switch.new.active.items c.add.new.self.undos c.switch.new.ledger.unspent c.switch.new.side
+ended c =
+    let was = c.self.inside in
+    let nodes = c.reserve.new.self.nodes in
+    let undos = c.reserve.new.self.undos in
+    let path = was.active.items in
+    let unspent = was.ledger.unspent in
+    let chain = chain_as nodes was.tree.nodes path path was.tree.undos undos unspent unspent was.side was.side c.reserve.ensures.same refl c.reserve.ensures.undos refl refl c.self.invariant.0 in
+    let node = c.node-2.result in
+    let is =
+    ready c.args.self.now was.tree.nodes nodes c.args.spot c.args.kept node path path was.tree.undos undos unspent was.side c.self.view_is c.reserve.ensures.same c.reserve.ensures.tree c.self.invariant.0 refl c.reserve.ensures.undos
+    c.requires.spot c.requires.none c.requires.higher c.node-2.ensures in
+    let tried = c.try_on-tried.new.tree.undos in
+    let last = c.starts_from-side.new.side in
+    let same : c.try_on-tried.new.tree.nodes ≡ nodes = c.try_on-tried.ensures.nodes in
+    let more = tried_chain nodes c.try_on-tried.new.tree.nodes path undos tried unspent was.side last chain same c.try_on-tried.ensures.undos c.try_on-tried.ensures.records c.starts_from-side.ensures.side in
+    let now = c.switch.new.active.items in
+    let after = c.switch.new.ledger.unspent in
+    let change = c.in_ok-change.change in
+    let tops = subst (Tops (tree_of nodes) tried c.args.kept c.in-Ok.undo) (sym c.in_ok-change.ensures.ledger) c.in-Ok.ensures.ok in
+    let moved = subst (λ (ns : List Node). Moved (tree_of ns) c.args.spot.header path (length ns) now change) same c.in_ok-change.ensures.moved in
+    moves c.args.self.now nodes c.add.new.self.nodes c.args.spot c.args.kept node path now undos tried c.add.new.self.undos unspent after was.side last c.switch.new.side c.in-Ok.undo change is more c.requires.calls
+    tops moved c.in_ok-change.ensures.side (c.add.ensures.nodes ∙ ap (λ (ns : List Node). ns ++ node ∷ []) same) c.add.ensures.undos
+
+pub invariant_of-self-2 : goal.invariant_of-self-2
+invariant_of-self-2 c = let end = ended c in (end.chain, end.historic)
+
+pub returns-clause-ok : goal.returns-clause-ok
+returns-clause-ok c = (ended c).answer
+
+pub returns-clause-moves : goal.returns-clause-moves
+returns-clause-moves c = (ended c).over

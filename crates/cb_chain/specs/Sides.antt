@@ -1,0 +1,121 @@
+-- Blocks that were connected once, the records that take them back, and the branch beside the active chain that was tried
+-- last.
+use Rattle.std.specs.Prelude.{◌≡◌, ◌⊎◌, ◌<◌, ◌-◌, ℕ, suc, true, Ok, Err, is_some, List, [], ◌∷◌, length, Option, Some, option_map, option_and_then, slice_get, IfSome}
+use Rattle.cb_base.specs.declared.fault.Fault.{Fault}
+use Rattle.cb_base.specs.declared.hash.Hash256.{Hash256}
+use Rattle.cb_ledger.specs.declared.undo.Change.{Change}
+use Rattle.cb_block.specs.declared.block.Block.{Block}
+use Rattle.cb_ledger.specs.Spend.{spend}
+use Rattle.cb_ledger.specs.Undo.{LeadsBack, changed}
+use Rattle.cb_ledger.specs.Unspent.{Unspent}
+use Rattle.cb_chain.specs.declared.node.Node.{Node}
+use Rattle.cb_chain.specs.declared.side.Side.{Side}
+use Rattle.cb_chain.specs.Best.{best, faulty, unspent_after}
+use Rattle.cb_chain.specs.Entries.{Tree, entry_of, is_kept}
+use Rattle.cb_chain.specs.Keeping.{active_places, place_of, tree_of}
+
+-- the record at a place
+abbrev pub record_at : List (Option (List Change)) → ℕ → Option (List Change)
+record_at undos place = option_and_then (λ undo. undo) (slice_get undos place)
+
+abbrev pub HasRecord : List (Option (List Change)) → ℕ → Type 0
+HasRecord undos place = (changes : List Change) × (record_at undos place ≡ Some changes)
+
+-- what has a record keeps one
+abbrev pub KeepRecords : List (Option (List Change)) → List (Option (List Change)) → Type 0
+KeepRecords old new = (place : ℕ) → HasRecord old place → HasRecord new place
+
+-- what the header of a known hash names
+abbrev pub prev_of : Tree → Hash256 → Option Hash256
+prev_of tree hash = option_map (λ entry. entry.header.prev) (entry_of tree hash)
+
+-- A kept block was connected once: it is the first, or has its record.
+pub record WasConnected (tree : Tree) (undos : List (Option (List Change))) (hash : Hash256) : Type 0 where
+  pub place : ℕ
+  pub at : place_of tree hash ≡ Some place
+  pub kept : is_kept tree hash ≡ true
+  pub has : (place ≡ 0) ⊎ HasRecord undos place
+
+-- A block's record leads from what is unspent after it to what is unspent after its parent, which was connected before it.
+pub record IsUndo (tree : Tree) (undos : List (Option (List Change))) (hash : Hash256) (changes : List Change) : Type 0 where
+  pub kept : is_kept tree hash ≡ true
+  pub prev : Hash256
+  pub prev_is : prev_of tree hash ≡ Some prev
+  pub back : (u : Unspent) → unspent_after tree hash ≡ Ok u → unspent_after tree prev ≡ Ok (changed u changes)
+  pub below : WasConnected tree undos prev
+
+-- each record is that of the block at its place
+pub record AreUndos (tree : Tree) (undos : List (Option (List Change))) : Type 0 where
+  pub long : length undos ≡ suc (length tree)
+  pub each : (hash : Hash256) (place : ℕ) (changes : List Change) → place_of tree hash ≡ Some place → record_at undos place ≡ Some changes → IsUndo tree undos hash changes
+
+-- The last block of a branch was connected, and the changes lead from what is unspent after the active chain to what is
+-- unspent after it.
+pub record IsSide (tree : Tree) (undos : List (Option (List Change))) (unspent : Unspent) (side : Side) : Type 0 where
+  pub hash : Hash256
+  pub connected : WasConnected tree undos hash
+  pub end : connected.place ≡ side.end
+  pub after : unspent_after tree hash ≡ Ok (changed unspent side.overlay)
+
+-- What a chain keeps follows from its tree: the places of the active blocks by their heights, what is unspent after them,
+-- the records of connected blocks, the tip's among them, and the branch that was tried last.
+pub record IsChain (tree : Tree) (path : List ℕ) (undos : List (Option (List Change))) (unspent : Unspent) (side : Option Side) : Type 0 where
+  pub places : path ≡ active_places tree
+  pub ledger : unspent_after tree (best tree) ≡ Ok unspent
+  pub undos_are : AreUndos tree undos
+  pub tip : WasConnected tree undos (best tree)
+  pub side_is : IfSome side (IsSide tree undos unspent)
+
+-- a kept block stands at a place
+pub record IsKeptPlace (nodes : List Node) (place : ℕ) : Type 0 where
+  pub hash : Hash256
+  pub at : place_of (tree_of nodes) hash ≡ Some place
+  pub kept : is_kept (tree_of nodes) hash ≡ true
+
+-- a kept block's node that stands on the node at another place
+pub record StandsOn (nodes : List Node) (below place : ℕ) : Type 0 where
+  pub node : Node
+  pub at : slice_get nodes place ≡ Some node
+  pub kept : is_some node.kept ≡ true
+  pub parent : node.parent ≡ below
+  pub above : below < place
+
+-- places of nodes, each of which stands on the one before it, from above one place up to another
+abbrev pub LeadUp : List Node → ℕ → List ℕ → ℕ → Type 0
+LeadUp nodes below [] top = below ≡ top
+LeadUp nodes below (place ∷ places) top = StandsOn nodes below place × LeadUp nodes place places top
+
+-- the block at a place can't be spent behind those below it
+abbrev pub FailsAt : List Node → ℕ → Fault → Type 0
+FailsAt nodes place fault = (node : Node) → slice_get nodes place ≡ Some node → unspent_after (tree_of nodes) node.hash ≡ Err (faulty node.hash fault)
+
+-- the path to a node stops at another's place
+pub record StopsBelow (nodes : List Node) (target place : ℕ) (fault : Fault) : Type 0 where
+  pub first : Node
+  pub at : slice_get nodes place ≡ Some first
+  pub kept : is_some first.kept ≡ true
+  pub above : 0 < place
+  pub stops : (node : Node) → slice_get nodes target ≡ Some node → unspent_after (tree_of nodes) node.hash ≡ Err (faulty first.hash fault)
+
+-- The path of a block stops that isn't in the tree yet, and will stand behind its last node: below it, or at it.
+pub data Stops (nodes : List Node) (block : Block) (place : ℕ) (fault : Fault) : Type 0 where
+  below : (target : ℕ) → place_of (tree_of nodes) block.header.prev ≡ Some target → StopsBelow nodes target place fault → Stops nodes block place fault
+  here : (before : Unspent) → unspent_after (tree_of nodes) block.header.prev ≡ Ok before → spend before block.txs ≡ Err fault → place ≡ length nodes → Stops nodes block place fault
+
+-- Such a block can be spent behind its parent's path, with what is then unspent, and the record leads back.
+pub record Tops (tree : Tree) (undos : List (Option (List Change))) (block : Block) (changes : List Change) (after : Unspent) : Type 0 where
+  pub before : Unspent
+  pub below : unspent_after tree block.header.prev ≡ Ok before
+  pub leads : LeadsBack changes block.txs before after
+  pub connected : WasConnected tree undos block.header.prev
+
+-- A branch over another ledger: its last block is the same, and its changes lead from where the record leads back as they did.
+pub record IsRested (old : Side) (back : List Change) (new : Side) : Type 0 where
+  pub end : new.end ≡ old.end
+  pub over : (unspent : Unspent) → changed unspent new.overlay ≡ changed (changed unspent back) old.overlay
+
+-- The ledger of the active chain has changed. The branch that was tried last leaves the same over it, or else the tip that
+-- was left is that branch.
+pub data RestsOn (path : List ℕ) (before after : Unspent) (old : Option Side) (new : Side) : Type 0 where
+  stays : (side : Side) → old ≡ Some side → new.end ≡ side.end → changed after new.overlay ≡ changed before side.overlay → RestsOn path before after old new
+  left : slice_get path (length path - 1) ≡ Some new.end → changed after new.overlay ≡ before → RestsOn path before after old new

@@ -1,0 +1,303 @@
+ghost use Rattle.std.specs.Prelude.{◌≡◌, ◌⊎◌, ◌<◌, [], length, reverse, true, Ok, Some, IfErr, IfOk, IfSome, IsOkUnless, OnErr, OnOk, Option};
+ghost use Rattle.cb_base.specs.declared.fault.Fault.TheVariants.{Memory};
+ghost use Rattle.cb_ledger.specs.Undo.{changed};
+ghost use Rattle.cb_ledger.specs.Unspent.{Unspent};
+ghost use Rattle.cb_chain.specs.Entries.{is_kept};
+ghost use Rattle.cb_chain.specs.Keeping.{IsTree, place_of, tree_of};
+ghost use Rattle.cb_chain.specs.Sides.{AreUndos, FailsAt, IsKeptPlace, IsRested, IsSide, KeepRecords, LeadUp, StandsOn, Stops, StopsBelow, Tops};
+
+use crate::node::Kept;
+use crate::tree::Tree;
+use cb_base::Fault;
+use cb_ledger::{Ledger, Overlay, Undo};
+use std::alloc::Global;
+
+// So many steps from a block to another are few.
+const FEW_STEPS: usize = 20;
+
+// A branch is kept while it ends at most so far below the tip.
+const MOST_BELOW: u32 = 1_000;
+
+// The place of the first block that can't be spent, and why.
+#[derive(Clone, Copy, Debug)]
+pub(crate) struct Stop {
+    pub(crate) place: usize,
+    pub(crate) fault: Fault,
+}
+
+// The last block of a branch that was connected, and what is unspent after it: as changes over the ledger of the active
+// chain. It goes up and down the tree block by block, so that a block on a branch that was tried costs what the block costs.
+#[derive(Drop)]
+pub(crate) struct Side {
+    pub(crate) end: usize,
+    pub(crate) overlay: Overlay,
+}
+
+impl Side {
+    // At the tip itself nothing is changed.
+    pub(crate) fn at(alloc: Global, tip: usize) -> Side
+        ensures end { result.end ≡ tip }
+        ensures overlay { result.overlay ≡ [] }
+    {
+        Side {
+            end: tip,
+            overlay: Overlay::new(alloc),
+        }
+    }
+
+    // The same over a ledger that has changed: this record leads back to what it was. None where memory was wanting.
+    fn rest_on(self, undo: &Undo) -> Option<Side>
+        ensures { IfSome result (λ side. IsRested self undo.now side) }
+    {
+        let Side { end, mut overlay } = self;
+        match overlay.rest_on(undo) {
+            Ok(()) => Some(Side { end, overlay }),
+            Err(_) => None,
+        }
+    }
+
+    // Its changes, as a record for the ledger.
+    pub(crate) fn into_changes(self, alloc: Global) -> Result<Undo, Fault>
+        ensures same { IfOk result (λ changes. changes ≡ self.overlay) }
+        ensures memory { IsOkUnless result Memory }
+    {
+        let Side { end: _, overlay } = self;
+        overlay.into_undo(alloc)
+    }
+
+    // Takes the last block back.
+    fn lower(&mut self, tree: &Tree) -> Result<(), Fault>
+        requires tree { IsTree tree.now.nodes }
+        requires undos { AreUndos (tree_of tree.now.nodes) tree.now.undos }
+        requires side { (unspent : Unspent) × IsSide (tree_of tree.now.nodes) tree.now.undos unspent self.old }
+        requires above { 0 < self.old.end }
+        ensures side { (unspent : Unspent) → IsSide (tree_of tree.now.nodes) tree.now.undos unspent self.old
+            → IsSide (tree_of tree.now.nodes) tree.now.undos unspent self.new }
+        ensures lower { OnOk result (self.new.end < self.old.end) }
+        ensures memory { IsOkUnless result Memory }
+    {
+        if let Some(undo) = tree.undo(self.end) {
+            self.overlay.take_back(undo)?;
+            self.end = tree.node(self.end).parent;
+        }
+        Ok(())
+    }
+
+    // Takes blocks back until the last one stands on the path of another, and answers the places from that one's down to the
+    // lowest above the last one's.
+    fn lower_to(&mut self, alloc: Global, tree: &Tree, target: usize) -> Result<Vec<usize>, Fault>
+        requires tree { IsTree tree.now.nodes }
+        requires undos { AreUndos (tree_of tree.now.nodes) tree.now.undos }
+        requires side { (unspent : Unspent) × IsSide (tree_of tree.now.nodes) tree.now.undos unspent self.old }
+        requires target { IsKeptPlace tree.now.nodes target }
+        ensures side { (unspent : Unspent) → IsSide (tree_of tree.now.nodes) tree.now.undos unspent self.old
+            → IsSide (tree_of tree.now.nodes) tree.now.undos unspent self.new }
+        ensures up { IfOk result (λ down. LeadUp tree.now.nodes self.new.end (reverse down.items) target) }
+        ensures memory { IsOkUnless result Memory }
+    {
+        let mut down = Vec::new(alloc);
+        let mut place = target;
+        while place != self.end {
+            if self.end < place {
+                down.push(place)?;
+                place = tree.node(place).parent;
+            } else {
+                self.lower(tree)?;
+            }
+        }
+        Ok(down)
+    }
+
+    // Connects a block that stands on the last one.
+    fn raise(&mut self, ledger: &Ledger, tree: &mut Tree, place: usize) -> Result<(), Fault>
+        requires tree { IsTree tree.old.nodes }
+        requires undos { AreUndos (tree_of tree.old.nodes) tree.old.undos }
+        requires side { IsSide (tree_of tree.old.nodes) tree.old.undos ledger.now.unspent self.old }
+        requires next { StandsOn tree.old.nodes self.old.end place }
+        ensures nodes { tree.new.nodes ≡ tree.old.nodes }
+        ensures undos { AreUndos (tree_of tree.new.nodes) tree.new.undos }
+        ensures records { KeepRecords tree.old.undos tree.new.undos }
+        ensures room { tree.new.room ≡ tree.old.room }
+        ensures side { IsSide (tree_of tree.new.nodes) tree.new.undos ledger.now.unspent self.new }
+        ensures end { OnOk result (self.new.end ≡ place) }
+        ensures err { IfErr result (λ fault. (fault ≡ Memory) ⊎ FailsAt tree.old.nodes place fault) }
+    {
+        let Some(kept) = &tree.node(place).kept else {
+            return Ok(());
+        };
+        let undo = self.overlay.connect(ledger, kept.block())?;
+        tree.note(place, undo);
+        self.end = place;
+        Ok(())
+    }
+
+    // Goes to a block, or stays where the path to it stops.
+    fn reach(
+        &mut self,
+        alloc: Global,
+        ledger: &Ledger,
+        tree: &mut Tree,
+        target: usize,
+    ) -> Result<(), Stop>
+        requires tree { IsTree tree.old.nodes }
+        requires undos { AreUndos (tree_of tree.old.nodes) tree.old.undos }
+        requires side { IsSide (tree_of tree.old.nodes) tree.old.undos ledger.now.unspent self.old }
+        requires target { IsKeptPlace tree.old.nodes target }
+        ensures nodes { tree.new.nodes ≡ tree.old.nodes }
+        ensures undos { AreUndos (tree_of tree.new.nodes) tree.new.undos }
+        ensures records { KeepRecords tree.old.undos tree.new.undos }
+        ensures room { tree.new.room ≡ tree.old.room }
+        ensures side { IsSide (tree_of tree.new.nodes) tree.new.undos ledger.now.unspent self.new }
+        ensures end { OnOk result (self.new.end ≡ target) }
+        ensures err { IfErr result (λ stop. (stop.fault ≡ Memory) ⊎ StopsBelow tree.old.nodes target stop.place stop.fault) }
+    {
+        let down = match self.lower_to(alloc, tree, target) {
+            Ok(down) => down,
+            Err(fault) => return Err(Stop { place: 0, fault }),
+        };
+        let mut left = down.len();
+        while left > 0 {
+            left -= 1;
+            let place = down[left];
+            match self.raise(ledger, tree, place) {
+                Ok(()) => {}
+                Err(fault) => return Err(Stop { place, fault }),
+            }
+        }
+        Ok(())
+    }
+
+    // Goes to a block and connects one on it that isn't in the tree yet: what takes that one back. The overlay is then what
+    // it leaves.
+    pub(crate) fn try_on(
+        &mut self,
+        alloc: Global,
+        ledger: &Ledger,
+        tree: &mut Tree,
+        parent: usize,
+        kept: &Kept,
+    ) -> Result<Undo, Stop>
+        requires tree { IsTree tree.old.nodes }
+        requires undos { AreUndos (tree_of tree.old.nodes) tree.old.undos }
+        requires side { IsSide (tree_of tree.old.nodes) tree.old.undos ledger.now.unspent self.old }
+        requires parent { place_of (tree_of tree.old.nodes) kept.now.header.prev ≡ Some parent }
+        requires kept { is_kept (tree_of tree.old.nodes) kept.now.header.prev ≡ true }
+        ensures nodes { tree.new.nodes ≡ tree.old.nodes }
+        ensures undos { AreUndos (tree_of tree.new.nodes) tree.new.undos }
+        ensures records { KeepRecords tree.old.undos tree.new.undos }
+        ensures room { tree.new.room ≡ tree.old.room }
+        ensures ok { IfOk result (λ undo. Tops (tree_of tree.old.nodes) tree.new.undos kept.now undo (changed ledger.now.unspent self.new.overlay)) }
+        ensures side { OnErr result (IsSide (tree_of tree.new.nodes) tree.new.undos ledger.now.unspent self.new) }
+        ensures err { IfErr result (λ stop. (stop.fault ≡ Memory) ⊎ Stops tree.old.nodes kept.now stop.place stop.fault) }
+    {
+        self.reach(alloc, ledger, tree, parent)?;
+        match self.overlay.connect(ledger, kept.block()) {
+            Ok(undo) => Ok(undo),
+            Err(fault) => Err(Stop {
+                place: tree.len(),
+                fault,
+            }),
+        }
+    }
+}
+
+// A branch that ends far below a height is let go: what it keeps grows with all that comes on the tip.
+pub(crate) fn not_far_below(tree: &Tree, side: Option<Side>, height: u32) -> Option<Side>
+    requires tree { IsTree tree.now.nodes }
+    requires side { IfSome side (λ side. side.end < length tree.now.nodes) }
+    ensures { (result ≡ None) ⊎ (result ≡ side) }
+{
+    let side = side?;
+    if height.saturating_sub(tree.node(side.end).height) > MOST_BELOW {
+        return None;
+    }
+    Some(side)
+}
+
+// A branch over a ledger that has changed, where there is one: the record leads back to what the ledger was.
+pub(crate) fn rest_on(side: Option<Side>, undo: &Undo) -> Option<Side>
+    ensures { IfSome result (λ new. (old : Side) × (side ≡ Some old) × IsRested old undo.now new) }
+{
+    side?.rest_on(undo)
+}
+
+// How many steps of the tree lie between two blocks.
+fn distance(tree: &Tree, one: usize, other: usize) -> usize
+    requires tree { IsTree tree.now.nodes }
+    requires one { one < length tree.now.nodes }
+    requires other { other < length tree.now.nodes }
+{
+    let (mut low, mut high) = (one, other);
+    let mut steps = 0usize;
+    while low != high {
+        if low > high {
+            low = tree.node(low).parent;
+        } else {
+            high = tree.node(high).parent;
+        }
+        steps = steps.saturating_add(1);
+    }
+    steps
+}
+
+// Whether there are few.
+fn is_near(tree: &Tree, one: usize, other: usize) -> bool
+    requires tree { IsTree tree.now.nodes }
+    requires one { one < length tree.now.nodes }
+    requires other { other < length tree.now.nodes }
+{
+    let (mut low, mut high) = (one, other);
+    for _ in 0..FEW_STEPS {
+        if low == high {
+            return true;
+        }
+        if low > high {
+            low = tree.node(low).parent;
+        } else {
+            high = tree.node(high).parent;
+        }
+    }
+    low == high
+}
+
+// From where a block is tried: from the branch that was tried last, or from the tip where that is nearer. A branch that
+// isn't near stays where it is when the tip is.
+pub(crate) fn starts_from(
+    alloc: Global,
+    tree: &Tree,
+    tip: usize,
+    side: &mut Option<Side>,
+    parent: usize,
+) -> Side
+    requires tree { IsTree tree.now.nodes }
+    requires tip { tip < length tree.now.nodes }
+    requires parent { parent < length tree.now.nodes }
+    requires side { IfSome side.old (λ side. side.end < length tree.now.nodes) }
+    ensures from { (result ≡ record { end = tip; overlay = [] }) ⊎ (side.old ≡ Some result) }
+    ensures side { (side.new ≡ None) ⊎ (side.new ≡ side.old) }
+{
+    let fresh = Side::at(alloc, tip);
+    let Some(last) = side.take() else {
+        return fresh;
+    };
+    if is_near(tree, last.end, parent) {
+        return last;
+    }
+    if is_near(tree, tip, parent) {
+        *side = Some(last);
+        return fresh;
+    }
+    if distance(tree, last.end, parent) < distance(tree, tip, parent) {
+        return last;
+    }
+    fresh
+}
+
+// Keeps a branch that was tried, where none is kept that was left aside for it.
+pub(crate) fn keep_side(side: &mut Option<Side>, tried: Side)
+    ensures { (side.new ≡ Some tried) ⊎ (side.new ≡ side.old) }
+{
+    if side.is_none() {
+        *side = Some(tried);
+    }
+}

@@ -1,0 +1,163 @@
+ghost use Rattle.std.specs.Prelude.{◌≡◌, ◌<◌, ◌≤◌, ◌^◌, [], length, unwrap_or, All, Err, IfOk, IsOk, IsOkUnless, OnOk, OnErr};
+ghost use Rattle.std.specs.FinMap as map;
+ghost use Rattle.std.specs.HashMap.{spare};
+ghost use Rattle.cb_base.specs.declared.fault.Fault.TheVariants.{Memory};
+ghost use Rattle.cb_ledger.specs.Spend.{spend, Tells};
+ghost use Rattle.cb_ledger.specs.Touched.{Touches};
+ghost use Rattle.cb_ledger.specs.Undo.{LeadsBack, changed, changes_of, set_at};
+ghost use Rattle.cb_ledger.specs.Unspent.{Unspent};
+
+use crate::base::Base;
+use crate::checking::changes_over;
+use crate::ledger::Ledger;
+use crate::undo::{Change, Undo};
+use cb_base::Fault;
+use cb_block::SoundBlock;
+use cb_tx::OutPoint;
+use std::alloc::Global;
+use std::collections::HashMap;
+use std::marker::Model;
+
+/// What blocks change over a ledger that stays as it is: each outpoint that they touch, with what it has after them. It is
+/// seen as the list of these changes.
+#[derive(Debug, Drop)]
+pub struct Overlay {
+    touched: HashMap<OutPoint, Option<i64>>,
+}
+
+impl Model for Overlay {
+    ghost use Rattle.std.specs.Prelude.{List};
+    ghost use Rattle.cb_ledger.specs.Undo.{changes_of};
+    ghost use Rattle.cb_ledger.specs.declared.undo.Change.{Change};
+
+    ghost Value = { List Change };
+
+    ghost view = { λ overlay. changes_of overlay.touched.entries };
+}
+
+// Puts changes over those that are there. There must be room for each of them.
+fn put_over(touched: &mut HashMap<OutPoint, Option<i64>>, changes: &[Change])
+    requires { length changes.now ≤ spare touched.old }
+    ensures { (u : Unspent) → changed u (changes_of touched.new.entries) ≡ changed (changed u (changes_of touched.old.entries)) changes.now }
+{
+    let mut left = changes.len();
+    while left > 0 {
+        left -= 1;
+        let change = changes[left];
+        let had: Result<_, _> = touched.insert(change.point, change.value);
+        had.unwrap();
+    }
+}
+
+// Puts changes under those that are there. There must be room for each of them.
+fn put_under(touched: &mut HashMap<OutPoint, Option<i64>>, changes: &[Change])
+    requires { length changes.now ≤ spare touched.old }
+    ensures { (u : Unspent) → changed u (changes_of touched.new.entries) ≡ changed (changed u changes.now) (changes_of touched.old.entries) }
+{
+    for change in changes {
+        if !touched.contains_key(&change.point) {
+            let had: Result<_, _> = touched.insert(change.point, change.value);
+            had.unwrap();
+        }
+    }
+}
+
+impl Overlay {
+    /// One that changes nothing.
+    pub fn new(alloc: Global) -> Overlay
+        ensures { result ≡ [] }
+    {
+        Overlay {
+            touched: HashMap::new(alloc),
+        }
+    }
+
+    // What the outpoint has after the changes, if they touch it.
+    pub(crate) fn change(&self, point: &OutPoint) -> Option<Option<i64>>
+        ensures { (u : Unspent) → map.get (changed u self.now) point.now ≡ unwrap_or result (map.get u point.now) }
+    {
+        if self.touched.is_empty() {
+            return None;
+        }
+        self.touched.get(point).copied()
+    }
+
+    // What the outpoint has after the changes, over a base.
+    pub(crate) fn value(&self, base: &Base<'_>, point: &OutPoint) -> Option<i64>
+        ensures { result ≡ map.get (changed base.now self.now) point.now }
+    {
+        match self.change(point) {
+            Some(value) => value,
+            None => base.value(point),
+        }
+    }
+
+    // One change more.
+    pub(crate) fn note(&mut self, point: OutPoint, value: Option<i64>) -> Result<(), Fault>
+        ensures ok { OnOk result ((u : Unspent) → changed u self.new ≡ set_at (changed u self.old) point value) }
+        ensures memory { IsOkUnless result Memory }
+    {
+        self.touched.insert(point, value)?;
+        Ok(())
+    }
+
+    /// Connects a block over the ledger and what this has changed so far, as `Ledger::connect` does over a ledger alone: the
+    /// ledger stays as it is. The undo record is what `take_back` takes.
+    pub fn connect(&mut self, ledger: &Ledger, block: &SoundBlock) -> Result<Undo, Fault>
+        requires { All (λ tx. length tx.outputs < 2 ^ 32) block.now.txs }
+        ensures exact { Tells (spend (changed ledger.now.unspent self.old) block.now.txs) (λ _. changed ledger.now.unspent self.new) result }
+        ensures err { OnErr result ((u : Unspent) → changed u self.new ≡ changed u self.old) }
+        ensures undo { IfOk result (λ undo. LeadsBack undo block.now.txs (changed ledger.now.unspent self.old) (changed ledger.now.unspent self.new)) }
+        // No memory is taken before an outpoint is spent or made.
+        ensures unpaid { result ≡ Err Memory → Touches (changed ledger.now.unspent self.old) block.now.txs }
+    {
+        let base = Base::new(ledger, self);
+        let changes = changes_over(ledger.alloc, &base, block)?;
+        let undo = base.values(ledger.alloc, &changes)?;
+        self.take_back(&changes)?;
+        Ok(undo)
+    }
+
+    /// Puts these changes over its own: takes a block back, of which this is the undo record.
+    ///
+    /// The only error is `Fault::Memory`, and only where the record has any: then nothing has changed.
+    pub fn take_back(&mut self, undo: &Undo) -> Result<(), Fault>
+        ensures ok { OnOk result ((u : Unspent) → changed u self.new ≡ changed (changed u self.old) undo.now) }
+        ensures err { OnErr result ((u : Unspent) → changed u self.new ≡ changed u self.old) }
+        ensures none { undo.now ≡ [] → IsOk result }
+        ensures memory { IsOkUnless result Memory }
+    {
+        let changes = undo.changes.as_slice();
+        self.touched.reserve(changes.len())?;
+        put_over(&mut self.touched, changes);
+        Ok(())
+    }
+
+    /// Puts these changes under its own: the ledger below has changed, and they lead from what it is now to what it was.
+    ///
+    /// The only error is `Fault::Memory`, and only where the record has any: then nothing has changed.
+    pub fn rest_on(&mut self, undo: &Undo) -> Result<(), Fault>
+        ensures ok { OnOk result ((u : Unspent) → changed u self.new ≡ changed (changed u undo.now) self.old) }
+        ensures err { OnErr result ((u : Unspent) → changed u self.new ≡ changed u self.old) }
+        ensures none { undo.now ≡ [] → IsOk result }
+        ensures memory { IsOkUnless result Memory }
+    {
+        let changes = undo.changes.as_slice();
+        self.touched.reserve(changes.len())?;
+        put_under(&mut self.touched, changes);
+        Ok(())
+    }
+
+    /// The changes as a record for `Ledger::exchange`. The only error is `Fault::Memory`, and only where there are any.
+    pub fn into_undo(self, alloc: Global) -> Result<Undo, Fault>
+        ensures same { IfOk result (λ undo. undo ≡ self) }
+        ensures none { self ≡ [] → IsOk result }
+        ensures memory { IsOkUnless result Memory }
+    {
+        let mut changes = Vec::with_capacity(alloc, self.touched.len())?;
+        for (point, value) in self.touched {
+            changes.push(Change { point, value })?;
+        }
+        Ok(Undo { changes })
+    }
+}
