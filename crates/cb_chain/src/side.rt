@@ -15,6 +15,9 @@ use std::alloc::Global;
 // So many steps from a block to another are few.
 const FEW_STEPS: usize = 20;
 
+// How often the steps are doubled that are looked at: then they are more than a tree has.
+const DOUBLINGS: usize = 31;
+
 // A branch is kept while it ends at most so far below the tip.
 const MOST_BELOW: u32 = 1_000;
 
@@ -221,33 +224,14 @@ pub(crate) fn rest_on(side: Option<Side>, undo: &Undo) -> Option<Side>
     side?.rest_on(undo)
 }
 
-// How many steps of the tree lie between two blocks.
-fn distance(tree: &Tree, one: usize, other: usize) -> usize
+// Whether at the most so many steps of the tree lie between two blocks.
+fn is_near(tree: &Tree, one: usize, other: usize, steps: usize) -> bool
     requires tree { IsTree tree.now.nodes }
     requires one { one < length tree.now.nodes }
     requires other { other < length tree.now.nodes }
 {
     let (mut low, mut high) = (one, other);
-    let mut steps = 0usize;
-    while low != high {
-        if low > high {
-            low = tree.node(low).parent;
-        } else {
-            high = tree.node(high).parent;
-        }
-        steps = steps.saturating_add(1);
-    }
-    steps
-}
-
-// Whether there are few.
-fn is_near(tree: &Tree, one: usize, other: usize) -> bool
-    requires tree { IsTree tree.now.nodes }
-    requires one { one < length tree.now.nodes }
-    requires other { other < length tree.now.nodes }
-{
-    let (mut low, mut high) = (one, other);
-    for _ in 0..FEW_STEPS {
+    for _ in 0..steps {
         if low == high {
             return true;
         }
@@ -258,6 +242,27 @@ fn is_near(tree: &Tree, one: usize, other: usize) -> bool
         }
     }
     low == high
+}
+
+// Whether a block is found from the end of a branch before it is from the tip, where ever longer ways are looked at: this
+// takes as long as the shorter way is.
+fn is_found_first(tree: &Tree, end: usize, tip: usize, block: usize) -> bool
+    requires tree { IsTree tree.now.nodes }
+    requires end { end < length tree.now.nodes }
+    requires tip { tip < length tree.now.nodes }
+    requires block { block < length tree.now.nodes }
+{
+    let mut steps = FEW_STEPS;
+    for _ in 0..DOUBLINGS {
+        if is_near(tree, end, block, steps) {
+            return true;
+        }
+        if is_near(tree, tip, block, steps) {
+            return false;
+        }
+        steps = steps.saturating_mul(2);
+    }
+    false
 }
 
 // From where a block is tried: from the branch that was tried last, or from the tip where that is nearer. A branch that
@@ -280,14 +285,14 @@ pub(crate) fn starts_from(
     let Some(last) = side.take() else {
         return fresh;
     };
-    if is_near(tree, last.end, parent) {
+    if is_near(tree, last.end, parent, FEW_STEPS) {
         return last;
     }
-    if is_near(tree, tip, parent) {
+    if is_near(tree, tip, parent, FEW_STEPS) {
         *side = Some(last);
         return fresh;
     }
-    if distance(tree, last.end, parent) < distance(tree, tip, parent) {
+    if is_found_first(tree, last.end, tip, parent) {
         return last;
     }
     fresh
