@@ -265,8 +265,8 @@ fn is_found_first(tree: &Tree, end: usize, tip: usize, block: usize) -> bool
     false
 }
 
-// From where a block is tried: from the branch that was tried last, or from the tip where that is nearer. A branch that
-// isn't near stays where it is when the tip is.
+// From where a block is tried. Near the tip it is the tip, and the branch that was tried last stays as it is: what that one
+// changes may be much more than what a few blocks do. Else it is that branch, or the tip where that is nearer.
 pub(crate) fn starts_from(
     alloc: Global,
     tree: &Tree,
@@ -285,9 +285,6 @@ pub(crate) fn starts_from(
     let Some(last) = side.take() else {
         return fresh;
     };
-    if is_near(tree, last.end, parent, FEW_STEPS) {
-        return last;
-    }
     if is_near(tree, tip, parent, FEW_STEPS) {
         *side = Some(last);
         return fresh;
