@@ -30,6 +30,8 @@ SHORT, LONG, TRIES, STEPS = 1_000, 10_000, 8_000, 200_000
 ENDS, OWN = 4, (5, 50)
 # How deep branches fork that overtake each other, how often such are made near the tip, and how often one overtakes far from it.
 NEAR, FAR, ROUNDS, FAR_TURNS = 10, 4_000, 400, 40
+# How often two blocks take the place of one at the tip, each time on the last ones: few times, and many.
+SMALL_TURNS = (500, 8_000)
 # How many blocks extend the tip, how many of them behind each side branch that is tried, and in how many turns of the programs.
 EXTENDED, BEHIND, EXTENDED_TURNS = 20_000, 500, 3 * RUNS
 
@@ -337,6 +339,17 @@ def near_turns():
     return Play(as_records(whole), as_records(ground))
 
 
+def small_turns(count):
+    """Two blocks on the tip, and then a second one on the later of them, which puts the first one off: so often, each on the last."""
+    marks, tip, blocks = Marks(), GENESIS, []
+    for _ in range(count):
+        [first] = branch(marks, tip, 1)
+        other = branch(marks, tip, 2)
+        blocks += [first, *other]
+        tip = other[-1].name
+    return behind(b"", as_records(blocks))
+
+
 def extending(is_beside):
     """Blocks that extend the tip; now and then a branch of one block beside it is tried, so that one is kept all the time."""
     marks = Marks()
@@ -387,6 +400,8 @@ class Beside:
     def tell_turns(self):
         self.tell(f"a turn of two branches that overtake each other, {NEAR} and {FAR:,} blocks deep",
                   lambda _: [(near_turns(), ROUNDS * (NEAR + 1)), (far_turns(), FAR_TURNS)])
+        self.tell(f"two blocks that take the place of one at the tip, {SMALL_TURNS[0]:,} and {SMALL_TURNS[1]:,} times",
+                  lambda _: [(small_turns(count), count) for count in SMALL_TURNS])
         self.tell("a block that extends the tip, beside no branch and beside one that was tried below it",
                   lambda _: [(extending(is_beside), EXTENDED) for is_beside in (False, True)], EXTENDED_TURNS)
 

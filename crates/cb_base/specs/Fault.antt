@@ -2,7 +2,7 @@
 use Rattle.std.specs.Prelude.{ℕ, List, [], ◌++◌, codes}
 use Rattle.std.specs.Fmt.{decimal}
 use Rattle.cb_base.specs.declared.fault.Fault.{Fault}
-use Rattle.cb_base.specs.declared.fault.Fault.TheVariants.{Memory, Truncated, NotShortest, TooMany, BadTx, BadRoot, Mutated, Size64, Empty, BadCoinbase, BadWork, BadMagic, Oversize, Trailing, BadBool, BadIndex, WrongCount, Known, NoInput, PoolFull, Overspent, Remade, NoParent, BadParent, JournalFull, NotEnabled, Full}
+use Rattle.cb_base.specs.declared.fault.Fault.TheVariants.{Memory, Truncated, NotShortest, TooMany, BadTx, BadRoot, Mutated, Size64, Empty, BadCoinbase, BadWork, BadMagic, Oversize, Trailing, BadBool, BadIndex, WrongCount, Known, NoInput, PoolFull, Overspent, Remade, NoParent, BadParent, JournalFull, NotEnabled, Full, NoMore}
 use Rattle.cb_base.specs.declared.fault.TxRule.{TxRule}
 use Rattle.cb_base.specs.declared.fault.TxRule.TheVariants.{NoInputs, NoOutputs, TooLong, BadValue, BadSum, RepeatedInput, BadCoinbaseScript, NullInput}
 
@@ -45,6 +45,7 @@ fault_number BadParent = 24
 fault_number JournalFull = 25
 fault_number NotEnabled = 26
 fault_number Full = 27
+fault_number NoMore = 28
 
 abbrev pub fault_name : Fault → List ℕ
 fault_name Memory = codes "Memory"
@@ -74,6 +75,7 @@ fault_name BadParent = codes "BadParent"
 fault_name JournalFull = codes "JournalFull"
 fault_name NotEnabled = codes "NotEnabled"
 fault_name Full = codes "Full"
+fault_name NoMore = codes "NoMore"
 
 -- what a fault of a transaction says beyond its name: a space and the rule's number
 abbrev pub fault_detail : Fault → List ℕ

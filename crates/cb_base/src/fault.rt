@@ -102,12 +102,14 @@ pub enum Fault {
     NotEnabled,
     /// An inbox was full.
     Full,
+    /// A slot has served its 256 connections, or a peer is at its last generation.
+    NoMore,
 }
 
 impl Fault {
     ghost use Rattle.cb_base.specs.Fault.{fault_number, fault_name};
 
-    /// The fault's number, 1 to 27.
+    /// The fault's number, 1 to 28.
     pub fn number(&self) -> u8
         ensures { result ≡ fault_number self.now }
     {
@@ -139,6 +141,7 @@ impl Fault {
             Fault::JournalFull => 25,
             Fault::NotEnabled => 26,
             Fault::Full => 27,
+            Fault::NoMore => 28,
         }
     }
 
@@ -174,6 +177,7 @@ impl Fault {
             Fault::JournalFull => "JournalFull",
             Fault::NotEnabled => "NotEnabled",
             Fault::Full => "Full",
+            Fault::NoMore => "NoMore",
         }
     }
 }

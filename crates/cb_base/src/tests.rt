@@ -45,6 +45,7 @@ fn faults_are_printed_by_number_and_name(rt: HostRuntime) -> Result<(), Fail> {
         "F5 BadTx 3"
     );
     assert_eq!(rt; Fault::Full.number(), 27);
+    assert_eq!(rt; Fault::NoMore.number(), 28);
     assert_eq!(rt; Fault::Full.name(), "Full");
     assert_eq!(rt; TxRule::NullInput.number(), 8);
     Ok(())

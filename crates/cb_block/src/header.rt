@@ -131,12 +131,24 @@ fn meets_target(hash: &[u8]) -> bool
     high < 0x7f_ffff
 }
 
+/// The hash of a header that has the network's bits, where it meets their target: else `Fault::BadWork`.
+pub fn hash_with_work(header: &Header) -> Result<Hash256, Fault>
+    ensures { MatchResult result (λ hash. (hash ≡ double_hash (header_text header.now)) × HasWork header.now) (λ fault. (fault ≡ BadWork) × (¬ HasWork header.now)) }
+{
+    if header.bits != BITS {
+        return Err(Fault::BadWork);
+    }
+    let hash = header.hash();
+    if !meets_target(hash.0.as_slice()) {
+        return Err(Fault::BadWork);
+    }
+    Ok(hash)
+}
+
 /// Whether the header has the network's bits and a hash that meets their target: else `Fault::BadWork`.
 pub fn check_header(header: &Header) -> Result<(), Fault>
     ensures { MatchResult result (λ _. HasWork header.now) (λ fault. (fault ≡ BadWork) × (¬ HasWork header.now)) }
 {
-    if header.bits != BITS || !meets_target(header.hash().0.as_slice()) {
-        return Err(Fault::BadWork);
-    }
+    hash_with_work(header)?;
     Ok(())
 }

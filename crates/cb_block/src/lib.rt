@@ -12,7 +12,7 @@ mod tree;
 
 pub use block::{Block, Txs};
 pub use coding::{read_block, write_block};
-pub use header::{BITS, Header, check_header, read_header};
+pub use header::{BITS, Header, check_header, hash_with_work, read_header};
 pub use law::{
     beginning_of_block_is_truncated, beginning_of_header_is_truncated, one_block_text, one_root,
     one_sound_list,

@@ -17,7 +17,7 @@ use Rattle.cb_chain.proofs.Marks.{kept_itself, kept_under, leads_none, leads_und
 use Rattle.cb_chain.proofs.Nodes.{chosen, get_front, reverse_cons, same-refl, same-true}
 use Rattle.cb_chain.proofs.Places.{eq_less, eq_more, eq_same, eq_true, get_set, node_snoc, same_each}
 use Rattle.cb_chain.proofs.Tries.{parent_low}
-use Rattle.cb_chain.proofs.Ways.{kept_place}
+use Rattle.cb_chain.proofs.PathsDown.{kept_place}
 
 -- ---- how often a place stands in a list
 

@@ -14,7 +14,7 @@ use Rattle.cb_chain.specs.Best.{active, best}
 use Rattle.cb_chain.specs.Following.{above_branch, stands_at}
 use Rattle.cb_chain.specs.Keeping.{Step, tree_of, place_of, way, climb, IsFork, IsTree}
 use Rattle.cb_chain.proofs.Nodes.{same-true, same-refl, reverse_cons, reverse_push}
-use Rattle.cb_chain.proofs.Ways.{header_of, place_at, line_of, IsKeptAt, Leads, Leads-unique, named, leads, leads_at, branch_way, active_way, length_active, kept_at, kept_place, same_kept, Active, active_at, active_past, low_reversed, node_named}
+use Rattle.cb_chain.proofs.PathsDown.{header_of, place_at, line_of, IsKeptAt, Leads, Leads-unique, named, leads, leads_at, branch_way, active_way, length_active, kept_at, kept_place, same_kept, Active, active_at, active_past, low_reversed, node_named}
 
 -- ---- down a branch, as long as it isn't the active chain
 

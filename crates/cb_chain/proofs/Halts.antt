@@ -5,7 +5,7 @@ use Rattle.cb_base.specs.declared.fault.Fault.{Fault}
 use Rattle.cb_base.specs.declared.fault.Fault.TheVariants.{Memory}
 use Rattle.cb_base.specs.declared.hash.Hash256.{Hash256}
 use Rattle.cb_block.specs.declared.block.Block.{Block}
-use Rattle.cb_ledger.specs.declared.undo.Change.{Change}
+use Rattle.cb_ledger.specs.declared.undo.CoinChange.{CoinChange}
 use Rattle.cb_ledger.specs.Unspent.{Unspent}
 use Rattle.cb_chain.specs.declared.node.Node.{Node}
 use Rattle.cb_chain.specs.declared.side.Side.{Side}
@@ -14,7 +14,7 @@ use Rattle.cb_chain.specs.Calls.{block_entry, joined, marked_above}
 use Rattle.cb_chain.specs.Entries.{Entry, Tree, block_hash, is_kept}
 use Rattle.cb_chain.specs.Keeping.{IsTree, block_at, entry_from, tree_of}
 use Rattle.cb_chain.specs.Sides.{IsChain, Stops, below, here}
-use Rattle.cb_chain.proofs.Aside.{unspent_own}
+use Rattle.cb_chain.proofs.SideNodes.{unspent_own}
 use Rattle.cb_chain.proofs.NewTip.{best_other, joined_err}
 use Rattle.cb_chain.proofs.Nodes.{found, get_front, get_last, tree_grown}
 use Rattle.cb_chain.proofs.Planning.{Answer}
@@ -69,18 +69,18 @@ abbrev kept_err : Fault → Tree → Result Answer Fault × Tree
 kept_err fault tree = (Err fault, tree)
 
 -- what the code leaves, and answers
-pub record IsLeft (old new : Tree) (block : Block) (fault : Fault) (path : List ℕ) (undos : List (Option (List Change))) (unspent : Unspent) (side : Option Side) : Type 0 where
+pub record IsLeft (old new : Tree) (block : Block) (fault : Fault) (path : List ℕ) (undos : List (Option (List CoinChange))) (unspent : Unspent) (side : Option Side) : Type 0 where
   pub chain : IsChain new path undos unspent side
   pub answer : ((fault ≡ Memory) × (new ≡ old)) ⊎ ((Err fault, new) ≡ joined old block)
 
-pub left : (nodes now_nodes : List Node) (block : Block) (node : Node) (path : List ℕ) (undos now_undos : List (Option (List Change))) (unspent : Unspent) (side : Option Side) (place : ℕ) (fault : Fault) → IsTree nodes
+pub left : (nodes now_nodes : List Node) (block : Block) (node : Node) (path : List ℕ) (undos now_undos : List (Option (List CoinChange))) (unspent : Unspent) (side : Option Side) (place : ℕ) (fault : Fault) → IsTree nodes
     → entry_from node ≡ block_entry block → is_kept (tree_of nodes) (block_hash block.header) ≡ false → is_higher (block_entry block ∷ tree_of nodes) (block_hash block.header) (best (tree_of nodes)) ≡ true
     → IsChain (tree_of nodes) path undos unspent side → (fault ≡ Memory) ⊎ IsHalted nodes block node place fault
     → ((fault ≡ Memory) × (now_nodes ≡ nodes) × (now_undos ≡ undos)) ⊎ ((fault ≢ Memory) × (now_undos ≡ undos ++ None ∷ [])
     × ((first : Node) → slice_get (nodes ++ node ∷ []) place ≡ Some first → tree_of now_nodes ≡ marked_above first.hash (tree_of (nodes ++ node ∷ []))))
     → IsLeft (tree_of nodes) (tree_of now_nodes) block fault path now_undos unspent side
 left nodes now_nodes block node path undos now_undos unspent side place fault is entry once higher chain why (inl w) =
-    let same_undos : IsChain (tree_of nodes) path now_undos unspent side = subst (λ (us : List (Option (List Change))). IsChain (tree_of nodes) path us unspent side) (sym w.2) chain in
+    let same_undos : IsChain (tree_of nodes) path now_undos unspent side = subst (λ (us : List (Option (List CoinChange))). IsChain (tree_of nodes) path us unspent side) (sym w.2) chain in
     record {
       chain = subst (λ (ns : List Node). IsChain (tree_of ns) path now_undos unspent side) (sym w.1) same_undos;
       answer = inl (w.0, ap tree_of w.1);
@@ -95,7 +95,7 @@ left nodes now_nodes block node path undos now_undos unspent side place fault is
     let stays : best new ≡ best tree = best_other (block_entry block) tree (faulty first fault) halt.stops in
     let with_it : IsChain new path (undos ++ None ∷ []) unspent side = chain_aside (block_entry block) tree path undos unspent side once stays chain in
     let marked_chain : IsChain (marked_above first new) path (undos ++ None ∷ []) unspent side = chain_marked first new path (undos ++ None ∷ []) unspent side with_it in
-    let same_undos : IsChain (marked_above first new) path now_undos unspent side = subst (λ (us : List (Option (List Change))). IsChain (marked_above first new) path us unspent side) (sym w.1) marked_chain in
+    let same_undos : IsChain (marked_above first new) path now_undos unspent side = subst (λ (us : List (Option (List CoinChange))). IsChain (marked_above first new) path us unspent side) (sym w.1) marked_chain in
     record {
       chain = subst (λ (t : Tree). IsChain t path now_undos unspent side) (sym marked) same_undos;
       answer = inr (ap (kept_err fault) marked ∙ sym (joined_err tree block first fault higher halt.stops));

@@ -12,7 +12,7 @@ use Rattle.cb_chain.specs.Best.{active, best, branch}
 use Rattle.cb_chain.specs.Following.{above_branch, headers_above, place_in, start_of, up_to}
 use Rattle.cb_chain.specs.Keeping.{tree_of, place_of, way, active_places, IsFork, IsTree}
 use Rattle.cb_chain.proofs.Nodes.{same-true, same-refl, same-symm, found}
-use Rattle.cb_chain.proofs.Ways.{Active, active_at, active_past, active_slot, node_named, slot_is, slot_within, length_active, length_places}
+use Rattle.cb_chain.proofs.PathsDown.{Active, active_at, active_past, active_slot, node_named, slot_is, slot_within, length_active, length_places}
 
 -- ---- the height of a hash among headers
 

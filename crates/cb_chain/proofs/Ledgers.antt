@@ -3,7 +3,7 @@ use Rattle.std.proofs.Common.{◌≡◌, ℕ, suc, ◌-◌, false, List, [], ◌
 use Rattle.std.specs.Prelude.{slice_get, unwrap_or, IfSome, Ok}
 use Rattle.std.proofs.lemmas.Option.{same_Some}
 use Rattle.cb_block.specs.declared.block.Block.{Block}
-use Rattle.cb_ledger.specs.declared.undo.Change.{Change}
+use Rattle.cb_ledger.specs.declared.undo.CoinChange.{CoinChange}
 use Rattle.cb_ledger.specs.Undo.{changed}
 use Rattle.cb_ledger.specs.Unspent.{Unspent}
 use Rattle.cb_chain.specs.declared.side.Side.{Side}
@@ -12,21 +12,21 @@ use Rattle.cb_chain.specs.Calls.{block_entry}
 use Rattle.cb_chain.specs.Entries.{Entry, Tree, block_hash, is_kept}
 use Rattle.cb_chain.specs.Keeping.{active_places}
 use Rattle.cb_chain.specs.Sides.{IsChain, IsRested, IsSide, IsUndo, RestsOn, Tops, WasConnected, left, stays}
-use Rattle.cb_chain.proofs.Aside.{unspent_own}
+use Rattle.cb_chain.proofs.SideNodes.{unspent_own}
 use Rattle.cb_chain.proofs.Nodes.{same-refl}
 use Rattle.cb_chain.proofs.Parents.{spent_more}
 use Rattle.cb_chain.proofs.Undos.{connected_more, left_side, record_last, stays_side, undos_more}
 
 -- ---- the branch that was tried last
 
-rested_over : (before after : Unspent) (back : List Change) (old new : Side) → changed after back ≡ before → IsRested old back new → changed after new.overlay ≡ changed before old.overlay
+rested_over : (before after : Unspent) (back : List CoinChange) (old new : Side) → changed after back ≡ before → IsRested old back new → changed after new.overlay ≡ changed before old.overlay
 rested_over before after back old new is rested = rested.over after ∙ ap (λ (u : Unspent). changed u old.overlay) is
 
-pub nothing_over : (u : Unspent) (changes : List Change) → changes ≡ [] → changed u changes ≡ u
+pub nothing_over : (u : Unspent) (changes : List CoinChange) → changes ≡ [] → changed u changes ≡ u
 unfolding changed
 nothing_over u changes none = rw none refl
 
-rested_one : (path : List ℕ) (before after : Unspent) (back : List Change) (old : Option Side) (last fresh new : Side) → changed after back ≡ before → last ≡ unwrap_or old fresh → slice_get path (length path - 1) ≡ Some fresh.end
+rested_one : (path : List ℕ) (before after : Unspent) (back : List CoinChange) (old : Option Side) (last fresh new : Side) → changed after back ≡ before → last ≡ unwrap_or old fresh → slice_get path (length path - 1) ≡ Some fresh.end
     → fresh.overlay ≡ [] → IsRested last back new → RestsOn path before after old new
 rested_one path before after back None last fresh new is last_is tip none rested =
     left (tip ∙ ap Some (sym (rested.end ∙ ap (λ (s : Side). s.end) last_is)))
@@ -34,14 +34,14 @@ rested_one path before after back None last fresh new is last_is tip none rested
 rested_one path before after back (Some side) last fresh new is last_is tip none rested =
     stays side refl (rested.end ∙ ap (λ (s : Side). s.end) last_is) (rested_over before after back last new is rested ∙ ap (λ (s : Side). changed before s.overlay) last_is)
 
-pub rests : (path : List ℕ) (before after : Unspent) (back : List Change) (old : Option Side) (last fresh : Side) (new : Option Side) → changed after back ≡ before → last ≡ unwrap_or old fresh
+pub rests : (path : List ℕ) (before after : Unspent) (back : List CoinChange) (old : Option Side) (last fresh : Side) (new : Option Side) → changed after back ≡ before → last ≡ unwrap_or old fresh
     → slice_get path (length path - 1) ≡ Some fresh.end → fresh.overlay ≡ [] → IfSome new (λ (side : Side). (o : Side) × (Some last ≡ Some o) × IsRested o back side) → IfSome new (RestsOn path before after old)
 rests path before after back old last fresh None is last_is tip none rested = tt
 rests path before after back old last fresh (Some new) is last_is tip none rested =
     rested_one path before after back old last fresh new is last_is tip none (subst (λ (s : Side). IsRested s back new) (sym (same_Some last rested.0 rested.1)) rested.2)
 
 -- the same of a branch that was there
-pub rests_still : (path : List ℕ) (before after : Unspent) (back : List Change) (old new : Option Side) → changed after back ≡ before → IfSome new (λ (side : Side). (o : Side) × (old ≡ Some o) × IsRested o back side)
+pub rests_still : (path : List ℕ) (before after : Unspent) (back : List CoinChange) (old new : Option Side) → changed after back ≡ before → IfSome new (λ (side : Side). (o : Side) × (old ≡ Some o) × IsRested o back side)
     → IfSome new (RestsOn path before after old)
 rests_still path before after back old None is rested = tt
 rests_still path before after back old (Some new) is rested = stays rested.0 rested.1 rested.2.end (rested_over before after back rested.0 new is rested.2)
@@ -59,13 +59,13 @@ rests_let_go path before after old kept (Some new) why rests = rests_one path be
 -- ---- under the new tip
 
 module _ (entry : Entry) (older : Tree) (once : is_kept older (block_hash entry.header) ≡ false) where
-  side_rests : (path : List ℕ) (undos : List (Option (List Change))) (undo : Option (List Change)) (before after : Unspent) (old : Option Side) (new : Side) → path ≡ active_places older → unspent_after older (best older) ≡ Ok before
+  side_rests : (path : List ℕ) (undos : List (Option (List CoinChange))) (undo : Option (List CoinChange)) (before after : Unspent) (old : Option Side) (new : Side) → path ≡ active_places older → unspent_after older (best older) ≡ Ok before
       → WasConnected older undos (best older) → IfSome old (IsSide older undos before) → RestsOn path before after old new → IsSide (entry ∷ older) (undos ++ undo ∷ []) after new
   side_rests path undos undo before after old new places spent tip is (stays side old_is end over) =
       stays_side entry older once undos undo before after side new (subst (λ (o : Option Side). IfSome o (IsSide older undos before)) old_is is) end over
   side_rests path undos undo before after old new places spent tip is (left end over) = left_side entry older once path undos undo before after new places spent tip end over
 
-  pub sides_rest : (path : List ℕ) (undos : List (Option (List Change))) (undo : Option (List Change)) (before after : Unspent) (old new : Option Side) → path ≡ active_places older → unspent_after older (best older) ≡ Ok before
+  pub sides_rest : (path : List ℕ) (undos : List (Option (List CoinChange))) (undo : Option (List CoinChange)) (before after : Unspent) (old new : Option Side) → path ≡ active_places older → unspent_after older (best older) ≡ Ok before
       → WasConnected older undos (best older) → IfSome old (IsSide older undos before) → IfSome new (RestsOn path before after old) → IfSome new (IsSide (entry ∷ older) (undos ++ undo ∷ []) after)
   sides_rest path undos undo before after old None places spent tip is rest = tt
   sides_rest path undos undo before after old (Some new) places spent tip is rest = side_rests path undos undo before after old new places spent tip is rest
@@ -73,12 +73,12 @@ module _ (entry : Entry) (older : Tree) (once : is_kept older (block_hash entry.
 -- ---- the new tip
 
 -- what is unspent after it
-pub tops_spent : (older : Tree) (undos : List (Option (List Change))) (block : Block) (changes : List Change) (after : Unspent) → Tops older undos block changes after
+pub tops_spent : (older : Tree) (undos : List (Option (List CoinChange))) (block : Block) (changes : List CoinChange) (after : Unspent) → Tops older undos block changes after
     → unspent_after (block_entry block ∷ older) (block_hash block.header) ≡ Ok after
 tops_spent older undos block changes after is =
     unspent_own (block_entry block) older ∙ ap (then_spend (block_entry block)) is.below ∙ ap (stopped_at (block_hash block.header)) is.leads.spent
 
-tops_undo : (older : Tree) (undos : List (Option (List Change))) (block : Block) (changes : List Change) (after : Unspent) → is_kept older (block_hash block.header) ≡ false → Tops older undos block changes after
+tops_undo : (older : Tree) (undos : List (Option (List CoinChange))) (block : Block) (changes : List CoinChange) (after : Unspent) → is_kept older (block_hash block.header) ≡ false → Tops older undos block changes after
     → IsUndo (block_entry block ∷ older) (undos ++ Some changes ∷ []) (block_hash block.header) changes
 tops_undo older undos block changes after once is =
     let entry = block_entry block in
@@ -96,7 +96,7 @@ tops_undo older undos block changes after once is =
     }
 
 -- the chain with its new tip
-pub chain_led : (older : Tree) (undos : List (Option (List Change))) (block : Block) (changes : List Change) (before after : Unspent) (path now : List ℕ) (old new : Option Side) → is_kept older (block_hash block.header) ≡ false
+pub chain_led : (older : Tree) (undos : List (Option (List CoinChange))) (block : Block) (changes : List CoinChange) (before after : Unspent) (path now : List ℕ) (old new : Option Side) → is_kept older (block_hash block.header) ≡ false
     → IsChain older path undos before old → Tops older undos block changes after → now ≡ active_places (block_entry block ∷ older) → best (block_entry block ∷ older) ≡ block_hash block.header
     → IfSome new (RestsOn path before after old) → IsChain (block_entry block ∷ older) now (undos ++ Some changes ∷ []) after new
 chain_led older undos block changes before after path now old new once is tops places tip rest =

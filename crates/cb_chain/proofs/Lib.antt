@@ -1,4 +1,3 @@
-pub mod Aside
 pub mod Branches
 pub mod Forks
 pub mod Halts
@@ -15,14 +14,15 @@ pub mod Once
 pub mod Outcomes
 pub mod Parents
 pub mod Partings
+pub mod PathsDown
 pub mod Places
 pub mod Planning
 pub mod Reached
 pub mod Reasons
 pub mod Roots
+pub mod SideNodes
 pub mod Starts
 pub mod Steps
 pub mod Tips
 pub mod Tries
 pub mod Undos
-pub mod Ways

@@ -13,7 +13,7 @@ use Rattle.cb_chain.specs.Entries.{Tree, block_hash}
 use Rattle.cb_chain.specs.Best.{active}
 use Rattle.cb_chain.specs.Keeping.{IsTree, active_places, tree_of}
 use Rattle.cb_chain.specs.Locator.{depth_of, heights_from, locator_heights, locator_of}
-use Rattle.cb_chain.proofs.Ways.{active_slot, length_active, length_places}
+use Rattle.cb_chain.proofs.PathsDown.{active_slot, length_active, length_places}
 
 -- ---- depths below the tip
 

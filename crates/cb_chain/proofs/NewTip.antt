@@ -22,7 +22,7 @@ use Rattle.cb_chain.proofs.Partings.{agree, fork_back, fork_parts}
 use Rattle.cb_chain.proofs.Planning.{Answer, changes_same, map_map}
 use Rattle.cb_chain.proofs.Steps.{branch_climb, height_climb}
 use Rattle.cb_chain.proofs.Tips.{known_best}
-use Rattle.cb_chain.proofs.Ways.{active_way}
+use Rattle.cb_chain.proofs.PathsDown.{active_way}
 
 -- ---- one entry more
 

@@ -9,7 +9,7 @@ use Rattle.cb_chain.specs.declared.node.Node.{Node}
 use Rattle.cb_chain.specs.Best.{then_spend, unspent_after}
 use Rattle.cb_chain.specs.Entries.{Entry, Tree, block_hash, is_kept, same}
 use Rattle.cb_chain.specs.Keeping.{AreNodes, IsNode, IsTree, entry_from, place_of, tree_of}
-use Rattle.cb_chain.proofs.Aside.{kept_other, unspent_own}
+use Rattle.cb_chain.proofs.SideNodes.{kept_other, unspent_own}
 use Rattle.cb_chain.proofs.Places.{eq_true, node_snoc, place_low}
 use Rattle.cb_chain.proofs.Nodes.{same-refl}
 

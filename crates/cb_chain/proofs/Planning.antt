@@ -14,7 +14,7 @@ use Rattle.cb_chain.specs.Keeping.{IsTree, Step, active_places, climb, place_of,
 use Rattle.cb_chain.specs.Plans.{change_at, hash_at}
 use Rattle.cb_chain.proofs.Nodes.{found}
 use Rattle.cb_chain.proofs.Steps.{Stands, all_drop, all_more, same_map, steps_stand}
-use Rattle.cb_chain.proofs.Ways.{active_way}
+use Rattle.cb_chain.proofs.PathsDown.{active_way}
 
 -- what a call answers
 abbrev pub Answer : Type 0

@@ -12,7 +12,7 @@ use Rattle.cb_chain.specs.Entries.{Entry, Tree, block_hash, same, height_of, is_
 use Rattle.cb_chain.specs.Best.{branch}
 use Rattle.cb_chain.specs.Keeping.{AreNodes, IsTree, Step, climb, entry_from, place_of, tree_of, way}
 use Rattle.cb_chain.proofs.Nodes.{get_front, get_last, map_reverse, reverse_cons, reverse_push}
-use Rattle.cb_chain.proofs.Ways.{branch_way, height_way}
+use Rattle.cb_chain.proofs.PathsDown.{branch_way, height_way}
 
 -- ---- what holds of each
 

@@ -7,7 +7,7 @@ use Rattle.std.proofs.lemmas.List.{get_or_push, map-append}
 use Rattle.std.specs.List.{All}
 use Rattle.std.proofs.lemmas.List.Elements.{All-nil, All-cons, All-append, All-map}
 use Rattle.cb_base.specs.declared.hash.Hash256.{Hash256}
-use Rattle.cb_ledger.specs.declared.undo.Change.{Change}
+use Rattle.cb_ledger.specs.declared.undo.CoinChange.{CoinChange}
 use Rattle.cb_ledger.specs.Unspent.{Unspent}
 use Rattle.cb_chain.specs.Entries.{Entry, Tree, block_hash, genesis_hash, height_of, same}
 use Rattle.cb_chain.specs.Best.{best, is_higher, unspent_after}
@@ -18,7 +18,7 @@ use Rattle.cb_chain.proofs.Nodes.{same-refl, chosen, found, length_tree, reverse
 
 -- ---- a new chain
 
-no_record : (place : ℕ) (changes : List Change) → record_at (None ∷ []) place ≡ Some changes → ⊥
+no_record : (place : ℕ) (changes : List CoinChange) → record_at (None ∷ []) place ≡ Some changes → ⊥
 no_record zero changes has = let none : None ≡ Some changes = has in cc
 no_record (suc place) changes has = let none : None ≡ Some changes = has in cc
 
@@ -35,7 +35,7 @@ alone =
       side_is = tt;
     }
 
-pub chain_first : (tree : Tree) (path : List ℕ) (undos : List (Option (List Change))) (unspent : Unspent) → tree ≡ [] → path ≡ 0 ∷ [] → undos ≡ None ∷ [] → unspent ≡ finite.empty → IsChain tree path undos unspent None
+pub chain_first : (tree : Tree) (path : List ℕ) (undos : List (Option (List CoinChange))) (unspent : Unspent) → tree ≡ [] → path ≡ 0 ∷ [] → undos ≡ None ∷ [] → unspent ≡ finite.empty → IsChain tree path undos unspent None
 chain_first tree path undos unspent bare first unnoted nothing = rw (bare, first, unnoted, nothing) alone
 
 -- ---- the tip is known

@@ -8,7 +8,7 @@ use Rattle.std.proofs.Math.ListN.{set}
 use Rattle.cb_base.specs.declared.fault.Fault.{Fault}
 use Rattle.cb_base.specs.declared.hash.Hash256.{Hash256}
 use Rattle.cb_block.specs.declared.block.Block.{Block}
-use Rattle.cb_ledger.specs.declared.undo.Change.{Change}
+use Rattle.cb_ledger.specs.declared.undo.CoinChange.{CoinChange}
 use Rattle.cb_ledger.specs.Spend.{spend}
 use Rattle.cb_ledger.specs.Undo.{LeadsBack, changed}
 use Rattle.cb_ledger.specs.Unspent.{Unspent}
@@ -22,14 +22,14 @@ use Rattle.cb_chain.proofs.Places.{place_low}
 use Rattle.cb_chain.proofs.Nodes.{found, length_tree, reverse_push}
 use Rattle.cb_chain.proofs.Parents.{HasParent, has_parent}
 use Rattle.cb_chain.proofs.Undos.{has_still, place_one, record_set, undos_noted}
-use Rattle.cb_chain.proofs.Ways.{IsKeptAt, Leads, kept_at, kept_place, leads_at, node_named}
+use Rattle.cb_chain.proofs.PathsDown.{IsKeptAt, Leads, kept_at, kept_place, leads_at, node_named}
 
 -- ---- a node and its hash
 
-pub side_place : (tree : Tree) (undos : List (Option (List Change))) (unspent : Unspent) (side : Side) → (is : IsSide tree undos unspent side) → place_of tree is.hash ≡ Some side.end
+pub side_place : (tree : Tree) (undos : List (Option (List CoinChange))) (unspent : Unspent) (side : Side) → (is : IsSide tree undos unspent side) → place_of tree is.hash ≡ Some side.end
 side_place tree undos unspent side is = is.connected.at ∙ ap Some is.end
 
-pub side_low : (tree : Tree) (undos : List (Option (List Change))) (unspent : Unspent) (side : Side) → IsSide tree undos unspent side → side.end < suc (length tree)
+pub side_low : (tree : Tree) (undos : List (Option (List CoinChange))) (unspent : Unspent) (side : Side) → IsSide tree undos unspent side → side.end < suc (length tree)
 side_low tree undos unspent side is = place_low tree is.hash side.end (side_place tree undos unspent side is)
 
 prev_at : (nodes : List Node) (hash : Hash256) (place : ℕ) (node : Node) → IsTree nodes → place_of (tree_of nodes) hash ≡ Some place → slice_get nodes place ≡ Some node → prev_of (tree_of nodes) hash ≡ Some node.header.prev
@@ -48,14 +48,14 @@ same_kept nodes place node at k = ap (λ (n : Node). is_some n.kept) (same_Some 
 -- ---- the last block is taken back
 
 -- above the first block there is a record
-pub no_record : (tree : Tree) (undos : List (Option (List Change))) (unspent : Unspent) (side : Side) → IsSide tree undos unspent side → 0 < side.end → record_at undos side.end ≡ None → ⊥
+pub no_record : (tree : Tree) (undos : List (Option (List CoinChange))) (unspent : Unspent) (side : Side) → IsSide tree undos unspent side → 0 < side.end → record_at undos side.end ≡ None → ⊥
 no_record tree undos unspent side is some none =
     elim is.connected.has [
       | inl first ↦ omega (arith, some, first, is.end)
       | inr has ↦ let clash : None ≡ Some has.0 = sym none ∙ ap (record_at undos) (sym is.end) ∙ has.1 in cc
     ]
 
-pub lowered : (nodes : List Node) (undos : List (Option (List Change))) (unspent : Unspent) (old new : Side) (node : Node) (changes : List Change) → IsTree nodes → AreUndos (tree_of nodes) undos
+pub lowered : (nodes : List Node) (undos : List (Option (List CoinChange))) (unspent : Unspent) (old new : Side) (node : Node) (changes : List CoinChange) → IsTree nodes → AreUndos (tree_of nodes) undos
     → slice_get nodes old.end ≡ Some node → 0 < old.end → record_at undos old.end ≡ Some changes → new.end ≡ node.parent
     → ((u : Unspent) → changed u new.overlay ≡ changed (changed u old.overlay) changes) → IsSide (tree_of nodes) undos unspent old → IsSide (tree_of nodes) undos unspent new
 lowered nodes undos unspent old new node changes is are at some has end_is over side =
@@ -73,38 +73,38 @@ lowered nodes undos unspent old new node changes is are at some has end_is over 
     }
 
 -- the parent of the last block stands before it
-pub lowers : (nodes : List Node) (undos : List (Option (List Change))) (unspent : Unspent) (side : Side) (node : Node) → IsTree nodes → IsSide (tree_of nodes) undos unspent side → slice_get nodes side.end ≡ Some node → 0 < side.end
+pub lowers : (nodes : List Node) (undos : List (Option (List CoinChange))) (unspent : Unspent) (side : Side) (node : Node) → IsTree nodes → IsSide (tree_of nodes) undos unspent side → slice_get nodes side.end ≡ Some node → 0 < side.end
     → node.parent < side.end
 lowers nodes undos unspent side node is s at some =
     let tree = tree_of nodes in
     (has_parent nodes side.end node is at some (same_kept nodes side.end node at (kept_at nodes s.hash side.end is (side_place tree undos unspent side s) s.connected.kept))).low
 
 -- changes that lead alike
-pub side_like : (tree : Tree) (undos : List (Option (List Change))) (unspent : Unspent) (old new : Side) → new.end ≡ old.end → changed unspent new.overlay ≡ changed unspent old.overlay → IsSide tree undos unspent old → IsSide tree undos unspent new
+pub side_like : (tree : Tree) (undos : List (Option (List CoinChange))) (unspent : Unspent) (old new : Side) → new.end ≡ old.end → changed unspent new.overlay ≡ changed unspent old.overlay → IsSide tree undos unspent old → IsSide tree undos unspent new
 side_like tree undos unspent old new end_is like side =
     record { hash = side.hash; connected = side.connected; end = side.end ∙ sym end_is; after = side.after ∙ ap Ok (sym like) }
 
 -- ---- the next block is connected
 
-record_here : (undos : List (Option (List Change))) (place : ℕ) (changes : List Change) → place < length undos → record_at (set undos place (Some changes)) place ≡ Some changes
+record_here : (undos : List (Option (List CoinChange))) (place : ℕ) (changes : List CoinChange) → place < length undos → record_at (set undos place (Some changes)) place ≡ Some changes
 record_here undos place changes lt =
     let here : nat_eq place place ≡ true = grind (arith, nat_tests) in
     record_set undos place changes place lt ∙ ap (λ (b : Bool). cond b (Some changes) (record_at undos place)) here
 
 -- there is a place for its record
-pub noted_low : (nodes : List Node) (undos : List (Option (List Change))) (below place : ℕ) → IsTree nodes → AreUndos (tree_of nodes) undos → StandsOn nodes below place → place < length undos
+pub noted_low : (nodes : List Node) (undos : List (Option (List CoinChange))) (below place : ℕ) → IsTree nodes → AreUndos (tree_of nodes) undos → StandsOn nodes below place → place < length undos
 noted_low nodes undos below place is are next =
     omega (arith, place_low (tree_of nodes) next.node.hash place (kept_place nodes next.node place is next.at next.kept), are.long)
 
 -- the last block is the parent of one that stands on it
-on_last : (nodes : List Node) (undos : List (Option (List Change))) (unspent : Unspent) (side : Side) (place : ℕ) (node : Node) → (s : IsSide (tree_of nodes) undos unspent side) → HasParent (tree_of nodes) place node
+on_last : (nodes : List Node) (undos : List (Option (List CoinChange))) (unspent : Unspent) (side : Side) (place : ℕ) (node : Node) → (s : IsSide (tree_of nodes) undos unspent side) → HasParent (tree_of nodes) place node
     → node.parent ≡ side.end → node.header.prev ≡ s.hash
 on_last nodes undos unspent side place node s up parent =
     let tree = tree_of nodes in
     place_one tree node.header.prev s.hash side.end (up.parent_at ∙ ap Some parent) (side_place tree undos unspent side s)
 
 -- its own path, where it can be spent behind the last block's or can't
-spent_next : (nodes : List Node) (undos : List (Option (List Change))) (unspent : Unspent) (side : Side) (place : ℕ) (node : Node) (block : Block) → (s : IsSide (tree_of nodes) undos unspent side) → HasParent (tree_of nodes) place node
+spent_next : (nodes : List Node) (undos : List (Option (List CoinChange))) (unspent : Unspent) (side : Side) (place : ℕ) (node : Node) (block : Block) → (s : IsSide (tree_of nodes) undos unspent side) → HasParent (tree_of nodes) place node
     → node.parent ≡ side.end → node.kept ≡ Some block
     → unspent_after (tree_of nodes) node.hash ≡ stopped_at (block_hash node.header) (spend (changed unspent side.overlay) block.txs)
 spent_next nodes undos unspent side place node block s up parent kept =
@@ -112,11 +112,11 @@ spent_next nodes undos unspent side place node block s up parent kept =
     let below : unspent_after tree node.header.prev ≡ Ok (changed unspent side.overlay) = ap (unspent_after tree) (on_last nodes undos unspent side place node s up parent) ∙ s.after in
     up.spent ∙ ap (then_spend (entry_from node)) below ∙ ap (λ (o : Option Block). spend_block (block_hash node.header) o (changed unspent side.overlay)) kept
 
-pub record IsRaised (tree : Tree) (undos : List (Option (List Change))) (unspent : Unspent) (side : Side) : Type 0 where
+pub record IsRaised (tree : Tree) (undos : List (Option (List CoinChange))) (unspent : Unspent) (side : Side) : Type 0 where
   pub undos_are : AreUndos tree undos
   pub side_is : IsSide tree undos unspent side
 
-pub raised : (nodes now : List Node) (undos now_undos : List (Option (List Change))) (unspent : Unspent) (old new : Side) (place : ℕ) (node : Node) (block : Block) (changes : List Change) → IsTree nodes → AreUndos (tree_of nodes) undos
+pub raised : (nodes now : List Node) (undos now_undos : List (Option (List CoinChange))) (unspent : Unspent) (old new : Side) (place : ℕ) (node : Node) (block : Block) (changes : List CoinChange) → IsTree nodes → AreUndos (tree_of nodes) undos
     → IsSide (tree_of nodes) undos unspent old → StandsOn nodes old.end place → slice_get nodes place ≡ Some node → node.kept ≡ Some block
     → LeadsBack changes block.txs (changed unspent old.overlay) (changed unspent new.overlay) → new.end ≡ place → now ≡ nodes → now_undos ≡ set undos place (Some changes) → IsRaised (tree_of now) now_undos unspent new
 raised nodes now undos now_undos unspent old new place node block changes is are side next at kept leads end_is stays undos_is =
@@ -157,16 +157,16 @@ raised nodes now undos now_undos unspent old new place node block changes is are
       };
     }
     in
-    subst (λ (ns : List Node). IsRaised (tree_of ns) now_undos unspent new) (sym stays) (subst (λ (us : List (Option (List Change))). IsRaised tree us unspent new) (sym undos_is) raised_is)
+    subst (λ (ns : List Node). IsRaised (tree_of ns) now_undos unspent new) (sym stays) (subst (λ (us : List (Option (List CoinChange))). IsRaised tree us unspent new) (sym undos_is) raised_is)
 
 -- no record is lost
-pub noted_keeps : (nodes : List Node) (undos now_undos : List (Option (List Change))) (end place : ℕ) (changes : List Change) → IsTree nodes → AreUndos (tree_of nodes) undos → StandsOn nodes end place → now_undos ≡ set undos place (Some changes)
+pub noted_keeps : (nodes : List Node) (undos now_undos : List (Option (List CoinChange))) (end place : ℕ) (changes : List CoinChange) → IsTree nodes → AreUndos (tree_of nodes) undos → StandsOn nodes end place → now_undos ≡ set undos place (Some changes)
     → KeepRecords undos now_undos
 noted_keeps nodes undos now_undos end place changes is are next undos_is = λ p has.
-    subst (λ (us : List (Option (List Change))). HasRecord us p) (sym undos_is) (has_still undos place changes p (noted_low nodes undos end place is are next) has)
+    subst (λ (us : List (Option (List CoinChange))). HasRecord us p) (sym undos_is) (has_still undos place changes p (noted_low nodes undos end place is are next) has)
 
 -- it can't be spent
-pub fails : (nodes : List Node) (undos : List (Option (List Change))) (unspent : Unspent) (side : Side) (place : ℕ) (node : Node) (block : Block) (fault : Fault) → IsTree nodes → IsSide (tree_of nodes) undos unspent side
+pub fails : (nodes : List Node) (undos : List (Option (List CoinChange))) (unspent : Unspent) (side : Side) (place : ℕ) (node : Node) (block : Block) (fault : Fault) → IsTree nodes → IsSide (tree_of nodes) undos unspent side
     → StandsOn nodes side.end place → slice_get nodes place ≡ Some node → node.kept ≡ Some block → spend (changed unspent side.overlay) block.txs ≡ Err fault → FailsAt nodes place fault
 fails nodes undos unspent side place node block fault is s next at kept failed = λ other there.
     let one : next.node ≡ node = same_Some next.node node (sym next.at ∙ at) in
@@ -252,7 +252,7 @@ pub record Reaches (old now : Grown) (unspent : Unspent) (side : Side) (left : �
 -- ---- a block that isn't in the tree yet
 
 -- a hash at the last block's place is its hash
-pub side_on : (nodes now : List Node) (undos : List (Option (List Change))) (unspent : Unspent) (side : Side) (hash : Hash256) (place : ℕ) → now ≡ nodes → IsSide (tree_of now) undos unspent side
+pub side_on : (nodes now : List Node) (undos : List (Option (List CoinChange))) (unspent : Unspent) (side : Side) (hash : Hash256) (place : ℕ) → now ≡ nodes → IsSide (tree_of now) undos unspent side
     → place_of (tree_of nodes) hash ≡ Some place → side.end ≡ place → (unspent_after (tree_of nodes) hash ≡ Ok (changed unspent side.overlay)) × WasConnected (tree_of nodes) undos hash
 side_on nodes now undos unspent side hash place stays was at end_is =
     let tree = tree_of nodes in

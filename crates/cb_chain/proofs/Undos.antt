@@ -7,7 +7,7 @@ use Rattle.std.proofs.lemmas.Option.{get_or_from_slice_get, same_Some}
 use Rattle.std.proofs.Math.ListN.{set}
 use Rattle.cb_base.specs.declared.hash.Hash256.{Hash256}
 use Rattle.cb_block.specs.declared.header.Header.{Header}
-use Rattle.cb_ledger.specs.declared.undo.Change.{Change}
+use Rattle.cb_ledger.specs.declared.undo.CoinChange.{CoinChange}
 use Rattle.cb_ledger.specs.Undo.{changed}
 use Rattle.cb_ledger.specs.Unspent.{Unspent}
 use Rattle.cb_chain.specs.Best.{best, leads_through, unspent_after}
@@ -17,7 +17,7 @@ use Rattle.cb_chain.specs.Keeping.{Step, active_places, entry_from, place_of, tr
 use Rattle.cb_chain.specs.Sides.{AreUndos, HasRecord, IsChain, IsSide, IsUndo, WasConnected, prev_of, record_at}
 use Rattle.cb_chain.specs.declared.node.Node.{Node}
 use Rattle.cb_chain.specs.declared.side.Side.{Side}
-use Rattle.cb_chain.proofs.Aside.{Grows, climb_aside, grows_tree}
+use Rattle.cb_chain.proofs.SideNodes.{Grows, climb_aside, grows_tree}
 use Rattle.cb_chain.proofs.Places.{eq_true, get_set, place_low}
 use Rattle.cb_chain.proofs.Marks.{mark_header, marks_keep_active_places, marks_keep_best, marks_keep_kept, marks_keep_length, marks_keep_place, marks_keep_unspent, with_mark}
 use Rattle.cb_chain.proofs.Nodes.{chosen, same-true}
@@ -26,18 +26,18 @@ use Rattle.cb_chain.proofs.Parents.{kept_more, named_once, other, place_more, sp
 
 -- ---- lists of records
 
-record_front : (undos more : List (Option (List Change))) (place : ℕ) (changes : List Change) → record_at undos place ≡ Some changes → record_at (undos ++ more) place ≡ Some changes
+record_front : (undos more : List (Option (List CoinChange))) (place : ℕ) (changes : List CoinChange) → record_at undos place ≡ Some changes → record_at (undos ++ more) place ≡ Some changes
 record_front [] more place changes has = absurd (let none : None ≡ Some changes = has in cc)
 record_front (undo ∷ undos) more zero changes has = has
 record_front (undo ∷ undos) more (suc place) changes has = record_front undos more place changes has
 
-pub record_last : (undos : List (Option (List Change))) (undo : Option (List Change)) (place : ℕ) → length undos ≡ place → record_at (undos ++ undo ∷ []) place ≡ undo
+pub record_last : (undos : List (Option (List CoinChange))) (undo : Option (List CoinChange)) (place : ℕ) → length undos ≡ place → record_at (undos ++ undo ∷ []) place ≡ undo
 record_last [] undo zero e = refl
 record_last [] undo (suc place) e = absurd (omega (arith, e))
 record_last (first ∷ undos) undo zero e = absurd (omega (arith, e))
 record_last (first ∷ undos) undo (suc place) e = record_last undos undo place (omega (arith, e))
 
-record_before : (undos more : List (Option (List Change))) (place : ℕ) → place < length undos → record_at (undos ++ more) place ≡ record_at undos place
+record_before : (undos more : List (Option (List CoinChange))) (place : ℕ) → place < length undos → record_at (undos ++ more) place ≡ record_at undos place
 record_before [] more place lt = absurd (omega (arith, lt))
 record_before (undo ∷ undos) more zero lt = refl
 record_before (undo ∷ undos) more (suc place) lt = record_before undos more place (omega (arith, lt))
@@ -48,7 +48,7 @@ module _ (entry : Entry) (older : Tree) (once : is_kept older (block_hash entry.
   prev_more : (hash : Hash256) → is_kept older hash ≡ true → prev_of (entry ∷ older) hash ≡ prev_of older hash
   prev_more hash kept = rw (other entry older once hash kept) refl
 
-  pub connected_more : (undos : List (Option (List Change))) (undo : Option (List Change)) (hash : Hash256) → WasConnected older undos hash → WasConnected (entry ∷ older) (undos ++ undo ∷ []) hash
+  pub connected_more : (undos : List (Option (List CoinChange))) (undo : Option (List CoinChange)) (hash : Hash256) → WasConnected older undos hash → WasConnected (entry ∷ older) (undos ++ undo ∷ []) hash
   connected_more undos undo hash is =
       record {
         place = is.place;
@@ -57,7 +57,7 @@ module _ (entry : Entry) (older : Tree) (once : is_kept older (block_hash entry.
         has = elim is.has [ inl first ↦ inl first | inr has ↦ inr (has.0, record_front undos (undo ∷ []) is.place has.0 has.1) ];
       }
 
-  pub undo_more : (undos : List (Option (List Change))) (undo : Option (List Change)) (hash : Hash256) (changes : List Change) → IsUndo older undos hash changes → IsUndo (entry ∷ older) (undos ++ undo ∷ []) hash changes
+  pub undo_more : (undos : List (Option (List CoinChange))) (undo : Option (List CoinChange)) (hash : Hash256) (changes : List CoinChange) → IsUndo older undos hash changes → IsUndo (entry ∷ older) (undos ++ undo ∷ []) hash changes
   undo_more undos undo hash changes is =
       record {
         kept = kept_more entry older once hash is.kept;
@@ -67,8 +67,8 @@ module _ (entry : Entry) (older : Tree) (once : is_kept older (block_hash entry.
         below = connected_more undos undo is.prev is.below;
       }
 
-  pub undos_more : (undos : List (Option (List Change))) (undo : Option (List Change)) → AreUndos older undos
-      → ((changes : List Change) → undo ≡ Some changes → IsUndo (entry ∷ older) (undos ++ undo ∷ []) (block_hash entry.header) changes) → AreUndos (entry ∷ older) (undos ++ undo ∷ [])
+  pub undos_more : (undos : List (Option (List CoinChange))) (undo : Option (List CoinChange)) → AreUndos older undos
+      → ((changes : List CoinChange) → undo ≡ Some changes → IsUndo (entry ∷ older) (undos ++ undo ∷ []) (block_hash entry.header) changes) → AreUndos (entry ∷ older) (undos ++ undo ∷ [])
   undos_more undos undo are new =
       record {
         long = length-append undos (undo ∷ []) ∙ omega (arith, are.long);
@@ -82,7 +82,7 @@ module _ (entry : Entry) (older : Tree) (once : is_kept older (block_hash entry.
         ];
       }
 
-  pub side_more : (undos : List (Option (List Change))) (undo : Option (List Change)) (unspent : Unspent) (side : Side) → IsSide older undos unspent side → IsSide (entry ∷ older) (undos ++ undo ∷ []) unspent side
+  pub side_more : (undos : List (Option (List CoinChange))) (undo : Option (List CoinChange)) (unspent : Unspent) (side : Side) → IsSide older undos unspent side → IsSide (entry ∷ older) (undos ++ undo ∷ []) unspent side
   unfolding connected_more
   side_more undos undo unspent side is =
       record {
@@ -93,7 +93,7 @@ module _ (entry : Entry) (older : Tree) (once : is_kept older (block_hash entry.
       }
 
   -- the branch that was tried last stays over another ledger, or the tip that was left is that branch
-  pub stays_side : (undos : List (Option (List Change))) (undo : Option (List Change)) (before after : Unspent) (side new : Side) → IsSide older undos before side → new.end ≡ side.end → changed after new.overlay ≡ changed before side.overlay
+  pub stays_side : (undos : List (Option (List CoinChange))) (undo : Option (List CoinChange)) (before after : Unspent) (side new : Side) → IsSide older undos before side → new.end ≡ side.end → changed after new.overlay ≡ changed before side.overlay
       → IsSide (entry ∷ older) (undos ++ undo ∷ []) after new
   unfolding connected_more
   stays_side undos undo before after side new is end over =
@@ -104,7 +104,7 @@ module _ (entry : Entry) (older : Tree) (once : is_kept older (block_hash entry.
         after = spent_more entry older once is.hash is.connected.kept ∙ is.after ∙ ap Ok (sym over);
       }
 
-  pub left_side : (path : List ℕ) (undos : List (Option (List Change))) (undo : Option (List Change)) (before after : Unspent) (new : Side) → path ≡ active_places older → unspent_after older (best older) ≡ Ok before
+  pub left_side : (path : List ℕ) (undos : List (Option (List CoinChange))) (undo : Option (List CoinChange)) (before after : Unspent) (new : Side) → path ≡ active_places older → unspent_after older (best older) ≡ Ok before
       → WasConnected older undos (best older) → slice_get path (length path - 1) ≡ Some new.end → changed after new.overlay ≡ before → IsSide (entry ∷ older) (undos ++ undo ∷ []) after new
   unfolding connected_more
   left_side path undos undo before after new places spent tip end over =
@@ -117,17 +117,17 @@ module _ (entry : Entry) (older : Tree) (once : is_kept older (block_hash entry.
         after = spent_more entry older once (best older) tip.kept ∙ spent ∙ ap Ok (sym over);
       }
 
-sides_more : (entry : Entry) (older : Tree) (undos : List (Option (List Change))) (undo : Option (List Change)) (unspent : Unspent) (side : Option Side) → is_kept older (block_hash entry.header) ≡ false
+sides_more : (entry : Entry) (older : Tree) (undos : List (Option (List CoinChange))) (undo : Option (List CoinChange)) (unspent : Unspent) (side : Option Side) → is_kept older (block_hash entry.header) ≡ false
     → IfSome side (IsSide older undos unspent) → IfSome side (IsSide (entry ∷ older) (undos ++ undo ∷ []) unspent)
 sides_more entry older undos undo unspent None once is = tt
 sides_more entry older undos undo unspent (Some side) once is = side_more entry older once undos undo unspent side is
 
-no_record : (entry : Entry) (older : Tree) (undos : List (Option (List Change))) (undo : Option (List Change)) → undo ≡ None
-    → (changes : List Change) → undo ≡ Some changes → IsUndo (entry ∷ older) (undos ++ undo ∷ []) (block_hash entry.header) changes
+no_record : (entry : Entry) (older : Tree) (undos : List (Option (List CoinChange))) (undo : Option (List CoinChange)) → undo ≡ None
+    → (changes : List CoinChange) → undo ≡ Some changes → IsUndo (entry ∷ older) (undos ++ undo ∷ []) (block_hash entry.header) changes
 no_record entry older undos undo none changes is = absurd (let clash : None ≡ Some changes = sym none ∙ is in cc)
 
 -- the tip stays, and the entry has no record
-pub chain_aside : (entry : Entry) (older : Tree) (path : List ℕ) (undos : List (Option (List Change))) (unspent : Unspent) (side : Option Side) → is_kept older (block_hash entry.header) ≡ false
+pub chain_aside : (entry : Entry) (older : Tree) (path : List ℕ) (undos : List (Option (List CoinChange))) (unspent : Unspent) (side : Option Side) → is_kept older (block_hash entry.header) ≡ false
     → best (entry ∷ older) ≡ best older → IsChain older path undos unspent side → IsChain (entry ∷ older) path (undos ++ None ∷ []) unspent side
 chain_aside entry older path undos unspent side once stays is =
     let tip = best older in
@@ -141,16 +141,16 @@ chain_aside entry older path undos unspent side once stays is =
     }
 
 -- a chain at rest with one node more, whose room was made before
-pub grows_chain : (nodes roomy more : List Node) (tree : Tree) (node : Node) (path : List ℕ) (undos roomy_undos more_undos : List (Option (List Change))) (unspent : Unspent) (side : Option Side) → Grows nodes roomy tree node
+pub grows_chain : (nodes roomy more : List Node) (tree : Tree) (node : Node) (path : List ℕ) (undos roomy_undos more_undos : List (Option (List CoinChange))) (unspent : Unspent) (side : Option Side) → Grows nodes roomy tree node
     → more ≡ roomy ++ node ∷ [] → roomy_undos ≡ undos → more_undos ≡ roomy_undos ++ None ∷ [] → best (entry_from node ∷ tree) ≡ best tree
     → IsChain (tree_of nodes) path undos unspent side → IsChain (tree_of more) path more_undos unspent side
 grows_chain nodes roomy more tree node path undos roomy_undos more_undos unspent side g grown same_undos grown_undos stays chain =
     let here : IsChain tree path undos unspent side = subst (λ (t : Tree). IsChain t path undos unspent side) g.view chain in
     let once : is_kept tree (block_hash node.header) ≡ false = named_once node tree g.one in
     let next : IsChain (entry_from node ∷ tree) path (undos ++ None ∷ []) unspent side = chain_aside (entry_from node) tree path undos unspent side once stays here in
-    let undos_are : undos ++ None ∷ [] ≡ more_undos = sym (grown_undos ∙ ap (λ (us : List (Option (List Change))). us ++ None ∷ []) same_undos) in
+    let undos_are : undos ++ None ∷ [] ≡ more_undos = sym (grown_undos ∙ ap (λ (us : List (Option (List CoinChange))). us ++ None ∷ []) same_undos) in
     subst (λ (t : Tree). IsChain t path more_undos unspent side) (sym (grows_tree nodes roomy more tree node g grown))
-    (subst (λ (us : List (Option (List Change))). IsChain (entry_from node ∷ tree) path us unspent side) undos_are next)
+    (subst (λ (us : List (Option (List CoinChange))). IsChain (entry_from node ∷ tree) path us unspent side) undos_are next)
 
 -- ---- marks
 
@@ -168,11 +168,11 @@ marks_keep_prev first (entry ∷ older) hash =
     ap (λ (header : Header). option_map prev (cond (same hash (block_hash header)) (Some (with_mark b entry)) (entry_of (marked_above first older) hash))) (mark_header b entry)
     ∙ prev_step (same hash (block_hash entry.header)) b entry (entry_of older hash) (entry_of (marked_above first older) hash) (marks_keep_prev first older hash)
 
-pub connected_marked : (first : Hash256) (tree : Tree) (undos : List (Option (List Change))) (hash : Hash256) → WasConnected tree undos hash → WasConnected (marked_above first tree) undos hash
+pub connected_marked : (first : Hash256) (tree : Tree) (undos : List (Option (List CoinChange))) (hash : Hash256) → WasConnected tree undos hash → WasConnected (marked_above first tree) undos hash
 connected_marked first tree undos hash is =
     record { place = is.place; at = marks_keep_place first tree hash ∙ is.at; kept = marks_keep_kept first tree hash ∙ is.kept; has = is.has }
 
-pub undos_marked : (first : Hash256) (tree : Tree) (undos : List (Option (List Change))) → AreUndos tree undos → AreUndos (marked_above first tree) undos
+pub undos_marked : (first : Hash256) (tree : Tree) (undos : List (Option (List CoinChange))) → AreUndos tree undos → AreUndos (marked_above first tree) undos
 undos_marked first tree undos are =
     record {
       long = are.long ∙ ap suc (sym (marks_keep_length first tree));
@@ -187,17 +187,17 @@ undos_marked first tree undos are =
           };
     }
 
-pub side_marked : (first : Hash256) (tree : Tree) (undos : List (Option (List Change))) (unspent : Unspent) (side : Side) → IsSide tree undos unspent side → IsSide (marked_above first tree) undos unspent side
+pub side_marked : (first : Hash256) (tree : Tree) (undos : List (Option (List CoinChange))) (unspent : Unspent) (side : Side) → IsSide tree undos unspent side → IsSide (marked_above first tree) undos unspent side
 unfolding connected_marked
 side_marked first tree undos unspent side is =
     record { hash = is.hash; connected = connected_marked first tree undos is.hash is.connected; end = is.end; after = marks_keep_unspent first tree is.hash ∙ is.after }
 
-sides_marked : (first : Hash256) (tree : Tree) (undos : List (Option (List Change))) (unspent : Unspent) (side : Option Side) → IfSome side (IsSide tree undos unspent) → IfSome side (IsSide (marked_above first tree) undos unspent)
+sides_marked : (first : Hash256) (tree : Tree) (undos : List (Option (List CoinChange))) (unspent : Unspent) (side : Option Side) → IfSome side (IsSide tree undos unspent) → IfSome side (IsSide (marked_above first tree) undos unspent)
 sides_marked first tree undos unspent None is = tt
 sides_marked first tree undos unspent (Some side) is = side_marked first tree undos unspent side is
 
 -- a chain whose blocks are marked
-pub chain_marked : (first : Hash256) (tree : Tree) (path : List ℕ) (undos : List (Option (List Change))) (unspent : Unspent) (side : Option Side) → IsChain tree path undos unspent side
+pub chain_marked : (first : Hash256) (tree : Tree) (path : List ℕ) (undos : List (Option (List CoinChange))) (unspent : Unspent) (side : Option Side) → IsChain tree path undos unspent side
     → IsChain (marked_above first tree) path undos unspent side
 chain_marked first tree path undos unspent side is =
     let tip = marks_keep_best first tree in
@@ -237,28 +237,28 @@ place_one (entry ∷ older) one other place at there =
           ]
     ]
 
-pub record_set : (undos : List (Option (List Change))) (place : ℕ) (changes : List Change) (p : ℕ) → place < length undos → record_at (set undos place (Some changes)) p ≡ cond (nat_eq p place) (Some changes) (record_at undos p)
+pub record_set : (undos : List (Option (List CoinChange))) (place : ℕ) (changes : List CoinChange) (p : ℕ) → place < length undos → record_at (set undos place (Some changes)) p ≡ cond (nat_eq p place) (Some changes) (record_at undos p)
 record_set undos place changes p lt =
-    ap (option_and_then (λ (o : Option (List Change)). o)) (get_set undos place (Some changes) p lt)
+    ap (option_and_then (λ (o : Option (List CoinChange)). o)) (get_set undos place (Some changes) p lt)
     ∙ elim (cases_Bool (nat_eq p place)) [ inl is ↦ rw is refl | inr isnt ↦ rw isnt refl ]
 
-pub has_still : (undos : List (Option (List Change))) (place : ℕ) (changes : List Change) (p : ℕ) → place < length undos → HasRecord undos p → HasRecord (set undos place (Some changes)) p
+pub has_still : (undos : List (Option (List CoinChange))) (place : ℕ) (changes : List CoinChange) (p : ℕ) → place < length undos → HasRecord undos p → HasRecord (set undos place (Some changes)) p
 has_still undos place changes p lt has =
     elim (cases_Bool (nat_eq p place)) [
       | inl is ↦ (changes, record_set undos place changes p lt ∙ rw is refl)
       | inr isnt ↦ (has.0, record_set undos place changes p lt ∙ rw isnt has.1)
     ]
 
-pub connected_still : (tree : Tree) (undos : List (Option (List Change))) (place : ℕ) (changes : List Change) (hash : Hash256) → place < length undos → WasConnected tree undos hash → WasConnected tree (set undos place (Some changes)) hash
+pub connected_still : (tree : Tree) (undos : List (Option (List CoinChange))) (place : ℕ) (changes : List CoinChange) (hash : Hash256) → place < length undos → WasConnected tree undos hash → WasConnected tree (set undos place (Some changes)) hash
 connected_still tree undos place changes hash lt is =
     record { place = is.place; at = is.at; kept = is.kept; has = elim is.has [ inl first ↦ inl first | inr has ↦ inr (has_still undos place changes is.place lt has) ] }
 
-undo_still : (tree : Tree) (undos : List (Option (List Change))) (place : ℕ) (changes : List Change) (hash : Hash256) (others : List Change) → place < length undos → IsUndo tree undos hash others
+undo_still : (tree : Tree) (undos : List (Option (List CoinChange))) (place : ℕ) (changes : List CoinChange) (hash : Hash256) (others : List CoinChange) → place < length undos → IsUndo tree undos hash others
     → IsUndo tree (set undos place (Some changes)) hash others
 undo_still tree undos place changes hash others lt is =
     record { kept = is.kept; prev = is.prev; prev_is = is.prev_is; back = is.back; below = connected_still tree undos place changes is.prev lt is.below }
 
-pub undos_noted : (tree : Tree) (undos : List (Option (List Change))) (hash : Hash256) (place : ℕ) (changes : List Change) → AreUndos tree undos → place_of tree hash ≡ Some place
+pub undos_noted : (tree : Tree) (undos : List (Option (List CoinChange))) (hash : Hash256) (place : ℕ) (changes : List CoinChange) → AreUndos tree undos → place_of tree hash ≡ Some place
     → IsUndo tree undos hash changes → AreUndos tree (set undos place (Some changes))
 undos_noted tree undos hash place changes are at is =
     let low : place < length undos = omega (arith, place_low tree hash place at, are.long) in
@@ -271,7 +271,7 @@ undos_noted tree undos hash place changes are at is =
                 let p_is : p ≡ place = eq_true p place same_place in
                 let name : hash ≡ other = place_one tree hash other place at (there ∙ ap Some p_is) in
                 let one : changes ≡ others = same_Some changes others (sym (ap (λ (b : Bool). cond b (Some changes) (record_at undos p)) same_place) ∙ stands) in
-                undo_still tree undos place changes other others low (subst (λ (cs : List Change). IsUndo tree undos other cs) one (subst (λ (h : Hash256). IsUndo tree undos h changes) name is))
+                undo_still tree undos place changes other others low (subst (λ (cs : List CoinChange). IsUndo tree undos other cs) one (subst (λ (h : Hash256). IsUndo tree undos h changes) name is))
             | inr elsewhere ↦
                 let before : record_at undos p ≡ Some others = sym (ap (λ (b : Bool). cond b (Some changes) (record_at undos p)) elsewhere) ∙ stands in
                 undo_still tree undos place changes other others low (are.each other p others there before)

@@ -10,7 +10,7 @@ use Rattle.cb_block.specs.declared.header.Header.{Header}
 use Rattle.cb_block.specs.Genesis.{genesis_block, genesis_header}
 use Rattle.cb_chain.specs.declared.accepting.Spot.{Spot}
 use Rattle.cb_chain.specs.declared.node.Node.{Node}
-use Rattle.cb_ledger.specs.declared.undo.Change.{Change}
+use Rattle.cb_ledger.specs.declared.undo.CoinChange.{CoinChange}
 use Rattle.cb_chain.specs.Entries.{Entry, Tree, block_hash, genesis_hash, same, height_of, is_kept, is_known, is_marked}
 use Rattle.cb_chain.specs.Best.{active, best, branch, leads_through}
 use Rattle.cb_chain.specs.Calls.{is_full_under}
@@ -20,7 +20,7 @@ use Rattle.cb_chain.specs.Following.{above_branch}
 -- how many more there is room.
 pub record Grown : Type 0 where
   pub nodes : List Node
-  pub undos : List (Option (List Change))
+  pub undos : List (Option (List CoinChange))
   pub room : ℕ
 
 -- a node, without what follows from others

@@ -3,7 +3,7 @@
 use Rattle.std.specs.Prelude.{◌≡◌, ◌⊎◌, ◌<◌, ◌-◌, ℕ, suc, true, Ok, Err, is_some, List, [], ◌∷◌, length, Option, Some, option_map, option_and_then, slice_get, IfSome}
 use Rattle.cb_base.specs.declared.fault.Fault.{Fault}
 use Rattle.cb_base.specs.declared.hash.Hash256.{Hash256}
-use Rattle.cb_ledger.specs.declared.undo.Change.{Change}
+use Rattle.cb_ledger.specs.declared.undo.CoinChange.{CoinChange}
 use Rattle.cb_block.specs.declared.block.Block.{Block}
 use Rattle.cb_ledger.specs.Spend.{spend}
 use Rattle.cb_ledger.specs.Undo.{LeadsBack, changed}
@@ -15,14 +15,14 @@ use Rattle.cb_chain.specs.Entries.{Tree, entry_of, is_kept}
 use Rattle.cb_chain.specs.Keeping.{active_places, place_of, tree_of}
 
 -- the record at a place
-abbrev pub record_at : List (Option (List Change)) → ℕ → Option (List Change)
+abbrev pub record_at : List (Option (List CoinChange)) → ℕ → Option (List CoinChange)
 record_at undos place = option_and_then (λ undo. undo) (slice_get undos place)
 
-abbrev pub HasRecord : List (Option (List Change)) → ℕ → Type 0
-HasRecord undos place = (changes : List Change) × (record_at undos place ≡ Some changes)
+abbrev pub HasRecord : List (Option (List CoinChange)) → ℕ → Type 0
+HasRecord undos place = (changes : List CoinChange) × (record_at undos place ≡ Some changes)
 
 -- what has a record keeps one
-abbrev pub KeepRecords : List (Option (List Change)) → List (Option (List Change)) → Type 0
+abbrev pub KeepRecords : List (Option (List CoinChange)) → List (Option (List CoinChange)) → Type 0
 KeepRecords old new = (place : ℕ) → HasRecord old place → HasRecord new place
 
 -- what the header of a known hash names
@@ -30,14 +30,14 @@ abbrev pub prev_of : Tree → Hash256 → Option Hash256
 prev_of tree hash = option_map (λ entry. entry.header.prev) (entry_of tree hash)
 
 -- A kept block was connected once: it is the first, or has its record.
-pub record WasConnected (tree : Tree) (undos : List (Option (List Change))) (hash : Hash256) : Type 0 where
+pub record WasConnected (tree : Tree) (undos : List (Option (List CoinChange))) (hash : Hash256) : Type 0 where
   pub place : ℕ
   pub at : place_of tree hash ≡ Some place
   pub kept : is_kept tree hash ≡ true
   pub has : (place ≡ 0) ⊎ HasRecord undos place
 
 -- A block's record leads from what is unspent after it to what is unspent after its parent, which was connected before it.
-pub record IsUndo (tree : Tree) (undos : List (Option (List Change))) (hash : Hash256) (changes : List Change) : Type 0 where
+pub record IsUndo (tree : Tree) (undos : List (Option (List CoinChange))) (hash : Hash256) (changes : List CoinChange) : Type 0 where
   pub kept : is_kept tree hash ≡ true
   pub prev : Hash256
   pub prev_is : prev_of tree hash ≡ Some prev
@@ -45,13 +45,13 @@ pub record IsUndo (tree : Tree) (undos : List (Option (List Change))) (hash : Ha
   pub below : WasConnected tree undos prev
 
 -- each record is that of the block at its place
-pub record AreUndos (tree : Tree) (undos : List (Option (List Change))) : Type 0 where
+pub record AreUndos (tree : Tree) (undos : List (Option (List CoinChange))) : Type 0 where
   pub long : length undos ≡ suc (length tree)
-  pub each : (hash : Hash256) (place : ℕ) (changes : List Change) → place_of tree hash ≡ Some place → record_at undos place ≡ Some changes → IsUndo tree undos hash changes
+  pub each : (hash : Hash256) (place : ℕ) (changes : List CoinChange) → place_of tree hash ≡ Some place → record_at undos place ≡ Some changes → IsUndo tree undos hash changes
 
 -- The last block of a branch was connected, and the changes lead from what is unspent after the active chain to what is
 -- unspent after it.
-pub record IsSide (tree : Tree) (undos : List (Option (List Change))) (unspent : Unspent) (side : Side) : Type 0 where
+pub record IsSide (tree : Tree) (undos : List (Option (List CoinChange))) (unspent : Unspent) (side : Side) : Type 0 where
   pub hash : Hash256
   pub connected : WasConnected tree undos hash
   pub end : connected.place ≡ side.end
@@ -59,7 +59,7 @@ pub record IsSide (tree : Tree) (undos : List (Option (List Change))) (unspent :
 
 -- What a chain keeps follows from its tree: the places of the active blocks by their heights, what is unspent after them,
 -- the records of connected blocks, the tip's among them, and the branch that was tried last.
-pub record IsChain (tree : Tree) (path : List ℕ) (undos : List (Option (List Change))) (unspent : Unspent) (side : Option Side) : Type 0 where
+pub record IsChain (tree : Tree) (path : List ℕ) (undos : List (Option (List CoinChange))) (unspent : Unspent) (side : Option Side) : Type 0 where
   pub places : path ≡ active_places tree
   pub ledger : unspent_after tree (best tree) ≡ Ok unspent
   pub undos_are : AreUndos tree undos
@@ -103,14 +103,14 @@ pub data Stops (nodes : List Node) (block : Block) (place : ℕ) (fault : Fault)
   here : (before : Unspent) → unspent_after (tree_of nodes) block.header.prev ≡ Ok before → spend before block.txs ≡ Err fault → place ≡ length nodes → Stops nodes block place fault
 
 -- Such a block can be spent behind its parent's path, with what is then unspent, and the record leads back.
-pub record Tops (tree : Tree) (undos : List (Option (List Change))) (block : Block) (changes : List Change) (after : Unspent) : Type 0 where
+pub record Tops (tree : Tree) (undos : List (Option (List CoinChange))) (block : Block) (changes : List CoinChange) (after : Unspent) : Type 0 where
   pub before : Unspent
   pub below : unspent_after tree block.header.prev ≡ Ok before
   pub leads : LeadsBack changes block.txs before after
   pub connected : WasConnected tree undos block.header.prev
 
 -- A branch over another ledger: its last block is the same, and its changes lead from where the record leads back as they did.
-pub record IsRested (old : Side) (back : List Change) (new : Side) : Type 0 where
+pub record IsRested (old : Side) (back : List CoinChange) (new : Side) : Type 0 where
   pub end : new.end ≡ old.end
   pub over : (unspent : Unspent) → changed unspent new.overlay ≡ changed (changed unspent back) old.overlay
 

@@ -12,7 +12,7 @@ use crate::chain::Chain;
 use crate::change::{Change, Hashes};
 use crate::node::{Kept, Node};
 use cb_base::{Fault, Hash256};
-use cb_block::{Header, SoundBlock, check_block, check_header};
+use cb_block::{Header, SoundBlock, check_block, hash_with_work};
 
 /// The greatest height.
 pub const MOST_HEIGHT: u32 = 1_000_000_000;
@@ -72,12 +72,12 @@ impl Chain {
     }
 
     // Where a header will stand, or the first reason against it.
-    fn header_spot(&self, header: Header) -> Result<Spot, Fault>
+    fn header_spot(&self, header: Header, hash: Hash256) -> Result<Spot, Fault>
+        requires { hash ≡ block_hash header }
         ensures ok { IfOk result (λ spot. IsSpot spot header self.now) }
         ensures none { OnOk result (header_fault self.now header ≡ None) }
         ensures err { IfErr result (λ fault. header_fault self.now header ≡ Some fault) }
     {
-        let hash = header.hash();
         if let Some(place) = self.tree.place(&hash) {
             if self.tree.node(place).marked {
                 return Err(Fault::BadParent);
@@ -88,13 +88,13 @@ impl Chain {
     }
 
     // Where a block will stand, or the first reason against it.
-    fn block_spot(&self, header: Header) -> Result<Spot, Fault>
+    fn block_spot(&self, header: Header, hash: Hash256) -> Result<Spot, Fault>
+        requires { hash ≡ block_hash header }
         ensures ok { IfOk result (λ spot. IsSpot spot header self.now) }
         ensures none { OnOk result (block_fault self.now header ≡ None) }
         ensures err { IfErr result (λ fault. block_fault self.now header ≡ Some fault) }
         ensures tip { is_kept self.now (best self.now) ≡ true }
     {
-        let hash = header.hash();
         if let Some(place) = self.tree.place(&hash) {
             let node = self.tree.node(place);
             if node.marked {
@@ -109,8 +109,8 @@ impl Chain {
 
     /// Keeps a header.
     ///
-    /// The first of these that holds is told, and then nothing has changed: `Fault::BadWork` where `check_header` refuses
-    /// it, `Fault::BadParent` where it is marked bad, `Fault::Known` where it is known, `Fault::NoParent` where its parent
+    /// The first of these that holds is told, and then nothing has changed: `Fault::BadWork` where `hash_with_work`
+    /// refuses it, `Fault::BadParent` where it is marked bad, `Fault::Known` where it is known, `Fault::NoParent` where its parent
     /// isn't, `Fault::BadParent` where its parent is marked bad, `Fault::TooMany` where its height would be above
     /// 1,000,000,000, and `Fault::Memory`.
     pub fn accept_header(&mut self, header: Header) -> Result<(), Fault>
@@ -125,8 +125,8 @@ impl Chain {
         // Memory is wanted only of a header that nothing speaks against.
         ensures unpaid { result ≡ Err Memory → HasWork header × (header_fault self.old header ≡ None) }
     {
-        check_header(&header)?;
-        let spot = self.header_spot(header)?;
+        let hash = hash_with_work(&header)?;
+        let spot = self.header_spot(header, hash)?;
         self.tree.reserve()?;
         self.tree.add(spot.node(None, false), None);
         Ok(())
@@ -134,7 +134,7 @@ impl Chain {
 
     /// Keeps a block, and makes it the tip where it is higher than the tip.
     ///
-    /// The first of these that holds is told, and then nothing has changed: `Fault::BadWork` where `check_header` refuses
+    /// The first of these that holds is told, and then nothing has changed: `Fault::BadWork` where `hash_with_work` refuses
     /// its header, `Fault::BadParent` where it is marked bad, `Fault::Known` where it is kept, `Fault::BadParent` where
     /// its parent is marked bad, `Fault::NoParent` where its parent isn't kept, `Fault::TooMany` where its height would be
     /// above 1,000,000,000. Then what `check_block` tells: the header is kept, and marked bad. Then, where it is higher
@@ -156,8 +156,8 @@ impl Chain {
         ensures unpaid { result ≡ Err Memory → HasWork block.header × (block_fault self.old block.header ≡ None) }
     {
         let header = block.block().header;
-        check_header(&header)?;
-        let spot = self.block_spot(header)?;
+        let hash = hash_with_work(&header)?;
+        let spot = self.block_spot(header, hash)?;
         match check_block(self.alloc, &block) {
             Ok(()) => self.join(spot, Kept::new(block)),
             Err(fault) if fault == Fault::Memory => Err(fault),

@@ -10,7 +10,7 @@ use Rattle.std.proofs.lemmas.List.{take_more, length-take}
 use Rattle.cb_tx.specs.declared.tx.OutPoint.{OutPoint}
 use Rattle.cb_tx.specs.declared.tx.Tx.{Tx}
 use Rattle.cb_tx.proofs.Repeats.{same, same-refl}
-use Rattle.cb_ledger.specs.declared.undo.Change.{Change}
+use Rattle.cb_ledger.specs.declared.undo.CoinChange.{CoinChange}
 use Rattle.cb_ledger.specs.Unspent.{Unspent}
 use Rattle.cb_ledger.specs.Spend.{spend}
 use Rattle.cb_ledger.specs.Undo.{set_at, changed, changes_of, values_of, StandOnce, LeadsBack}
@@ -21,7 +21,7 @@ abbrev pub over : Option (Option ℤ) → Option ℤ → Option ℤ
 over = unwrap_or
 
 -- what the changes have at an outpoint
-abbrev pub found : OutPoint → List Change → Option (Option ℤ)
+abbrev pub found : OutPoint → List CoinChange → Option (Option ℤ)
 found q [] = None
 found q (c ∷ cs) = cond (is_same q c.point) (Some c.value) (found q cs)
 
@@ -33,7 +33,7 @@ over_cond : (b : Bool) (v : Option ℤ) (x : Option (Option ℤ)) (y : Option �
 over_cond true v x y = refl
 over_cond false v x y = refl
 
-pub get_changed : (u : Unspent) (cs : List Change) (q : OutPoint) → map.get (changed u cs) q ≡ over (found q cs) (map.get u q)
+pub get_changed : (u : Unspent) (cs : List CoinChange) (q : OutPoint) → map.get (changed u cs) q ≡ over (found q cs) (map.get u q)
 unfolding changed
 get_changed u [] q = refl
 get_changed u (c ∷ cs) q =
@@ -94,14 +94,14 @@ added_under es fs k v h absent u =
           ]
 
 -- a change behind others is made first
-pub changed_behind : (u : Unspent) (cs : List Change) (c : Change) → changed u (cs ++ c ∷ []) ≡ changed (set_at u c.point c.value) cs
+pub changed_behind : (u : Unspent) (cs : List CoinChange) (c : CoinChange) → changed u (cs ++ c ∷ []) ≡ changed (set_at u c.point c.value) cs
 unfolding changed
 changed_behind u [] c = refl
 changed_behind u (d ∷ cs) c = ap (λ m. set_at m d.point d.value) (changed_behind u cs c)
 
 -- ---- changes put over those of a hash map, from the last to the first
 
-pub over_step : (first es fs : List (OutPoint × Option ℤ)) (cs : List Change) (left j : ℕ) (d : Change) → left ≡ suc j → j < length cs
+pub over_step : (first es fs : List (OutPoint × Option ℤ)) (cs : List CoinChange) (left j : ℕ) (d : CoinChange) → left ≡ suc j → j < length cs
     → ((q : OutPoint) → lookup (same q) fs ≡ cond (same (get_or cs j d).point q) (Some (get_or cs j d).value) (lookup (same q) es))
     → ((u : Unspent) → changed u (changes_of es) ≡ changed (changed u (changes_of first)) (drop left cs)) → (u : Unspent) → changed u (changes_of fs) ≡ changed (changed u (changes_of first)) (drop j cs)
 unfolding changed
@@ -110,35 +110,35 @@ over_step first es fs cs left j d e lt h so_far u =
     let drop_is : drop j cs ≡ c ∷ drop left cs = drop-cons cs j d lt ∙ ap (λ (n : ℕ). c ∷ drop n cs) (sym e) in
     changed_note es fs c.point c.value h u ∙ ap (λ m. set_at m c.point c.value) (so_far u) ∙ ap (changed (changed u (changes_of first))) (sym drop_is)
 
-pub over_starts : (es : List (OutPoint × Option ℤ)) (cs : List Change) (u : Unspent) → changed u (changes_of es) ≡ changed (changed u (changes_of es)) (drop (length cs) cs)
+pub over_starts : (es : List (OutPoint × Option ℤ)) (cs : List CoinChange) (u : Unspent) → changed u (changes_of es) ≡ changed (changed u (changes_of es)) (drop (length cs) cs)
 unfolding changed
 over_starts es cs u = let none : drop (length cs) cs ≡ [] = drop_all (length cs) cs (omega arith) in rw none refl
 
-pub over_ends : (es first : List (OutPoint × Option ℤ)) (cs : List Change) (left : ℕ) → left ≡ 0
+pub over_ends : (es first : List (OutPoint × Option ℤ)) (cs : List CoinChange) (left : ℕ) → left ≡ 0
     → ((u : Unspent) → changed u (changes_of es) ≡ changed (changed u (changes_of first)) (drop left cs)) → (u : Unspent) → changed u (changes_of es) ≡ changed (changed u (changes_of first)) cs
 over_ends es first cs left e so_far u = so_far u ∙ ap (λ (n : ℕ). changed (changed u (changes_of first)) (drop n cs)) e
 
 -- ---- changes put under them, from the first to the last
 
-pub under_step : (first es fs : List (OutPoint × Option ℤ)) (cs : List Change) (i : ℕ) (d : Change) → i < length cs
+pub under_step : (first es fs : List (OutPoint × Option ℤ)) (cs : List CoinChange) (i : ℕ) (d : CoinChange) → i < length cs
     → ((u : Unspent) → changed u (changes_of fs) ≡ changed (set_at u (get_or cs i d).point (get_or cs i d).value) (changes_of es))
     → ((u : Unspent) → changed u (changes_of es) ≡ changed (changed u (take i cs)) (changes_of first)) → (u : Unspent) → changed u (changes_of fs) ≡ changed (changed u (take (i + 1) cs)) (changes_of first)
 under_step first es fs cs i d lt one so_far u =
     let c = get_or cs i d in
     let more : take (i + 1) cs ≡ take i cs ++ c ∷ [] = take_more cs i d lt in
-    one u ∙ so_far (set_at u c.point c.value) ∙ ap (λ m. changed m (changes_of first)) (sym (changed_behind u (take i cs) c)) ∙ ap (λ (l : List Change). changed (changed u l) (changes_of first)) (sym more)
+    one u ∙ so_far (set_at u c.point c.value) ∙ ap (λ m. changed m (changes_of first)) (sym (changed_behind u (take i cs) c)) ∙ ap (λ (l : List CoinChange). changed (changed u l) (changes_of first)) (sym more)
 
-pub under_starts : (es : List (OutPoint × Option ℤ)) (cs : List Change) (u : Unspent) → changed u (changes_of es) ≡ changed (changed u (take 0 cs)) (changes_of es)
+pub under_starts : (es : List (OutPoint × Option ℤ)) (cs : List CoinChange) (u : Unspent) → changed u (changes_of es) ≡ changed (changed u (take 0 cs)) (changes_of es)
 unfolding changed
 under_starts es cs u = refl
 
-pub under_ends : (es first : List (OutPoint × Option ℤ)) (cs : List Change) (i : ℕ) → length cs ≤ i
+pub under_ends : (es first : List (OutPoint × Option ℤ)) (cs : List CoinChange) (i : ℕ) → length cs ≤ i
     → ((u : Unspent) → changed u (changes_of es) ≡ changed (changed u (take i cs)) (changes_of first)) → (u : Unspent) → changed u (changes_of es) ≡ changed (changed u cs) (changes_of first)
-under_ends es first cs i le so_far u = so_far u ∙ ap (λ (l : List Change). changed (changed u l) (changes_of first)) (take_all i cs le)
+under_ends es first cs i le so_far u = so_far u ∙ ap (λ (l : List CoinChange). changed (changed u l) (changes_of first)) (take_all i cs le)
 
 -- ---- no changes
 
-pub changed_none : (u : Unspent) (cs : List Change) → cs ≡ [] → changed u cs ≡ u
+pub changed_none : (u : Unspent) (cs : List CoinChange) → cs ≡ [] → changed u cs ≡ u
 unfolding changed
 changed_none u cs e = rw e refl
 
@@ -159,7 +159,7 @@ unfolding IsDistinct
 once_from_distinct [] h = tt
 once_from_distinct (e ∷ es) h = (apart_all e.0 es h.0, once_from_distinct es h.1)
 
-found_none : (k : OutPoint) (cs : List Change) → AllByRecursion (λ other. other.point ≢ k) cs → found k cs ≡ None
+found_none : (k : OutPoint) (cs : List CoinChange) → AllByRecursion (λ other. other.point ≢ k) cs → found k cs ≡ None
 found_none k [] h = refl
 found_none k (c ∷ cs) h =
     elim (cases_Bool (is_same k c.point)) [
@@ -168,32 +168,32 @@ found_none k (c ∷ cs) h =
     ]
 
 -- none of the later ones is at the outpoint of one
-once_at : (cs : List Change) (j : ℕ) (d : Change) → j < length cs → StandOnce cs → found (get_or cs j d).point (drop (suc j) cs) ≡ None
+once_at : (cs : List CoinChange) (j : ℕ) (d : CoinChange) → j < length cs → StandOnce cs → found (get_or cs j d).point (drop (suc j) cs) ≡ None
 once_at [] j d lt h = absurd (omega arith)
 once_at (c ∷ cs) zero d lt h = found_none c.point cs h.0
 once_at (c ∷ cs) (suc j) d lt h = once_at cs j d (omega arith) h.1
 
-apart_values : (u : Unspent) (k : OutPoint) (cs : List Change) → AllByRecursion (λ other. other.point ≢ k) cs → AllByRecursion (λ other. other.point ≢ k) (values_of u cs)
+apart_values : (u : Unspent) (k : OutPoint) (cs : List CoinChange) → AllByRecursion (λ other. other.point ≢ k) cs → AllByRecursion (λ other. other.point ≢ k) (values_of u cs)
 apart_values u k [] h = tt
 apart_values u k (c ∷ cs) h = (h.0, apart_values u k cs h.1)
 
-pub once_values : (u : Unspent) (cs : List Change) → StandOnce cs → StandOnce (values_of u cs)
+pub once_values : (u : Unspent) (cs : List CoinChange) → StandOnce cs → StandOnce (values_of u cs)
 once_values u [] h = tt
 once_values u (c ∷ cs) h = (apart_values u c.point cs h.0, once_values u cs h.1)
 
-pub length_values : (u : Unspent) (cs : List Change) → length (values_of u cs) ≡ length cs
+pub length_values : (u : Unspent) (cs : List CoinChange) → length (values_of u cs) ≡ length cs
 length_values u [] = refl
 length_values u (c ∷ cs) = ap suc (length_values u cs)
 
 -- what outpoints have, once all are looked at
-pub values_end : (u : Unspent) (xs cs : List Change) (i : ℕ) → length cs ≤ i → xs ++ values_of u (drop i cs) ≡ values_of u cs → xs ≡ values_of u cs
+pub values_end : (u : Unspent) (xs cs : List CoinChange) (i : ℕ) → length cs ≤ i → xs ++ values_of u (drop i cs) ≡ values_of u cs → xs ≡ values_of u cs
 values_end u xs cs i le so_far =
     let none : drop i cs ≡ [] = drop_all i cs le in
-    sym (append-nil xs) ∙ ap (λ (l : List Change). xs ++ values_of u l) (sym none) ∙ so_far
+    sym (append-nil xs) ∙ ap (λ (l : List CoinChange). xs ++ values_of u l) (sym none) ∙ so_far
 
 -- ---- taking changes back
 
-found_values : (u : Unspent) (cs : List Change) (q : OutPoint) (x : Option ℤ) → over (found q (values_of u cs)) (over (found q cs) (map.get u q)) ≡ map.get u q
+found_values : (u : Unspent) (cs : List CoinChange) (q : OutPoint) (x : Option ℤ) → over (found q (values_of u cs)) (over (found q cs) (map.get u q)) ≡ map.get u q
 found_values u [] q x = refl
 found_values u (c ∷ cs) q x =
     elim (cases_Bool (is_same q c.point)) [
@@ -202,12 +202,12 @@ found_values u (c ∷ cs) q x =
     ]
 
 -- what was there leads back
-pub changed_back : (u : Unspent) (cs : List Change) → changed (changed u cs) (values_of u cs) ≡ u
+pub changed_back : (u : Unspent) (cs : List CoinChange) → changed (changed u cs) (values_of u cs) ≡ u
 changed_back u cs =
     maps_same _ _ (λ q. get_changed (changed u cs) (values_of u cs) q ∙ ap (over (found q (values_of u cs))) (get_changed u cs q) ∙ found_values u cs q None)
 
 -- changes over others lead back, if what the outpoints had before is kept
-pub leads_over : (u base : Unspent) (old next changes undo : List Change) (txs : List Tx) → base ≡ changed u old → spend base txs ≡ Ok (changed base changes) → undo ≡ values_of base changes
+pub leads_over : (u base : Unspent) (old next changes undo : List CoinChange) (txs : List Tx) → base ≡ changed u old → spend base txs ≡ Ok (changed base changes) → undo ≡ values_of base changes
     → changed u next ≡ changed (changed u old) changes → LeadsBack undo txs (changed u old) (changed u next)
 leads_over u base old next changes undo txs base_is told undo_is next_is =
     let after : changed base changes ≡ changed u next = ap (λ m. changed m changes) base_is ∙ sym next_is in
@@ -227,13 +227,13 @@ set_mid [] x back y = refl
 set_mid (z ∷ front) x back y = ap (λ ys. z ∷ ys) (set_mid front x back y)
 
 -- The changes from a place on are made, and what they changed stands in their place.
-pub record IsExchanged (u : Unspent) (room : ℕ) (cs : List Change) (left : ℕ) (now : Unspent) (room_left : ℕ) (have : List Change) : Type 0 where
+pub record IsExchanged (u : Unspent) (room : ℕ) (cs : List CoinChange) (left : ℕ) (now : Unspent) (room_left : ℕ) (have : List CoinChange) : Type 0 where
   pub within : left ≤ length cs
   pub made : now ≡ changed u (drop left cs)
   pub kept : have ≡ take left cs ++ values_of u (drop left cs)
   pub room_kept : room + left ≤ room_left + length cs
 
-pub exchange_starts : (u : Unspent) (room : ℕ) (cs : List Change) → IsExchanged u room cs (length cs) u room cs
+pub exchange_starts : (u : Unspent) (room : ℕ) (cs : List CoinChange) → IsExchanged u room cs (length cs) u room cs
 unfolding changed
 exchange_starts u room cs =
     let none : drop (length cs) cs ≡ [] = drop_all (length cs) cs (omega arith) in
@@ -244,7 +244,7 @@ exchange_starts u room cs =
       room_kept = omega arith;
     }
 
-pub exchange_step : (u : Unspent) (room : ℕ) (cs : List Change) (left j : ℕ) (now : Unspent) (room_left : ℕ) (have : List Change) (d : Change) (next : Unspent) (next_room : ℕ) (had : Option ℤ)
+pub exchange_step : (u : Unspent) (room : ℕ) (cs : List CoinChange) (left j : ℕ) (now : Unspent) (room_left : ℕ) (have : List CoinChange) (d : CoinChange) (next : Unspent) (next_room : ℕ) (had : Option ℤ)
     → left ≡ suc j → StandOnce cs → IsExchanged u room cs left now room_left have
     → had ≡ map.get now (get_or have j d).point → next ≡ set_at now (get_or have j d).point (get_or have j d).value → room_left ≤ next_room + 1
     → IsExchanged u room cs j next next_room (set have j (record { point = (get_or have j d).point; value = had }))
@@ -255,37 +255,37 @@ exchange_step u room cs left j now room_left have d next next_room had e once h 
     let lt : j < length cs = omega (arith, h.within) in
     let left_is : left ≡ j + 1 = omega arith in
     let more : take left cs ≡ take j cs ++ c ∷ [] = ap (λ (n : ℕ). take n cs) left_is ∙ take_more cs j d lt in
-    let have_is : have ≡ take j cs ++ c ∷ vals = h.kept ∙ ap (λ (front : List Change). front ++ vals) more ∙ append_assoc (take j cs) (c ∷ []) vals in
+    let have_is : have ≡ take j cs ++ c ∷ vals = h.kept ∙ ap (λ (front : List CoinChange). front ++ vals) more ∙ append_assoc (take j cs) (c ∷ []) vals in
     let place : length (take j cs) ≡ j = omega (arith, length-take j cs) in
-    let item : get_or have j d ≡ c = ap (λ (l : List Change). get_or l j d) have_is ∙ subst (λ (n : ℕ). get_or (take j cs ++ c ∷ vals) n d ≡ c) place (get_mid (take j cs) c vals d) in
+    let item : get_or have j d ≡ c = ap (λ (l : List CoinChange). get_or l j d) have_is ∙ subst (λ (n : ℕ). get_or (take j cs ++ c ∷ vals) n d ≡ c) place (get_mid (take j cs) c vals d) in
     let drop_is : drop j cs ≡ c ∷ drop left cs = drop-cons cs j d lt ∙ ap (λ (n : ℕ). c ∷ drop n cs) (sym e) in
     let none : found c.point (drop left cs) ≡ None = ap (λ (n : ℕ). found c.point (drop n cs)) e ∙ once_at cs j d lt once in
     let before : had ≡ map.get u c.point =
-    had_is ∙ ap (λ (x : Change). map.get now x.point) item ∙ ap (λ (m : Unspent). map.get m c.point) h.made ∙ get_changed u (drop left cs) c.point ∙ ap (λ o. over o (map.get u c.point)) none in
-    let put : Change = record { point = (get_or have j d).point; value = had } in
-    let put_is : put ≡ record { point = c.point; value = map.get u c.point } = ap (λ (x : Change). record { point = x.point; value = had }) item ∙ ap (λ (v : Option ℤ). record { point = c.point; value = v }) before in
-    let set_is : set have j put ≡ take j cs ++ put ∷ vals = ap (λ (l : List Change). set l j put) have_is ∙ subst (λ (n : ℕ). set (take j cs ++ c ∷ vals) n put ≡ take j cs ++ put ∷ vals) place (set_mid (take j cs) c vals put) in
+    had_is ∙ ap (λ (x : CoinChange). map.get now x.point) item ∙ ap (λ (m : Unspent). map.get m c.point) h.made ∙ get_changed u (drop left cs) c.point ∙ ap (λ o. over o (map.get u c.point)) none in
+    let put : CoinChange = record { point = (get_or have j d).point; value = had } in
+    let put_is : put ≡ record { point = c.point; value = map.get u c.point } = ap (λ (x : CoinChange). record { point = x.point; value = had }) item ∙ ap (λ (v : Option ℤ). record { point = c.point; value = v }) before in
+    let set_is : set have j put ≡ take j cs ++ put ∷ vals = ap (λ (l : List CoinChange). set l j put) have_is ∙ subst (λ (n : ℕ). set (take j cs ++ c ∷ vals) n put ≡ take j cs ++ put ∷ vals) place (set_mid (take j cs) c vals put) in
     record {
       within = omega arith;
-      made = next_is ∙ ap (λ (x : Change). set_at now x.point x.value) item ∙ ap (λ (m : Unspent). set_at m c.point c.value) h.made ∙ ap (changed u) (sym drop_is);
-      kept = set_is ∙ ap (λ (x : Change). take j cs ++ x ∷ vals) put_is ∙ ap (λ (l : List Change). take j cs ++ values_of u l) (sym drop_is);
+      made = next_is ∙ ap (λ (x : CoinChange). set_at now x.point x.value) item ∙ ap (λ (m : Unspent). set_at m c.point c.value) h.made ∙ ap (changed u) (sym drop_is);
+      kept = set_is ∙ ap (λ (x : CoinChange). take j cs ++ x ∷ vals) put_is ∙ ap (λ (l : List CoinChange). take j cs ++ values_of u l) (sym drop_is);
       room_kept = omega (arith, h.room_kept);
     }
 
-pub exchange_ends : (u : Unspent) (room : ℕ) (cs : List Change) (left : ℕ) (now : Unspent) (room_left : ℕ) (have : List Change) → left ≡ 0 → IsExchanged u room cs left now room_left have
+pub exchange_ends : (u : Unspent) (room : ℕ) (cs : List CoinChange) (left : ℕ) (now : Unspent) (room_left : ℕ) (have : List CoinChange) → left ≡ 0 → IsExchanged u room cs left now room_left have
     → (now ≡ changed u cs) × (have ≡ values_of u cs) × (room ≤ room_left + length cs)
 exchange_ends u room cs left now room_left have e h =
     let all : drop left cs ≡ cs = ap (λ (n : ℕ). drop n cs) e in
     let none : take left cs ≡ [] = ap (λ (n : ℕ). take n cs) e in (
       h.made ∙ ap (changed u) all,
-      h.kept ∙ ap (λ (front : List Change). front ++ values_of u (drop left cs)) none ∙ ap (values_of u) all,
+      h.kept ∙ ap (λ (front : List CoinChange). front ++ values_of u (drop left cs)) none ∙ ap (values_of u) all,
       omega (arith, h.room_kept),
     )
 
 -- ---- the changes of a hash map, one after the other
 
-pub changes_more : (xs : List Change) (e : OutPoint × Option ℤ) (rest left : List (OutPoint × Option ℤ)) (all : List Change) → left ≡ e ∷ rest → xs ++ changes_of left ≡ all
+pub changes_more : (xs : List CoinChange) (e : OutPoint × Option ℤ) (rest left : List (OutPoint × Option ℤ)) (all : List CoinChange) → left ≡ e ∷ rest → xs ++ changes_of left ≡ all
     → (xs ++ record { point = e.0; value = e.1 } ∷ []) ++ changes_of rest ≡ all
 changes_more xs e rest left all is h =
-    let c : Change = record { point = e.0; value = e.1 } in
+    let c : CoinChange = record { point = e.0; value = e.1 } in
     append_assoc xs (c ∷ []) (changes_of rest) ∙ ap (λ l. xs ++ changes_of l) (sym is) ∙ h

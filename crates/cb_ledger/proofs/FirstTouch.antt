@@ -12,7 +12,7 @@ use Rattle.cb_tx.specs.declared.tx.TxOut.{TxOut}
 use Rattle.cb_tx.specs.declared.tx.Tx.{Tx}
 use Rattle.cb_tx.specs.Rules.{value_sum}
 use Rattle.cb_tx.specs.Text.{tx_text}
-use Rattle.cb_ledger.specs.declared.undo.Change.{Change}
+use Rattle.cb_ledger.specs.declared.undo.CoinChange.{CoinChange}
 use Rattle.cb_ledger.specs.Spend.{is_coinbase, spend_inputs, spend_tx, take_output}
 use Rattle.cb_ledger.specs.Touched.{MakesFirst, SpendsFirst, Touches, TouchesOne}
 use Rattle.cb_ledger.specs.Touched.TouchesOne.{makes, mints, spends}
@@ -33,17 +33,17 @@ output_first u txid (output ∷ outputs) i at lt free =
     subst (λ (n : ℕ). is_some (map.get u (record { txid = txid; index = n })) ≡ false) at (ap is_some free)
 
 -- in a loop: either the first was touched before, or this is the first
-pub input_touched : (u : Unspent) (old draft : List Change) (inputs : List TxIn) (i : ℕ) (input : TxIn) (value : ℤ) → SpendsFirst (changed u old) inputs ⊎ ((draft ≡ old) × (i ≡ 0)) → i < length inputs
+pub input_touched : (u : Unspent) (old draft : List CoinChange) (inputs : List TxIn) (i : ℕ) (input : TxIn) (value : ℤ) → SpendsFirst (changed u old) inputs ⊎ ((draft ≡ old) × (i ≡ 0)) → i < length inputs
     → input ≡ get_or inputs i input → map.get (changed u draft) input.prev ≡ Some value → SpendsFirst (changed u old) inputs
 input_touched u old draft inputs i input value (inl touched) lt is has = touched
 input_touched u old draft inputs i input value (inr first) lt is has =
-    input_first (changed u old) inputs i input value first.1 lt is (subst (λ (d : List Change). map.get (changed u d) input.prev ≡ Some value) first.0 has)
+    input_first (changed u old) inputs i input value first.1 lt is (subst (λ (d : List CoinChange). map.get (changed u d) input.prev ≡ Some value) first.0 has)
 
-pub output_touched : (u : Unspent) (old draft : List Change) (txid : Hash256) (outputs : List TxOut) (i : ℕ) → MakesFirst (changed u old) txid outputs ⊎ ((draft ≡ old) × (i ≡ 0)) → i < length outputs
+pub output_touched : (u : Unspent) (old draft : List CoinChange) (txid : Hash256) (outputs : List TxOut) (i : ℕ) → MakesFirst (changed u old) txid outputs ⊎ ((draft ≡ old) × (i ≡ 0)) → i < length outputs
     → map.get (changed u draft) (record { txid = txid; index = i }) ≡ None → MakesFirst (changed u old) txid outputs
 output_touched u old draft txid outputs i (inl touched) lt free = touched
 output_touched u old draft txid outputs i (inr first) lt free =
-    output_first (changed u old) txid outputs i first.1 lt (subst (λ (d : List Change). map.get (changed u d) (record { txid = txid; index = i }) ≡ None) first.0 free)
+    output_first (changed u old) txid outputs i first.1 lt (subst (λ (d : List CoinChange). map.get (changed u d) (record { txid = txid; index = i }) ≡ None) first.0 free)
 
 -- ---- one transaction
 
@@ -90,9 +90,9 @@ touches_later u next txs i tx lt is h later = subst (Touches u) (sym (at_place t
 
 -- ---- with no changes yet
 
-pub touches_from : (u : Unspent) (none : List Change) (txs all : List Tx) → none ≡ [] → txs ≡ all → Touches (changed u none) txs → Touches u all
+pub touches_from : (u : Unspent) (none : List CoinChange) (txs all : List Tx) → none ≡ [] → txs ≡ all → Touches (changed u none) txs → Touches u all
 unfolding changed
-touches_from u none txs all e are touched = subst (Touches u) are (subst (λ (d : List Change). Touches (changed u d) txs) e touched)
+touches_from u none txs all e are touched = subst (Touches u) are (subst (λ (d : List CoinChange). Touches (changed u d) txs) e touched)
 
 pub no_entries : (entries : List (OutPoint × Option ℤ)) → changes_of entries ≡ [] → length entries ≡ 0
 no_entries [] e = refl

@@ -19,7 +19,7 @@ use Rattle.cb_tx.specs.Text.{tx_text}
 use Rattle.cb_block.specs.Blocks.{texts}
 use Rattle.cb_block.specs.Soundness.{names}
 use Rattle.cb_ledger.specs.Unspent.{Unspent}
-use Rattle.cb_ledger.specs.declared.undo.Change.{Change}
+use Rattle.cb_ledger.specs.declared.undo.CoinChange.{CoinChange}
 use Rattle.cb_ledger.specs.Undo.{changed}
 use Rattle.cb_ledger.specs.Spend.{is_null, is_coinbase, spend_inputs, make_outputs, spend_tx, spend, Tells}
 
@@ -135,22 +135,22 @@ name_at txs txids i tx d named lt is = ap (λ l. get_or l i d) named ∙ at txs 
 
 -- ---- with no changes yet
 
-pub spend_from : (u : Unspent) (none : List Change) (txs all : List Tx) → none ≡ [] → txs ≡ all → spend u all ≡ spend (changed u none) txs
+pub spend_from : (u : Unspent) (none : List CoinChange) (txs all : List Tx) → none ≡ [] → txs ≡ all → spend u all ≡ spend (changed u none) txs
 unfolding changed
 spend_from u none txs all e are = rw (e, are) refl
 
-pub fault_from : (u : Unspent) (none : List Change) (txs all : List Tx) (fault : Fault) → none ≡ [] → txs ≡ all → (fault ≡ Memory) ⊎ (spend (changed u none) txs ≡ Err fault) → (fault ≡ Memory) ⊎ (spend u all ≡ Err fault)
+pub fault_from : (u : Unspent) (none : List CoinChange) (txs all : List Tx) (fault : Fault) → none ≡ [] → txs ≡ all → (fault ≡ Memory) ⊎ (spend (changed u none) txs ≡ Err fault) → (fault ≡ Memory) ⊎ (spend u all ≡ Err fault)
 fault_from u none txs all fault e are (inl memory) = inl memory
 fault_from u none txs all fault e are (inr h) = inr (spend_from u none txs all e are ∙ h)
 
 -- changes that are written out, unless memory runs out
-pub told_out : (u : Unspent) (draft : List Change) (expected : Result Unspent Fault) (r : Result (List Change) Fault) → expected ≡ Ok (changed u draft) → IfOk r (λ changes. changes ≡ draft) → IsOkUnless r Memory
+pub told_out : (u : Unspent) (draft : List CoinChange) (expected : Result Unspent Fault) (r : Result (List CoinChange) Fault) → expected ≡ Ok (changed u draft) → IfOk r (λ changes. changes ≡ draft) → IsOkUnless r Memory
     → Tells expected (λ changes. changed u changes) r
 told_out u draft expected (Ok changes) told same memory = told ∙ ap (λ cs. Ok (changed u cs)) (sym same)
 told_out u draft expected (Err fault) told same memory = inl memory
 
 -- none are written out without memory
-pub none_out : (draft : List Change) (r : Result (List Change) Fault) → draft ≡ [] → IfOk r (λ changes. changes ≡ draft) → (draft ≡ [] → IsOk r) → IfOk r (λ changes. changes ≡ []) × (r ≢ Err Memory)
+pub none_out : (draft : List CoinChange) (r : Result (List CoinChange) Fault) → draft ≡ [] → IfOk r (λ changes. changes ≡ draft) → (draft ≡ [] → IsOk r) → IfOk r (λ changes. changes ≡ []) × (r ≢ Err Memory)
 none_out draft (Ok changes) e same none = (same ∙ e, λ clash. absurd cc)
 none_out draft (Err fault) e same none = absurd (false≢true (none e))
 

@@ -4,7 +4,7 @@ use Rattle.std.specs.List.{AllByRecursion}
 use Rattle.std.specs.FinMap as map
 use Rattle.cb_tx.specs.declared.tx.OutPoint.{OutPoint}
 use Rattle.cb_tx.specs.declared.tx.Tx.{Tx}
-use Rattle.cb_ledger.specs.declared.undo.Change.{Change}
+use Rattle.cb_ledger.specs.declared.undo.CoinChange.{CoinChange}
 use Rattle.cb_ledger.specs.Spend.{spend}
 use Rattle.cb_ledger.specs.Unspent.{Unspent}
 
@@ -14,26 +14,26 @@ set_at u point None = map.remove u point
 set_at u point (Some value) = map.insert u point value
 
 -- each outpoint of the changes has the value that stands there; at one that comes twice, the first
-unfoldable pub changed : Unspent → List Change → Unspent
+unfoldable pub changed : Unspent → List CoinChange → Unspent
 changed u [] = u
 changed u (change ∷ changes) = set_at (changed u changes) change.point change.value
 
 -- no outpoint stands twice
-abbrev pub StandOnce : List Change → Type 0
+abbrev pub StandOnce : List CoinChange → Type 0
 StandOnce [] = ⊤
 StandOnce (change ∷ changes) = AllByRecursion (λ other. other.point ≢ change.point) changes × StandOnce changes
 
 -- pairs of an outpoint and what it has
-abbrev pub changes_of : List (OutPoint × Option ℤ) → List Change
+abbrev pub changes_of : List (OutPoint × Option ℤ) → List CoinChange
 changes_of [] = []
 changes_of (entry ∷ entries) = record { point = entry.0; value = entry.1 } ∷ changes_of entries
 
 -- what these outpoints have
-abbrev pub values_of : Unspent → List Change → List Change
+abbrev pub values_of : Unspent → List CoinChange → List CoinChange
 values_of u [] = []
 values_of u (change ∷ changes) = record { point = change.point; value = map.get u change.point } ∷ values_of u changes
 
 -- The changes lead back over a block: from the unspent outputs after its transactions to those before.
-pub record LeadsBack (changes : List Change) (txs : List Tx) (before after : Unspent) : Type 0 where
+pub record LeadsBack (changes : List CoinChange) (txs : List Tx) (before after : Unspent) : Type 0 where
   pub spent : spend before txs ≡ Ok after
   pub back : changed after changes ≡ before

@@ -5,7 +5,7 @@ ghost use Rattle.cb_ledger.specs.Undo.{changed, values_of};
 
 use crate::ledger::Ledger;
 use crate::overlay::Overlay;
-use crate::undo::{Change, Undo};
+use crate::undo::{CoinChange, Undo};
 use cb_base::Fault;
 use cb_tx::OutPoint;
 use std::alloc::Global;
@@ -60,7 +60,7 @@ impl<'a> Base<'a> {
         for change in all {
             let point = change.point;
             let value = self.value(&point);
-            values.push(Change { point, value })?;
+            values.push(CoinChange { point, value })?;
         }
         Ok(Undo { changes: values })
     }

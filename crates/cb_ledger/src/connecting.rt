@@ -9,12 +9,12 @@ use crate::base::Base;
 use crate::checking::changes_over;
 use crate::ledger::Ledger;
 use crate::overlay::Overlay;
-use crate::undo::{Change, Undo};
+use crate::undo::{CoinChange, Undo};
 use cb_base::Fault;
 use cb_block::SoundBlock;
 
 // Gives each outpoint what stands at it, and puts in its place what it had.
-fn exchange_all(ledger: &mut Ledger, changes: &mut [Change])
+fn exchange_all(ledger: &mut Ledger, changes: &mut [CoinChange])
     requires once { StandOnce changes.old }
     requires room { length changes.old ≤ ledger.old.room }
     ensures after { ledger.new.unspent ≡ changed ledger.old.unspent changes.old }

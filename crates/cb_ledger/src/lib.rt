@@ -14,7 +14,7 @@ pub use law::{
 };
 pub use ledger::Ledger;
 pub use overlay::Overlay;
-pub use undo::{Change, Undo};
+pub use undo::{CoinChange, Undo};
 
 #[cfg(test)]
 mod tests;

@@ -10,7 +10,7 @@ ghost use Rattle.cb_ledger.specs.Unspent.{Unspent};
 use crate::base::Base;
 use crate::checking::changes_over;
 use crate::ledger::Ledger;
-use crate::undo::{Change, Undo};
+use crate::undo::{CoinChange, Undo};
 use cb_base::Fault;
 use cb_block::SoundBlock;
 use cb_tx::OutPoint;
@@ -28,15 +28,15 @@ pub struct Overlay {
 impl Model for Overlay {
     ghost use Rattle.std.specs.Prelude.{List};
     ghost use Rattle.cb_ledger.specs.Undo.{changes_of};
-    ghost use Rattle.cb_ledger.specs.declared.undo.Change.{Change};
+    ghost use Rattle.cb_ledger.specs.declared.undo.CoinChange.{CoinChange};
 
-    ghost Value = { List Change };
+    ghost Value = { List CoinChange };
 
     ghost view = { λ overlay. changes_of overlay.touched.entries };
 }
 
 // Puts changes over those that are there. There must be room for each of them.
-fn put_over(touched: &mut HashMap<OutPoint, Option<i64>>, changes: &[Change])
+fn put_over(touched: &mut HashMap<OutPoint, Option<i64>>, changes: &[CoinChange])
     requires { length changes.now ≤ spare touched.old }
     ensures { (u : Unspent) → changed u (changes_of touched.new.entries) ≡ changed (changed u (changes_of touched.old.entries)) changes.now }
 {
@@ -50,7 +50,7 @@ fn put_over(touched: &mut HashMap<OutPoint, Option<i64>>, changes: &[Change])
 }
 
 // Puts changes under those that are there. There must be room for each of them.
-fn put_under(touched: &mut HashMap<OutPoint, Option<i64>>, changes: &[Change])
+fn put_under(touched: &mut HashMap<OutPoint, Option<i64>>, changes: &[CoinChange])
     requires { length changes.now ≤ spare touched.old }
     ensures { (u : Unspent) → changed u (changes_of touched.new.entries) ≡ changed (changed u changes.now) (changes_of touched.old.entries) }
 {
@@ -156,7 +156,7 @@ impl Overlay {
     {
         let mut changes = Vec::with_capacity(alloc, self.touched.len())?;
         for (point, value) in self.touched {
-            changes.push(Change { point, value })?;
+            changes.push(CoinChange { point, value })?;
         }
         Ok(Undo { changes })
     }

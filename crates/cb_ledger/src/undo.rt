@@ -8,7 +8,7 @@ use std::marker::Model;
 
 /// What an outpoint has: the value of an unspent output in hundred-millionths of a coin, or none.
 #[derive(Clone, Copy, Debug, PartialEq, Eq)]
-pub struct Change {
+pub struct CoinChange {
     pub point: OutPoint,
     pub value: Option<i64>,
 }
@@ -16,14 +16,14 @@ pub struct Change {
 /// What a block's outpoints had before the block. It is seen as the list of them, each of which stands once.
 #[derive(Debug, Drop)]
 pub struct Undo {
-    pub(crate) changes: Vec<Change>,
+    pub(crate) changes: Vec<CoinChange>,
 }
 
 impl Model for Undo {
     ghost use Rattle.std.specs.Prelude.{List};
-    ghost use Rattle.cb_ledger.specs.declared.undo.Change.{Change};
+    ghost use Rattle.cb_ledger.specs.declared.undo.CoinChange.{CoinChange};
 
-    ghost Value = { List Change };
+    ghost Value = { List CoinChange };
 
     ghost use Rattle.cb_ledger.specs.Undo.{StandOnce};
 

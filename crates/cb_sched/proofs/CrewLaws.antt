@@ -2,7 +2,7 @@
 use Rattle.std.proofs.Common.{◌≡◌, ℕ, suc, zero, ◌<◌, ◌≤◌, ◌⊎◌, List, [], ◌∷◌, ◌++◌, length, take, drop, get_or, replicate, refl, sym, ap, subst, ◌∙◌, arith, inl, inr}
 use Rattle.std.specs.List.{sum_by}
 use Rattle.std.proofs.lemmas.List.Sums.{sum_by-cons, get_or-le-sum_by}
-use Rattle.std.proofs.lemmas.Bool.{cases_lt, cases_eq, false≢true}
+use Rattle.std.proofs.lemmas.Bool.{cases_lt, cases_eq}
 use Rattle.std.proofs.lemmas.List.{append-nil, append_assoc, take-append-drop, length-set, length-append, length-drop, length-replicate, get_or-set_same, get_or-set_other, get_or-replicate, get_or_past, set_past, nil_from_length}
 use Rattle.cb_sched.specs.declared.act.Act.{Act}
 use Rattle.cb_sched.specs.declared.act.Act.TheVariants as act
@@ -12,7 +12,7 @@ use Rattle.cb_sched.specs.Line.{Line, LineReached, empty_line, line_put, line_ta
 use Rattle.cb_sched.specs.Line as line
 use Rattle.cb_sched.specs.Desks.{Desks, DesksReached, opening_desks, held_by, claimed, given}
 use Rattle.cb_sched.specs.Desks as desks
-use Rattle.cb_sched.specs.Crew.{Crew, IsEnabled, with_desks, HoldsDesk, Puts, Step, Run, opening_crew, is_end, line_of, desk_of, with_line}
+use Rattle.cb_sched.specs.Crew.{Crew, IsEnabled, with_desks, HoldsDesk, Puts, Step, Run, opening_crew, is_end, is_open, line_of, desk_of, with_line}
 use Rattle.cb_sched.specs.Laws.{Reaches, CanGoOn, TakesAll}
 use Rattle.cb_sched.proofs.LineLaws.{GoesOn, queued_parts, goes_on_same, goes_on_then, goes_on_put, goes_on_taken}
 use Rattle.cb_sched.proofs.DesksLaws.{holds_one, held_below, handlers_stay, desks_count, holder_exists}
@@ -41,12 +41,12 @@ front_of (m ∷ rest) some = (m, rest, refl)
 
 -- what holds of each state that acts lead to, whatever the capacity: each line and the desks are reached, and there is a line for each peer
 pub record Sound (peers handlers : ℕ) (s : Crew) : Type 0 where
-  pub lines : (p : ℕ) → LineReached is_end (line_of s p)
+  pub lines : (p : ℕ) → LineReached is_end is_open (line_of s p)
   pub desks : DesksReached peers handlers s.desks
   pub count : length s.lines ≡ peers
 
-sound_line : (peers handlers : ℕ) (s : Crew) (p : ℕ) (l : Line Mark) → Sound peers handlers s → LineReached is_end l → Sound peers handlers (with_line s p l)
-sound_line peers handlers s p l sound new = record { lines = each_line (LineReached is_end) s p l new sound.lines; desks = sound.desks; count = length-set s.lines p l ∙ sound.count }
+sound_line : (peers handlers : ℕ) (s : Crew) (p : ℕ) (l : Line Mark) → Sound peers handlers s → LineReached is_end is_open l → Sound peers handlers (with_line s p l)
+sound_line peers handlers s p l sound new = record { lines = each_line (LineReached is_end is_open) s p l new sound.lines; desks = sound.desks; count = length-set s.lines p l ∙ sound.count }
 
 sound_opening : (peers handlers : ℕ) → Sound peers handlers (opening_crew peers handlers)
 sound_opening peers handlers = record {
@@ -58,11 +58,14 @@ sound_opening peers handlers = record {
   count = length-replicate peers empty_line;
 }
 
+sound_put : (peers handlers capacity : ℕ) (s t : Crew) (p : ℕ) (m : Mark) → Sound peers handlers s → Puts capacity s p m t → Sound peers handlers t
+sound_put peers handlers capacity s t p m sound step =
+    subst (Sound peers handlers) (sym step.1) (sound_line peers handlers s p (line_put is_end (line_of s p) m) sound (line.put (line_of s p) m (sound.lines p) step.0.follows))
+
 sound_step : (peers handlers capacity : ℕ) (s t : Crew) (a : Act) → Sound peers handlers s → Step capacity s a t → Sound peers handlers t
-sound_step peers handlers capacity s t (act.Put p x) sound step =
-    subst (Sound peers handlers) (sym step.1) (sound_line peers handlers s p (line_put is_end (line_of s p) (mark.Item x)) sound (line.put (line_of s p) (mark.Item x) (sound.lines p) step.0.live refl))
-sound_step peers handlers capacity s t (act.End p) sound step =
-    subst (Sound peers handlers) (sym step.1) (sound_line peers handlers s p (line_put is_end (line_of s p) mark.End) sound (line.ends (line_of s p) mark.End (sound.lines p) step.0.live refl))
+sound_step peers handlers capacity s t (act.Put p x) sound step = sound_put peers handlers capacity s t p (mark.Item x) sound step
+sound_step peers handlers capacity s t (act.End p) sound step = sound_put peers handlers capacity s t p mark.End sound step
+sound_step peers handlers capacity s t (act.Open p) sound step = sound_put peers handlers capacity s t p mark.Open sound step
 sound_step peers handlers capacity s t (act.Claim k) sound step =
     let front = front_of s.desks.ring step.0.waits in
     subst (Sound peers handlers) (sym step.1) (record { lines = sound.lines; desks = desks.claim s.desks k front.0 front.1 sound.desks step.0.exists step.0.free front.2; count = sound.count })
@@ -89,6 +92,7 @@ within_put capacity s t p m within step =
 within_step : (capacity : ℕ) (s t : Crew) (a : Act) → WithinCapacity capacity s → Step capacity s a t → WithinCapacity capacity t
 within_step capacity s t (act.Put p x) within step = within_put capacity s t p (mark.Item x) within step
 within_step capacity s t (act.End p) within step = within_put capacity s t p mark.End within step
+within_step capacity s t (act.Open p) within step = within_put capacity s t p mark.Open within step
 within_step capacity s t (act.Claim k) within step = subst (WithinCapacity capacity) (sym step.1) within
 within_step capacity s t (act.Take k) within step =
     let p = desk_of s k in
@@ -122,9 +126,13 @@ one_goes_on s p l new q =
           ]
     ]
 
+put_goes_on : (capacity : ℕ) (s t : Crew) (p : ℕ) (m : Mark) → Puts capacity s p m t → AllGoOn s t
+put_goes_on capacity s t p m step = subst (AllGoOn s) (sym step.1) (one_goes_on s p (line_put is_end (line_of s p) m) (goes_on_put is_end (line_of s p) m))
+
 step_goes_on : (capacity : ℕ) (s t : Crew) (a : Act) → Step capacity s a t → AllGoOn s t
-step_goes_on capacity s t (act.Put p x) step = subst (AllGoOn s) (sym step.1) (one_goes_on s p (line_put is_end (line_of s p) (mark.Item x)) (goes_on_put is_end (line_of s p) (mark.Item x)))
-step_goes_on capacity s t (act.End p) step = subst (AllGoOn s) (sym step.1) (one_goes_on s p (line_put is_end (line_of s p) mark.End) (goes_on_put is_end (line_of s p) mark.End))
+step_goes_on capacity s t (act.Put p x) step = put_goes_on capacity s t p (mark.Item x) step
+step_goes_on capacity s t (act.End p) step = put_goes_on capacity s t p mark.End step
+step_goes_on capacity s t (act.Open p) step = put_goes_on capacity s t p mark.Open step
 step_goes_on capacity s t (act.Claim k) step = subst (AllGoOn s) (sym step.1) (λ q. goes_on_same (line_of s q))
 step_goes_on capacity s t (act.Take k) step =
     subst (AllGoOn s) (sym step.1) (one_goes_on s (desk_of s k) (line_taken (line_of s (desk_of s k))) (goes_on_taken (line_of s (desk_of s k))))
@@ -189,28 +197,31 @@ pub takes_all : (peers handlers capacity : ℕ) (s : Crew) → Sound peers handl
 takes_all peers handlers capacity s sound k holds =
     take_n capacity (length (line_of s (desk_of s k)).inbox) s k holds (omega (arith, held_below sound.desks k holds, sound.count)) refl
 
+-- the act that puts a mark
+abbrev pub put_act : ℕ → Mark → Act
+put_act p (mark.Item x) = act.Put p x
+put_act p mark.End = act.End p
+put_act p mark.Open = act.Open p
+
+pub put_steps : (capacity : ℕ) (s t : Crew) (p : ℕ) (m : Mark) → Puts capacity s p m t → Step capacity s (put_act p m) t
+put_steps capacity s t p (mark.Item x) step = step
+put_steps capacity s t p mark.End step = step
+put_steps capacity s t p mark.Open step = step
+
 -- each reached line stands in a crew of one peer and one handler, who holds the desk
 abbrev pub one_line : Line Mark → Crew
 one_line l = record { lines = l ∷ []; desks = record { ring = []; held = (0 ∷ []) ∷ [] } }
 
-inbox_fits : (l : Line Mark) → LineReached is_end l → length l.inbox ≤ length l.queued
+inbox_fits : (l : Line Mark) → LineReached is_end is_open l → length l.inbox ≤ length l.queued
 inbox_fits l r = omega (arith, ap (length {A = Mark}) (queued_parts r), length-append l.taken l.inbox)
 
-pub line_runs : (capacity : ℕ) (l : Line Mark) → LineReached is_end l → length l.queued ≤ capacity → (acts : List Act) × Reaches 1 1 capacity acts (one_line l)
+pub line_runs : (capacity : ℕ) (l : Line Mark) → LineReached is_end is_open l → length l.queued ≤ capacity → (acts : List Act) × Reaches 1 1 capacity acts (one_line l)
 line_runs capacity l line.opening fits = (act.Claim 0 ∷ [], (one_line empty_line, (record { exists = omega arith; free = refl; waits = omega arith }, refl), refl))
-line_runs capacity l (line.put l0 (mark.Item x) r live item) fits =
-    let before = line_runs capacity l0 r (omega (arith, length-append l0.queued (mark.Item x ∷ []))) in (
-      before.0 ++ act.Put 0 x ∷ [],
-      run_step capacity before.0 (act.Put 0 x) (opening_crew 1 1) (one_line l0) (one_line l) before.1
-          (record { exists = omega arith; live = live; room = omega (arith, inbox_fits l0 r, length-append l0.queued (mark.Item x ∷ [])) }, refl),
-    )
-line_runs capacity l (line.put l0 mark.End r live item) fits = absurd (false≢true (sym item))
-line_runs capacity l (line.ends l0 (mark.Item x) r live ended) fits = absurd (false≢true ended)
-line_runs capacity l (line.ends l0 mark.End r live ended) fits =
-    let before = line_runs capacity l0 r (omega (arith, length-append l0.queued (mark.End ∷ []))) in (
-      before.0 ++ act.End 0 ∷ [],
-      run_step capacity before.0 (act.End 0) (opening_crew 1 1) (one_line l0) (one_line l) before.1
-          (record { exists = omega arith; live = live; room = omega (arith, inbox_fits l0 r, length-append l0.queued (mark.End ∷ [])) }, refl),
+line_runs capacity l (line.put l0 m r may) fits =
+    let before = line_runs capacity l0 r (omega (arith, length-append l0.queued (m ∷ []))) in (
+      before.0 ++ put_act 0 m ∷ [],
+      run_step capacity before.0 (put_act 0 m) (opening_crew 1 1) (one_line l0) (one_line l) before.1
+          (put_steps capacity (one_line l0) (one_line l) 0 m (record { exists = omega arith; room = omega (arith, inbox_fits l0 r, length-append l0.queued (m ∷ [])); follows = may }, refl)),
     )
 line_runs capacity l (line.take_front l0 m rest r front) fits =
     let before = line_runs capacity l0 r fits in (
@@ -242,6 +253,7 @@ desks_run peers handlers capacity d (desks.give d0 k desk r lt holds) =
 pub step_from : (capacity : ℕ) (s : Crew) (a : Act) → IsEnabled capacity s a → (t : Crew) × Step capacity s a t
 step_from capacity s (act.Put p x) enabled = (with_line s p (line_put is_end (line_of s p) (mark.Item x)), (enabled, refl))
 step_from capacity s (act.End p) enabled = (with_line s p (line_put is_end (line_of s p) mark.End), (enabled, refl))
+step_from capacity s (act.Open p) enabled = (with_line s p (line_put is_end (line_of s p) mark.Open), (enabled, refl))
 step_from capacity s (act.Claim k) enabled = (with_desks s (claimed s.desks k), (enabled, refl))
 step_from capacity s (act.Take k) enabled = (with_line s (desk_of s k) (line_taken (line_of s (desk_of s k))), (enabled, refl))
 step_from capacity s (act.Give k) enabled = (with_desks s (given s.desks k), (enabled, refl))
@@ -250,6 +262,7 @@ step_from capacity s (act.Give k) enabled = (with_desks s (given s.desks k), (en
 pub step_enabled : (capacity : ℕ) (s t : Crew) (a : Act) → Step capacity s a t → IsEnabled capacity s a
 step_enabled capacity s t (act.Put p x) step = step.0
 step_enabled capacity s t (act.End p) step = step.0
+step_enabled capacity s t (act.Open p) step = step.0
 step_enabled capacity s t (act.Claim k) step = step.0
 step_enabled capacity s t (act.Take k) step = step.0
 step_enabled capacity s t (act.Give k) step = step.0
@@ -258,6 +271,7 @@ step_enabled capacity s t (act.Give k) step = step.0
 pub step_one : (capacity : ℕ) (s t u : Crew) (a : Act) → Step capacity s a t → Step capacity s a u → t ≡ u
 step_one capacity s t u (act.Put p x) one other = one.1 ∙ sym other.1
 step_one capacity s t u (act.End p) one other = one.1 ∙ sym other.1
+step_one capacity s t u (act.Open p) one other = one.1 ∙ sym other.1
 step_one capacity s t u (act.Claim k) one other = one.1 ∙ sym other.1
 step_one capacity s t u (act.Take k) one other = one.1 ∙ sym other.1
 step_one capacity s t u (act.Give k) one other = one.1 ∙ sym other.1

@@ -2,4 +2,5 @@ pub mod CrewLaws
 pub mod InboxLemmas
 pub mod DesksLaws
 pub mod LineLaws
+pub mod PartsLaws
 pub mod SystemLemmas

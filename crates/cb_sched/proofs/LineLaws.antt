@@ -1,48 +1,60 @@
--- Laws of one line, for items of any type: they need only that acts lead to it.
-use Rattle.std.proofs.Common.{◌≡◌, Bool, true, false, ◌||◌, List, [], ◌∷◌, ◌++◌, take, drop, refl, sym, ap, ◌∙◌, append_assoc, take-append-drop}
-use Rattle.std.specs.List.{list_any}
+-- Laws of one line, for marks of any type: they need only that acts lead to it.
+use Rattle.std.proofs.Common.{◌≡◌, ℕ, ◌+◌, ◌<◌, ◌≤◌, Bool, true, false, cond, List, [], ◌∷◌, ◌++◌, take, drop, refl, sym, ap, ◌∙◌, arith, inl, inr, append_assoc, take-append-drop}
 use Rattle.std.proofs.lemmas.List.{append-nil}
-use Rattle.std.proofs.lemmas.Bool.{or_parts, false≢true}
-use Rattle.std.proofs.lemmas.List.Folds.{list_any-append}
-use Rattle.cb_sched.specs.Line.{Line, LineReached, opening, put, ends, take_front, line_put, line_taken}
-use Rattle.cb_sched.specs.Laws.{IsBeginning, EndIsLast}
+use Rattle.std.proofs.lemmas.Bool.{cases_Bool}
+use Rattle.std.proofs.lemmas.List.Sums.{sum_by_push}
+use Rattle.cb_sched.specs.Line.{Line, LineReached, opening, put, take_front, connections, line_put, line_taken}
+use Rattle.cb_sched.specs.Laws.{IsBeginning, OpensFollowEnds, ends_last}
 
 -- what was queued is what was taken, followed by what lies there
-pub queued_parts : {M : Type 0} {is_end : M → Bool} {l : Line M} → LineReached is_end l → l.queued ≡ l.taken ++ l.inbox
+pub queued_parts : {M : Type 0} {is_end is_open : M → Bool} {l : Line M} → LineReached is_end is_open l → l.queued ≡ l.taken ++ l.inbox
 queued_parts opening = refl
-queued_parts (put line m r live item) = ap (λ ms. ms ++ m ∷ []) (queued_parts r) ∙ append_assoc line.taken line.inbox (m ∷ [])
-queued_parts (ends line m r live mark) = ap (λ ms. ms ++ m ∷ []) (queued_parts r) ∙ append_assoc line.taken line.inbox (m ∷ [])
+queued_parts (put line m r may) = ap (λ ms. ms ++ m ∷ []) (queued_parts r) ∙ append_assoc line.taken line.inbox (m ∷ [])
 queued_parts (take_front line m rest r front) = queued_parts r ∙ (ap (λ ms. line.taken ++ ms) (sym (take-append-drop 1 line.inbox)) ∙ sym (append_assoc line.taken (take 1 line.inbox) (drop 1 line.inbox)))
 
-or_no : (b : Bool) → (b || false) ≡ b
-or_no true = refl
-or_no false = refl
+last_push : {M : Type 0} (is_end : M → Bool) (after_end : Bool) (ms : List M) (m : M) → ends_last is_end after_end (ms ++ m ∷ []) ≡ is_end m
+last_push is_end after_end [] m = refl
+last_push is_end after_end (x ∷ ms) m = last_push is_end (is_end x) ms m
 
--- a mark behind a list that has no end mark
-any_push : {M : Type 0} (is_end : M → Bool) (ms : List M) (m : M) → list_any is_end ms ≡ false → is_end m ≡ list_any is_end (ms ++ m ∷ [])
-any_push is_end ms m none = rw (list_any-append is_end ms (m ∷ []), none) (sym (or_no (is_end m)))
-
--- the flag says whether the end mark was queued
-pub ended_is : {M : Type 0} {is_end : M → Bool} {l : Line M} → LineReached is_end l → l.ended ≡ list_any is_end l.queued
+-- the flag says whether the last mark that was queued is an end mark
+pub ended_is : {M : Type 0} {is_end is_open : M → Bool} {l : Line M} → LineReached is_end is_open l → l.ended ≡ ends_last is_end false l.queued
 ended_is opening = refl
-ended_is {is_end = is_end} (put line m r live item) = any_push is_end line.queued m (sym (ended_is r) ∙ live)
-ended_is {is_end = is_end} (ends line m r live mark) = any_push is_end line.queued m (sym (ended_is r) ∙ live)
+ended_is {is_end = is_end} (put line m r may) = sym (last_push is_end false line.queued m)
 ended_is (take_front line m rest r front) = ended_is r
 
--- nothing stood behind an end mark, since there was none
-end_push : {M : Type 0} (is_end : M → Bool) (ms : List M) (m : M) → list_any is_end ms ≡ false → EndIsLast is_end (ms ++ m ∷ [])
-end_push is_end [] m none = (λ h. refl, tt)
-end_push is_end (x ∷ ms) m none = let p = or_parts (is_end x) (list_any is_end ms) none in (λ h. absurd (false≢true (sym p.0 ∙ h)), end_push is_end ms m p.1)
+-- a mark more, in its turn
+follow_push : {M : Type 0} (is_end is_open : M → Bool) (after_end : Bool) (ms : List M) (m : M) → OpensFollowEnds is_end is_open after_end ms → is_open m ≡ ends_last is_end after_end ms → OpensFollowEnds is_end is_open after_end (ms ++ m ∷ [])
+follow_push is_end is_open after_end [] m fits turn = (turn, tt)
+follow_push is_end is_open after_end (x ∷ ms) m fits turn = (fits.0, follow_push is_end is_open (is_end x) ms m fits.1 turn)
 
--- the end mark stands last or nowhere
-pub end_last : {M : Type 0} {is_end : M → Bool} {l : Line M} → LineReached is_end l → EndIsLast is_end l.queued
-end_last opening = tt
-end_last {is_end = is_end} (put line m r live item) = end_push is_end line.queued m (sym (ended_is r) ∙ live)
-end_last {is_end = is_end} (ends line m r live mark) = end_push is_end line.queued m (sym (ended_is r) ∙ live)
-end_last (take_front line m rest r front) = end_last r
+-- a mark is an open mark just where the one before it is an end mark
+pub follows : {M : Type 0} {is_end is_open : M → Bool} {l : Line M} → LineReached is_end is_open l → OpensFollowEnds is_end is_open false l.queued
+follows opening = tt
+follows {is_end = is_end} {is_open = is_open} (put line m r may) = follow_push is_end is_open false line.queued m (follows r) (sym may.in_turn ∙ ended_is r)
+follows (take_front line m rest r front) = follows r
+
+abbrev one_if : Bool → ℕ
+one_if b = cond b 1 0
+
+-- an open mark more is a connection more
+pub connections_push : {M : Type 0} (is_open : M → Bool) (ms : List M) (m : M) → connections is_open (ms ++ m ∷ []) ≡ connections is_open ms + cond (is_open m) 1 0
+connections_push is_open ms m = omega (arith, sum_by_push (λ x. cond (is_open x) 1 0) ms m)
+
+few_push : {M : Type 0} (is_open : M → Bool) (ms : List M) (m : M) → connections is_open ms ≤ 256 → (is_open m ≡ true → connections is_open ms < 256) → connections is_open (ms ++ m ∷ []) ≤ 256
+few_push is_open ms m within below =
+    elim (cases_Bool (is_open m)) [
+      | inl begins ↦ omega (arith, connections_push is_open ms m, ap one_if begins, below begins)
+      | inr other ↦ omega (arith, connections_push is_open ms m, ap one_if other)
+    ]
+
+-- a line has 256 connections at the most
+pub few : {M : Type 0} {is_end is_open : M → Bool} {l : Line M} → LineReached is_end is_open l → connections is_open l.queued ≤ 256
+few opening = omega arith
+few {is_open = is_open} (put line m r may) = few_push is_open line.queued m (few r) may.few
+few (take_front line m rest r front) = few r
 
 -- what was taken is a beginning of what was queued
-pub taken_begins : {M : Type 0} {is_end : M → Bool} {l : Line M} → LineReached is_end l → IsBeginning l.taken l.queued
+pub taken_begins : {M : Type 0} {is_end is_open : M → Bool} {l : Line M} → LineReached is_end is_open l → IsBeginning l.taken l.queued
 taken_begins {l = l} r = (l.inbox, queued_parts r)
 
 -- a line went on: what was queued and what was taken only grew, at their ends

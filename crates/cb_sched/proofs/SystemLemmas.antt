@@ -9,14 +9,12 @@ use Rattle.std.specs.Bool.{IsTrue}
 use Rattle.std.proofs.lemmas.Bool.{false≢true}
 use Rattle.std.proofs.lemmas.List.{length-map, map-set, get_or_read, set-get_or}
 use Rattle.cb_sched.specs.declared.act.Act.{Act}
-use Rattle.cb_sched.specs.declared.act.Act.TheVariants as act
 use Rattle.cb_sched.specs.declared.act.Mark.{Mark}
-use Rattle.cb_sched.specs.declared.act.Mark.TheVariants as mark
-use Rattle.cb_sched.specs.Line.{Line, empty_line, line_put, line_taken}
+use Rattle.cb_sched.specs.Line.{Line, MayFollow, empty_line, line_put, line_taken}
 use Rattle.cb_sched.specs.Desks.{held_by, claimed, given}
-use Rattle.cb_sched.specs.Crew.{Crew, MayClaim, MayTake, HoldsDesk, IsReached, Puts, Step, line_of, desk_of, with_line, with_desks, is_end, opening_crew}
+use Rattle.cb_sched.specs.Crew.{Crew, MayClaim, MayTake, HoldsDesk, IsReached, Puts, Step, line_of, desk_of, with_line, with_desks, is_end, is_open, opening_crew}
 use Rattle.cb_sched.proofs.DesksLaws.{ring_short, held_below}
-use Rattle.cb_sched.proofs.CrewLaws.{run_step, sound_run}
+use Rattle.cb_sched.proofs.CrewLaws.{run_step, sound_run, put_act, put_steps}
 
 -- the crew that a System's fields show
 abbrev pub crew_at : List (Line Mark) → List ℕ → List (Option ℕ) → Crew
@@ -54,8 +52,7 @@ pub reached_step : (peers handlers capacity : ℕ) (s t : Crew) (a : Act) → Is
 reached_step peers handlers capacity s t a r step = record { acts = r.acts ++ a ∷ []; run = run_step capacity r.acts a (opening_crew peers handlers) s t r.run step }
 
 pub reached_put : (peers handlers capacity : ℕ) (s t : Crew) (p : ℕ) (m : Mark) → IsReached peers handlers capacity s → Puts capacity s p m t → IsReached peers handlers capacity t
-reached_put peers handlers capacity s t p (mark.Item x) r step = reached_step peers handlers capacity s t (act.Put p x) r step
-reached_put peers handlers capacity s t p mark.End r step = reached_step peers handlers capacity s t (act.End p) r step
+reached_put peers handlers capacity s t p m r step = reached_step peers handlers capacity s t (put_act p m) r (put_steps capacity s t p m step)
 
 -- a held desk is a peer's
 pub desk_below : (peers handlers capacity : ℕ) (lines : List (Line Mark)) (ring : List ℕ) (held : List (Option ℕ)) (k desk : ℕ) → IsReached peers handlers capacity (crew_at lines ring held) → get_or held k None ≡ Some desk → desk < peers
@@ -97,13 +94,13 @@ take_at lines ring held k desk l t lt some read filled left =
     (step.0, ap (λ (m : Line Mark). crew_at (set lines desk m) ring held) (left ∙ ap line_taken same) ∙ step.1)
 
 -- after a put that may have been refused for want of memory
-pub put_at : (peers handlers capacity : ℕ) (lines : List (Line Mark)) (ring : List ℕ) (held : List (Option ℕ)) (p : ℕ) (m : Mark) (l t : Line Mark) (r : Result (Unit {0}) Fault) → p < length lines → l ≡ get_or lines p l → (l.ended ≡ false) × (length l.inbox < capacity) → OnOk r (t ≡ line_put is_end l m) → OnErr r (t ≡ l) → IsReached peers handlers capacity (crew_at lines ring held) → IsReached peers handlers capacity (crew_at (set lines p t) ring held)
-put_at peers handlers capacity lines ring held p m l t (Ok done) lt read room left same reached =
+pub put_at : (peers handlers capacity : ℕ) (lines : List (Line Mark)) (ring : List ℕ) (held : List (Option ℕ)) (p : ℕ) (m : Mark) (l t : Line Mark) (r : Result (Unit {0}) Fault) → p < length lines → l ≡ get_or lines p l → length l.inbox < capacity → MayFollow is_open l m → OnOk r (t ≡ line_put is_end l m) → OnErr r (t ≡ l) → IsReached peers handlers capacity (crew_at lines ring held) → IsReached peers handlers capacity (crew_at (set lines p t) ring held)
+put_at peers handlers capacity lines ring held p m l t (Ok done) lt read room follows left same reached =
     let is : l ≡ get_or lines p empty_line = get_or_read lines p l lt read empty_line in
     let s = crew_at lines ring held in
     reached_put peers handlers capacity s (crew_at (set lines p t) ring held) p m reached
-    (record { exists = lt; live = ap (λ (k : Line Mark). k.ended) (sym is) ∙ room.0; room = omega (arith, room.1, ap (λ (k : Line Mark). length k.inbox) is) }, ap (λ (k : Line Mark). crew_at (set lines p k) ring held) (left ∙ ap (λ k. line_put is_end k m) is))
-put_at peers handlers capacity lines ring held p m l t (Err fault) lt read room left same reached =
+    (record { exists = lt; room = omega (arith, room, ap (λ (k : Line Mark). length k.inbox) is); follows = subst (λ (k : Line Mark). MayFollow is_open k m) is follows }, ap (λ (k : Line Mark). crew_at (set lines p k) ring held) (left ∙ ap (λ k. line_put is_end k m) is))
+put_at peers handlers capacity lines ring held p m l t (Err fault) lt read room follows left same reached =
     let is : l ≡ get_or lines p empty_line = get_or_read lines p l lt read empty_line in
     let stays : set lines p t ≡ lines = ap (set lines p) (same ∙ is) ∙ set-get_or lines p empty_line in
     subst (λ (ls : List (Line Mark)). IsReached peers handlers capacity (crew_at ls ring held)) (sym stays) reached

@@ -4,7 +4,7 @@ use Rattle.cb_sched.specs.declared.act.Act.{Act}
 use Rattle.cb_sched.specs.declared.act.Act.TheVariants as act
 use Rattle.cb_sched.specs.declared.act.Mark.{Mark}
 use Rattle.cb_sched.specs.declared.act.Mark.TheVariants as mark
-use Rattle.cb_sched.specs.Line.{Line, empty_line, line_put, line_taken}
+use Rattle.cb_sched.specs.Line.{Line, MayFollow, empty_line, line_put, line_taken}
 use Rattle.cb_sched.specs.Desks.{Desks, opening_desks, held_by, claimed, given}
 
 -- a state of the crew
@@ -12,10 +12,17 @@ pub record Crew : Type 0 where
   pub lines : List (Line Mark)  -- one for each peer
   pub desks : Desks
 
--- the end mark among the marks
+-- the end mark among the marks, by which a connection ends
 abbrev pub is_end : Mark → Bool
 is_end (mark.Item x) = false
 is_end mark.End = true
+is_end mark.Open = false
+
+-- the open mark among them, by which the next connection begins
+abbrev pub is_open : Mark → Bool
+is_open (mark.Item x) = false
+is_open mark.End = false
+is_open mark.Open = true
 
 -- nothing is queued, and all desks wait in the ring
 abbrev pub opening_crew : ℕ → ℕ → Crew
@@ -29,11 +36,12 @@ line_of s p = slice_index_or s.lines p empty_line
 abbrev pub desk_of : Crew → ℕ → ℕ
 desk_of s k = slice_index (held_by s.desks k) 0
 
--- peer p exists and has not ended, and its inbox holds fewer marks than the capacity
-pub record HasRoom (capacity : ℕ) (s : Crew) (p : ℕ) : Type 0 where
+-- Peer p exists, its inbox holds fewer marks than the capacity, and this mark may come next: an open mark where the peer
+-- has ended and had fewer than 256 connections, any other where it hasn't ended.
+pub record MayPut (capacity : ℕ) (s : Crew) (p : ℕ) (m : Mark) : Type 0 where
   pub exists : p < length s.lines
-  pub live : (line_of s p).ended ≡ false
   pub room : length (line_of s p).inbox < capacity
+  pub follows : MayFollow is_open (line_of s p) m
 
 -- handler k exists and holds no desk, and a desk waits in the ring
 pub record MayClaim (s : Crew) (k : ℕ) : Type 0 where
@@ -52,8 +60,9 @@ pub record MayTake (s : Crew) (k : ℕ) : Type 0 where
 
 -- the act can come in this state
 abbrev pub IsEnabled : ℕ → Crew → Act → Type 0
-IsEnabled capacity s (act.Put p x) = HasRoom capacity s p
-IsEnabled capacity s (act.End p) = HasRoom capacity s p
+IsEnabled capacity s (act.Put p x) = MayPut capacity s p (mark.Item x)
+IsEnabled capacity s (act.End p) = MayPut capacity s p mark.End
+IsEnabled capacity s (act.Open p) = MayPut capacity s p mark.Open
 IsEnabled capacity s (act.Claim k) = MayClaim s k
 IsEnabled capacity s (act.Take k) = MayTake s k
 IsEnabled capacity s (act.Give k) = HoldsDesk s k
@@ -68,12 +77,13 @@ with_desks s desks = record { lines = s.lines; desks = desks }
 
 -- From s, putting m on peer p's inbox leads to t.
 abbrev pub Puts : ℕ → Crew → ℕ → Mark → Crew → Type 0
-Puts capacity s p m t = HasRoom capacity s p × (t ≡ with_line s p (line_put is_end (line_of s p) m))
+Puts capacity s p m t = MayPut capacity s p m × (t ≡ with_line s p (line_put is_end (line_of s p) m))
 
 -- From s, the act leads to t.
 abbrev pub Step : ℕ → Crew → Act → Crew → Type 0
 Step capacity s (act.Put p x) t = Puts capacity s p (mark.Item x) t
 Step capacity s (act.End p) t = Puts capacity s p mark.End t
+Step capacity s (act.Open p) t = Puts capacity s p mark.Open t
 Step capacity s (act.Claim k) t = MayClaim s k × (t ≡ with_desks s (claimed s.desks k))
 Step capacity s (act.Take k) t = MayTake s k × (t ≡ with_line s (desk_of s k) (line_taken (line_of s (desk_of s k))))
 Step capacity s (act.Give k) t = HoldsDesk s k × (t ≡ with_desks s (given s.desks k))
@@ -92,6 +102,7 @@ pub record IsReached (peers handlers capacity : ℕ) (s : Crew) : Type 0 where
 abbrev pub TakesMemory : Act → Type 0
 TakesMemory (act.Put p x) = Unit {0}
 TakesMemory (act.End p) = Unit {0}
+TakesMemory (act.Open p) = Unit {0}
 TakesMemory (act.Claim k) = ⊥
 TakesMemory (act.Take k) = ⊥
 TakesMemory (act.Give k) = ⊥

@@ -1,5 +1,5 @@
 -- What holds of the crew in each state that acts lead to.
-use Rattle.std.specs.Prelude.{◌≡◌, ℕ, ◌+◌, Bool, true, ◌⊎◌, if◌then◌else◌, nat_eq, nat_lt, List, [], ◌∷◌, ◌++◌, length, replicate, count_by}
+use Rattle.std.specs.Prelude.{◌≡◌, ℕ, ◌+◌, Bool, ◌⊎◌, if◌then◌else◌, nat_eq, nat_lt, List, [], ◌∷◌, ◌++◌, length, replicate, count_by}
 use Rattle.std.specs.List.{sum_by}
 use Rattle.cb_sched.specs.declared.act.Act.{Act}
 use Rattle.cb_sched.specs.declared.act.Act.TheVariants as act
@@ -12,10 +12,16 @@ use Rattle.cb_sched.specs.Crew.{Crew, Run, opening_crew, IsEnabled, is_end, line
 abbrev pub IsBeginning : {M : Type 0} → List M → List M → Type 0
 IsBeginning {M} front whole = (rest : List M) × (whole ≡ front ++ rest)
 
--- nothing stands behind an end mark
-abbrev pub EndIsLast : {M : Type 0} → (M → Bool) → List M → Type 0
-EndIsLast is_end [] = Unit {0}
-EndIsLast is_end (m ∷ rest) = (is_end m ≡ true → rest ≡ []) × EndIsLast is_end rest
+-- Read from the left, a mark is an open mark just where the one before it is an end mark. So each open mark follows an end
+-- mark, and each end mark is last or is followed by an open mark. `after_end`: what stands before the list is an end mark.
+abbrev pub OpensFollowEnds : {M : Type 0} → (is_end is_open : M → Bool) → (after_end : Bool) → List M → Type 0
+OpensFollowEnds is_end is_open after_end [] = Unit {0}
+OpensFollowEnds is_end is_open after_end (m ∷ rest) = (is_open m ≡ after_end) × OpensFollowEnds is_end is_open (is_end m) rest
+
+-- the last mark is an end mark; for no marks what stands before them tells it
+abbrev pub ends_last : {M : Type 0} → (M → Bool) → (after_end : Bool) → List M → Bool
+ends_last is_end after_end [] = after_end
+ends_last is_end after_end (m ∷ rest) = ends_last is_end (is_end m) rest
 
 -- Of the desks 0, 1, .. below peers each stands once, in the ring or with one handler, and there is no other.
 abbrev pub EachDeskOnce : ℕ → Desks → Type 0

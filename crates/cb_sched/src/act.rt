@@ -2,13 +2,15 @@ ghost use Rattle.std.specs.Prelude.{Some};
 
 use std::fmt;
 
-/// What lies in an inbox: an item, or the mark by which a peer's reader ends.
+/// What lies in an inbox: an item, or a mark between a peer's connections.
 #[derive(Clone, Copy, Debug, PartialEq, Eq)]
 pub enum Mark {
     /// An item.
     Item(u64),
-    /// Nothing comes after it.
+    /// The connection ends: nothing comes after it but an open mark.
     End,
+    /// The next connection begins.
+    Open,
 }
 
 impl fmt::Display for Mark {
@@ -16,11 +18,12 @@ impl fmt::Display for Mark {
 
     ghost output = { λ mark. Some (mark_text mark) };
 
-    /// The item in decimal, or `end`.
+    /// The item in decimal, or `end`, or `open`.
     fn fmt<W: fmt::Write>(&self, f: &mut fmt::Formatter<W>) -> fmt::Result {
         match self {
             Mark::Item(item) => write!(f, "{item}"),
             Mark::End => write!(f, "end"),
+            Mark::Open => write!(f, "open"),
         }
     }
 }
@@ -32,6 +35,8 @@ pub enum Act {
     Put(u16, u64),
     /// The peer's reader puts the end mark there.
     End(u16),
+    /// The peer's reader puts an open mark there, behind its end mark: its next connection begins.
+    Open(u16),
     /// The handler takes the desk at the ring's front.
     Claim(u16),
     /// The handler takes the front of the inbox of the desk that it holds.

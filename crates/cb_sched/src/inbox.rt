@@ -1,12 +1,15 @@
 ghost use Rattle.std.specs.Prelude.{◌≡◌, ◌<◌, ◌↔◌, false, length, OnOk, OnErr, IsTrue, IsOkUnless};
 ghost use Rattle.cb_base.specs.declared.fault.Fault.TheVariants.{Memory};
-ghost use Rattle.cb_sched.specs.Crew.{is_end};
-ghost use Rattle.cb_sched.specs.Line.{empty_line, line_put, line_taken};
+ghost use Rattle.cb_sched.specs.Crew.{is_end, is_open};
+ghost use Rattle.cb_sched.specs.Line.{MayFollow, connections, empty_line, line_put, line_taken};
 
 use crate::act::Mark;
 use cb_base::Fault;
 use std::alloc::Global;
 use std::marker::Model;
+
+/// How many connections a peer may have, one after another.
+const MOST_CONNECTIONS: u16 = 256;
 
 /// A peer's inbox with its whole history: all marks that were ever put, and how many of them were taken.
 #[derive(Drop)]
@@ -14,18 +17,21 @@ pub struct Inbox {
     marks: Vec<Mark>,
     taken: usize,
     ended: bool,
+    connections: u16,
 }
 
 impl Model for Inbox {
-    ghost use Rattle.std.specs.Prelude.{◌≤◌, take, drop, vec_len};
+    ghost use Rattle.std.specs.Prelude.{◌≡◌, ◌≤◌, take, drop, vec_len};
     ghost use Rattle.cb_sched.specs.declared.act.Mark.{Mark};
+    ghost use Rattle.cb_sched.specs.Crew.{is_open};
     ghost use Rattle.cb_sched.specs.Line.{Line};
+    ghost use Rattle.cb_sched.specs.Line as line;
 
     ghost Value = { Line Mark };
 
     ghost view = { λ a. record { queued = a.marks.items; inbox = drop a.taken a.marks.items; taken = take a.taken a.marks.items; ended = a.ended } };
 
-    ghost invariant = { λ a. a.taken ≤ vec_len a.marks };
+    ghost invariant = { λ a. (a.taken ≤ vec_len a.marks) × (a.connections ≡ line.connections is_open a.marks.items) × (a.connections ≤ 256) };
 }
 
 impl Inbox {
@@ -37,6 +43,7 @@ impl Inbox {
             marks: Vec::new(alloc),
             taken: 0,
             ended: false,
+            connections: 1,
         }
     }
 
@@ -61,11 +68,21 @@ impl Inbox {
         &self.marks.as_slice()[..self.taken]
     }
 
-    /// Whether another mark may be put.
+    /// Whether fewer marks lie there than the capacity.
     pub fn has_room(&self, capacity: usize) -> bool
-        ensures { IsTrue result ↔ ((self.now.ended ≡ false) × (length self.now.inbox < capacity)) }
+        ensures { IsTrue result ↔ (length self.now.inbox < capacity) }
     {
-        !self.ended && self.marks.len() - self.taken < capacity
+        self.marks.len() - self.taken < capacity
+    }
+
+    /// Whether this mark may come next, as far as the marks before it tell.
+    pub fn may_follow(&self, mark: Mark) -> bool
+        ensures { IsTrue result ↔ MayFollow is_open self.now mark }
+    {
+        match mark {
+            Mark::Open => self.ended && self.connections < MOST_CONNECTIONS,
+            Mark::Item(_) | Mark::End => !self.ended,
+        }
     }
 
     /// Whether nothing lies there.
@@ -75,14 +92,18 @@ impl Inbox {
         self.taken == self.marks.len()
     }
 
-    /// Puts a mark behind all others. The only refusal is `Fault::Memory`, and it changes nothing.
+    /// Puts a mark that may come next behind all others. The only refusal is `Fault::Memory`, and it changes nothing.
     pub fn put(&mut self, mark: Mark) -> Result<(), Fault>
+        requires { MayFollow is_open self.old mark }
         ensures ok { OnOk result (self.new ≡ line_put is_end self.old mark) }
         ensures memory { IsOkUnless result Memory }
         ensures err { OnErr result (self.new ≡ self.old) }
     {
         self.marks.push(mark)?;
         self.ended = matches!(mark, Mark::End);
+        if matches!(mark, Mark::Open) {
+            self.connections += 1;
+        }
         Ok(())
     }
 

@@ -1,12 +1,13 @@
 //! What holds of every list of acts. Each law is the contract of a function that does nothing.
-ghost use Rattle.std.specs.Prelude.{◌≡◌, ℕ, ◌+◌, ◌<◌, ◌≤◌, List, ◌++◌, length};
-ghost use Rattle.std.specs.List.{sum_by, range_with_len, list_any};
+ghost use Rattle.std.specs.Prelude.{◌≡◌, ℕ, ◌+◌, ◌<◌, ◌≤◌, false, List, ◌++◌, length};
+ghost use Rattle.std.specs.List.{sum_by, range_with_len};
 ghost use Rattle.cb_sched.specs.declared.act.Act.{Act};
 ghost use Rattle.cb_sched.specs.declared.act.Mark.{Mark};
-ghost use Rattle.cb_sched.specs.Line.{Line, LineReached};
+ghost use Rattle.cb_sched.specs.Line.{Line, LineReached, connections};
+ghost use Rattle.cb_sched.specs.Parts.{parts, part};
 ghost use Rattle.cb_sched.specs.Desks.{Desks, DesksReached, held_by};
-ghost use Rattle.cb_sched.specs.Crew.{Crew, IsEnabled, Step, Run, HoldsDesk, line_of, desk_of, is_end};
-ghost use Rattle.cb_sched.specs.Laws.{Reaches, IsBeginning, EndIsLast, EachDeskOnce, CanGoOn, TakesAll, LineRuns, DesksRun};
+ghost use Rattle.cb_sched.specs.Crew.{Crew, IsEnabled, Step, Run, HoldsDesk, line_of, desk_of, is_end, is_open};
+ghost use Rattle.cb_sched.specs.Laws.{Reaches, IsBeginning, OpensFollowEnds, ends_last, EachDeskOnce, CanGoOn, TakesAll, LineRuns, DesksRun};
 
 /// From each state an act leads to one state where it can come, and to none where it can't.
 pub fn one_step_for_each_act()
@@ -21,10 +22,20 @@ pub fn queued_is_taken_then_inbox()
     ensures { (peers handlers capacity : ℕ) (acts : List Act) (s : Crew) → Reaches peers handlers capacity acts s → (p : ℕ) → (line_of s p).queued ≡ (line_of s p).taken ++ (line_of s p).inbox }
 {}
 
-/// Nothing is queued behind an end mark, and a peer has ended just where one was queued.
-pub fn end_is_last()
-    ensures flag { (peers handlers capacity : ℕ) (acts : List Act) (s : Crew) → Reaches peers handlers capacity acts s → (p : ℕ) → (line_of s p).ended ≡ list_any is_end (line_of s p).queued }
-    ensures last { (peers handlers capacity : ℕ) (acts : List Act) (s : Crew) → Reaches peers handlers capacity acts s → (p : ℕ) → EndIsLast is_end (line_of s p).queued }
+/// Each open mark follows an end mark, and each end mark is last or is followed by an open mark. A peer has ended just where
+/// its last mark is an end mark, and it had 256 connections at the most.
+pub fn opens_follow_ends()
+    ensures follow { (peers handlers capacity : ℕ) (acts : List Act) (s : Crew) → Reaches peers handlers capacity acts s → (p : ℕ) → OpensFollowEnds is_end is_open false (line_of s p).queued }
+    ensures flag { (peers handlers capacity : ℕ) (acts : List Act) (s : Crew) → Reaches peers handlers capacity acts s → (p : ℕ) → (line_of s p).ended ≡ ends_last is_end false (line_of s p).queued }
+    ensures few { (peers handlers capacity : ℕ) (acts : List Act) (s : Crew) → Reaches peers handlers capacity acts s → (p : ℕ) → connections is_open (line_of s p).queued ≤ 256 }
+{}
+
+/// Of each connection of a peer, what was taken is a beginning of what was queued, and it is all of it once the open mark of
+/// the next connection was taken. There are as many parts as connections.
+pub fn connections_in_order()
+    ensures begins { (peers handlers capacity : ℕ) (acts : List Act) (s : Crew) → Reaches peers handlers capacity acts s → (p k : ℕ) → IsBeginning (part is_open (line_of s p).taken k) (part is_open (line_of s p).queued k) }
+    ensures whole { (peers handlers capacity : ℕ) (acts : List Act) (s : Crew) → Reaches peers handlers capacity acts s → (p k : ℕ) → k + 1 < connections is_open (line_of s p).taken → part is_open (line_of s p).taken k ≡ part is_open (line_of s p).queued k }
+    ensures count { (marks : List Mark) → length (parts is_open marks) ≡ connections is_open marks }
 {}
 
 /// No inbox holds more marks than the capacity.
@@ -63,8 +74,8 @@ pub fn never_stuck()
 
 /// Lists of acts and the rules by which one line, or the desks alone, go on agree on what can be reached.
 pub fn reached_as_data()
-    ensures lines { (peers handlers capacity : ℕ) (acts : List Act) (s : Crew) → Reaches peers handlers capacity acts s → (p : ℕ) → LineReached is_end (line_of s p) }
+    ensures lines { (peers handlers capacity : ℕ) (acts : List Act) (s : Crew) → Reaches peers handlers capacity acts s → (p : ℕ) → LineReached is_end is_open (line_of s p) }
     ensures desks { (peers handlers capacity : ℕ) (acts : List Act) (s : Crew) → Reaches peers handlers capacity acts s → DesksReached peers handlers s.desks }
-    ensures line_runs { (capacity : ℕ) (l : Line Mark) → LineReached is_end l → length l.queued ≤ capacity → LineRuns capacity l }
+    ensures line_runs { (capacity : ℕ) (l : Line Mark) → LineReached is_end is_open l → length l.queued ≤ capacity → LineRuns capacity l }
     ensures desks_run { (peers handlers capacity : ℕ) (d : Desks) → DesksReached peers handlers d → DesksRun peers handlers capacity d }
 {}

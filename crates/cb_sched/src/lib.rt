@@ -8,8 +8,9 @@ mod system;
 
 pub use act::{Act, Mark};
 pub use laws::{
-    each_desk_once, end_is_last, inboxes_within_capacity, items_in_order, never_stuck,
-    one_step_for_each_act, queued_is_taken_then_inbox, reached_as_data, taken_only_grows,
+    connections_in_order, each_desk_once, inboxes_within_capacity, items_in_order, never_stuck,
+    one_step_for_each_act, opens_follow_ends, queued_is_taken_then_inbox, reached_as_data,
+    taken_only_grows,
 };
 pub use system::System;
 

@@ -8,7 +8,7 @@ ghost use Rattle.cb_base.specs.declared.fault.Fault.TheVariants.{Memory, NotEnab
 ghost use Rattle.cb_sched.specs.Answer.{Answers};
 ghost use Rattle.cb_sched.specs.Desks.{held_by, claimed, given};
 ghost use Rattle.cb_sched.specs.Line.{empty_line, line_taken};
-ghost use Rattle.cb_sched.specs.Crew.{Step, IsEnabled, TakesMemory, IsReached, HasRoom, Puts, MayClaim, MayTake, HoldsDesk, opening_crew, line_of, desk_of, with_line, with_desks};
+ghost use Rattle.cb_sched.specs.Crew.{Step, IsEnabled, TakesMemory, IsReached, MayPut, Puts, MayClaim, MayTake, HoldsDesk, opening_crew, line_of, desk_of, with_line, with_desks};
 
 use crate::act::{Act, Mark};
 use crate::inbox::Inbox;
@@ -43,7 +43,7 @@ impl Model for System {
 
 impl System {
     /// A system whose ring holds the desks 0, 1, 2, .. and in which nothing is queued. An inbox holds up to `capacity`
-    /// marks, the end mark counted.
+    /// marks, end marks and open marks counted.
     ///
     /// The only error is `Fault::Memory`.
     pub fn new(alloc: Global, peers: u16, handlers: u16, capacity: usize) -> Result<System, Fault>
@@ -67,7 +67,7 @@ impl System {
     /// Does one act, if it can come now.
     ///
     /// It is refused with `Fault::NotEnabled` where the act can't come now, and with `Fault::Memory` where a growth was
-    /// refused, which only a Put or an End can meet. After a refusal the system is as it was.
+    /// refused, which only a Put, an End or an Open can meet. After a refusal the system is as it was.
     pub fn apply(&mut self, act: Act) -> Result<(), Fault>
         ensures step { OnOk result (Step self.old.capacity self.old.crew act self.new.crew) }
         ensures refused { (result ≡ Err NotEnabled) ↔ (IsEnabled self.old.capacity self.old.crew act → ⊥) }
@@ -78,6 +78,7 @@ impl System {
         match act {
             Act::Put(peer, item) => self.put(peer, Mark::Item(item)),
             Act::End(peer) => self.put(peer, Mark::End),
+            Act::Open(peer) => self.put(peer, Mark::Open),
             Act::Claim(handler) => self.claim(handler),
             Act::Take(handler) => self.take(handler),
             Act::Give(handler) => self.give(handler),
@@ -94,7 +95,7 @@ impl System {
 
     /// A mark comes on a peer's inbox.
     fn put(&mut self, peer: u16, mark: Mark) -> Result<(), Fault>
-        ensures answers { Answers (HasRoom self.old.capacity self.old.crew peer) (Puts self.old.capacity self.old.crew peer mark self.new.crew) ⊤ (self.new ≡ self.old) result }
+        ensures answers { Answers (MayPut self.old.capacity self.old.crew peer mark) (Puts self.old.capacity self.old.crew peer mark self.new.crew) ⊤ (self.new ≡ self.old) result }
         ensures capacity { self.new.capacity ≡ self.old.capacity }
     {
         let peer = usize::from(peer);
@@ -103,7 +104,7 @@ impl System {
         }
         let capacity = self.capacity;
         let inbox = &mut self.inboxes[peer];
-        if !inbox.has_room(capacity) {
+        if !inbox.has_room(capacity) || !inbox.may_follow(mark) {
             return Err(Fault::NotEnabled);
         }
         inbox.put(mark)
@@ -193,7 +194,7 @@ impl System {
         self.capacity
     }
 
-    /// All that was queued for a peer, the end mark too.
+    /// All that was queued for a peer, end marks and open marks too.
     pub fn queued(&self, peer: u16) -> &[Mark]
         requires { peer < length self.now.crew.lines }
         ensures { result.now ≡ (line_of self.now.crew peer).queued }

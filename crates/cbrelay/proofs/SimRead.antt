@@ -120,6 +120,11 @@ names_end name rest a named e =
     let read = one_read (λ n. act.End n) rest a (number_in (2 ^ 16) rest) refl e in
     rw (← read.3, (bytes_eq-Decides name (codes "end")).0 named) (rest, read.1, read.2, refl)
 
+names_open : (name rest : List ℕ) (a : Act) → bytes_eq name (codes "open") ≡ true → option_map (λ n. act.Open n) (number_in (2 ^ 16) rest) ≡ Some a → TellsAct (name ++ 32 ∷ rest) a
+names_open name rest a named e =
+    let read = one_read (λ n. act.Open n) rest a (number_in (2 ^ 16) rest) refl e in
+    rw (← read.3, (bytes_eq-Decides name (codes "open")).0 named) (rest, read.1, read.2, refl)
+
 names_claim : (name rest : List ℕ) (a : Act) → bytes_eq name (codes "claim") ≡ true → option_map (λ n. act.Claim n) (number_in (2 ^ 16) rest) ≡ Some a → TellsAct (name ++ 32 ∷ rest) a
 names_claim name rest a named e =
     let read = one_read (λ n. act.Claim n) rest a (number_in (2 ^ 16) rest) refl e in
@@ -150,21 +155,23 @@ put_parts rest a (Some p) is e = rw (cut_parts rest p is) (put_numbers p.0 p.1 a
 names_put : (name rest : List ℕ) (a : Act) → bytes_eq name (codes "put") ≡ true → option_and_then (λ p. option_and_then (λ n. option_map (λ m. act.Put n m) (number_in (2 ^ 64) p.1)) (number_in (2 ^ 16) p.0)) (cut_of rest) ≡ Some a → TellsAct (name ++ 32 ∷ rest) a
 names_put name rest a named e = rw ((bytes_eq-Decides name (codes "put")).0 named) (put_parts rest a (cut_of rest) refl e)
 
-by_name : (name rest : List ℕ) (a : Act) (put end claim take give : Bool) → bytes_eq name (codes "put") ≡ put → bytes_eq name (codes "end") ≡ end → bytes_eq name (codes "claim") ≡ claim → bytes_eq name (codes "take") ≡ take → bytes_eq name (codes "give") ≡ give
+by_name : (name rest : List ℕ) (a : Act) (put end opens claim take give : Bool) → bytes_eq name (codes "put") ≡ put → bytes_eq name (codes "end") ≡ end → bytes_eq name (codes "open") ≡ opens → bytes_eq name (codes "claim") ≡ claim → bytes_eq name (codes "take") ≡ take → bytes_eq name (codes "give") ≡ give
     → cond put (option_and_then (λ p. option_and_then (λ n. option_map (λ m. act.Put n m) (number_in (2 ^ 64) p.1)) (number_in (2 ^ 16) p.0)) (cut_of rest))
-    (cond end (option_map (λ n. act.End n) (number_in (2 ^ 16) rest)) (cond claim (option_map (λ n. act.Claim n) (number_in (2 ^ 16) rest)) (cond take (option_map (λ n. act.Take n) (number_in (2 ^ 16) rest)) (cond give (option_map (λ n. act.Give n) (number_in (2 ^ 16) rest)) None)))) ≡ Some a
+    (cond end (option_map (λ n. act.End n) (number_in (2 ^ 16) rest))
+    (cond opens (option_map (λ n. act.Open n) (number_in (2 ^ 16) rest)) (cond claim (option_map (λ n. act.Claim n) (number_in (2 ^ 16) rest)) (cond take (option_map (λ n. act.Take n) (number_in (2 ^ 16) rest)) (cond give (option_map (λ n. act.Give n) (number_in (2 ^ 16) rest)) None))))) ≡ Some a
     → TellsAct (name ++ 32 ∷ rest) a
-by_name name rest a true end claim take give p q r s t e = names_put name rest a p e
-by_name name rest a false true claim take give p q r s t e = names_end name rest a q e
-by_name name rest a false false true take give p q r s t e = names_claim name rest a r e
-by_name name rest a false false false true give p q r s t e = names_take name rest a s e
-by_name name rest a false false false false true p q r s t e = names_give name rest a t e
-by_name name rest a false false false false false p q r s t e = none_is_no_some a e
+by_name name rest a true end opens claim take give p q o r s t e = names_put name rest a p e
+by_name name rest a false true opens claim take give p q o r s t e = names_end name rest a q e
+by_name name rest a false false true claim take give p q o r s t e = names_open name rest a o e
+by_name name rest a false false false true take give p q o r s t e = names_claim name rest a r e
+by_name name rest a false false false false true give p q o r s t e = names_take name rest a s e
+by_name name rest a false false false false false true p q o r s t e = names_give name rest a t e
+by_name name rest a false false false false false false p q o r s t e = none_is_no_some a e
 
 act_parts : (text : List ℕ) (a : Act) (found : Option (List ℕ × List ℕ)) → cut_of text ≡ found → option_and_then (λ p. act_named p.0 p.1) found ≡ Some a → TellsAct text a
 act_parts text a None is e = none_is_no_some a e
 act_parts text a (Some p) is e =
-    rw (cut_parts text p is) (by_name p.0 p.1 a (bytes_eq p.0 (codes "put")) (bytes_eq p.0 (codes "end")) (bytes_eq p.0 (codes "claim")) (bytes_eq p.0 (codes "take")) (bytes_eq p.0 (codes "give")) refl refl refl refl refl e)
+    rw (cut_parts text p is) (by_name p.0 p.1 a (bytes_eq p.0 (codes "put")) (bytes_eq p.0 (codes "end")) (bytes_eq p.0 (codes "open")) (bytes_eq p.0 (codes "claim")) (bytes_eq p.0 (codes "take")) (bytes_eq p.0 (codes "give")) refl refl refl refl refl refl e)
 
 -- the act that is read is told
 pub act_is_told : (text : List ℕ) (a : Act) → act_in text ≡ Some a → TellsAct text a
@@ -178,6 +185,7 @@ pub told_act_is : (text : List ℕ) (a : Act) → TellsAct text a → act_in tex
 told_act_is text (act.Put p x) (peer, item, p_is, p_lt, x_is, x_lt, e) =
     rw (e, cut_some peer item (digits_no_space peer p_is.0), written (2 ^ 16) peer p p_is p_lt, written (2 ^ 64) item x x_is x_lt) refl
 told_act_is text (act.End n) (word, is, lt, e) = rw (e, written (2 ^ 16) word n is lt) refl
+told_act_is text (act.Open n) (word, is, lt, e) = rw (e, written (2 ^ 16) word n is lt) refl
 told_act_is text (act.Claim n) (word, is, lt, e) = rw (e, written (2 ^ 16) word n is lt) refl
 told_act_is text (act.Take n) (word, is, lt, e) = rw (e, written (2 ^ 16) word n is lt) refl
 told_act_is text (act.Give n) (word, is, lt, e) = rw (e, written (2 ^ 16) word n is lt) refl
@@ -207,6 +215,7 @@ told_ascii : (text : List ℕ) (a : Act) → TellsAct text a → IsAscii text
 told_ascii text (act.Put p x) (peer, item, p_is, p_lt, x_is, x_lt, e) =
     rw e (ascii_then (codes "put") (peer ++ 32 ∷ item) (ascii_word (codes "put") refl) (ascii_then peer item (ascii_number peer p p_is) (ascii_number item x x_is)))
 told_ascii text (act.End n) (word, is, lt, e) = rw e (ascii_then (codes "end") word (ascii_word (codes "end") refl) (ascii_number word n is))
+told_ascii text (act.Open n) (word, is, lt, e) = rw e (ascii_then (codes "open") word (ascii_word (codes "open") refl) (ascii_number word n is))
 told_ascii text (act.Claim n) (word, is, lt, e) = rw e (ascii_then (codes "claim") word (ascii_word (codes "claim") refl) (ascii_number word n is))
 told_ascii text (act.Take n) (word, is, lt, e) = rw e (ascii_then (codes "take") word (ascii_word (codes "take") refl) (ascii_number word n is))
 told_ascii text (act.Give n) (word, is, lt, e) = rw e (ascii_then (codes "give") word (ascii_word (codes "give") refl) (ascii_number word n is))

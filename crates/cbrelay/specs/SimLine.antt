@@ -19,6 +19,7 @@ abbrev pub TellsAct : List ℕ → Act → Type 0
 TellsAct text (act.Put p x) =
     (peer : List ℕ) × (item : List ℕ) × Writes peer p × (p < 2 ^ 16) × Writes item x × (x < 2 ^ 64) × (text ≡ codes "put" ++ 32 ∷ (peer ++ 32 ∷ item))
 TellsAct text (act.End p) = NamesOne text (codes "end") p
+TellsAct text (act.Open p) = NamesOne text (codes "open") p
 TellsAct text (act.Claim k) = NamesOne text (codes "claim") k
 TellsAct text (act.Take k) = NamesOne text (codes "take") k
 TellsAct text (act.Give k) = NamesOne text (codes "give") k
@@ -58,6 +59,8 @@ act_named name rest =
     then option_and_then (λ p. option_and_then (λ peer. option_map (λ item. act.Put peer item) (number_in (2 ^ 64) p.1)) (number_in (2 ^ 16) p.0)) (cut_of rest)
     else if bytes_eq name (codes "end")
     then option_map (λ p. act.End p) (number_in (2 ^ 16) rest)
+    else if bytes_eq name (codes "open")
+    then option_map (λ p. act.Open p) (number_in (2 ^ 16) rest)
     else if bytes_eq name (codes "claim")
     then option_map (λ k. act.Claim k) (number_in (2 ^ 16) rest)
     else if bytes_eq name (codes "take")

@@ -54,7 +54,7 @@ fn sizes_of(text: &str) -> Option<Sizes>
     }
 }
 
-/// The act that a line tells: `put PEER ITEM`, `end PEER`, `claim HANDLER`, `take HANDLER` or `give HANDLER`.
+/// The act that a line tells: `put PEER ITEM`, `end PEER`, `open PEER`, `claim HANDLER`, `take HANDLER` or `give HANDLER`.
 ///
 /// It is `None` just where the line tells none.
 pub fn read_act(text: &[u8]) -> Option<Act>
@@ -84,6 +84,7 @@ fn named(name: &str, rest: &str) -> Option<Act>
             Some(Act::Put(short(peer)?, number(item)?))
         }
         "end" => Some(Act::End(short(rest)?)),
+        "open" => Some(Act::Open(short(rest)?)),
         "claim" => Some(Act::Claim(short(rest)?)),
         "take" => Some(Act::Take(short(rest)?)),
         "give" => Some(Act::Give(short(rest)?)),

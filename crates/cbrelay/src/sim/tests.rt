@@ -42,6 +42,31 @@ fn row_16(rt: HostRuntime) -> Result<(), Fail> {
 }
 
 #[test]
+fn connection_after_connection_in_sim(rt: HostRuntime) -> Result<(), Fail> {
+    let (out, status) = run(
+        rt.alloc(),
+        &[
+            "system 1 1 4",
+            "put 0 1",
+            "open 0",
+            "end 0",
+            "open 0",
+            "put 0 2",
+            "claim 0",
+            "take 0",
+            "take 0",
+            "take 0",
+        ],
+    )?;
+    assert_eq!(rt;
+        out.as_str(),
+        "3 F26 NotEnabled\npeer 0 queued 1,end,open,2 taken 1,end,open\nring -\nhandler 0 desk 0\n"
+    );
+    assert_eq!(rt; status, 2);
+    Ok(())
+}
+
+#[test]
 fn sizes_past_their_ranges_are_unreadable(rt: HostRuntime) -> Result<(), Fail> {
     for first in [
         "system 65 1 1",
@@ -90,6 +115,9 @@ fn acts_that_cannot_be_read_end_the_run(rt: HostRuntime) -> Result<(), Fail> {
         "put",
         "end",
         "end 0 1",
+        "open",
+        "open 0 1",
+        "open 65536",
         "claim",
         "claim 65536",
         "take x",

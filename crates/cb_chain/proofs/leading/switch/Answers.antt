@@ -4,7 +4,7 @@ use Rattle.std.proofs.lemmas.Option.{slice_get-get_or}
 use Rattle.cb_chain.specs.declared.side.Side.{Side}
 use Rattle.cb_chain.specs.Keeping.{tree_of}
 use Rattle.cb_chain.proofs.Ledgers.{rests}
-use Rattle.cb_chain.proofs.Ways.{length_active, length_places}
+use Rattle.cb_chain.proofs.PathsDown.{length_active, length_places}
 use Rattle.cb_chain.proofs.leading.switch.Goals as goal
 
 pub put_on-requires-clause-fork : goal.put_on-requires-clause-fork

@@ -5,7 +5,7 @@ use Rattle.cb_chain.specs.Best.{active}
 use Rattle.cb_chain.specs.Following.{stands_at}
 use Rattle.cb_chain.specs.Keeping.{active_places, tree_of}
 use Rattle.cb_chain.specs.declared.node.Node.{Node}
-use Rattle.cb_chain.proofs.Ways.{slot_is, slot_within, stands_if, stands_not}
+use Rattle.cb_chain.proofs.PathsDown.{slot_is, slot_within, stands_if, stands_not}
 use Rattle.cb_chain.proofs.walking.stands.Goals as goal
 
 pub node-requires : goal.node-requires

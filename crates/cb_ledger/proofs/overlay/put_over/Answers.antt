@@ -1,5 +1,5 @@
 use Rattle.std.proofs.Common.{◌≡◌, ◌-◌, suc, arith, None, []}
-use Rattle.cb_ledger.specs.declared.undo.Change.{Change}
+use Rattle.cb_ledger.specs.declared.undo.CoinChange.{CoinChange}
 use Rattle.cb_ledger.proofs.Changes.{over_starts, over_step, over_ends}
 use Rattle.cb_ledger.proofs.overlay.put_over.Goals as goal
 
@@ -12,7 +12,7 @@ loop-left-init c = record {
 
 pub loop-left-preserved : goal.loop-left-preserved
 loop-left-preserved c =
-    let none : Change = record { point = record { txid = record { 0 = [] }; index = 0 }; value = None } in
+    let none : CoinChange = record { point = record { txid = record { 0 = [] }; index = 0 }; value = None } in
     let one : c.loop-left.left ≡ suc (c.loop-left.left - 1) = omega (arith, c.loop-left-test.true) in
     let updates = rw c.unwrap.ensures at c.insert-had.ensures.updates in
     record {

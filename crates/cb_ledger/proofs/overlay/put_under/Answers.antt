@@ -1,5 +1,5 @@
 use Rattle.std.proofs.Common.{arith, ◌∙◌, None, [], get_or, sym}
-use Rattle.cb_ledger.specs.declared.undo.Change.{Change}
+use Rattle.cb_ledger.specs.declared.undo.CoinChange.{CoinChange}
 use Rattle.cb_ledger.proofs.Changes.{added_under, kept_under, under_starts, under_step, under_ends}
 use Rattle.cb_ledger.proofs.overlay.put_under.Goals as goal
 use Rattle.cb_ledger.proofs.overlay.put_under.Goals.{then-not-contains_key, else-not-contains_key}
@@ -12,7 +12,7 @@ loop-change-init c = record {
 
 pub loop-change-preserved : goal.loop-change-preserved
 loop-change-preserved c =
-    let none : Change = record { point = record { txid = record { 0 = [] }; index = 0 }; value = None } in
+    let none : CoinChange = record { point = record { txid = record { 0 = [] }; index = 0 }; value = None } in
     let i = c.loop-change.change-index in
     let item = get_or c.args.changes.now i none in
     elim c.if-not-contains_key.branch [

@@ -12,7 +12,7 @@ use Rattle.cb_chain.specs.Calls.{AcceptsBlock, bad_entry, block_fault, joined}
 use Rattle.cb_chain.specs.Entries.{Entry}
 use Rattle.cb_chain.specs.History.{IsHistoric}
 use Rattle.cb_chain.specs.Keeping.{IsNode, IsSpot, entry_from, tree_of}
-use Rattle.cb_chain.proofs.Aside.{Grows, bad_on, bare_best, bare_node, block_free, grows_tree, told_broken, told_refused}
+use Rattle.cb_chain.proofs.SideNodes.{Grows, bad_on, bare_best, bare_node, block_free, grows_tree, told_broken, told_refused}
 use Rattle.cb_chain.proofs.Histories.{historic_block, historic_joined, history_block, history_joined}
 use Rattle.cb_chain.proofs.Undos.{grows_chain}
 use Rattle.cb_chain.proofs.chain.Chain.accept_block.Goals as goal
@@ -20,7 +20,7 @@ use Rattle.cb_chain.proofs.chain.Chain.accept_block.Goals as goal
 pub returns-in_err-spot-clause-err : goal.returns-in_err-spot-clause-err
 returns-in_err-spot-clause-err c =
     let header : c.block-2.result.now.header ≡ c.args.block.header = ap (λ (b : Block). b.header) c.block-2.ensures.same in
-    let has : HasWork c.block-2.result.now.header = c.in_ok-check_header.ensures in
+    let has : HasWork c.block-2.result.now.header = c.in_ok-hash.ensures.1 in
     let none : block_fault c.args.self.now c.block-2.result.now.header ≡ Some c.in_err-spot.field-0.0 = c.in_err-spot.ensures.err in
     let p = err_from_is_err_and c.from_residual-in_err-spot.result c.from_residual-in_err-spot.ensures.1 in
     told_refused c.args.self.now c.args.block c.from_residual-in_err-spot.result c.in_err-spot.field-0.0 (p.1 ∙ ap Err p.2) (subst HasWork header has)
@@ -29,7 +29,7 @@ returns-in_err-spot-clause-err c =
 pub returns-in_err-spot-clause-history : goal.returns-in_err-spot-clause-history
 returns-in_err-spot-clause-history c =
     let header : c.block-2.result.now.header ≡ c.args.block.header = ap (λ (b : Block). b.header) c.block-2.ensures.same in
-    let has : HasWork c.block-2.result.now.header = c.in_ok-check_header.ensures in
+    let has : HasWork c.block-2.result.now.header = c.in_ok-hash.ensures.1 in
     let none : block_fault c.args.self.now c.block-2.result.now.header ≡ Some c.in_err-spot.field-0.0 = c.in_err-spot.ensures.err in
     let p = err_from_is_err_and c.from_residual-in_err-spot.result c.from_residual-in_err-spot.ensures.1 in
     history_block c.args.self.now c.args.block c.from_residual-in_err-spot.result c.in_err-spot.field-0.0 (p.1 ∙ ap Err p.2) c.block-2.ensures.sound
@@ -41,7 +41,7 @@ new-requires c = λ k d lt. few_outputs (slice_index_or c.args.block.txs k d) (c
 pub join-requires-clause-calls : goal.join-requires-clause-calls
 join-requires-clause-calls c =
     let header : c.block-2.result.now.header ≡ c.args.block.header = ap (λ (b : Block). b.header) c.block-2.ensures.same in
-    let has : HasWork c.block-2.result.now.header = c.in_ok-check_header.ensures in
+    let has : HasWork c.block-2.result.now.header = c.in_ok-hash.ensures.1 in
     let none : block_fault c.args.self.now c.block-2.result.now.header ≡ None = c.in_ok-spot.ensures.none in
     subst (λ (b : Block). IsHistoric (joined c.args.self.now b).1) (sym c.new.ensures)
     (historic_joined c.args.self.now c.args.block c.block-2.ensures.sound (subst HasWork header has) (subst (λ (h : Header). block_fault c.args.self.now h ≡ None) header none) c.in-Ok.ensures.exact
@@ -50,7 +50,7 @@ join-requires-clause-calls c =
 pub returns-in-Ok-clause-history : goal.returns-in-Ok-clause-history
 returns-in-Ok-clause-history c =
     let header : c.block-2.result.now.header ≡ c.args.block.header = ap (λ (b : Block). b.header) c.block-2.ensures.same in
-    let has : HasWork c.block-2.result.now.header = c.in_ok-check_header.ensures in
+    let has : HasWork c.block-2.result.now.header = c.in_ok-hash.ensures.1 in
     let none : block_fault c.args.self.now c.block-2.result.now.header ≡ None = c.in_ok-spot.ensures.none in
     history_joined c.args.self.now c.join.new.self c.args.block c.join.result c.block-2.ensures.sound (subst HasWork header has) (subst (λ (h : Header). block_fault c.args.self.now h ≡ None) header none) c.in-Ok.ensures.exact
     (subst (λ (b : Block). IfOk c.join.result (λ change. (Ok change, c.join.new.self) ≡ joined c.args.self.now b)) c.new.ensures c.join.ensures.ok)
@@ -67,7 +67,7 @@ invariant_of-self-in-Err-2 c =
     record { is = c.in_ok-reserve-in-Err-2.ensures.tree; same = c.in_ok-reserve-in-Err-2.ensures.same; view = c.self.view_is; one = one }
     in
     let header : c.block-2.result.now.header ≡ c.args.block.header = ap (λ (b : Block). b.header) c.block-2.ensures.same in
-    let has : HasWork c.block-2.result.now.header = c.in_ok-check_header.ensures in
+    let has : HasWork c.block-2.result.now.header = c.in_ok-hash.ensures.1 in
     let entry : entry_from c.node.result ≡ bad_entry c.args.block.header = ap entry_from c.node.ensures ∙ bad_on c.in_ok-spot.spot c.args.block.header (spot.header ∙ header) in
     let grown : tree_of c.add.new.self.nodes ≡ bad_entry c.args.block.header ∷ c.args.self.now =
     grows_tree c.self.inside.tree.nodes c.reserve.new.self.nodes c.add.new.self.nodes c.args.self.now c.node.result grows c.add.ensures.nodes ∙ ap (λ (e : Entry). e ∷ c.args.self.now) entry
@@ -93,7 +93,7 @@ returns c =
     record { is = c.in_ok-reserve-in-Err-2.ensures.tree; same = c.in_ok-reserve-in-Err-2.ensures.same; view = c.self.view_is; one = one }
     in
     let header : c.block-2.result.now.header ≡ c.args.block.header = ap (λ (b : Block). b.header) c.block-2.ensures.same in
-    let has : HasWork c.block-2.result.now.header = c.in_ok-check_header.ensures in
+    let has : HasWork c.block-2.result.now.header = c.in_ok-hash.ensures.1 in
     let entry : entry_from c.node.result ≡ bad_entry c.args.block.header = ap entry_from c.node.ensures ∙ bad_on c.in_ok-spot.spot c.args.block.header (spot.header ∙ header) in
     let grown : tree_of c.add.new.self.nodes ≡ bad_entry c.args.block.header ∷ c.args.self.now =
     grows_tree c.self.inside.tree.nodes c.reserve.new.self.nodes c.add.new.self.nodes c.args.self.now c.node.result grows c.add.ensures.nodes ∙ ap (λ (e : Entry). e ∷ c.args.self.now) entry

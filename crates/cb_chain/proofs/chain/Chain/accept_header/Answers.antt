@@ -6,14 +6,14 @@ use Rattle.cb_chain.specs.Calls.{AcceptsHeader, header_entry}
 use Rattle.cb_chain.specs.Entries.{Entry}
 use Rattle.cb_chain.specs.History.{IsHistoric}
 use Rattle.cb_chain.specs.Keeping.{IsNode, entry_from, tree_of}
-use Rattle.cb_chain.proofs.Aside.{Grows, bare_best, bare_node, bare_on, grows_tree, header_free}
+use Rattle.cb_chain.proofs.SideNodes.{Grows, bare_best, bare_node, bare_on, grows_tree, header_free}
 use Rattle.cb_chain.proofs.Histories.{historic_header, history_header}
 use Rattle.cb_chain.proofs.Undos.{grows_chain}
 use Rattle.cb_chain.proofs.chain.Chain.accept_header.Goals as goal
 
 pub returns-in_err-spot-clause-err : goal.returns-in_err-spot-clause-err
 returns-in_err-spot-clause-err c =
-    let p = err_from_is_err_and c.from_residual-in_err-spot.result c.from_residual-in_err-spot.ensures.1 in rw (p.1, p.2) (inr (refused c.in_ok-check_header.ensures c.in_err-spot.field-0.0 c.in_err-spot.ensures.err refl refl))
+    let p = err_from_is_err_and c.from_residual-in_err-spot.result c.from_residual-in_err-spot.ensures.1 in rw (p.1, p.2) (inr (refused c.in_ok-hash.ensures.1 c.in_err-spot.field-0.0 c.in_err-spot.ensures.err refl refl))
 
 pub invariant_of-self-2 : goal.invariant_of-self-2
 invariant_of-self-2 c =
@@ -27,7 +27,7 @@ invariant_of-self-2 c =
     let grown : tree_of c.add.new.self.nodes ≡ header_entry c.args.header ∷ c.args.self.now =
     grows_tree c.self.inside.tree.nodes c.reserve.new.self.nodes c.add.new.self.nodes c.args.self.now c.node.result grows c.add.ensures.nodes ∙ ap (λ (e : Entry). e ∷ c.args.self.now) entry
     in
-    let told : AcceptsHeader c.args.self.now c.args.header None (tree_of c.add.new.self.nodes) = kept c.in_ok-check_header.ensures c.in_ok-spot.ensures.none refl grown in (
+    let told : AcceptsHeader c.args.self.now c.args.header None (tree_of c.add.new.self.nodes) = kept c.in_ok-hash.ensures.1 c.in_ok-spot.ensures.none refl grown in (
       grows_chain c.self.inside.tree.nodes c.reserve.new.self.nodes c.add.new.self.nodes c.args.self.now c.node.result c.self.inside.active.items c.self.inside.tree.undos c.reserve.new.self.undos c.add.new.self.undos
           c.self.inside.ledger.unspent c.self.inside.side grows c.add.ensures.nodes c.in_ok-reserve.ensures.undos c.add.ensures.undos (bare_best (entry_from c.node.result) c.args.self.now (ap (λ (n : Node). n.kept) c.node.ensures)) c.self.invariant.0,
       historic_header c.args.self.now (tree_of c.add.new.self.nodes) c.args.header None (subst IsHistoric c.self.view_is c.self.invariant.1) told,
@@ -37,10 +37,10 @@ pub returns-in_err-spot-clause-history : goal.returns-in_err-spot-clause-history
 returns-in_err-spot-clause-history c =
     let p = err_from_is_err_and c.from_residual-in_err-spot.result c.from_residual-in_err-spot.ensures.1 in
     history_header c.args.self.now c.args.header c.from_residual-in_err-spot.result c.in_err-spot.field-0.0 (p.1 ∙ ap Err p.2)
-    (refused c.in_ok-check_header.ensures c.in_err-spot.field-0.0 c.in_err-spot.ensures.err refl refl)
+    (refused c.in_ok-hash.ensures.1 c.in_err-spot.field-0.0 c.in_err-spot.ensures.err refl refl)
 
-pub returns-in_err-check_header-clause-history : goal.returns-in_err-check_header-clause-history
-returns-in_err-check_header-clause-history c =
+pub returns-in_err-hash-clause-history : goal.returns-in_err-hash-clause-history
+returns-in_err-hash-clause-history c =
     let p = err_from_is_err_and c.from_residual.result c.from_residual.ensures.1 in
-    let w = c.in_err-check_header.ensures in
-    history_header c.args.self.now c.args.header c.from_residual.result c.in_err-check_header.field-0.0 (p.1 ∙ ap Err p.2) (without_work w.1 (ap Some w.0) refl)
+    let w = c.in_err-hash.ensures in
+    history_header c.args.self.now c.args.header c.from_residual.result c.in_err-hash.field-0.0 (p.1 ∙ ap Err p.2) (without_work w.1 (ap Some w.0) refl)

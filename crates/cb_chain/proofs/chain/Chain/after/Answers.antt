@@ -5,7 +5,7 @@ use Rattle.cb_chain.specs.Best.{active}
 use Rattle.cb_chain.specs.Entries.{Tree}
 use Rattle.cb_chain.specs.Following.{start_of, up_to}
 use Rattle.cb_chain.specs.Keeping.{active_places, tree_of}
-use Rattle.cb_chain.proofs.Ways.{slot_within}
+use Rattle.cb_chain.proofs.PathsDown.{slot_within}
 use Rattle.cb_chain.proofs.Heights.{slot_read, slot_level}
 use Rattle.cb_chain.proofs.chain.Chain.after.Goals as goal
 

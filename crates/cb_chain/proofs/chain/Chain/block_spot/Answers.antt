@@ -4,8 +4,8 @@ use Rattle.cb_chain.specs.Best.{best}
 use Rattle.cb_chain.specs.Entries.{Tree, block_hash, is_kept}
 use Rattle.cb_chain.specs.Calls.{block_fault}
 use Rattle.cb_chain.specs.Keeping.{parent_fault, place_of, tree_of}
-use Rattle.cb_chain.proofs.Aside.{block_bare, block_kept, block_marked, block_unknown, known_at}
-use Rattle.cb_chain.proofs.Ways.{best_kept}
+use Rattle.cb_chain.proofs.SideNodes.{block_bare, block_kept, block_marked, block_unknown, known_at}
+use Rattle.cb_chain.proofs.PathsDown.{best_kept}
 use Rattle.cb_chain.proofs.chain.Chain.block_spot.Goals as goal
 use Rattle.cb_chain.proofs.chain.Chain.block_spot.Goals.{in-Some+else-node+else-is_some, in_default}
 
@@ -13,13 +13,13 @@ pub returns-then-node-clause-err : goal.returns-then-node-clause-err
 returns-then-node-clause-err c =
     block_marked c.args.self.now c.args.header c.node-node.result.now
     (known_at c.self.inside.tree.nodes c.args.self.now (block_hash c.args.header) c.in-Some.place c.node-node.result.now c.node-node.ensures.tree c.self.view_is
-    (ap (place_of (tree_of c.self.inside.tree.nodes)) (sym c.hash-hash.ensures) ∙ sym c.place.ensures.place ∙ c.in-Some.is) c.node-node.ensures.node) c.if-node.true
+    (ap (place_of (tree_of c.self.inside.tree.nodes)) (sym c.requires) ∙ sym c.place.ensures.place ∙ c.in-Some.is) c.node-node.ensures.node) c.if-node.true
 
 pub returns-then-is_some-clause-err : goal.returns-then-is_some-clause-err
 returns-then-is_some-clause-err c =
     block_kept c.args.self.now c.args.header c.node-node.result.now
     (known_at c.self.inside.tree.nodes c.args.self.now (block_hash c.args.header) c.in-Some.place c.node-node.result.now c.node-node.ensures.tree c.self.view_is
-    (ap (place_of (tree_of c.self.inside.tree.nodes)) (sym c.hash-hash.ensures) ∙ sym c.place.ensures.place ∙ c.in-Some.is) c.node-node.ensures.node) c.if-node.false (sym c.is_some.ensures ∙ c.if-is_some.true)
+    (ap (place_of (tree_of c.self.inside.tree.nodes)) (sym c.requires) ∙ sym c.place.ensures.place ∙ c.in-Some.is) c.node-node.ensures.node) c.if-node.false (sym c.is_some.ensures ∙ c.if-is_some.true)
 
 pub returns-clause-none : goal.returns-clause-none
 returns-clause-none c =
@@ -28,8 +28,8 @@ returns-clause-none c =
       | in-Some+else-node+else-is_some w ↦
           block_bare c.args.self.now c.args.header w.node-node.result.now
           (known_at c.self.inside.tree.nodes c.args.self.now (block_hash c.args.header) w.in-Some.place w.node-node.result.now w.node-node.ensures.tree c.self.view_is
-          (ap (place_of (tree_of c.self.inside.tree.nodes)) (sym c.hash-hash.ensures) ∙ sym c.place.ensures.place ∙ w.in-Some.is) w.node-node.ensures.node) w.if-node.false (sym w.is_some.ensures ∙ w.if-is_some.false)
-      | in_default w ↦ block_unknown c.self.inside.tree.nodes c.args.self.now c.args.header c.self.view_is (ap (place_of (tree_of c.self.inside.tree.nodes)) (sym c.hash-hash.ensures) ∙ sym c.place.ensures.place ∙ w.in_default.is)
+          (ap (place_of (tree_of c.self.inside.tree.nodes)) (sym c.requires) ∙ sym c.place.ensures.place ∙ w.in-Some.is) w.node-node.ensures.node) w.if-node.false (sym w.is_some.ensures ∙ w.if-is_some.false)
+      | in_default w ↦ block_unknown c.self.inside.tree.nodes c.args.self.now c.args.header c.self.view_is (ap (place_of (tree_of c.self.inside.tree.nodes)) (sym c.requires) ∙ sym c.place.ensures.place ∙ w.in_default.is)
     ]
     in
     subst (λ (o : Option Fault). OnOk c.spot_on_parent.result (o ≡ None)) (sym same) c.spot_on_parent.ensures.none
@@ -41,8 +41,8 @@ returns-clause-err c =
       | in-Some+else-node+else-is_some w ↦
           block_bare c.args.self.now c.args.header w.node-node.result.now
           (known_at c.self.inside.tree.nodes c.args.self.now (block_hash c.args.header) w.in-Some.place w.node-node.result.now w.node-node.ensures.tree c.self.view_is
-          (ap (place_of (tree_of c.self.inside.tree.nodes)) (sym c.hash-hash.ensures) ∙ sym c.place.ensures.place ∙ w.in-Some.is) w.node-node.ensures.node) w.if-node.false (sym w.is_some.ensures ∙ w.if-is_some.false)
-      | in_default w ↦ block_unknown c.self.inside.tree.nodes c.args.self.now c.args.header c.self.view_is (ap (place_of (tree_of c.self.inside.tree.nodes)) (sym c.hash-hash.ensures) ∙ sym c.place.ensures.place ∙ w.in_default.is)
+          (ap (place_of (tree_of c.self.inside.tree.nodes)) (sym c.requires) ∙ sym c.place.ensures.place ∙ w.in-Some.is) w.node-node.ensures.node) w.if-node.false (sym w.is_some.ensures ∙ w.if-is_some.false)
+      | in_default w ↦ block_unknown c.self.inside.tree.nodes c.args.self.now c.args.header c.self.view_is (ap (place_of (tree_of c.self.inside.tree.nodes)) (sym c.requires) ∙ sym c.place.ensures.place ∙ w.in_default.is)
     ]
     in
     subst (λ (o : Option Fault). IfErr c.spot_on_parent.result (λ fault. o ≡ Some fault)) (sym same) c.spot_on_parent.ensures.err

@@ -4,7 +4,7 @@ use Rattle.cb_chain.specs.Best.{best}
 use Rattle.cb_chain.specs.Calls.{block_entry, no_change}
 use Rattle.cb_chain.specs.Entries.{Entry}
 use Rattle.cb_chain.specs.Keeping.{IsNode, entry_from, tree_of}
-use Rattle.cb_chain.proofs.Aside.{Grows, Joins, block_node, entry_on, grows_tree, joined_aside, joins_aside, joins_higher, low_best, over_aside}
+use Rattle.cb_chain.proofs.SideNodes.{Grows, Joins, block_node, entry_on, grows_tree, joined_aside, joins_aside, joins_higher, low_best, over_aside}
 use Rattle.cb_chain.proofs.Histories.{historic_after}
 use Rattle.cb_chain.proofs.Undos.{grows_chain}
 use Rattle.cb_chain.proofs.chain.Chain.join.Goals as goal

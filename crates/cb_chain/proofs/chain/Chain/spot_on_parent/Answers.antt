@@ -1,6 +1,6 @@
 use Rattle.std.proofs.Common.{◌+◌, ◌≡◌, ◌∙◌, arith, ap, refl, sym, inl, inr, false}
 use Rattle.std.specs.Prelude.{is_some, not, ◌&&◌}
-use Rattle.cb_chain.proofs.Aside.{fault_bare, fault_high, fault_marked, fault_none, has_asked, known_at, parent_known, parent_unknown, spot_at}
+use Rattle.cb_chain.proofs.SideNodes.{fault_bare, fault_high, fault_marked, fault_none, has_asked, known_at, parent_known, parent_unknown, spot_at}
 use Rattle.cb_chain.proofs.chain.Chain.spot_on_parent.Goals as goal
 use Rattle.cb_chain.proofs.chain.Chain.spot_on_parent.Goals.{else-block-via-then-block+else-is_none, else-block-via-else-block}
 

@@ -1,0 +1,71 @@
+-- A peer's desk: what was taken from its inbox, and what the works of its connections were given of it.
+use Rattle.std.specs.Prelude.{◌≡◌, ℕ, ◌+◌, ◌<◌, ◌≤◌, ◌⊎◌, Bool, true, false, List, [], ◌∷◌, ◌++◌, length, All}
+use Rattle.std.specs.List.{AllZip}
+use Rattle.cb_sched.specs.Laws.{IsBeginning}
+use Rattle.cb_inbox.specs.declared.queued.Queued.{Queued}
+use Rattle.cb_inbox.specs.Queued.{is_open, has_ended}
+use Rattle.cb_inbox.specs.Rule.{longer}
+use Rattle.cb_inbox.specs.Seat.{InboxState, SeatState}
+use Rattle.cb_crew.specs.declared.work.Given.{Given}
+use Rattle.cb_crew.specs.declared.desk.Step.{Step}
+use Rattle.cb_crew.specs.declared.desk.Step.TheVariants as step
+use Rattle.cb_crew.specs.Work.{WorksOn, connections_of}
+
+pub record DeskState (W M : Type 0) : Type 0 where
+  pub inbox : InboxState
+  pub queued : List (Queued M W)  -- a beginning of what was queued, as far as the seat was told
+  pub taken : List (Queued M W)
+  pub work : W  -- of the latest connection
+  pub past : List W  -- of those before it
+
+abbrev pub desk_state : {W M : Type 0} → InboxState → SeatState (Queued M W) → W → List W → DeskState W M
+desk_state inbox seat work past = record { inbox = inbox; queued = seat.queued; taken = seat.taken; work = work; past = past }
+
+-- after its seat learnt from a note how much was queued
+abbrev pub desk_told : {W M : Type 0} → DeskState W M → SeatState (Queued M W) → DeskState W M
+desk_told d note = record { inbox = d.inbox; queued = longer d.queued note.queued; taken = d.taken; work = d.work; past = d.past }
+
+-- what its seat knows
+abbrev pub desk_note : {W M : Type 0} → DeskState W M → SeatState (Queued M W)
+desk_note d = record { inbox = d.inbox.name; queued = d.queued; taken = d.taken }
+
+-- Each work was given a beginning of its connection as it was taken, and all of it while it is open. Works of earlier
+-- connections are closed, and so is one whose connection's end was taken.
+pub record IsDesk {W M : Type 0} (given : W → List (Given M) → Type 0) (is_closed : W → Bool) (d : DeskState W M) : Type 0 where
+  pub works : AllZip (WorksOn given is_closed) (d.past ++ d.work ∷ []) (connections_of d.taken)
+  pub past_closed : All (λ work. is_closed work ≡ true) d.past
+  pub ended : has_ended d.taken ≡ true → is_closed d.work ≡ true
+
+-- it is the same inbox, and its seat was told nothing new
+abbrev pub IsSameDesk : {W M : Type 0} → DeskState W M → DeskState W M → Type 0
+IsSameDesk old new = (new.inbox ≡ old.inbox) × (new.queued ≡ old.queued)
+
+-- and nothing was taken
+abbrev pub IsSameLine : {W M : Type 0} → DeskState W M → DeskState W M → Type 0
+IsSameLine old new = IsSameDesk old new × (new.taken ≡ old.taken)
+
+-- What a step did: one mark was taken, and given to a work that was open; or it was passed over, being an open mark, or of a
+-- work that is closed; or nothing was taken, since all that the seat was told of had been.
+abbrev pub Stepped : {W M : Type 0} → (W → Bool) → DeskState W M → DeskState W M → Step → Type 0
+Stepped {W} {M} is_closed old new step.Worked = IsSameDesk old new × ((mark : Queued M W) × (new.taken ≡ old.taken ++ mark ∷ []) × (is_open mark ≡ false) × (is_closed old.work ≡ false))
+Stepped {W} {M} is_closed old new step.Passed = IsSameDesk old new × ((mark : Queued M W) × (new.taken ≡ old.taken ++ mark ∷ []) × ((is_open mark ≡ true) ⊎ (is_closed new.work ≡ true)))
+Stepped {W} {M} is_closed old new step.Empty = IsSameLine old new × IsBeginning old.queued old.taken
+
+-- So many marks were taken, in their order, some given to works and some passed over.
+pub record HasServed {W M : Type 0} (old new : DeskState W M) (worked passed : ℕ) : Type 0 where
+  pub same : IsSameDesk old new
+  pub marks : List (Queued M W)
+  pub taken : new.taken ≡ old.taken ++ marks
+  pub count : length marks ≡ worked + passed
+
+-- The same within a budget, and fewer only where all that the seat was told of had been taken.
+pub record IsServed {W M : Type 0} (old new : DeskState W M) (budget worked passed : ℕ) : Type 0 where
+  pub has : HasServed old new worked passed
+  pub within : worked + passed ≤ budget
+  pub all_told : worked + passed < budget → IsBeginning new.queued new.taken
+
+-- Marks were taken, in their order, until all that the seat was told of had been.
+pub record HasServedAll {W M : Type 0} (old new : DeskState W M) : Type 0 where
+  pub same : IsSameDesk old new
+  pub taken : IsBeginning old.taken new.taken
+  pub all_told : IsBeginning new.queued new.taken

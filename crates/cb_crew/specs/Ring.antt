@@ -1,0 +1,123 @@
+-- What contracts see of a crew's ring and of the hands that share it. Desks travel through the ring: a hand claims one from
+-- its front, and gives it back at its back.
+use Rattle.std.specs.Prelude.{◌≡◌, ℕ, ◌+◌, ◌-◌, ◌<◌, ◌≤◌, Bool, false, List, [], ◌∷◌, ◌++◌, length, map, slice_index_or}
+use Rattle.std.specs.List.{sum_by, range_with_len}
+use Rattle.atomic_table.specs.Seated.{TableId}
+use Rattle.cb_sched.specs.Desks.{Desks, DesksReached, held_by}
+
+-- what the ring sees of a desk
+pub record Shown : Type 0 where
+  pub peer : ℕ
+  pub name : TableId  -- its inbox's
+  pub taken : ℕ  -- how much was taken from that inbox
+  pub closed : Bool  -- its work takes nothing more
+  pub told : ℕ  -- how much its seat was told was queued there
+
+-- what a hand remembers of the desk that it gave back last
+pub record Last : Type 0 where
+  pub peer : ℕ
+  pub grew : ℕ  -- how much was taken while the hand held it
+  pub closed : Bool  -- its work took nothing more then
+  pub left : ℕ  -- how much of what its seat was told of was not taken then
+
+-- The times of a crew: its desks are made, its hands claim and give them, one hand keeps them all.
+pub data Stage : Type 0 where
+  making : Stage
+  running : Stage
+  finishing : Stage
+
+pub record RingState : Type 0 where
+  pub name : TableId  -- which ring it is: no other has this name
+  pub capacity : ℕ  -- how many desks it has room for
+
+pub record HandState : Type 0 where
+  pub ring : TableId  -- the name of its ring
+  pub hands : ℕ  -- for how many handlers it stands
+  pub names : List TableId  -- the names of the crew's inboxes, one for each peer, in their order
+  pub handlers : ℕ  -- how many the crew has
+  pub stage : Stage
+  pub held : List Shown  -- the desks that it holds
+  pub last : Last
+
+abbrev pub peers_of : List Shown → List ℕ
+peers_of desks = map (λ (s : Shown). s.peer) desks
+
+-- the crew's desk of this peer: its inbox has the name that the crew made for it
+pub record IsOfCrew (names : List TableId) (s : Shown) : Type 0 where
+  pub exists : s.peer < length names
+  pub named : slice_index_or names s.peer s.name ≡ s.name
+
+-- the hand is one of this ring, which has room for all desks of its crew
+abbrev pub IsHandOf : RingState → HandState → Type 0
+IsHandOf ring hand = (hand.ring ≡ ring.name) × (length hand.names ≤ ring.capacity)
+
+-- no other hand stands for a handler, so no other holds a desk
+abbrev pub StandsForAll : HandState → Type 0
+StandsForAll hand = hand.hands ≡ hand.handlers
+
+-- the one desk that is held, as its peer and its inbox's name tell
+pub record IsHeld (held : List Shown) (s : Shown) : Type 0 where
+  pub before : Shown  -- as it was claimed
+  pub only : held ≡ before ∷ []
+  pub same_peer : s.peer ≡ before.peer
+  pub same_name : s.name ≡ before.name
+
+-- The hand holds the desks of all peers, each once: whatever peers weigh, those of its desks weigh as much as all.
+abbrev pub HoldsAll : HandState → Type 0
+HoldsAll hand = (weight : ℕ → ℕ) → sum_by weight (peers_of hand.held) ≡ sum_by weight (range_with_len 0 (length hand.names))
+
+-- The hand holds what one handler holds, with all desks at places to which acts of the crew's core lead.
+pub record HoldsInTurn (hand : HandState) : Type 0 where
+  pub desks : Desks
+  pub reached : DesksReached (length hand.names) hand.handlers desks
+  pub handler : ℕ
+  pub exists : handler < hand.handlers
+  pub holds : held_by desks handler ≡ peers_of hand.held
+
+-- ---- hands, call by call
+
+abbrev pub no_last : Last
+no_last = record { peer = 0; grew = 0; closed = false; left = 0 }
+
+-- how much had been taken of the desk when it was claimed
+abbrev pub taken_before : List Shown → ℕ
+taken_before [] = 0
+taken_before (s ∷ rest) = s.taken
+
+-- what is remembered of a desk that was held so and is given back
+abbrev pub last_of : List Shown → Shown → Last
+last_of held s = record { peer = s.peer; grew = s.taken - taken_before held; closed = s.closed; left = s.told - s.taken }
+
+-- the one hand of a new ring
+abbrev pub opening_hand : TableId → ℕ → HandState
+opening_hand ring handlers = record { ring = ring; hands = handlers; names = []; handlers = handlers; stage = making; held = []; last = no_last }
+
+-- the hand after it put this new desk into the ring
+abbrev pub made_hand : HandState → Shown → HandState
+made_hand h s = record { ring = h.ring; hands = h.hands; names = h.names ++ s.name ∷ []; handlers = h.handlers; stage = h.stage; held = h.held; last = h.last }
+
+-- after all desks were made
+abbrev pub running_hand : HandState → HandState
+running_hand h = record { ring = h.ring; hands = h.hands; names = h.names; handlers = h.handlers; stage = running; held = h.held; last = h.last }
+
+-- a hand that stands for one handler, and the hand that stood for it before
+abbrev pub hired_hand : HandState → HandState
+hired_hand h = record { ring = h.ring; hands = 1; names = h.names; handlers = h.handlers; stage = h.stage; held = []; last = no_last }
+
+abbrev pub hiring_hand : HandState → HandState
+hiring_hand h = record { ring = h.ring; hands = h.hands - 1; names = h.names; handlers = h.handlers; stage = h.stage; held = h.held; last = h.last }
+
+-- after it claimed this desk, or gave it back
+abbrev pub claimed_hand : HandState → Shown → HandState
+claimed_hand h s = record { ring = h.ring; hands = h.hands; names = h.names; handlers = h.handlers; stage = h.stage; held = s ∷ []; last = h.last }
+
+abbrev pub given_hand : HandState → Shown → HandState
+given_hand h s = record { ring = h.ring; hands = h.hands; names = h.names; handlers = h.handlers; stage = h.stage; held = []; last = last_of h.held s }
+
+-- after another one's handlers came to it
+abbrev pub joined_hand : HandState → HandState → HandState
+joined_hand h other = record { ring = h.ring; hands = h.hands + other.hands; names = h.names; handlers = h.handlers; stage = h.stage; held = h.held; last = h.last }
+
+-- after it claimed this desk to keep it
+abbrev pub kept_hand : HandState → Shown → HandState
+kept_hand h s = record { ring = h.ring; hands = h.hands; names = h.names; handlers = h.handlers; stage = finishing; held = h.held ++ s ∷ []; last = h.last }

@@ -1,0 +1,12 @@
+-- What the ring sees of a tray, the desk of its tests.
+use Rattle.std.specs.Prelude.{ℕ, false, []}
+use Rattle.cb_crew.specs.Ring.{Shown}
+
+abbrev pub shown_tray : ℕ → ℕ → Shown
+shown_tray peer taken = record {
+  peer = peer;
+  name = record { words = 0; slots = 0; views_name = peer; atom = 0; block = 0; offset = 0; slot_names = [] };
+  taken = taken;
+  closed = false;
+  told = taken;
+}

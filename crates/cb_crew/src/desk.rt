@@ -1,0 +1,225 @@
+ghost use Rattle.std.specs.Prelude.{◌≡◌, ◌≤◌, true, false, List, [], ◌∷◌, ◌++◌, vec_capacity};
+ghost use Rattle.cb_inbox.specs.Seat.{opening_seat};
+ghost use Rattle.cb_crew.specs.declared.desk.Step.TheVariants.{Worked, Passed};
+ghost use Rattle.cb_crew.specs.declared.work.Given.{Given};
+ghost use Rattle.cb_crew.specs.Work.{IsEnd};
+ghost use Rattle.cb_crew.specs.Desk.{IsDesk, IsSameLine, IsServed, HasServedAll, Stepped, desk_note, desk_state, desk_told};
+
+use crate::ring_rule::Travels;
+use crate::work::{Fresh, Given, Work};
+use cb_base::Shared;
+use cb_inbox::{Inbox, Note, Queued, TakerSeat};
+use std::marker::Model;
+use std::mem;
+use std::sync::Wait;
+
+/// What one step did with the front of an inbox.
+#[derive(Drop)]
+enum Step {
+    /// It was given to the work.
+    Worked,
+    /// It was passed over: its work is closed, or it is an open mark.
+    Passed,
+    /// There was none.
+    Empty,
+}
+
+/// How many marks of an inbox were given to works, and how many passed over.
+#[derive(Clone, Copy, Debug, PartialEq, Eq)]
+pub struct Count {
+    /// Items and end marks that a work was given.
+    pub worked: u32,
+    /// Open marks, and what came for a work that is closed.
+    pub passed: u32,
+}
+
+/// A peer's desk: its inbox with the one seat that takes from it, the work of its connection, and the works of those before.
+///
+/// Each work was given a beginning of its connection as it was taken, in order and each once, and all of it while the work is
+/// open. The works of earlier connections are closed.
+#[derive(Drop)]
+pub struct Desk<W: Work> {
+    inbox: Shared<Inbox<W::Item, Fresh<W>>>,
+    seat: TakerSeat<W::Item, Fresh<W>>,
+    work: W,
+    past: Vec<W>,
+}
+
+impl<W: Work> Model for Desk<W> {
+    ghost use Rattle.std.specs.Prelude.{◌≡◌, ◌≤◌, vec_capacity};
+    ghost use Rattle.cb_crew.specs.Desk.{DeskState, IsDesk, desk_state};
+
+    ghost Value = { DeskState W W.Item };
+
+    ghost view = { λ a. desk_state a.inbox a.seat a.work a.past.items };
+
+    ghost invariant = { λ a. IsDesk W.given W.is_closed (desk_state a.inbox a.seat a.work a.past.items) × (a.seat.inbox ≡ a.inbox.name) × (255 ≤ vec_capacity a.past) };
+}
+
+impl<W: Work> Travels for Desk<W> {
+    ghost use Rattle.cb_crew.specs.Turn.{shown_desk};
+
+    ghost shown = { λ desk. shown_desk W.is_closed desk };
+}
+
+impl<W: Work> Desk<W> {
+    /// The desk of an inbox from which nothing was taken, with the work of its first connection. The list that is handed in
+    /// is for the works of past connections, and has room for 255 of them.
+    pub fn new(
+        inbox: Shared<Inbox<W::Item, Fresh<W>>>,
+        seat: TakerSeat<W::Item, Fresh<W>>,
+        work: Fresh<W>,
+        past: Vec<W>,
+    ) -> Desk<W>
+        requires seat { seat ≡ opening_seat inbox.name }
+        requires past { (past.items ≡ []) × (255 ≤ vec_capacity past) }
+        ensures { result ≡ desk_state inbox seat work [] }
+    {
+        Desk {
+            inbox,
+            seat,
+            work: work.into_work(),
+            past,
+        }
+    }
+
+    /// The peer whose desk it is.
+    pub fn peer(&self) -> u16
+        ensures { result ≡ self.now.inbox.peer }
+    {
+        self.inbox.peer()
+    }
+
+    /// The inbox.
+    pub fn inbox(&self) -> &Inbox<W::Item, Fresh<W>>
+        ensures { result.now ≡ self.now.inbox }
+    {
+        &self.inbox
+    }
+
+    /// The work of the latest connection.
+    pub fn work(&self) -> &W
+        ensures { result.now ≡ self.now.work }
+    {
+        &self.work
+    }
+
+    /// The works of the connections before, in their order. All are closed.
+    pub fn past(&self) -> &[W]
+        ensures { result.now ≡ self.now.past }
+    {
+        self.past.as_slice()
+    }
+
+    /// Tells what the works of this desk were given of what was taken from its inbox.
+    pub fn served(&self)
+        ensures { IsDesk W.given W.is_closed self.now }
+    {
+        let _ = &self.seat;
+    }
+
+    /// The work of the latest connection, and those of the connections before, given out.
+    pub fn into_works(self) -> (W, Vec<W>)
+        ensures { (result.0 ≡ self.work) × (result.1.items ≡ self.past) }
+    {
+        (self.work, self.past)
+    }
+
+    /// Learns what a note of the reader tells: how much was queued.
+    pub fn learn(&mut self, note: Note<W::Item, Fresh<W>>)
+        requires { note.inbox ≡ self.old.inbox.name }
+        ensures { self.new ≡ desk_told self.old note }
+    {
+        self.seat.learn(&self.inbox, note);
+    }
+
+    /// Gives an open work its tick, and then takes up to so many marks, and gives them to works or passes them over. It takes
+    /// fewer only where the inbox was empty at some moment.
+    pub fn serve<R: Wait>(&mut self, rt: &R, budget: u32) -> Count
+        requires { budget ≤ 64 }
+        ensures { IsServed self.old self.new budget result.worked result.passed }
+    {
+        self.tick(rt);
+        let mut count = Count {
+            worked: 0,
+            passed: 0,
+        };
+        for _ in 0..budget {
+            match self.advance(rt) {
+                Step::Worked => count.worked += 1,
+                Step::Passed => count.passed += 1,
+                Step::Empty => break,
+            }
+        }
+        count
+    }
+
+    /// Takes marks, and gives them to works or passes them over, until the inbox was empty at some moment.
+    pub fn serve_all<R: Wait>(&mut self, rt: &R)
+        ensures { HasServedAll self.old self.new }
+    {
+        for _ in rt.forever() {
+            if let Step::Empty = self.advance(rt) {
+                return;
+            }
+        }
+        unreachable!()
+    }
+
+    /// A note of what was taken.
+    pub fn note(&mut self) -> Note<W::Item, Fresh<W>>
+        ensures { (result ≡ desk_note self.old) × (self.new ≡ self.old) }
+    {
+        self.seat.note(&self.inbox)
+    }
+
+    /// Gives an open work its tick.
+    fn tick<R: Wait>(&mut self, rt: &R)
+        ensures { IsSameLine self.old self.new }
+    {
+        if !self.work.closed() {
+            self.work.tick(rt);
+        }
+    }
+
+    /// Takes the front of the inbox, and gives it to the work if that is open. An open mark brings the next connection's work.
+    fn advance<R: Wait>(&mut self, rt: &R) -> Step
+        ensures { Stepped W.is_closed self.old self.new result }
+    {
+        let ready = make_ready(&mut self.work);
+        match self.seat.take(rt, &self.inbox) {
+            None => Step::Empty,
+            Some(Queued::Item(item)) => give(rt, &mut self.work, ready, Given::Item(item)),
+            Some(Queued::End) => give(rt, &mut self.work, ready, Given::End),
+            Some(Queued::Open(next)) => {
+                self.seat.reached();
+                let past = mem::replace(&mut self.work, next.into_work());
+                self.past.push_reserved(past);
+                Step::Passed
+            }
+        }
+    }
+}
+
+/// Makes room in an open work for its next step, and tells whether the work is open still.
+fn make_ready<W: Work>(work: &mut W) -> bool
+    ensures ready { result ≡ true → (W.is_closed work.old ≡ false) × (W.is_closed work.new ≡ false) × W.primed work.new }
+    ensures closed { result ≡ false → W.is_closed work.new ≡ true }
+    ensures live { W.is_closed work.new ≡ false → W.is_closed work.old ≡ false }
+    ensures given { (items : List (Given W.Item)) → W.given work.old items → W.given work.new items }
+{
+    !work.closed() && work.ready()
+}
+
+/// Gives an item to a work that is ready; a closed one is passed over.
+fn give<W: Work, R: Wait>(rt: &R, work: &mut W, ready: bool, item: Given<W::Item>) -> Step
+    requires { ready ≡ true → (W.is_closed work.old ≡ false) × W.primed work.old }
+    ensures worked { ready ≡ true → (result ≡ Worked) × ((items : List (Given W.Item)) → W.given work.old items → W.given work.new (items ++ item ∷ [])) × (IsEnd item → W.is_closed work.new ≡ true) }
+    ensures passed { ready ≡ false → (result ≡ Passed) × (work.new ≡ work.old) }
+{
+    if !ready {
+        return Step::Passed;
+    }
+    work.step(rt, item);
+    Step::Worked
+}

@@ -1,0 +1,99 @@
+ghost use Rattle.std.specs.Prelude.{◌≡◌};
+ghost use Rattle.cb_crew.specs.Work.{IsFresh};
+
+use cb_inbox::Opening;
+use std::marker::Model;
+use std::sync::Wait;
+
+/// What a work is given: an item of its connection, or that the connection ended.
+#[derive(Debug, Drop, PartialEq, Eq)]
+pub enum Given<M> {
+    /// An item.
+    Item(M),
+    /// The connection ended.
+    End,
+}
+
+/// What works on the items of one connection, one after another.
+///
+/// A call may wait, for a lock that others hold or for a writer; its contract holds if it returns.
+pub trait Work: Drop {
+    ghost use Rattle.std.specs.Prelude.{◌≡◌, Bool, true, false, List, ◌++◌, ◌∷◌, []};
+    ghost use Rattle.cb_crew.specs.declared.work.Given.{Given};
+    ghost use Rattle.cb_crew.specs.Work.{IsEnd};
+
+    /// The items.
+    type Item: Drop;
+
+    /// The work was given these, in order, and no others.
+    ghost given: { Self → List (Given Self.Item) → Type 0 };
+
+    /// It has made all room that its next step needs.
+    ghost primed: { Self → Type 0 };
+
+    /// It takes nothing more.
+    ghost is_closed: { Self → Bool };
+
+    /// Whether it takes nothing more.
+    fn closed(&self) -> bool
+        ensures { result ≡ is_closed self.now };
+
+    /// Makes room for the next step. Where memory lacks, the work closes, and the answer is false.
+    fn ready(&mut self) -> bool
+        requires { is_closed self.old ≡ false }
+        ensures ready { result ≡ true → (is_closed self.new ≡ false) × primed self.new }
+        ensures closed { result ≡ false → is_closed self.new ≡ true }
+        ensures given { (items : List (Given Self.Item)) → given self.old items → given self.new items };
+
+    /// Takes the next item, or the end, which closes it.
+    fn step<R: Wait>(&mut self, rt: &R, item: Given<Self::Item>)
+        requires open { is_closed self.old ≡ false }
+        requires primed { primed self.old }
+        ensures given { (items : List (Given Self.Item)) → given self.old items → given self.new (items ++ item ∷ []) }
+        ensures end { IsEnd item → is_closed self.new ≡ true };
+
+    /// What is to be done once in each turn, whether or not an item waits.
+    fn tick<R: Wait>(&mut self, rt: &R)
+        requires { is_closed self.old ≡ false }
+        ensures { (items : List (Given Self.Item)) → given self.old items → given self.new items };
+}
+
+/// A work that may begin a connection: it is open and was given nothing.
+#[derive(Drop)]
+pub struct Fresh<W: Work> {
+    work: W,
+}
+
+impl<W: Work> Model for Fresh<W> {
+    ghost use Rattle.cb_crew.specs.Work.{IsFresh};
+
+    ghost Value = { W };
+
+    ghost view = { λ a. a.work };
+
+    ghost invariant = { λ a. IsFresh W.given W.is_closed a.work };
+}
+
+impl<W: Work> Opening for Fresh<W> {
+    ghost use Rattle.cb_crew.specs.Work.{IsFresh};
+
+    ghost fresh = { λ work. IsFresh W.given W.is_closed work };
+}
+
+impl<W: Work> Fresh<W> {
+    /// This work, which is open and was given nothing.
+    pub fn new(work: W) -> Fresh<W>
+        requires { IsFresh W.given W.is_closed work }
+        ensures { result ≡ work }
+    {
+        Fresh { work }
+    }
+
+    /// The work, given out.
+    pub fn into_work(self) -> W
+        ensures work { result ≡ self }
+        ensures fresh { IsFresh W.given W.is_closed result }
+    {
+        self.work
+    }
+}

@@ -1,0 +1,3 @@
+pub mod Queued
+pub mod Rule
+pub mod Seat
