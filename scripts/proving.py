@@ -41,11 +41,15 @@ def prove(workshop, crate, jobs):
     return is_proved or None
 
 
+def in_order(repository, crates):
+    """Returns these crates and all that they stand on, first those that most others wait for."""
+    whole = repository.with_below(crates)
+    behind = {it: sum(it in repository.below(other) for other in whole) for it in whole}
+    return sorted(whole, key=lambda it: -behind[it])
+
+
 def prove_all(workshop, crates):
     """Proves and builds these crates and all that they stand on, lowest first. Returns whether all are proved."""
-    whole = workshop.repository.with_below(crates)
-    behind = {it: sum(it in workshop.repository.below(other) for other in whole) for it in whole}
-    # those that most others wait for come first
-    order = sorted(whole, key=lambda it: -behind[it])
+    order = in_order(workshop.repository, crates)
     given = run_in_lanes(order, workshop.repository.below, lambda crate, jobs: prove(workshop, crate, jobs))
     return all(given.values())

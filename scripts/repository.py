@@ -161,12 +161,19 @@ def lanes():
     return max(1, min(cores(), free_memory() // MEMORY_OF_A_CHECK))
 
 
-def run_in_lanes(tasks, waits_for, call):
+def run_in_lanes(tasks, waits_for, call, filling=()):
     """Calls `call(task, jobs)` for each task, in their order and side by side, each once those it waits for have ended.
 
-    Idle lanes go to what is running as further jobs. Returns what each call gave, by task; a task behind one that gave None gives None.
+    The tasks of `filling` leave one lane to the others until all of these have begun. Idle lanes go to what is running as further
+    jobs. Returns what each call gave, by task; a task behind one that gave None gives None.
     """
     most, given, running, left = lanes(), {}, {}, list(tasks)
+
+    def idle_for(task):
+        taken = sum(jobs for it, jobs in running.values() if it in filling)
+        is_kept = task in filling and taken >= most - 1 and any(it not in filling for it in left)
+        return 0 if is_kept else most - sum(jobs for _, jobs in running.values())
+
     with ThreadPoolExecutor(most) as pool:
         while left or running:
             for task in [it for it in left if any(below in given and given[below] is None for below in waits_for(it))]:
@@ -174,7 +181,7 @@ def run_in_lanes(tasks, waits_for, call):
                 left.remove(task)
             ready = [it for it in left if all(below in given for below in waits_for(it))]
             for place, task in enumerate(ready):
-                idle = most - sum(jobs for _, jobs in running.values())
+                idle = idle_for(task)
                 if idle > 0:
                     jobs = max(1, idle // (len(ready) - place))
                     running[pool.submit(call, task, jobs)] = task, jobs

@@ -1,24 +1,36 @@
-"""Wrong bodies as edits: where each changes the source, which function it is of, and what a check says of that function."""
+"""Wrong bodies as edits: where each changes the source, which function it is of, and what a check says of that function.
+
+An edit stands in its function's place, or in a twin beside it: a copy of the function under another name, with the same
+contract and the same answers, which nothing calls. So a twin is refused where the function itself would be, and no other
+function waits for it.
+"""
 
 import difflib
+import functools
 import re
+import shutil
 from dataclasses import dataclass, field
 from enum import Enum
 from pathlib import Path
 
 FUNCTION = re.compile(r"^(\s*)(?:pub(?:\([^)]*\))?\s+)?(?:(?:const|unsafe)\s+)*fn\s+(\w+)")
 IMPL = re.compile(r"^(?:unsafe\s+)?impl\b(.*)")
+TYPE = re.compile(r"^(?:pub(?:\([^)]*\))?\s+)?(?:struct|enum)\s+(\w+)", re.M)
 
 
 @dataclass(frozen=True)
 class Function:
-    """A function's place in a source file: lines from `first` to before `end`, counted from 0."""
+    """A function's place in a source file: lines from `first` to before `end`, counted from 0.
+
+    It is free where it belongs to no trait and to no cycle of calls, so that a twin may stand beside it.
+    """
 
     module: tuple
     owner: str
     name: str
     first: int
     end: int
+    is_free: bool
 
     @property
     def key(self):
@@ -53,21 +65,31 @@ def owner_of(header):
 
 def functions_of(file, text):
     """Returns a source file's functions, by the layout that rt fmt gives it: a body ends at a brace as far in as its `fn`."""
-    found, owner, lines = [], "", text.split("\n")
+    found, owner, is_of_trait, lines = [], "", False, text.split("\n")
     for place, line in enumerate(lines):
         if line.startswith("}"):
-            owner = ""
+            owner, is_of_trait = "", False
         begins = IMPL.match(line)
         if begins:
-            owner = owner_of(" ".join(lines[place : place + 4]).split("{")[0].partition("impl")[2])
+            header = " ".join(lines[place : place + 4]).split("{")[0].partition("impl")[2]
+            owner, is_of_trait = owner_of(header), " for " in header
         found_here = FUNCTION.match(line)
         if found_here:
             indent, name = found_here.groups()
             first = place
             while first and lines[first - 1].lstrip().startswith(("#[", "//")):
                 first -= 1
-            found.append(Function(module_of(file), owner if indent else "", name, first, end_of(lines, place, indent)))
+            end = end_of(lines, place, indent)
+            is_free = not is_of_trait and bool(owner) == bool(indent) and not calls_itself(lines[first:end], owner, name)
+            found.append(Function(module_of(file), owner if indent else "", name, first, end, is_free))
     return found
+
+
+def calls_itself(lines, owner, name):
+    """Returns whether a function may call itself, or is a part of a cycle of calls."""
+    text = "\n".join(lines)
+    prefix = rf"(?:\bself\.|\bSelf::|\b{owner}::)" if owner else r"(?<![\w.:])(?<!fn )(?:(?:crate|super|self)::(?:\w+::)*)?"
+    return "#[cycle" in text or bool(re.search(rf"{prefix}{name}\(", text))
 
 
 def end_of(lines, first, indent):
@@ -110,6 +132,10 @@ class Edit:
     hunks: list = field(default_factory=list)
     functions: set = field(default_factory=set)
     is_within_functions: bool = True
+    # the function that it is of, where a twin of it may stand beside it
+    twinned: Function | None = None
+    # the functions that it stands in where it is tried: its own, or a twin
+    standing: set = field(default_factory=set)
     # what the checks told so far: the functions' paths, and how often no verdict came
     paths: set = field(default_factory=set)
     tries: int = 0
@@ -148,6 +174,7 @@ def read_edit(path, folder):
             edit.is_within_functions &= bool(around)
     if not edit.hunks:
         raise BadEdit("it changes nothing")
+    edit.twinned = twinned(edit, folder) if edit.is_within_functions else None
     return edit
 
 
@@ -159,6 +186,8 @@ def hunks_of(file, old, new):
 def applied(edits, folder):
     """Returns the texts of the files that these edits, which don't meet, change together."""
     texts = {}
+    for edit in edits:
+        edit.standing = edit.functions
     for file in sorted({hunk.file for edit in edits for hunk in edit.hunks}):
         lines = (folder / file).read_text(encoding="utf-8").split("\n")
         hunks = [hunk for edit in edits for hunk in edit.hunks if hunk.file == file]
@@ -166,6 +195,94 @@ def applied(edits, folder):
             lines[hunk.first : hunk.end] = hunk.lines
         texts[file] = "\n".join(lines)
     return texts
+
+
+@functools.cache
+def proof_texts(folder):
+    """Returns the texts of the crate's definitions, proofs and answers, by their files."""
+    return {it: it.read_text(encoding="utf-8") for part in ("specs", "proofs") for it in sorted((folder / part).rglob("*.antt"))}
+
+
+def answer_folders(folder, function):
+    """Returns the folders of proofs/ for a function's answers and for its closures', and its path in words of the proofs; none for a method of a type of another crate."""
+    module = function.module
+    if function.owner:
+        modules = {module_of(it.relative_to(folder)) for it in (folder / "src").rglob("*.rt") if function.owner in TYPE.findall(it.read_text(encoding="utf-8"))}
+        if len(modules) != 1:
+            return []
+        module = (*modules.pop(), function.owner)
+    return [(folder / "proofs" / Path(*places), ".".join(places)) for places in ((*module, function.name), (*module, "fn", function.name))]
+
+
+def twinned(edit, folder):
+    """Returns the function that an edit is of, where a twin beside it means the same: it is free, and no other file of the proofs speaks of its own ones."""
+    own = [it for file in sorted({it.file for it in edit.hunks}) for it in functions_of(file, (folder / file).read_text(encoding="utf-8")) if it.key in edit.functions]
+    if len(own) != 1 or not own[0].is_free or own[0].name == "main":
+        return None
+    answers = answer_folders(folder, own[0])
+    for file, text in proof_texts(folder).items():
+        if any(names_own(text, path) and place not in file.parents for place, path in answers):
+            return None
+    return own[0] if answers else None
+
+
+def names_own(text, path):
+    """Returns whether a text of the proofs names what is of the function with this path alone, or may do so by a part of the path."""
+    words = path.split(".")
+    above = "|".join(re.escape("".join(f".{it}" for it in words[:place])) for place in range(len(words)))
+    return bool(re.search(rf"\b(?:proofs|specs\.contracts)(?:\.{re.escape(path)}(?!\w)|(?:{above})(?:\.\{{| as\b))", text))
+
+
+def twin_name(function, number):
+    return f"{function.name}_twin_{number}"
+
+
+def with_twins(edits, folder):
+    """Returns the texts of the files in which each of these edits stands in a twin beside its function, and the folders of answers to be copied for it, with the change of their text."""
+    texts, answers, beside = {}, [], {}
+    for number, edit in enumerate(edits):
+        function, file = edit.twinned, edit.hunks[0].file
+        lines = (folder / file).read_text(encoding="utf-8").split("\n")
+        for hunk in sorted(edit.hunks, key=lambda it: -it.first):
+            lines[hunk.first : hunk.end] = hunk.lines
+        grown = sum(len(it.lines) - (it.end - it.first) for it in edit.hunks)
+        name = twin_name(function, number)
+        twin = re.sub(rf"\bfn {function.name}\b", f"fn {name}", "\n".join(lines[function.first : function.end + grown]), count=1)
+        beside.setdefault(file, []).append((function.end, ["", *twin.split("\n")]))
+        edit.standing = {(function.module, function.owner, name)}
+        for place, path in answer_folders(folder, function):
+            words = re.compile(rf"(\bproofs|\bspecs\.contracts)\.{re.escape(path)}(?!\w)"), rf"\1.{path[: -len(function.name)]}{name}"
+            answers += [(place, place.with_name(name), words)] if place.is_dir() else []
+    for file, twins in beside.items():
+        lines = (folder / file).read_text(encoding="utf-8").split("\n")
+        for end, twin in sorted(twins, key=lambda it: -it[0]):
+            lines[end:end] = twin
+        texts[file] = "\n".join(lines)
+    return texts, answers
+
+
+def untouched(edits, folder):
+    """Returns for each function that these edits have a twin of one edit that changes nothing: its twin has to be proved."""
+    found = {}
+    for edit in edits:
+        function, file = edit.twinned, edit.hunks[0].file
+        if function and function.key not in found:
+            line = (folder / file).read_text(encoding="utf-8").split("\n")[function.first]
+            hunk = Hunk(file, function.first, function.first + 1, (line,))
+            found[function.key] = Edit(Path("::".join((*function.module, function.owner, function.name))), [hunk], {function.key}, twinned=function)
+    return [*found.values()]
+
+
+def copy_answers(answers, folder, room):
+    """Copies the answers of functions for their twins into a room, and returns the folders made."""
+    made = []
+    for old, new, (words, twin) in answers:
+        to = room / new.relative_to(folder)
+        shutil.copytree(old, to)
+        for file in to.rglob("*.antt"):
+            file.write_text(words.sub(twin, file.read_text(encoding="utf-8")), encoding="utf-8")
+        made.append(to)
+    return made
 
 
 class Verdict(Enum):
@@ -211,7 +328,7 @@ class Outcome:
 
     def spans(self, edit):
         """Returns the edit's functions with their files, where they stand in the texts that were checked."""
-        return [(file, it) for file, text in self.texts.items() for it in functions_of(file, text) if it.key in edit.functions]
+        return [(file, it) for file, text in self.texts.items() for it in functions_of(file, text) if it.key in edit.standing]
 
     def paths(self, edit):
         """Returns the paths under which the prover names the edit's functions."""

@@ -1,5 +1,5 @@
 -- A desk keeps what its type says, over each thing that is done with it.
-use Rattle.std.proofs.Common.{◌≡◌, ℕ, ◌+◌, ◌<◌, ◌≤◌, Bool, true, false, cond, List, [], ◌∷◌, ◌++◌, length, refl, sym, ap, subst, ◌∙◌, arith}
+use Rattle.std.proofs.Common.{◌≡◌, ℕ, inl, inr, ◌+◌, ◌<◌, ◌≤◌, Bool, true, false, cond, List, [], ◌∷◌, ◌++◌, length, refl, sym, ap, subst, ◌∙◌, arith}
 use Rattle.std.specs.List.{AllZip}
 use Rattle.std.proofs.lemmas.Bool.{false≢true}
 use Rattle.std.proofs.lemmas.List.{append-nil, append_assoc, length-append}
@@ -15,6 +15,7 @@ use Rattle.cb_inbox.specs.Rule.{IsOfALine}
 use Rattle.cb_inbox.specs.Seat.{InboxState, SeatState, taken_more}
 use Rattle.cb_inbox.proofs.Seats.{ended_now}
 use Rattle.cb_crew.specs.declared.work.Given.{Given}
+use Rattle.cb_crew.specs.declared.desk.Step.{Step}
 use Rattle.cb_crew.specs.declared.desk.Step.TheVariants as step
 use Rattle.cb_crew.specs.Work.{IsEnd, IsFresh, WorksOn, given_by, connections_of}
 use Rattle.cb_crew.specs.Desk.{DeskState, HasServed, IsDesk, IsSameDesk, IsSameLine, IsServed, Stepped, desk_state}
@@ -72,11 +73,11 @@ module _ {W M : Type 0} (given : W → List (Given M) → Type 0) (is_closed : W
       (sym (opens_last is_end is_open false taken mark front) ∙ opens, omega (arith, few s.reached, ap (connections is_open) (whole ∙ ap (λ ms. ms ++ s.line.inbox) (sym all)), sum_by-append {X = Queued M W} (λ m. cond (is_open m) 1 0) (taken ++ mark ∷ []) s.line.inbox, connections_push is_open taken mark, ap {B = ℕ} (λ (b : Bool). cond b 1 0) opens))
 
   -- an open mark was taken: the work is past, and the next connection's work takes its place
-  pub desk_opened : (inbox : InboxState) (seat now : SeatState (Queued M W)) (old new : W) (past : List W) (mark : Queued M W) → now ≡ taken_more seat mark → is_open mark ≡ true → has_ended seat.taken ≡ true → IsFresh given is_closed new → IsDesk given is_closed (desk_state inbox seat old past) → IsDesk given is_closed (desk_state inbox now new (past ++ old ∷ []))
-  desk_opened inbox seat now old new past mark took opens behind fresh d = record {
+  pub desk_opened : (ticked : W → List ℕ → Type 0) (inbox : InboxState) (seat now : SeatState (Queued M W)) (old new : W) (past : List W) (mark : Queued M W) → now ≡ taken_more seat mark → is_open mark ≡ true → has_ended seat.taken ≡ true → IsFresh given ticked is_closed new → IsDesk given is_closed (desk_state inbox seat old past) → IsDesk given is_closed (desk_state inbox now new (past ++ old ∷ []))
+  desk_opened ticked inbox seat now old new past mark took opens behind fresh d = record {
     works = subst (λ (s : SeatState (Queued M W)). AllZip (WorksOn given is_closed) ((past ++ old ∷ []) ++ new ∷ []) (connections_of s.taken)) (sym took)
         (subst (AllZip (WorksOn given is_closed) ((past ++ old ∷ []) ++ new ∷ [])) (sym (connections_again seat.taken mark opens))
-        (zip_push (WorksOn given is_closed) (past ++ old ∷ []) (connections_of seat.taken) new [] d.works (works_fresh given is_closed new fresh)));
+        (zip_push (WorksOn given is_closed) (past ++ old ∷ []) (connections_of seat.taken) new [] d.works (works_fresh given is_closed ticked new fresh)));
     past_closed = All-push (λ work. is_closed work ≡ true) past old d.past_closed (d.ended behind);
     ended = λ e. absurd (false≢true (sym (ap (λ (s : SeatState (Queued M W)). has_ended s.taken) took ∙ (ended_now seat.taken mark ∙ no_end mark opens)) ∙ e));
   }
@@ -105,13 +106,27 @@ pub served_passed : {W M : Type 0} (is_closed : W → Bool) (old mid new : DeskS
 served_passed is_closed old mid new worked passed h s = served_one old mid new worked passed worked (passed + 1) s.1.0 (omega arith) h s.0 s.1.1
 
 -- nothing was left
-pub served_empty : {W M : Type 0} (is_closed : W → Bool) (old mid new : DeskState W M) (budget worked passed : ℕ) → HasServed old mid worked passed → worked + passed ≤ budget → Stepped is_closed mid new step.Empty → IsServed old new budget worked passed
+pub served_empty : {W M : Type 0} (is_closed : W → Bool) (old mid new : DeskState W M) (budget worked passed : ℕ) → HasServed old mid worked passed → worked + passed ≤ budget → Stepped is_closed mid new step.Empty → IsServed is_closed old new budget worked passed
 served_empty is_closed old mid new budget worked passed h within s = record {
   has = record { same = (s.0.0.0 ∙ h.same.0, s.0.0.1 ∙ h.same.1); marks = h.marks; taken = s.0.1 ∙ h.taken; count = h.count };
   within = within;
-  all_told = λ _. subst (λ ms. IsBeginning ms new.taken) (sym s.0.0.1) (subst (IsBeginning mid.queued) (sym s.0.1) s.1);
+  all_told = λ _. inl (subst (λ ms. IsBeginning ms new.taken) (sym s.0.0.1) (subst (IsBeginning mid.queued) (sym s.0.1) s.1));
+}
+
+-- the work closed
+pub served_closed : {W M : Type 0} (is_closed : W → Bool) (old mid new : DeskState W M) (budget worked passed : ℕ) → HasServed old mid worked passed → worked + passed < budget → Stepped is_closed mid new step.Worked → is_closed new.work ≡ true → IsServed is_closed old new budget (worked + 1) passed
+served_closed is_closed old mid new budget worked passed h within s closed = record {
+  has = served_worked is_closed old mid new worked passed h s;
+  within = omega (arith, within);
+  all_told = λ _. inr (omega arith, closed);
 }
 
 -- the budget is spent
-pub served_whole : {W M : Type 0} (old new : DeskState W M) (budget worked passed : ℕ) → HasServed old new worked passed → worked + passed ≡ budget → IsServed old new budget worked passed
-served_whole old new budget worked passed h all = record { has = h; within = omega (arith, all); all_told = λ less. absurd (omega (arith, all, less)) }
+pub served_whole : {W M : Type 0} (is_closed : W → Bool) (old new : DeskState W M) (budget worked passed : ℕ) → HasServed old new worked passed → worked + passed ≡ budget → IsServed is_closed old new budget worked passed
+served_whole is_closed old new budget worked passed h all = record { has = h; within = omega (arith, all); all_told = λ less. absurd (omega (arith, all, less)) }
+
+-- what a step took comes to what was taken
+pub stepped_on : {W M : Type 0} (is_closed : W → Bool) (old mid new : DeskState W M) (done : Step) → IsSameDesk old mid → IsBeginning old.taken mid.taken → Stepped is_closed mid new done → IsSameDesk old new × IsBeginning old.taken new.taken
+stepped_on is_closed old mid new step.Worked same begin s = ((s.0.0 ∙ same.0, s.0.1 ∙ same.1), (begin.0 ++ s.1.0 ∷ [], s.1.1 ∙ (ap (λ ms. ms ++ s.1.0 ∷ []) begin.1 ∙ append_assoc old.taken begin.0 (s.1.0 ∷ []))))
+stepped_on is_closed old mid new step.Passed same begin s = ((s.0.0 ∙ same.0, s.0.1 ∙ same.1), (begin.0 ++ s.1.0 ∷ [], s.1.1 ∙ (ap (λ ms. ms ++ s.1.0 ∷ []) begin.1 ∙ append_assoc old.taken begin.0 (s.1.0 ∷ []))))
+stepped_on is_closed old mid new step.Empty same begin s = ((s.0.0.0 ∙ same.0, s.0.0.1 ∙ same.1), (begin.0, s.0.1 ∙ begin.1))

@@ -59,7 +59,7 @@ module _ {D : Type 0} (shown : D → Shown) where
       joins pass.id (view pass) other.id (view other) hand.live hand'.live (ap (λ (h : HandState). h.held) is ∙ free) (map shown desks) views r at apart at_other
 
   pub keep_owes : (pass : Pass D HandView) (old : HandState) → hand_state pass ≡ old → IsHand pass → StandsForAll old
-      → Pops (IsRingOf shown) pass.id (view pass) (λ desk w. (w ≡ kept_view (view pass) (shown desk)) × IsOfCrew (view pass).crew.names (shown desk))
+      → Pops (IsRingOf shown) pass.id (view pass) (λ desk w. (w ≡ kept_view (view pass) (shown desk)) × IsOfCrew (view pass).crew.names (shown desk) × (length (view pass).held < length (view pass).crew.names))
       × Learns (IsRingOf shown) pass.id (view pass) (λ desks. (weight : ℕ → ℕ) → sum_by weight (peers_of (map shown desks)) + sum_by weight (peers_of (view pass).held) ≡ sum_by weight (range_with_len 0 (length (view pass).crew.names)))
   keep_owes pass old is hand all = (
     λ desk desks views r at. keeps pass.id (view pass) hand.live (subst StandsForAll (sym is) all) (shown desk) (map shown desks) views r at,

@@ -4,6 +4,7 @@ use Rattle.std.specs.List.{All, sum_by, range_with_len}
 use Rattle.std.proofs.lemmas.Bool.{cases_lt}
 use Rattle.std.proofs.lemmas.List.{map-append, length-append, length-map, length-replicate, length_push, get_or-set_same, get_or-set_other, get_or-replicate, get_or_past, get_or_push, get_or_append_left, nil_from_length}
 use Rattle.std.proofs.lemmas.List.Sums.{sum_by-cons, sum_by_push, sum_by-append}
+use Rattle.std.proofs.lemmas.List.FromFn.{length-range_with_len}
 use Rattle.std.proofs.lemmas.List.Elements.{All-nil, All-cons, All-head, All-tail, All-same, All-push, All-append, All-drop, All-weaker}
 use mathlib.Core.Option.{some, some-ne-none}
 use lib.ListN.{get_elem?}
@@ -420,13 +421,26 @@ joins seat v other w live live_w free waiting views r at apart at_other =
 
 -- ---- a desk is kept
 
-pub keeps : (seat : ℕ) (v : HandView) → 0 < length v.numbers → length v.numbers ≡ v.crew.handlers → Pops IsRing seat v (λ s w. (w ≡ kept_view v s) × IsOfCrew v.crew.names s)
+pub keeps : (seat : ℕ) (v : HandView) → 0 < length v.numbers → length v.numbers ≡ v.crew.handlers → Pops IsRing seat v (λ s w. (w ≡ kept_view v s) × IsOfCrew v.crew.names s × (length v.held < length v.crew.names))
 keeps seat v live all s waiting views r at =
     let hand = r.hands seat v at in
     let knows = hand.knows live in
     let next = at_stage r.crew finishing in
     let w = kept_view v s in
     let everyone : length v.numbers ≡ r.crew.handlers = all ∙ ap (λ (c : RingCrew). c.handlers) knows in
+    let weighed : sum_by (λ (_ : ℕ). 1) (peers_of (s ∷ waiting)) + sum_by (λ (u : HandView). sum_by (λ (_ : ℕ). 1) (peers_of u.held)) views ≡ sum_by (λ (_ : ℕ). 1) (range_with_len 0 (length r.crew.names)) = r.each_desk (λ _. 1) in
+    let below : sum_by (λ (_ : ℕ). 1) (peers_of v.held) ≤ sum_by (λ (u : HandView). sum_by (λ (_ : ℕ). 1) (peers_of u.held)) views = one_below (λ (u : HandView). sum_by (λ (_ : ℕ). 1) (peers_of u.held)) views seat v at in
+    let room : length v.held < length v.crew.names = omega (
+      arith,
+      weighed,
+      below,
+      ones (peers_of v.held),
+      length-map v.held (λ (t : Shown). t.peer),
+      sum_by-cons (λ (_ : ℕ). 1) s.peer (peers_of waiting),
+      ones (range_with_len 0 (length r.crew.names)),
+      length-range_with_len 0 (length r.crew.names),
+      ap (λ (c : RingCrew). length c.names) knows,
+    ) in
     let front : IsOfCrew r.crew.names s = All-head (IsOfCrew r.crew.names) s waiting r.waiting_named in (
       w,
       record {
@@ -440,5 +454,5 @@ keeps seat v live all s waiting views r at =
             (λ h. omega (arith, sum_by-cons h s.peer (peers_of waiting), push_weighs h v.held s));
         moves = tt;
       },
-      (refl, subst (λ (c : RingCrew). IsOfCrew c.names s) (sym knows) front),
+      (refl, subst (λ (c : RingCrew). IsOfCrew c.names s) (sym knows) front, room),
     )

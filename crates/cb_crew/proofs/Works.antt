@@ -1,5 +1,5 @@
 -- What works were given, as marks are taken one after another.
-use Rattle.std.proofs.Common.{◌≡◌, Bool, true, false, cond, List, [], ◌∷◌, ◌++◌, length, map, refl, sym, ap, ◌∙◌, arith}
+use Rattle.std.proofs.Common.{◌≡◌, ℕ, Bool, true, false, cond, List, [], ◌∷◌, ◌++◌, length, map, refl, sym, ap, ◌∙◌, arith}
 use Rattle.std.specs.List.{AllZip, slice_split, onto_first, flat_map}
 use Rattle.std.proofs.lemmas.Bool.{false≢true}
 use Rattle.std.proofs.lemmas.List.{append-nil, append_assoc, length-map}
@@ -20,7 +20,7 @@ onto_last [] more = more ∷ []
 onto_last (part ∷ []) more = (part ++ more) ∷ []
 onto_last (part ∷ next ∷ rest) more = part ∷ onto_last (next ∷ rest) more
 
-abbrev HasFirst : {A : Type 0} → List (List A) → Type 0
+abbrev pub HasFirst : {A : Type 0} → List (List A) → Type 0
 HasFirst {A} ss = (part : List A) × (rest : List (List A)) × (ss ≡ part ∷ rest)
 
 cut_first : {A : Type 0} (x : A) (b : Bool) (ss : List (List A)) → HasFirst ss → HasFirst (cond b ([] ∷ ss) (onto_first x ss))
@@ -28,7 +28,7 @@ cut_first x true ss some = ([], ss, refl)
 cut_first x false ss some = (x ∷ some.0, some.1, ap (onto_first x) some.2)
 
 -- a list is cut in one part or more
-split_some : {A : Type 0} (p : A → Bool) (xs : List A) → HasFirst (slice_split p xs)
+pub split_some : {A : Type 0} (p : A → Bool) (xs : List A) → HasFirst (slice_split p xs)
 split_some p [] = ([], [], refl)
 split_some p (x ∷ xs) = cut_first x (p x) (slice_split p xs) (split_some p xs)
 
@@ -150,8 +150,8 @@ module _ {W M : Type 0} (given : W → List (Given M) → Type 0) (is_closed : W
   works_kept old new connection live step w = record { items = w.items; are_given = step w.items w.are_given; begin = w.begin; whole = λ is. w.whole (live is) }
 
   -- it begins a connection
-  pub works_fresh : (work : W) → IsFresh given is_closed work → WorksOn given is_closed work []
-  works_fresh work fresh = record { items = []; are_given = fresh.nothing; begin = ([], refl); whole = λ _. refl }
+  pub works_fresh : (ticked : W → List ℕ → Type 0) (work : W) → IsFresh given ticked is_closed work → WorksOn given is_closed work []
+  works_fresh ticked work fresh = record { items = []; are_given = fresh.nothing; begin = ([], refl); whole = λ _. refl }
 
   -- as many works as connections
   pub works_count : {O : Type 0} (works : List W) (marks : List (Queued M O)) → AllZip (WorksOn given is_closed) works (connections_of marks) → length works ≡ connections is_open marks

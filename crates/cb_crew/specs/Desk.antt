@@ -9,7 +9,7 @@ use Rattle.cb_inbox.specs.Seat.{InboxState, SeatState}
 use Rattle.cb_crew.specs.declared.work.Given.{Given}
 use Rattle.cb_crew.specs.declared.desk.Step.{Step}
 use Rattle.cb_crew.specs.declared.desk.Step.TheVariants as step
-use Rattle.cb_crew.specs.Work.{WorksOn, connections_of}
+use Rattle.cb_crew.specs.Work.{IsTicked, IsUnticked, WorksOn, connections_of}
 
 pub record DeskState (W M : Type 0) : Type 0 where
   pub inbox : InboxState
@@ -58,14 +58,34 @@ pub record HasServed {W M : Type 0} (old new : DeskState W M) (worked passed : �
   pub taken : new.taken ≡ old.taken ++ marks
   pub count : length marks ≡ worked + passed
 
--- The same within a budget, and fewer only where all that the seat was told of had been taken.
-pub record IsServed {W M : Type 0} (old new : DeskState W M) (budget worked passed : ℕ) : Type 0 where
+-- The same within a budget, and fewer only where all that the seat was told of had been taken, or something was given to a
+-- work and the work is closed now.
+pub record IsServed {W M : Type 0} (is_closed : W → Bool) (old new : DeskState W M) (budget worked passed : ℕ) : Type 0 where
   pub has : HasServed old new worked passed
   pub within : worked + passed ≤ budget
-  pub all_told : worked + passed < budget → IsBeginning new.queued new.taken
+  pub all_told : worked + passed < budget → IsBeginning new.queued new.taken ⊎ ((1 ≤ worked) × (is_closed new.work ≡ true))
 
 -- Marks were taken, in their order, until all that the seat was told of had been.
 pub record HasServedAll {W M : Type 0} (old new : DeskState W M) : Type 0 where
   pub same : IsSameDesk old new
   pub taken : IsBeginning old.taken new.taken
   pub all_told : IsBeginning new.queued new.taken
+
+-- ---- ticks
+
+-- The works of a desk after something was done with it: those before the latest are as they were, the latest became what is
+-- told of it, and those that came since were not ticked.
+pub record WorksAfter {W M : Type 0} (ticked : W → List ℕ → Type 0) (becomes : W → W → Type 0) (old new : DeskState W M) : Type 0 where
+  pub latest : W
+  pub later : List W
+  pub works : new.past ++ new.work ∷ [] ≡ old.past ++ latest ∷ later
+  pub became : becomes old.work latest
+  pub later_none : All (λ work. ticked work []) later
+
+-- If the latest work was open it was ticked once, before it was given anything more. No other work was ticked.
+abbrev pub TickedOnce : {W M : Type 0} → (W → List (Given M) → Type 0) → (W → List ℕ → Type 0) → (W → Bool) → DeskState W M → DeskState W M → Type 0
+TickedOnce given ticked is_closed old new = WorksAfter ticked (IsTicked given ticked is_closed) old new
+
+-- no work was ticked
+abbrev pub NotTicked : {W M : Type 0} → (W → List ℕ → Type 0) → DeskState W M → DeskState W M → Type 0
+NotTicked ticked old new = WorksAfter ticked (IsUnticked ticked) old new

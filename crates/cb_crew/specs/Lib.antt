@@ -1,8 +1,11 @@
+pub mod Crew
 pub mod Desk
 pub mod Hand
+pub mod Headline
 pub mod Ring
 pub mod RingRule
 pub mod RingTests
 pub mod Turn
+pub mod Unmanned
 pub mod Work
 pub mod WorkTests

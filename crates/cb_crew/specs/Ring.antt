@@ -18,7 +18,8 @@ pub record Last : Type 0 where
   pub peer : ℕ
   pub grew : ℕ  -- how much was taken while the hand held it
   pub closed : Bool  -- its work took nothing more then
-  pub left : ℕ  -- how much of what its seat was told of was not taken then
+  pub taken : ℕ  -- how much was taken from its inbox then, in all
+  pub told : ℕ  -- how much its seat was told then was queued there
 
 -- The times of a crew: its desks are made, its hands claim and give them, one hand keeps them all.
 pub data Stage : Type 0 where
@@ -77,7 +78,7 @@ pub record HoldsInTurn (hand : HandState) : Type 0 where
 -- ---- hands, call by call
 
 abbrev pub no_last : Last
-no_last = record { peer = 0; grew = 0; closed = false; left = 0 }
+no_last = record { peer = 0; grew = 0; closed = false; taken = 0; told = 0 }
 
 -- how much had been taken of the desk when it was claimed
 abbrev pub taken_before : List Shown → ℕ
@@ -86,7 +87,7 @@ taken_before (s ∷ rest) = s.taken
 
 -- what is remembered of a desk that was held so and is given back
 abbrev pub last_of : List Shown → Shown → Last
-last_of held s = record { peer = s.peer; grew = s.taken - taken_before held; closed = s.closed; left = s.told - s.taken }
+last_of held s = record { peer = s.peer; grew = s.taken - taken_before held; closed = s.closed; taken = s.taken; told = s.told }
 
 -- the one hand of a new ring
 abbrev pub opening_hand : TableId → ℕ → HandState

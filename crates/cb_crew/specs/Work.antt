@@ -1,5 +1,5 @@
--- What a work was given of its connection.
-use Rattle.std.specs.Prelude.{◌≡◌, Bool, false, List, [], ◌∷◌, map}
+-- What a work was given of its connection, and when it was ticked.
+use Rattle.std.specs.Prelude.{◌≡◌, ℕ, Bool, true, false, List, [], ◌∷◌, ◌++◌, length, map}
 use Rattle.std.specs.List.{flat_map}
 use Rattle.cb_sched.specs.Laws.{IsBeginning}
 use Rattle.cb_sched.specs.Parts.{parts}
@@ -14,9 +14,10 @@ abbrev pub IsEnd : {M : Type 0} → Given M → Type 0
 IsEnd (given.Item item) = ⊥
 IsEnd given.End = Unit {0}
 
--- a work that is open and was given nothing
-pub record IsFresh {W M : Type 0} (was_given : W → List (Given M) → Type 0) (is_closed : W → Bool) (work : W) : Type 0 where
+-- a work that is open, and was given nothing and not ticked
+pub record IsFresh {W M : Type 0} (was_given : W → List (Given M) → Type 0) (ticked : W → List ℕ → Type 0) (is_closed : W → Bool) (work : W) : Type 0 where
   pub nothing : was_given work []
+  pub unticked : ticked work []
   pub live : is_closed work ≡ false
 
 -- what a mark of an inbox gives to a work: an open mark nothing
@@ -35,3 +36,12 @@ pub record WorksOn {W M : Type 0} (was_given : W → List (Given M) → Type 0) 
   pub are_given : was_given work items
   pub begin : IsBeginning items connection
   pub whole : is_closed work ≡ false → items ≡ connection
+
+-- An open work was ticked once, before it was given anything more, and a closed one not at all.
+pub record IsTicked {W M : Type 0} (was_given : W → List (Given M) → Type 0) (ticked : W → List ℕ → Type 0) (is_closed : W → Bool) (old new : W) : Type 0 where
+  pub once : is_closed old ≡ false → (items : List (Given M)) (at : List ℕ) → was_given old items → ticked old at → ticked new (at ++ length items ∷ [])
+  pub none : is_closed old ≡ true → (at : List ℕ) → ticked old at → ticked new at
+
+-- it was ticked no more than before
+abbrev pub IsUnticked : {W : Type 0} → (W → List ℕ → Type 0) → W → W → Type 0
+IsUnticked ticked old new = (at : List ℕ) → ticked old at → ticked new at

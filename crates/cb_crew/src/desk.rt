@@ -2,8 +2,8 @@ ghost use Rattle.std.specs.Prelude.{◌≡◌, ◌≤◌, true, false, List, [],
 ghost use Rattle.cb_inbox.specs.Seat.{opening_seat};
 ghost use Rattle.cb_crew.specs.declared.desk.Step.TheVariants.{Worked, Passed};
 ghost use Rattle.cb_crew.specs.declared.work.Given.{Given};
-ghost use Rattle.cb_crew.specs.Work.{IsEnd};
-ghost use Rattle.cb_crew.specs.Desk.{IsDesk, IsSameLine, IsServed, HasServedAll, Stepped, desk_note, desk_state, desk_told};
+ghost use Rattle.cb_crew.specs.Work.{IsEnd, IsTicked, IsUnticked};
+ghost use Rattle.cb_crew.specs.Desk.{IsDesk, IsSameLine, IsServed, HasServedAll, NotTicked, Stepped, TickedOnce, desk_note, desk_state, desk_told};
 
 use crate::ring_rule::Travels;
 use crate::work::{Fresh, Given, Work};
@@ -134,10 +134,11 @@ impl<W: Work> Desk<W> {
     }
 
     /// Gives an open work its tick, and then takes up to so many marks, and gives them to works or passes them over. It takes
-    /// fewer only where the inbox was empty at some moment.
+    /// fewer only where a work closed on what it was given last, or the inbox was empty at some moment.
     pub fn serve<R: Wait>(&mut self, rt: &R, budget: u32) -> Count
         requires { budget ≤ 64 }
-        ensures { IsServed self.old self.new budget result.worked result.passed }
+        ensures served { IsServed W.is_closed self.old self.new budget result.worked result.passed }
+        ensures ticks { TickedOnce W.given W.ticked W.is_closed self.old self.new }
     {
         self.tick(rt);
         let mut count = Count {
@@ -146,9 +147,14 @@ impl<W: Work> Desk<W> {
         };
         for _ in 0..budget {
             match self.advance(rt) {
-                Step::Worked => count.worked += 1,
+                Step::Worked => {
+                    count.worked += 1;
+                    if self.work.closed() {
+                        return count;
+                    }
+                }
                 Step::Passed => count.passed += 1,
-                Step::Empty => break,
+                Step::Empty => return count,
             }
         }
         count
@@ -156,7 +162,8 @@ impl<W: Work> Desk<W> {
 
     /// Takes marks, and gives them to works or passes them over, until the inbox was empty at some moment.
     pub fn serve_all<R: Wait>(&mut self, rt: &R)
-        ensures { HasServedAll self.old self.new }
+        ensures served { HasServedAll self.old self.new }
+        ensures ticks { NotTicked W.ticked self.old self.new }
     {
         for _ in rt.forever() {
             if let Step::Empty = self.advance(rt) {
@@ -175,7 +182,9 @@ impl<W: Work> Desk<W> {
 
     /// Gives an open work its tick.
     fn tick<R: Wait>(&mut self, rt: &R)
-        ensures { IsSameLine self.old self.new }
+        ensures line { IsSameLine self.old self.new }
+        ensures past { self.new.past ≡ self.old.past }
+        ensures ticked { IsTicked W.given W.ticked W.is_closed self.old.work self.new.work }
     {
         if !self.work.closed() {
             self.work.tick(rt);
@@ -184,7 +193,8 @@ impl<W: Work> Desk<W> {
 
     /// Takes the front of the inbox, and gives it to the work if that is open. An open mark brings the next connection's work.
     fn advance<R: Wait>(&mut self, rt: &R) -> Step
-        ensures { Stepped W.is_closed self.old self.new result }
+        ensures stepped { Stepped W.is_closed self.old self.new result }
+        ensures ticks { NotTicked W.ticked self.old self.new }
     {
         let ready = make_ready(&mut self.work);
         match self.seat.take(rt, &self.inbox) {
@@ -207,6 +217,7 @@ fn make_ready<W: Work>(work: &mut W) -> bool
     ensures closed { result ≡ false → W.is_closed work.new ≡ true }
     ensures live { W.is_closed work.new ≡ false → W.is_closed work.old ≡ false }
     ensures given { (items : List (Given W.Item)) → W.given work.old items → W.given work.new items }
+    ensures ticked { IsUnticked W.ticked work.old work.new }
 {
     !work.closed() && work.ready()
 }
@@ -216,6 +227,7 @@ fn give<W: Work, R: Wait>(rt: &R, work: &mut W, ready: bool, item: Given<W::Item
     requires { ready ≡ true → (W.is_closed work.old ≡ false) × W.primed work.old }
     ensures worked { ready ≡ true → (result ≡ Worked) × ((items : List (Given W.Item)) → W.given work.old items → W.given work.new (items ++ item ∷ [])) × (IsEnd item → W.is_closed work.new ≡ true) }
     ensures passed { ready ≡ false → (result ≡ Passed) × (work.new ≡ work.old) }
+    ensures ticked { IsUnticked W.ticked work.old work.new }
 {
     if !ready {
         return Step::Passed;

@@ -1,11 +1,15 @@
-ghost use Rattle.std.specs.Prelude.{◌≡◌, ◌≢◌, ◌+◌, ◌^◌, ◌≤◌, ◌↔◌, []};
+ghost use Rattle.std.specs.Prelude.{◌≡◌, ◌≢◌, ◌+◌, ◌^◌, ◌≤◌, ◌↔◌, [], vec_capacity, IfOk};
 ghost use Rattle.cb_crew.specs.declared.handler.Turn.TheVariants.{Spent};
+ghost use Rattle.cb_crew.specs.Crew.{IsHandlerOf};
 ghost use Rattle.cb_crew.specs.Ring.{IsHandOf, running};
-ghost use Rattle.cb_crew.specs.Turn.{IsSameHand, Turned, TurnsDesk};
+ghost use Rattle.cb_crew.specs.Desk.{TickedOnce};
+ghost use Rattle.cb_crew.specs.Turn.{Begins, Brings, GivesTicked, Hears, IsClaimed, IsNoteOf, Serves, Ticks, Turned, TurnsDesk};
 
+use crate::crew::Crew;
 use crate::desk::Desk;
-use crate::ring::{Hand, Ring};
-use crate::work::Work;
+use crate::ring::Hand;
+use crate::work::{Fresh, Work};
+use cb_inbox::Note;
 use std::marker::Model;
 use std::sync::Wait;
 
@@ -28,37 +32,45 @@ pub enum Turn {
     Spent,
 }
 
-/// One of a crew's handlers. It is seen as its hand, which claims desks and gives them back, and the number of its turns.
+/// One of a crew's handlers. It is seen as its hand, which claims desks and gives them back, the number of its turns, and
+/// the room of a list for desks, which the crew's first handler keeps for the end.
 #[derive(Drop)]
 pub struct Handler<W: Work> {
     hand: Hand<Desk<W>>,
     turns: u64,
+    desks: Vec<Desk<W>>,
 }
 
 impl<W: Work> Model for Handler<W> {
-    ghost use Rattle.std.specs.Prelude.{◌≤◌, ◌^◌};
+    ghost use Rattle.std.specs.Prelude.{◌≡◌, ◌≤◌, ◌^◌, [], vec_capacity, IfOk};
     ghost use Rattle.cb_crew.specs.Turn.{HandlerState};
 
     ghost Value = { HandlerState };
 
-    ghost view = { λ a. record { hand = a.hand; turns = a.turns } };
+    ghost view = { λ a. record { hand = a.hand; turns = a.turns; room = vec_capacity a.desks } };
 
-    ghost invariant = { λ a. a.turns ≤ 2 ^ 40 };
+    ghost invariant = { λ a. (a.turns ≤ 2 ^ 40) × (a.desks.items ≡ []) };
 }
 
 impl<W: Work> Handler<W> {
-    /// A handler with this hand, which made no turn.
-    pub fn new(hand: Hand<Desk<W>>) -> Handler<W>
-        ensures { (result.hand ≡ hand) × (result.turns ≡ 0) }
+    /// A handler with this hand and an empty list, which made no turn.
+    pub(crate) fn new(hand: Hand<Desk<W>>, desks: Vec<Desk<W>>) -> Handler<W>
+        requires { desks.items ≡ [] }
+        ensures { result ≡ record { hand = hand; turns = 0; room = vec_capacity desks } }
     {
-        Handler { hand, turns: 0 }
+        Handler {
+            hand,
+            turns: 0,
+            desks,
+        }
     }
 
-    /// Its hand, given out.
-    pub fn into_hand(self) -> Hand<Desk<W>>
-        ensures { result ≡ self.hand }
+    /// Its hand and its list, given out.
+    pub(crate) fn into_parts(self) -> (Hand<Desk<W>>, Vec<Desk<W>>)
+        ensures hand { result.0 ≡ self.hand }
+        ensures desks { (result.1.items ≡ []) × (vec_capacity result.1 ≡ self.room) }
     {
-        self.hand
+        (self.hand, self.desks)
     }
 
     /// How many turns were made.
@@ -70,32 +82,100 @@ impl<W: Work> Handler<W> {
 
     /// Claims the desk at the ring's front, ticks its work if that is open, takes up to `budget` marks from its inbox, gives
     /// them to works or passes them over, and gives the desk back.
-    pub fn turn<R: Wait>(&mut self, rt: &R, ring: &Ring<Desk<W>>, budget: u32) -> Turn
-        requires ring { IsHandOf ring.now self.old.hand × (self.old.hand.stage ≡ running) × (self.old.hand.held ≡ []) }
+    pub fn turn<R: Wait>(&mut self, rt: &R, crew: &Crew<W>, budget: u32) -> Turn
+        requires crew { IsHandlerOf crew.now self.old }
         requires budget { (1 ≤ budget) × (budget ≤ 64) }
         ensures turned { Turned self.old.hand self.new.hand budget result }
         ensures spent { (result ≡ Spent) ↔ (self.old.turns ≡ 2 ^ 40) }
         ensures turns { result ≢ Spent → self.new.turns ≡ self.old.turns + 1 }
-        ensures same { IsSameHand self.old.hand self.new.hand }
-        ensures free { IsHandOf ring.now self.new.hand × (self.new.hand.held ≡ []) }
+        ensures same { IsHandlerOf crew.now self.new × (self.new.room ≡ self.old.room) }
+        ensures ticks { Ticks W.given W.ticked W.is_closed self.old.hand self.new.hand result }
+    {
+        match self.begin(rt, crew) {
+            Ok(desk) => self.complete(rt, crew, desk, budget),
+            Err(turn) => turn,
+        }
+    }
+
+    /// Makes a turn as `turn` does. If the desk is this peer's, its seat first learns what the note of the peer's reader
+    /// tells. So where the turn is Idle or Shut, all that the note tells was taken. Else the note comes back.
+    pub fn turn_told<R: Wait>(
+        &mut self,
+        rt: &R,
+        crew: &Crew<W>,
+        budget: u32,
+        peer: u16,
+        note: Note<W::Item, Fresh<W>>,
+    ) -> (Turn, Option<Note<W::Item, Fresh<W>>>)
+        requires crew { IsHandlerOf crew.now self.old }
+        requires budget { (1 ≤ budget) × (budget ≤ 64) }
+        requires note { IsNoteOf self.old.hand.names peer note }
+        ensures turned { Turned self.old.hand self.new.hand budget result.0 }
+        ensures spent { (result.0 ≡ Spent) ↔ (self.old.turns ≡ 2 ^ 40) }
+        ensures turns { result.0 ≢ Spent → self.new.turns ≡ self.old.turns + 1 }
+        ensures same { IsHandlerOf crew.now self.new × (self.new.room ≡ self.old.room) }
+        ensures brings { Brings self.new.hand result.0 peer note result.1 }
+        ensures ticks { Ticks W.given W.ticked W.is_closed self.old.hand self.new.hand result.0 }
+    {
+        match self.begin(rt, crew) {
+            Ok(mut desk) => {
+                let back = hear(&mut desk, peer, note);
+                (self.complete(rt, crew, desk, budget), back)
+            }
+            Err(turn) => (turn, Some(note)),
+        }
+    }
+
+    /// Claims the desk at the ring's front for a turn.
+    fn begin<R: Wait>(&mut self, rt: &R, crew: &Crew<W>) -> Result<Desk<W>, Turn>
+        requires { IsHandlerOf crew.now self.old }
+        ensures begins { Begins W.is_closed self.old self.new result }
+        ensures hand { IfOk result (λ _. IsHandOf crew.now.ring self.new.hand × (self.new.hand.stage ≡ running)) }
+        ensures room { self.new.room ≡ self.old.room }
     {
         if self.turns == MOST_TURNS {
-            return Turn::Spent;
+            return Err(Turn::Spent);
         }
         self.turns += 1;
-        let Some(mut desk) = ring.claim(rt, &mut self.hand) else {
-            return Turn::NoDesk;
-        };
+        crew.ring.claim(rt, &mut self.hand).ok_or(Turn::NoDesk)
+    }
+
+    /// Serves a desk that the hand holds, gives it back, and tells what was done.
+    fn complete<R: Wait>(&mut self, rt: &R, crew: &Crew<W>, mut desk: Desk<W>, budget: u32) -> Turn
+        requires hand { IsHandOf crew.now.ring self.old.hand × (self.old.hand.stage ≡ running) }
+        requires desk { IsClaimed self.old.hand desk }
+        requires budget { (1 ≤ budget) × (budget ≤ 64) }
+        ensures serves { Serves W.is_closed self.old.hand self.new.hand desk budget result }
+        ensures ticks { GivesTicked W.given W.ticked W.is_closed self.old.hand self.new.hand desk }
+        ensures same { (self.new.turns ≡ self.old.turns) × (self.new.room ≡ self.old.room) }
+    {
         let turn = serve(rt, &mut desk, budget);
-        ring.give(rt, &mut self.hand, desk);
+        crew.ring.give(rt, &mut self.hand, desk);
         turn
     }
+}
+
+/// Tells a desk what a note of its peer's reader tells. The note of another peer's reader comes back.
+fn hear<W: Work>(
+    desk: &mut Desk<W>,
+    peer: u16,
+    note: Note<W::Item, Fresh<W>>,
+) -> Option<Note<W::Item, Fresh<W>>>
+    requires { desk.old.inbox.peer ≡ peer → note.inbox ≡ desk.old.inbox.name }
+    ensures { Hears desk.old desk.new peer note result }
+{
+    if desk.peer() != peer {
+        return Some(note);
+    }
+    desk.learn(note);
+    None
 }
 
 /// Serves a desk, and tells what was done.
 fn serve<W: Work, R: Wait>(rt: &R, desk: &mut Desk<W>, budget: u32) -> Turn
     requires { (1 ≤ budget) × (budget ≤ 64) }
-    ensures { TurnsDesk W.is_closed desk.old desk.new budget result }
+    ensures turns { TurnsDesk W.is_closed desk.old desk.new budget result }
+    ensures ticks { TickedOnce W.given W.ticked W.is_closed desk.old desk.new }
 {
     let peer = desk.peer();
     let count = desk.serve(rt, budget);

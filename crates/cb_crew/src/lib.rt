@@ -1,16 +1,23 @@
 //! A crew of handlers that work on the items of many peers: each peer's in order, each once, on any threads.
 #![tactic(auto)]
 
+mod crew;
 mod desk;
+mod finish;
 mod handler;
+mod new_crew;
 mod ring;
 mod ring_rule;
+mod side;
 mod work;
 
+pub use crew::Crew;
 pub use desk::{Count, Desk};
 pub use handler::{Handler, Turn};
+pub use new_crew::NewCrew;
 pub use ring::{Hand, Ring};
 pub use ring_rule::Travels;
+pub use side::ReaderSide;
 pub use work::{Fresh, Given, Work};
 
 #[cfg(test)]

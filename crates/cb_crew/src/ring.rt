@@ -139,7 +139,7 @@ impl<D: Travels + Drop> Ring<D> {
     /// None only where no desk is left: the hand holds the desks of all peers, each once.
     pub fn keep<R: Wait>(&self, rt: &R, hand: &mut Hand<D>) -> Option<D>
         requires { IsHandOf self.now hand.old × StandsForAll hand.old }
-        ensures kept { IfSome result (λ desk. (hand.new ≡ kept_hand hand.old (D.shown desk)) × IsOfCrew hand.old.names (D.shown desk)) }
+        ensures kept { IfSome result (λ desk. (hand.new ≡ kept_hand hand.old (D.shown desk)) × IsOfCrew hand.old.names (D.shown desk) × (length hand.old.held < length hand.old.names)) }
         ensures empty { IfNone result ((hand.new ≡ hand.old) × HoldsAll hand.old) }
     {
         self.queue.pop_as::<Keeps, R>(rt, &mut hand.pass)

@@ -118,7 +118,7 @@ impl<D: Travels> Lesson<D, Knowledge> for Gives {
 pub struct Keeps;
 
 impl<D: Travels> Outcome<D, Knowledge> for Keeps {
-    ghost then = { λ v desk w. (w ≡ kept_view v (D.shown desk)) × IsOfCrew v.crew.names (D.shown desk) };
+    ghost then = { λ v desk w. (w ≡ kept_view v (D.shown desk)) × IsOfCrew v.crew.names (D.shown desk) × (length v.held < length v.crew.names) };
 }
 
 impl<D: Travels> Lesson<D, Knowledge> for Keeps {

@@ -1,18 +1,22 @@
-ghost use Rattle.std.specs.Prelude.{◌≡◌, ◌<◌, ◌++◌, ◌∷◌, [], ◌||◌, ℕ, List, true, false, vec_len, vec_capacity};
+ghost use Rattle.std.specs.Prelude.{◌≡◌, ◌<◌, ◌++◌, ◌∷◌, [], ◌||◌, ℕ, List, true, false, vec_len, vec_capacity, length, map, ◌≤◌, IfOk};
 ghost use Rattle.cb_crew.specs.declared.work.Given.{Given};
+ghost use Rattle.cb_crew.specs.declared.side.ReaderSide.TheVariants.{Live};
 ghost use Rattle.cb_crew.specs.Work.{IsEnd};
-ghost use Rattle.cb_crew.specs.WorkTests.{kept};
+ghost use Rattle.cb_crew.specs.WorkTests.{IsEmpty, kept};
+ghost use Rattle.cb_inbox.specs.Seat.{opening_seat};
+ghost use Rattle.cb_crew.specs.Crew.{AreHandlersOf, AreOpeningSeats, IsNewCrew, MadeNoTurn};
 
 use super::*;
 use cb_base::Shared;
-use cb_inbox::Inbox;
+use cb_inbox::{Inbox, ReaderSeat};
 use std::alloc::Global;
 use std::sync::Wait;
 use std::test::*;
 
-/// A work that keeps what it was given, and closes at the end or where memory lacks.
+/// A work that keeps what it was given, and closes at the end, at the item 0, or where memory lacks.
 #[derive(Debug, Drop)]
 struct Keeper {
+    label: u32,
     items: Vec<u32>,
     ended: bool,
     shut: bool,
@@ -22,6 +26,9 @@ impl Work for Keeper {
     type Item = u32;
 
     ghost given = { λ work given. given ≡ kept work.items.items work.ended };
+
+    // A tick leaves nothing in it: no test asks when it was ticked.
+    ghost ticked = { λ work at. Unit {0} };
 
     ghost primed = { λ work. vec_len work.items < vec_capacity work.items };
 
@@ -45,7 +52,10 @@ impl Work for Keeper {
         ensures end { IsEnd item → (self.new.ended || self.new.shut) ≡ true }
     {
         match item {
-            Given::Item(item) => self.items.push_reserved(item),
+            Given::Item(item) => {
+                self.items.push_reserved(item);
+                self.shut |= item == 0;
+            }
             Given::End => self.ended = true,
         }
     }
@@ -53,50 +63,144 @@ impl Work for Keeper {
     fn tick<R: Wait>(&mut self, _rt: &R) {}
 }
 
-fn fresh_work(alloc: Global) -> Fresh<Keeper> {
-    Fresh::new(Keeper {
+fn new_keeper(alloc: Global, label: u32) -> Keeper
+    ensures { IsEmpty result.items.items result.ended result.shut }
+{
+    Keeper {
+        label,
         items: Vec::new(alloc),
         ended: false,
         shut: false,
-    })
+    }
+}
+
+fn fresh_work(alloc: Global) -> Fresh<Keeper> {
+    Fresh::new(new_keeper(alloc, 0))
+}
+
+/// A crew of three peers and two handlers.
+fn three_peers<R: Wait>(rt: &R, alloc: Global) -> Result<NewCrew<Keeper>, Fail>
+    ensures crew { IfOk result (λ made. IsNewCrew 3 2 4 made.crew) }
+    ensures readers { IfOk result (λ made. AreOpeningSeats made.crew made.readers.items) }
+    ensures handlers { IfOk result (λ made. AreHandlersOf made.crew made.handlers.items × MadeNoTurn made.handlers.items) }
+{
+    let works = vec![in alloc;
+        new_keeper(alloc, 10),
+        new_keeper(alloc, 11),
+        new_keeper(alloc, 12),
+    ]?;
+    Crew::new(rt, alloc, works, 2, 4).map_err(|_| Fail::from("memory ran out"))
+}
+
+/// A crew of one peer and one handler.
+fn one_peer<R: Wait>(rt: &R, alloc: Global) -> Result<NewCrew<Keeper>, Fail>
+    ensures crew { IfOk result (λ made. IsNewCrew 1 1 4 made.crew) }
+    ensures readers { IfOk result (λ made. AreOpeningSeats made.crew made.readers.items) }
+    ensures handlers { IfOk result (λ made. AreHandlersOf made.crew made.handlers.items × MadeNoTurn made.handlers.items) }
+{
+    let works = vec![in alloc; new_keeper(alloc, 10)]?;
+    Crew::new(rt, alloc, works, 1, 4).map_err(|_| Fail::from("memory ran out"))
+}
+
+/// Queues two items.
+fn put_two<R: Wait>(
+    rt: &R,
+    inbox: &Inbox<u32, Fresh<Keeper>>,
+    reader: &mut ReaderSeat<u32, Fresh<Keeper>>,
+) -> bool
+    requires { reader.old ≡ opening_seat inbox.now.name }
+    ensures { (reader.new.inbox ≡ inbox.now.name) × (length reader.new.queued ≤ 2) }
+{
+    reader.put(rt, inbox, 7).is_ok() && reader.put(rt, inbox, 8).is_ok()
+}
+
+// A crew of three peers and two handlers, which takes marks by the budget.
+#[test]
+fn a_new_crew(rt: HostRuntime) -> Result<(), Fail> {
+    let made = three_peers(&rt, rt.alloc())?;
+    let crew = made.crew;
+    assert!(rt; crew.peers() == 3 && crew.handlers() == 2);
+    let inbox = crew.inbox(1);
+    assert!(rt; inbox.peer() == 1 && inbox.capacity() == 4);
+    let mut readers = made.readers;
+    assert!(rt; put_two(&rt, inbox, &mut readers[1]));
+    let mut handlers = made.handlers;
+    let (Some(mut second), Some(mut first)) = (handlers.pop(), handlers.pop()) else {
+        return Err(Fail::from("a handler is missing"));
+    };
+    assert!(rt; first.turn(&rt, &crew, 1) == Turn::Idle(0));
+    assert!(rt; second.turn(&rt, &crew, 1) == Turn::Served(1, 1, 0));
+    assert!(rt; first.turn(&rt, &crew, 1) == Turn::Idle(2));
+    assert!(rt; second.turn(&rt, &crew, 1) == Turn::Idle(0));
+    assert!(rt; first.turn(&rt, &crew, 64) == Turn::Served(1, 1, 0));
+    assert!(rt; first.turns() == 3 && second.turns() == 2);
+    Ok(())
+}
+
+/// The sides of readers whose connections last.
+fn live_sides(
+    alloc: Global,
+    readers: Vec<ReaderSeat<u32, Fresh<Keeper>>>,
+) -> Result<Vec<ReaderSide<u32, Fresh<Keeper>>>, Fail>
+    ensures { IfOk result (λ sides. sides.items ≡ map Live readers.items) }
+{
+    Ok(
+        readers
+            .into_iter()
+            .map(|reader| ReaderSide::Live(reader))
+            .collect(alloc)?,
+    )
+}
+
+/// Whether these are the desks of three peers, with the works of these labels, which were given an end alone.
+fn ended_with(desks: &[Desk<Keeper>], labels: [u32; 3]) -> bool {
+    let [first, second, third] = desks else {
+        return false;
+    };
+    [first.work().label, second.work().label, third.work().label] == labels
+        && [first.peer(), second.peer(), third.peer()] == [0, 1, 2]
+        && [first.work().ended, second.work().ended, third.work().ended] == [true; 3]
+}
+
+// Each peer has the work that stands at its place.
+#[test]
+fn works_of_peers(rt: HostRuntime) -> Result<(), Fail> {
+    let made = three_peers(&rt, rt.alloc())?;
+    let sides = live_sides(rt.alloc(), made.readers)?;
+    let crew = made.crew;
+    let desks = crew.finish(&rt, sides, made.handlers);
+    assert!(rt; ended_with(&desks, [10, 11, 12]));
+    Ok(())
 }
 
 // One peer and one handler: items are served by the budget, then the end, and then nothing is left.
 #[test]
 fn a_desk_is_served(rt: HostRuntime) -> Result<(), Fail> {
-    let alloc = rt.alloc();
-    let (ring, mut hand) = Ring::new(alloc, 1, 1)?;
-    let (inbox, mut reader, seat) = Inbox::<u32, Fresh<Keeper>>::new(alloc, 0, 4)?;
-    let shared = Shared::new(alloc, inbox)?;
-    let inbox = &*shared;
-    let work = fresh_work(alloc);
-    let past = Vec::with_capacity(alloc, 255)?;
-    let desk = Desk::new(shared.clone()?, seat, work, past);
-    ring.make(&rt, &mut hand, desk);
-    ring.start(&mut hand);
-    let mut handler = Handler::new(hand);
-    assert_eq!(rt; handler.turn(&rt, &ring, 64), Turn::Idle(0));
-    assert_eq!(rt; reader.put(&rt, inbox, 7), Ok(()));
-    assert_eq!(rt; reader.put(&rt, inbox, 8), Ok(()));
-    assert_eq!(rt; reader.put(&rt, inbox, 9), Ok(()));
-    assert_eq!(rt; handler.turn(&rt, &ring, 2), Turn::Served(0, 2, 0));
-    assert_eq!(rt; handler.turn(&rt, &ring, 2), Turn::Served(0, 1, 0));
-    let Ok(_ended) = reader.end(&rt, inbox) else {
-        return Err(Fail::from("the end mark found no room"));
+    let made = one_peer(&rt, rt.alloc())?;
+    let crew = made.crew;
+    let inbox = crew.inbox(0);
+    let mut readers = made.readers;
+    let mut handlers = made.handlers;
+    let (Some(mut reader), Some(mut handler)) = (readers.pop(), handlers.pop()) else {
+        return Err(Fail::from("the crew has no reader or no handler"));
     };
-    assert_eq!(rt; handler.turn(&rt, &ring, 64), Turn::Served(0, 1, 0));
-    assert_eq!(rt; handler.turn(&rt, &ring, 64), Turn::Shut(0));
-    assert_eq!(rt; handler.turns(), 5);
-    let mut hand = handler.into_hand();
-    let Some(desk) = ring.keep(&rt, &mut hand) else {
-        return Err(Fail::from("the ring has no desk"));
-    };
-    assert_eq!(rt; desk.peer(), 0);
-    let (work, past) = desk.into_works();
-    assert_eq!(rt; work.items.as_slice(), [7, 8, 9].as_slice());
-    assert!(rt; work.ended, "the end was passed over");
-    assert_eq!(rt; past.len(), 0);
+    assert!(rt; handler.turn(&rt, &crew, 64) == Turn::Idle(0));
+    assert!(rt; put_two(&rt, inbox, &mut reader));
+    assert!(rt; handler.turn(&rt, &crew, 1) == Turn::Served(0, 1, 0));
+    assert!(rt; handler.turn(&rt, &crew, 2) == Turn::Served(0, 1, 0));
+    assert!(rt; reader.end(&rt, inbox).is_ok());
+    assert!(rt; handler.turn(&rt, &crew, 64) == Turn::Served(0, 1, 0));
+    assert!(rt; handler.turn(&rt, &crew, 64) == Turn::Shut(0));
+    assert!(rt; handler.turns() == 5);
     Ok(())
+}
+
+/// Whether a desk that is served by this budget gives so many marks to its works, and passes so many over.
+fn serves<R: Wait>(rt: &R, desk: &mut Desk<Keeper>, budget: u32, worked: u32, passed: u32) -> bool
+    requires { budget ≤ 64 }
+    ensures { desk.new.inbox ≡ desk.old.inbox }
+{
+    desk.serve(rt, budget) == Count { worked, passed }
 }
 
 // A desk by itself: it learns from its reader what was queued, and serves all of it, over two connections.
@@ -116,13 +220,7 @@ fn a_desk_serves_all(rt: HostRuntime) -> Result<(), Fail> {
         return Err(Fail::from("the connection didn't open"));
     };
     assert_eq!(rt; reader.put(&rt, inbox, 8), Ok(()));
-    assert_eq!(rt;
-        desk.serve(&rt, 2),
-        Count {
-            worked: 2,
-            passed: 0
-        }
-    );
+    assert!(rt; serves(&rt, &mut desk, 2, 2, 0));
     desk.learn(reader.note(inbox));
     desk.serve_all(&rt);
     assert_eq!(rt; desk.past().len(), 1);
@@ -131,5 +229,63 @@ fn a_desk_serves_all(rt: HostRuntime) -> Result<(), Fail> {
     assert_eq!(rt; work.items.as_slice(), [8].as_slice());
     assert_eq!(rt; past[0].items.as_slice(), [7].as_slice());
     assert!(rt; past[0].ended && !work.ended, "one connection has ended");
+    Ok(())
+}
+
+/// Queues 7, 0 and 9.
+fn put_three<R: Wait>(
+    rt: &R,
+    inbox: &Inbox<u32, Fresh<Keeper>>,
+    reader: &mut ReaderSeat<u32, Fresh<Keeper>>,
+) -> bool
+    requires { reader.old ≡ opening_seat inbox.now.name }
+    ensures { (reader.new.inbox ≡ inbox.now.name) × (length reader.new.queued ≤ 3) }
+{
+    reader.put(rt, inbox, 7).is_ok()
+        && reader.put(rt, inbox, 0).is_ok()
+        && reader.put(rt, inbox, 9).is_ok()
+}
+
+// A work closes at its second item: the turn ends there, the next one passes the third over, and then nothing is left.
+#[test]
+fn row_c_a_work_that_closes(rt: HostRuntime) -> Result<(), Fail> {
+    let alloc = rt.alloc();
+    let (inbox, mut reader, seat) = Inbox::<u32, Fresh<Keeper>>::new(alloc, 0, 8)?;
+    let shared = Shared::new(alloc, inbox)?;
+    let past = Vec::with_capacity(alloc, 255)?;
+    let mut desk = Desk::new(shared.clone()?, seat, fresh_work(alloc), past);
+    assert!(rt; put_three(&rt, &*shared, &mut reader));
+    assert!(rt; serves(&rt, &mut desk, 64, 2, 0));
+    assert!(rt; serves(&rt, &mut desk, 64, 0, 1));
+    assert!(rt; serves(&rt, &mut desk, 64, 0, 0));
+    let (work, _) = desk.into_works();
+    assert!(rt; work.shut && !work.ended);
+    assert_eq!(rt; work.items.as_slice(), [7, 0].as_slice());
+    Ok(())
+}
+
+// The same up to the close, then the end and a connection with one item: the third item and both marks are passed over.
+#[test]
+fn row_b_the_next_connection(rt: HostRuntime) -> Result<(), Fail> {
+    let alloc = rt.alloc();
+    let (inbox, mut reader, seat) = Inbox::<u32, Fresh<Keeper>>::new(alloc, 0, 8)?;
+    let shared = Shared::new(alloc, inbox)?;
+    let inbox = &*shared;
+    let past = Vec::with_capacity(alloc, 255)?;
+    let mut desk = Desk::new(shared.clone()?, seat, fresh_work(alloc), past);
+    assert!(rt; put_three(&rt, inbox, &mut reader));
+    assert!(rt; serves(&rt, &mut desk, 64, 2, 0));
+    let Ok(ended) = reader.end(&rt, inbox) else {
+        return Err(Fail::from("the end mark found no room"));
+    };
+    let Ok(mut reader) = ended.open(&rt, inbox, fresh_work(alloc)) else {
+        return Err(Fail::from("the connection didn't open"));
+    };
+    assert_eq!(rt; reader.put(&rt, inbox, 8), Ok(()));
+    assert!(rt; serves(&rt, &mut desk, 64, 1, 3));
+    let (work, past) = desk.into_works();
+    assert_eq!(rt; work.items.as_slice(), [8].as_slice());
+    assert_eq!(rt; past.len(), 1);
+    assert_eq!(rt; past[0].items.as_slice(), [7, 0].as_slice());
     Ok(())
 }

@@ -18,7 +18,7 @@ pub enum Given<M> {
 ///
 /// A call may wait, for a lock that others hold or for a writer; its contract holds if it returns.
 pub trait Work: Drop {
-    ghost use Rattle.std.specs.Prelude.{◌≡◌, Bool, true, false, List, ◌++◌, ◌∷◌, []};
+    ghost use Rattle.std.specs.Prelude.{◌≡◌, ℕ, Bool, true, false, List, ◌++◌, ◌∷◌, [], length};
     ghost use Rattle.cb_crew.specs.declared.work.Given.{Given};
     ghost use Rattle.cb_crew.specs.Work.{IsEnd};
 
@@ -27,6 +27,9 @@ pub trait Work: Drop {
 
     /// The work was given these, in order, and no others.
     ghost given: { Self → List (Given Self.Item) → Type 0 };
+
+    /// It was ticked just so often, each time after it was given so many.
+    ghost ticked: { Self → List ℕ → Type 0 };
 
     /// It has made all room that its next step needs.
     ghost primed: { Self → Type 0 };
@@ -43,22 +46,25 @@ pub trait Work: Drop {
         requires { is_closed self.old ≡ false }
         ensures ready { result ≡ true → (is_closed self.new ≡ false) × primed self.new }
         ensures closed { result ≡ false → is_closed self.new ≡ true }
-        ensures given { (items : List (Given Self.Item)) → given self.old items → given self.new items };
+        ensures given { (items : List (Given Self.Item)) → given self.old items → given self.new items }
+        ensures ticked { (at : List ℕ) → ticked self.old at → ticked self.new at };
 
     /// Takes the next item, or the end, which closes it.
     fn step<R: Wait>(&mut self, rt: &R, item: Given<Self::Item>)
         requires open { is_closed self.old ≡ false }
         requires primed { primed self.old }
         ensures given { (items : List (Given Self.Item)) → given self.old items → given self.new (items ++ item ∷ []) }
-        ensures end { IsEnd item → is_closed self.new ≡ true };
+        ensures end { IsEnd item → is_closed self.new ≡ true }
+        ensures ticked { (at : List ℕ) → ticked self.old at → ticked self.new at };
 
     /// What is to be done once in each turn, whether or not an item waits.
     fn tick<R: Wait>(&mut self, rt: &R)
         requires { is_closed self.old ≡ false }
-        ensures { (items : List (Given Self.Item)) → given self.old items → given self.new items };
+        ensures given { (items : List (Given Self.Item)) → given self.old items → given self.new items }
+        ensures ticked { (items : List (Given Self.Item)) (at : List ℕ) → given self.old items → ticked self.old at → ticked self.new (at ++ length items ∷ []) };
 }
 
-/// A work that may begin a connection: it is open and was given nothing.
+/// A work that may begin a connection: it is open, and was given nothing and not ticked.
 #[derive(Drop)]
 pub struct Fresh<W: Work> {
     work: W,
@@ -71,19 +77,19 @@ impl<W: Work> Model for Fresh<W> {
 
     ghost view = { λ a. a.work };
 
-    ghost invariant = { λ a. IsFresh W.given W.is_closed a.work };
+    ghost invariant = { λ a. IsFresh W.given W.ticked W.is_closed a.work };
 }
 
 impl<W: Work> Opening for Fresh<W> {
     ghost use Rattle.cb_crew.specs.Work.{IsFresh};
 
-    ghost fresh = { λ work. IsFresh W.given W.is_closed work };
+    ghost fresh = { λ work. IsFresh W.given W.ticked W.is_closed work };
 }
 
 impl<W: Work> Fresh<W> {
-    /// This work, which is open and was given nothing.
+    /// This work, which is open, and was given nothing and not ticked.
     pub fn new(work: W) -> Fresh<W>
-        requires { IsFresh W.given W.is_closed work }
+        requires { IsFresh W.given W.ticked W.is_closed work }
         ensures { result ≡ work }
     {
         Fresh { work }
@@ -92,7 +98,7 @@ impl<W: Work> Fresh<W> {
     /// The work, given out.
     pub fn into_work(self) -> W
         ensures work { result ≡ self }
-        ensures fresh { IsFresh W.given W.is_closed result }
+        ensures fresh { IsFresh W.given W.ticked W.is_closed result }
     {
         self.work
     }

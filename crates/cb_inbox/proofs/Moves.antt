@@ -25,13 +25,13 @@ beginning_self xs = ([], sym (append-nil xs))
 beginning_more : {Q : Type 0} (xs ys zs : List Q) → IsBeginning xs ys → IsBeginning xs (ys ++ zs)
 beginning_more xs ys zs b = (b.0 ++ zs, ap (λ l. l ++ zs) b.1 ∙ append_assoc xs b.0 zs)
 
-longer_begins : {Q : Type 0} (known told whole : List Q) → IsBeginning known whole → IsBeginning told whole → (b : Bool) → IsBeginning (if b then told else known) whole
-longer_begins known told whole k t true = t
-longer_begins known told whole k t false = k
+longer_begins : {Q : Type 0} (known told whole : List Q) → IsBeginning known whole → IsBeginning told whole → (b : Bool) → IsBeginning (if b then known else told) whole
+longer_begins known told whole k t true = k
+longer_begins known told whole k t false = t
 
 learned_begins : {Q : Type 0} (known told whole : List Q) → IsBeginning known whole → IsBeginning told whole → (b : Bool) → IsBeginning (learned b known told) whole
 learned_begins known told whole k t true = k
-learned_begins known told whole k t false = longer_begins known told whole k t (nat_lt (length known) (length told))
+learned_begins known told whole k t false = longer_begins known told whole k t (nat_lt (length told) (length known))
 
 pub learned_whole : {Q : Type 0} (known told : List Q) (b : Bool) → b ≡ true → learned b known told ≡ known
 learned_whole known told true is = refl

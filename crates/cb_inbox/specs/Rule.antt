@@ -48,9 +48,9 @@ queued_view v mark = seat_view v.reads v.takes (v.queued ++ mark ∷ []) v.taken
 abbrev pub taken_view : {M O : Type 0} → SeatView M O → Queued M O → SeatView M O
 taken_view v mark = seat_view v.reads v.takes v.queued (v.taken ++ mark ∷ [])
 
--- the longer of two lists, the first of equals
+-- the longer of two lists, what was told where they are equally long
 abbrev pub longer : {Q : Type 0} → List Q → List Q → List Q
-longer known told = if nat_lt (length known) (length told) then told else known
+longer known told = if nat_lt (length told) (length known) then known else told
 
 -- what is known of a list after it was told: who has it whole learns nothing
 abbrev pub learned : {Q : Type 0} → Bool → List Q → List Q → List Q

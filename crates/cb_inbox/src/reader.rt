@@ -2,7 +2,7 @@ ghost use Rattle.std.specs.Prelude.{◌≡◌, ◌↔◌, ◌⊎◌, ◌<◌, �
 ghost use Rattle.cb_base.specs.declared.fault.Fault.TheVariants as faults;
 ghost use Rattle.cb_sched.specs.Line.{connections};
 ghost use Rattle.cb_inbox.specs.declared.queued.Queued.TheVariants.{Item, End, Open};
-ghost use Rattle.cb_inbox.specs.Queued.{IsFresh, is_open};
+ghost use Rattle.cb_inbox.specs.Queued.{IsFresh, has_ended, is_open};
 ghost use Rattle.cb_inbox.specs.Rule.{IsOfALine};
 ghost use Rattle.cb_inbox.specs.Seat.{IsFirst, IsFullBy, MayQueue, opening_seat, queued_more, told_of_taken};
 
@@ -218,9 +218,11 @@ impl<M: Drop, O: Opening + Drop> ReaderSeat<M, O> {
         self.queueing.learn(inbox, note);
     }
 
-    /// Tells that the lists of this seat are of a line that acts lead to, so that every law of the crew's core holds of it.
+    /// Tells that the lists of this seat are of a line that acts lead to, so that every law of the crew's core holds of it, and
+    /// that no end mark stands last.
     pub fn reached(&self)
-        ensures { IsOfALine true false self.now.queued self.now.taken }
+        ensures line { IsOfALine true false self.now.queued self.now.taken }
+        ensures live { has_ended self.now.queued ≡ false }
     {
         self.queueing.reached();
     }
@@ -281,9 +283,10 @@ impl<M: Drop, O: Opening + Drop> EndedSeat<M, O> {
         self.queueing.learn(inbox, note);
     }
 
-    /// Tells that the lists of this seat are of a line that acts lead to.
+    /// Tells that the lists of this seat are of a line that acts lead to, and that an end mark stands last.
     pub fn reached(&self)
-        ensures { IsOfALine true false self.now.queued self.now.taken }
+        ensures line { IsOfALine true false self.now.queued self.now.taken }
+        ensures ended { has_ended self.now.queued ≡ true }
     {
         self.queueing.reached();
     }

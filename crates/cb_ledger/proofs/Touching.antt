@@ -85,7 +85,7 @@ module _ (q : OutPoint) where
   not_none : {v : ℤ} (o : Option ℤ) → o ≡ Some v → o ≢ None
   not_none o is none = false≢true (sym (ap is_some none) ∙ ap is_some is)
 
-  inputs_take : (u : Unspent) (inputs : List TxIn) (x : ℤ × Unspent) → spend_inputs u inputs ≡ Ok x → IsNamed inputs q → (map.get u q ≢ None) × (map.get x.1 q ≡ None)
+  pub inputs_take : (u : Unspent) (inputs : List TxIn) (x : ℤ × Unspent) → spend_inputs u inputs ≡ Ok x → IsNamed inputs q → (map.get u q ≢ None) × (map.get x.1 q ≡ None)
   inputs_take u [] x e named = absurd named
   inputs_take u (input ∷ inputs) x e (inl here) =
       let f = first u input inputs x e in
@@ -112,16 +112,16 @@ module _ (q : OutPoint) where
   -- ---- transactions
 
   -- what a transaction that is no coinbase did: it spent its inputs, and made its outputs
-  record Two (u : Unspent) (tx : Tx) (w : Unspent) : Type 0 where
-    rest : ℤ × Unspent
-    spent : spend_inputs u tx.inputs ≡ Ok rest
-    made : make_outputs rest.1 (double_hash (tx_text tx)) 0 tx.outputs ≡ Ok w
+  pub record Two (u : Unspent) (tx : Tx) (w : Unspent) : Type 0 where
+    pub rest : ℤ × Unspent
+    pub spent : spend_inputs u tx.inputs ≡ Ok rest
+    pub made : make_outputs rest.1 (double_hash (tx_text tx)) 0 tx.outputs ≡ Ok w
 
   one : (u : Unspent) (tx : Tx) (w : Unspent) → is_coinbase tx.inputs ≡ true → spend_tx u tx ≡ Ok w → make_outputs u (double_hash (tx_text tx)) 0 tx.outputs ≡ Ok w
   unfolding spend_tx
   one u tx w is e = rw is at e
 
-  two : (u : Unspent) (tx : Tx) (w : Unspent) → is_coinbase tx.inputs ≡ false → spend_tx u tx ≡ Ok w → Two u tx w
+  pub two : (u : Unspent) (tx : Tx) (w : Unspent) → is_coinbase tx.inputs ≡ false → spend_tx u tx ≡ Ok w → Two u tx w
   unfolding spend_tx
   two u tx w is e =
       let txid = double_hash (tx_text tx) in
@@ -164,7 +164,7 @@ module _ (q : OutPoint) where
       let a = bind_ok (spend_tx u tx) (λ next. spend next txs) w e in
       txs_keep a.0 w txs a.2 (λ s. not_spent (inr s)) (λ m. not_made (inr m)) ∙ tx_keeps u tx txs a.0 a.1 not_spent not_made
 
-  txs_none : (u w : Unspent) (txs : List Tx) → spend u txs ≡ Ok w → ¬ IsMade txs q → map.get u q ≡ None → map.get w q ≡ None
+  pub txs_none : (u w : Unspent) (txs : List Tx) → spend u txs ≡ Ok w → ¬ IsMade txs q → map.get u q ≡ None → map.get w q ≡ None
   unfolding spend
   txs_none u w [] e not_made none = ap (λ (m : Unspent). map.get m q) (sym (ok_is u w e)) ∙ none
   txs_none u w (tx ∷ txs) e not_made none =

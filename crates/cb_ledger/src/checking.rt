@@ -17,8 +17,8 @@ use cb_block::SoundBlock;
 use cb_tx::{OutPoint, Tx, TxIn, TxOut};
 use std::alloc::Global;
 
-// The values of the outputs, added up.
-fn sum_of(outputs: &[TxOut]) -> i128
+/// The values of outputs, added up, in hundred-millionths of a coin.
+pub fn sum_of(outputs: &[TxOut]) -> i128
     ensures { result ≡ value_sum outputs.now }
 {
     let mut sum = 0i128;

@@ -9,6 +9,7 @@ mod ledger;
 mod overlay;
 mod undo;
 
+pub use checking::sum_of;
 pub use law::{
     coinbases, few_outputs, no_value_made, one_after_the_other, spent_once, there_and_back,
 };

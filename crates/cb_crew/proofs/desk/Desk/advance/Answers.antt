@@ -4,10 +4,11 @@ use Rattle.cb_inbox.specs.declared.queued.Queued.TheVariants as queued
 use Rattle.cb_inbox.specs.declared.queued.Queued.{Queued}
 use Rattle.cb_inbox.specs.Rule.{IsOfALine}
 use Rattle.cb_inbox.specs.Seat.{SeatState, taken_more}
-use Rattle.cb_crew.specs.Work.{IsFresh}
-use Rattle.cb_crew.specs.Desk.{IsDesk, desk_state}
+use Rattle.cb_crew.specs.Work.{IsFresh, IsUnticked}
+use Rattle.cb_crew.specs.Desk.{DeskState, IsDesk, NotTicked, desk_state}
 use Rattle.cb_crew.specs.declared.work.Given.TheVariants as given
 use Rattle.cb_crew.proofs.Desks.{desk_kept, desk_given, desk_opened, opened_after, past_room}
+use Rattle.cb_crew.proofs.Ticks.{works_same, works_next}
 use Rattle.cb_crew.proofs.desk.Desk.advance.Goals as goal
 
 pub invariant_of-self : goal.invariant_of-self
@@ -46,9 +47,34 @@ invariant_of-self-in-Some-Open g c =
     let took = c.in-Some-Open.ensures.some.0 ∙ ap (taken_more c.self.inside.seat) c.in-Some-Open.field-0-is in
     let after = opened_after g.W.Work.given g.W.Work.is_closed c.take.new.self.queued c.self.inside.seat.taken (queued.Open c.in-Some-Open.next) refl (subst (λ ms. IsOfALine false true c.take.new.self.queued ms) (ap (λ (s : SeatState (Queued _ _)). s.taken) took) c.reached.ensures) in
     let kept = desk_kept g.W.Work.given g.W.Work.is_closed c.self.inside.inbox c.self.inside.seat c.self.inside.seat c.self.inside.work c.make_ready-ready.new.work c.self.inside.past.items refl c.make_ready-ready.ensures.live c.make_ready-ready.ensures.given c.self.invariant.0 in
-    let fresh = subst (IsFresh g.W.Work.given g.W.Work.is_closed) (sym c.replace-past.ensures.after) c.into_work.ensures.fresh in (
+    let fresh = subst (IsFresh g.W.Work.given g.W.Work.ticked g.W.Work.is_closed) (sym c.replace-past.ensures.after) c.into_work.ensures.fresh in (
       subst (λ ws. IsDesk g.W.Work.given g.W.Work.is_closed (desk_state c.self.inside.inbox c.take.new.self c.replace-past.new.dest ws)) (sym (c.push_reserved.ensures.items ∙ ap (λ w. c.self.inside.past.items ++ w ∷ []) c.replace-past.ensures.value))
-          (desk_opened g.W.Work.given g.W.Work.is_closed c.self.inside.inbox c.self.inside.seat c.take.new.self c.make_ready-ready.new.work c.replace-past.new.dest c.self.inside.past.items (queued.Open c.in-Some-Open.next) took refl after.0 fresh kept),
+          (desk_opened g.W.Work.given g.W.Work.is_closed g.W.Work.ticked c.self.inside.inbox c.self.inside.seat c.take.new.self c.make_ready-ready.new.work c.replace-past.new.dest c.self.inside.past.items (queued.Open c.in-Some-Open.next) took refl after.0 fresh kept),
       ap (λ s. s.inbox) c.in-Some-Open.ensures.some.0 ∙ c.self.invariant.1,
       omega (arith, c.push_reserved.ensures.capacity, c.self.invariant.2),
     )
+
+pub returns-in-None-clause-ticks : goal.returns-in-None-clause-ticks
+returns-in-None-clause-ticks g c =
+    let new = desk_state c.self.inside.inbox c.take.new.self c.make_ready-ready.new.work c.self.inside.past.items in
+    subst (λ (old : DeskState _ _). NotTicked g.W.Work.ticked old new) c.self.view_is
+    (works_same g.W.Work.ticked (IsUnticked g.W.Work.ticked) (desk_state c.self.inside.inbox c.self.inside.seat c.self.inside.work c.self.inside.past.items) new refl c.make_ready-ready.ensures.ticked)
+
+pub returns-in-Some-Item-clause-ticks : goal.returns-in-Some-Item-clause-ticks
+returns-in-Some-Item-clause-ticks g c =
+    let new = desk_state c.self.inside.inbox c.take.new.self c.give.new.work c.self.inside.past.items in
+    subst (λ (old : DeskState _ _). NotTicked g.W.Work.ticked old new) c.self.view_is
+    (works_same g.W.Work.ticked (IsUnticked g.W.Work.ticked) (desk_state c.self.inside.inbox c.self.inside.seat c.self.inside.work c.self.inside.past.items) new refl (λ at t. c.give.ensures.ticked at (c.make_ready-ready.ensures.ticked at t)))
+
+pub returns-in-Some-End-clause-ticks : goal.returns-in-Some-End-clause-ticks
+returns-in-Some-End-clause-ticks g c =
+    let new = desk_state c.self.inside.inbox c.take.new.self c.give-in-Some-End.new.work c.self.inside.past.items in
+    subst (λ (old : DeskState _ _). NotTicked g.W.Work.ticked old new) c.self.view_is
+    (works_same g.W.Work.ticked (IsUnticked g.W.Work.ticked) (desk_state c.self.inside.inbox c.self.inside.seat c.self.inside.work c.self.inside.past.items) new refl (λ at t. c.give-in-Some-End.ensures.ticked at (c.make_ready-ready.ensures.ticked at t)))
+
+pub returns-in-Some-Open-clause-ticks : goal.returns-in-Some-Open-clause-ticks
+returns-in-Some-Open-clause-ticks g c =
+    let new = desk_state c.self.inside.inbox c.take.new.self c.replace-past.new.dest c.push_reserved.new.self.items in
+    let fresh = subst (IsFresh g.W.Work.given g.W.Work.ticked g.W.Work.is_closed) (sym c.replace-past.ensures.after) c.into_work.ensures.fresh in
+    subst (λ (old : DeskState _ _). NotTicked g.W.Work.ticked old new) c.self.view_is
+    (works_next g.W.Work.ticked (IsUnticked g.W.Work.ticked) (desk_state c.self.inside.inbox c.self.inside.seat c.self.inside.work c.self.inside.past.items) new c.make_ready-ready.new.work (c.push_reserved.ensures.items ∙ ap (λ w. c.self.inside.past.items ++ w ∷ []) c.replace-past.ensures.value) c.make_ready-ready.ensures.ticked fresh.unticked)

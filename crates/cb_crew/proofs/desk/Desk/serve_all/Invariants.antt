@@ -1,6 +1,6 @@
 use Rattle.cb_sched.specs.Laws.{IsBeginning}
-use Rattle.cb_crew.specs.Desk.{IsSameDesk}
+use Rattle.cb_crew.specs.Desk.{IsSameDesk, NotTicked}
 use Rattle.cb_crew.proofs.desk.Desk.serve_all.Given as goal
 
 abbrev pub invariant-loop : goal.invariant-loop
-invariant-loop g l = IsSameDesk l.fn.self l.self × IsBeginning l.fn.self.taken l.self.taken
+invariant-loop g l = IsSameDesk l.fn.self l.self × IsBeginning l.fn.self.taken l.self.taken × NotTicked g.W.Work.ticked l.fn.self l.self

@@ -1,0 +1,77 @@
+#!/usr/bin/env python3
+"""Measures a crew in threads: items per second by handlers, beside one loop and beside one queue under a lock, and what idling costs.
+
+It needs the built program crates/bench_crew/out/bench_crew, as ./build bench_crew leaves it there, and takes about a minute. The
+times are of the clock, as the program tells them of its own serving, each the least of some runs that take turns. They mean
+something only where no one else works on the machine: four handlers and their readers want four idle cores.
+"""
+
+import os
+import subprocess
+import sys
+from pathlib import Path
+
+PROGRAM = Path(__file__).resolve().parent.parent / "crates/bench_crew/out/bench_crew"
+RUNS = 3
+PEERS, CAPACITY, HANDLERS = 64, 256, (1, 2, 4)
+# What an item costs, and how many of them each reader puts.
+FREE_ITEMS, DEAR_ITEMS, DEAR_MICROSECONDS = 5_000, 1_000, 10
+# By how many items and rounds the cost of a round is found.
+TRIED_ITEMS, TRIED_ROUNDS = 20_000, 20
+IDLE_MILLISECONDS = 2_000
+
+
+def ended(line):
+    """The seconds that a line took, and the seconds of processor time of the whole run."""
+    process = subprocess.Popen([PROGRAM], stdin=subprocess.PIPE, stdout=subprocess.PIPE, stderr=subprocess.PIPE)
+    process.stdin.write(line.encode() + b"\n")
+    process.stdin.close()
+    printed, told = process.stdout.read(), process.stderr.read().decode()
+    _, status, used = os.wait4(process.pid, 0)
+    process.returncode = os.waitstatus_to_exitcode(status)
+    if process.returncode != 0 or b"wrong" in printed:
+        sys.exit(f"'{line}' ended with {process.returncode}")
+    return int(told.split()[-1]) / 1e6, used.ru_utime + used.ru_stime
+
+
+def line(mode, handlers, items, rounds, pause=0):
+    return f"{mode} {PEERS} {handlers} {CAPACITY} {items} 1 {rounds} 64 {pause}"
+
+
+def rounds_of(microseconds):
+    """How many rounds of the hash take so long."""
+    took = min(ended(f"loop 1 1 1 {TRIED_ITEMS} 1 {TRIED_ROUNDS}")[0] for _ in range(RUNS))
+    return max(1, round(microseconds / (took * 1e6 / TRIED_ITEMS / TRIED_ROUNDS)))
+
+
+def compare(name, items, rounds):
+    """Tells how many items a second each way serves."""
+    ways = [("loop", 1)] + [(mode, handlers) for mode in ("crew", "mutex") for handlers in HANDLERS]
+    turns = [[ended(line(mode, handlers, items, rounds))[0] for mode, handlers in ways] for _ in range(RUNS)]
+    rates = {way: PEERS * items / min(times) for way, times in zip(ways, zip(*turns))}
+    print(f"{name}: {rates['loop', 1]:,.0f} items a second in one loop on one thread")
+    for mode, words in (("crew", "a crew"), ("mutex", "one queue under a lock")):
+        told = ", ".join(f"{rates[mode, handlers]:,.0f} with {handlers}" for handlers in HANDLERS)
+        print(f"  {words}: {told} handlers; 4 are {rates[mode, 4] / rates[mode, 1]:.2f} times 1")
+
+
+def idle(handlers):
+    """Tells what an idle crew costs."""
+    waiting = min(ended(line("crew", handlers, 0, 0, IDLE_MILLISECONDS))[1] for _ in range(RUNS))
+    ground = min(ended(line("crew", handlers, 0, 0))[1] for _ in range(RUNS))
+    cost = (waiting - ground) / (IDLE_MILLISECONDS / 1e3)
+    print(f"idle, {PEERS} peers and {handlers} handlers: {cost * 1e3:.2f} ms of processor time a second, to about 1 ms")
+
+
+def main():
+    print(f"{os.cpu_count()} processors, load {os.getloadavg()[0]:.2f} before the first run")
+    rounds = rounds_of(DEAR_MICROSECONDS)
+    compare("a work of no cost", FREE_ITEMS, 0)
+    compare(f"a work of about {DEAR_MICROSECONDS} microseconds ({rounds} rounds of SHA-256)", DEAR_ITEMS, rounds)
+    for handlers in HANDLERS:
+        idle(handlers)
+    return 0
+
+
+if __name__ == "__main__":
+    sys.exit(main())

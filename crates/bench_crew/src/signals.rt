@@ -1,0 +1,100 @@
+use cb_base::Fault;
+use std::alloc::Global;
+use std::sync::Wait;
+use std::sync::atomic::{AtomicBool, AtomicU64, Ordering};
+use std::thread::Parker;
+use std::time::Duration;
+
+/// How many milliseconds a handler sleeps at the most before it looks at the desks again.
+const LONGEST_SLEEP: u64 = 10;
+
+/// How the threads of a crew wait for each other: handlers sleep where nothing is queued, and a reader where its inbox is full.
+/// No thread spins.
+///
+/// A handler that is to sleep lies down first, goes round the ring once more, and then sleeps, unless the bell rang since it lay
+/// down. While it went round another handler may have held a desk, so it sleeps no longer than 10 milliseconds at a time. A reader rings after it queued something, but only where a handler lies down or sleeps. So while all handlers work, a
+/// reader looks at one number and writes none.
+#[derive(Drop)]
+pub struct Signals {
+    stopped: AtomicBool,
+    /// How many handlers lie down or sleep.
+    lying: AtomicU64,
+    /// How often the bell rang.
+    rings: AtomicU64,
+    /// On each the reader of a peer waits for room.
+    readers: Vec<Parker>,
+}
+
+impl Signals {
+    /// For so many peers.
+    ///
+    /// The only error is `Fault::Memory`.
+    pub fn new(alloc: Global, peers: u16) -> Result<Signals, Fault> {
+        let mut readers = Vec::with_capacity(alloc, usize::from(peers))?;
+        for _ in 0..peers {
+            readers.push(Parker::new())?;
+        }
+        Ok(Signals {
+            stopped: AtomicBool::new(false),
+            lying: AtomicU64::new(0),
+            rings: AtomicU64::new(0),
+            readers,
+        })
+    }
+
+    /// Tells all threads to return.
+    pub fn stop(&self) {
+        self.stopped.store(true, Ordering::SeqCst);
+        self.rings.fetch_add(1, Ordering::SeqCst);
+        self.rings.wake_all();
+        for reader in self.readers.as_slice() {
+            reader.unpark();
+        }
+    }
+
+    /// Whether all threads are to return.
+    pub fn is_stopped(&self) -> bool {
+        self.stopped.load(Ordering::SeqCst)
+    }
+
+    /// Wakes a handler, if one lies down or sleeps: something was queued.
+    pub fn ring(&self) {
+        if self.lying.load(Ordering::SeqCst) > 0 {
+            self.rings.fetch_add(1, Ordering::SeqCst);
+            self.rings.wake_one();
+        }
+    }
+
+    /// A handler lies down. It may sleep by the number that it gets, once it looked at all desks again.
+    pub fn lie_down(&self) -> u64 {
+        self.lying.fetch_add(1, Ordering::SeqCst);
+        self.rings.load(Ordering::SeqCst)
+    }
+
+    /// A handler that lay down sleeps until the bell rings, 10 milliseconds at the most. It doesn't sleep where the bell rang
+    /// since then.
+    pub fn sleep<R: Wait>(&self, rt: &R, seen: u64) {
+        let rings = (seen % (1 << 32)) as u32;
+        self.rings
+            .park_timeout(rt, rings, Duration::from_millis(LONGEST_SLEEP));
+    }
+
+    /// A handler that lay down gets up.
+    pub fn get_up(&self) {
+        self.lying.fetch_sub(1, Ordering::SeqCst);
+    }
+
+    /// Wakes the reader of a peer, if it waits: its inbox has room.
+    pub fn make_room(&self, peer: u16) {
+        if let Some(reader) = self.readers.get(usize::from(peer)) {
+            reader.unpark();
+        }
+    }
+
+    /// The reader of a peer waits until its inbox had room since it last waited.
+    pub fn wait_for_room<R: Wait>(&self, rt: &R, peer: u16) {
+        if let Some(reader) = self.readers.get(usize::from(peer)) {
+            reader.park(rt);
+        }
+    }
+}

@@ -1,0 +1,83 @@
+ghost use Rattle.std.specs.Prelude.{◌≡◌, ◌++◌, ◌∷◌, [], ℕ, List, ⊤, true, false, length, All, IfOk};
+ghost use Rattle.cb_crew.specs.declared.work.Given.{Given};
+ghost use Rattle.cb_crew.specs.Work.{IsEnd, IsFresh};
+ghost use Rattle.bench_crew.specs.Work.{was_given, is_over};
+
+use crate::tally::Tally;
+use cb_base::Fault;
+use cb_crew::{Fresh, Given, Work};
+use std::alloc::Global;
+use std::sync::Wait;
+
+/// A work that hashes its items, and keeps how many they were and a running hash of them.
+#[derive(Drop)]
+pub struct HashWork {
+    rounds: u32,
+    tally: Tally,
+    ended: bool,
+}
+
+impl HashWork {
+    /// A work that may begin a connection, and hashes each item so many times.
+    pub fn fresh(rounds: u32) -> Fresh<HashWork>
+        ensures { result.rounds ≡ rounds }
+    {
+        Fresh::new(HashWork {
+            rounds,
+            tally: Tally::new(),
+            ended: false,
+        })
+    }
+
+    /// So many works, each of which may begin a connection.
+    pub fn all(alloc: Global, count: u16, rounds: u32) -> Result<Vec<HashWork>, Fault>
+        ensures { IfOk result (λ works. (length works.items ≡ count) × All (IsFresh was_given (λ work at. Unit {0}) is_over) works.items) }
+    {
+        let mut works = Vec::new(alloc);
+        for _ in 0..count {
+            works.push(HashWork::fresh(rounds).into_work())?;
+        }
+        Ok(works)
+    }
+
+    /// What it keeps of its items.
+    pub fn tally(&self) -> Tally
+        ensures { result ≡ self.now.tally }
+    {
+        self.tally
+    }
+}
+
+impl Work for HashWork {
+    type Item = u64;
+
+    ghost given = { was_given };
+
+    // A tick does nothing to it.
+    ghost ticked = { λ work at. Unit {0} };
+
+    ghost primed = { λ work. ⊤ };
+
+    ghost is_closed = { is_over };
+
+    fn closed(&self) -> bool {
+        self.ended
+    }
+
+    fn ready(&mut self) -> bool {
+        !self.ended
+    }
+
+    fn step<R: Wait>(&mut self, _rt: &R, item: Given<u64>)
+        requires open { self.old.ended ≡ false }
+        ensures given { (items : List (Given ℕ)) → was_given self.old items → was_given self.new (items ++ item ∷ []) }
+        ensures end { IsEnd item → self.new.ended ≡ true }
+    {
+        match item {
+            Given::Item(item) => self.tally = self.tally.with(item, self.rounds),
+            Given::End => self.ended = true,
+        }
+    }
+
+    fn tick<R: Wait>(&mut self, _rt: &R) {}
+}

@@ -1,0 +1,99 @@
+-- What contracts see of a crew, of its handlers and of its readers' sides.
+use Rattle.std.specs.Prelude.{◌≡◌, ℕ, ◌<◌, ◌≤◌, ◌^◌, List, [], ◌∷◌, ◌++◌, length, map, All}
+use Rattle.std.specs.List.{sum_by, range_with_len}
+use Rattle.atomic_table.specs.Seated.{TableId}
+use Rattle.cb_inbox.specs.declared.queued.Queued.{Queued}
+use Rattle.cb_inbox.specs.declared.queued.Queued.TheVariants as queued
+use Rattle.cb_inbox.specs.Seat.{InboxState, SeatState, opening_seat}
+use Rattle.cb_crew.specs.declared.side.ReaderSide.{ReaderSide}
+use Rattle.cb_crew.specs.declared.side.ReaderSide.TheVariants as side
+use Rattle.cb_crew.specs.Ring.{RingState, HandState, Shown, running, IsOfCrew, peers_of}
+use Rattle.cb_crew.specs.Turn.{HandlerState}
+
+pub record CrewState : Type 0 where
+  pub ring : RingState
+  pub inboxes : List InboxState  -- one for each peer, in their order
+  pub handlers : ℕ  -- how many it has
+
+abbrev pub names_of : CrewState → List TableId
+names_of crew = map (λ (inbox : InboxState). inbox.name) crew.inboxes
+
+-- each peer has its inbox, and the ring has room for all desks
+pub record IsCrew (crew : CrewState) : Type 0 where
+  pub some : 1 ≤ length crew.inboxes
+  pub few : length crew.inboxes ≤ 64
+  pub in_order : map (λ (inbox : InboxState). inbox.peer) crew.inboxes ≡ range_with_len 0 (length crew.inboxes)
+  pub working : 1 ≤ crew.handlers
+  pub room : length crew.inboxes ≤ crew.ring.capacity
+
+-- a hand of this crew while it runs, which holds no desk
+pub record IsFreeHandOf (crew : CrewState) (hand : HandState) : Type 0 where
+  pub ring_is : hand.ring ≡ crew.ring.name
+  pub names_is : hand.names ≡ names_of crew
+  pub handlers_is : hand.handlers ≡ crew.handlers
+  pub stage_is : hand.stage ≡ running
+  pub free : hand.held ≡ []
+
+-- one of the crew's handlers
+abbrev pub IsHandlerOf : CrewState → HandlerState → Type 0
+IsHandlerOf crew handler = IsFreeHandOf crew handler.hand × (handler.hand.hands ≡ 1)
+
+-- the first one's list has room for the desks of all peers
+abbrev pub FirstHasRoom : CrewState → List HandlerState → Type 0
+FirstHasRoom crew [] = length crew.inboxes ≤ 0
+FirstHasRoom crew (first ∷ others) = length crew.inboxes ≤ first.room
+
+-- all handlers of the crew, the first of them first
+pub record AreHandlersOf (crew : CrewState) (handlers : List HandlerState) : Type 0 where
+  pub each : All (IsHandlerOf crew) handlers
+  pub all : length handlers ≡ crew.handlers
+  pub first : FirstHasRoom crew handlers
+
+-- ---- what a reader's side queued
+
+abbrev pub inbox_of : {M O : Type 0} → ReaderSide M O → TableId
+inbox_of (side.Live seat) = seat.inbox
+inbox_of (side.Ended seat) = seat.inbox
+
+-- all that it queued, with the end mark that a live one comes to
+abbrev pub all_queued : {M O : Type 0} → ReaderSide M O → List (Queued M O)
+all_queued (side.Live seat) = seat.queued ++ queued.End ∷ []
+all_queued (side.Ended seat) = seat.queued
+
+-- fewer than 2^48 marks were queued where one more comes
+abbrev pub HasPlace : {M O : Type 0} → ReaderSide M O → Type 0
+HasPlace (side.Live seat) = length seat.queued < 2 ^ 48
+HasPlace (side.Ended seat) = Unit {0}
+
+-- the sides of all peers, in their order
+pub record AreSidesOf {M O : Type 0} (crew : CrewState) (sides : List (ReaderSide M O)) : Type 0 where
+  pub inboxes : map inbox_of sides ≡ names_of crew
+  pub places : All HasPlace sides
+
+-- ---- a new crew
+
+-- of so many peers and handlers, with inboxes of this capacity
+pub record IsNewCrew (peers handlers capacity : ℕ) (crew : CrewState) : Type 0 where
+  pub peers_are : length crew.inboxes ≡ peers
+  pub handlers_are : crew.handlers ≡ handlers
+  pub capacities : All (λ (inbox : InboxState). inbox.capacity ≡ capacity) crew.inboxes
+
+-- the reader's seats of all peers, in their order: nothing was queued
+abbrev pub AreOpeningSeats : {Q : Type 0} → CrewState → List (SeatState Q) → Type 0
+AreOpeningSeats crew seats = seats ≡ map opening_seat (names_of crew)
+
+-- none of them made a turn
+abbrev pub MadeNoTurn : List HandlerState → Type 0
+MadeNoTurn handlers = All (λ (handler : HandlerState). handler.turns ≡ 0) handlers
+
+-- ---- a crew that finishes
+
+-- these are the desks of all peers, each once
+pub record AreAllDesks (crew : CrewState) (desks : List Shown) : Type 0 where
+  pub each : (weight : ℕ → ℕ) → sum_by weight (peers_of desks) ≡ sum_by weight (range_with_len 0 (length crew.inboxes))
+  pub named : All (IsOfCrew (names_of crew)) desks
+
+-- and they stand in the order of their peers
+pub record AreInOrder (crew : CrewState) (desks : List Shown) : Type 0 where
+  pub peers : peers_of desks ≡ range_with_len 0 (length crew.inboxes)
+  pub names : map (λ (desk : Shown). desk.name) desks ≡ names_of crew

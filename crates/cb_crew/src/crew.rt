@@ -1,0 +1,59 @@
+ghost use Rattle.std.specs.Prelude.{◌≡◌, ◌<◌, ◌≤◌, [], length, slice_index_or, All, IfOk, IfErr};
+ghost use Rattle.cb_base.specs.declared.fault.Fault.TheVariants.{Memory};
+ghost use Rattle.cb_crew.specs.Work.{IsFresh};
+ghost use Rattle.cb_crew.specs.Crew.{AreHandlersOf, AreOpeningSeats, AreSidesOf, IsNewCrew, MadeNoTurn};
+ghost use Rattle.cb_crew.specs.Headline.{IsFinished};
+
+use crate::desk::Desk;
+use crate::handler::Handler;
+use crate::ring::Ring;
+use crate::side::ReaderSide;
+use crate::work::{Fresh, Work};
+use cb_base::{Fault, Shared};
+use cb_inbox::{Inbox, ReaderSeat};
+use std::alloc::Global;
+use std::marker::Model;
+use std::sync::Wait;
+
+/// A crew: the ring of its desks, and an inbox for each peer. Threads share it.
+#[derive(Drop)]
+pub struct Crew<W: Work> {
+    pub(crate) ring: Ring<Desk<W>>,
+    pub(crate) inboxes: Vec<Shared<Inbox<W::Item, Fresh<W>>>>,
+    pub(crate) handlers: u16,
+}
+
+impl<W: Work> Model for Crew<W> {
+    ghost use Rattle.cb_crew.specs.Crew.{CrewState, IsCrew};
+
+    ghost Value = { CrewState };
+
+    ghost view = { λ a. record { ring = a.ring; inboxes = a.inboxes.items; handlers = a.handlers } };
+
+    ghost invariant = { λ a. IsCrew record { ring = a.ring; inboxes = a.inboxes.items; handlers = a.handlers } };
+}
+
+impl<W: Work> Crew<W> {
+    /// How many peers it has.
+    pub fn peers(&self) -> u16
+        ensures { result ≡ length self.now.inboxes }
+    {
+        self.inboxes.len() as u16
+    }
+
+    /// How many handlers it has.
+    pub fn handlers(&self) -> u16
+        ensures { result ≡ self.now.handlers }
+    {
+        self.handlers
+    }
+
+    /// The inbox of a peer.
+    pub fn inbox(&self, peer: u16) -> &Inbox<W::Item, Fresh<W>>
+        requires { peer < length self.now.inboxes }
+        ensures value { result.now ≡ slice_index_or self.now.inboxes peer result.now }
+        ensures peer { result.now.peer ≡ peer }
+    {
+        &self.inboxes[usize::from(peer)]
+    }
+}

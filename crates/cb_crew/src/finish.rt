@@ -1,0 +1,138 @@
+ghost use Rattle.std.specs.Prelude.{◌≡◌, ◌<◌, ◌≤◌, ◌^◌, true, [], length, map, slice_index_or, vec_capacity};
+ghost use Rattle.cb_inbox.specs.Queued.{has_ended};
+ghost use Rattle.cb_crew.specs.Turn.{shown_desk};
+ghost use Rattle.cb_crew.specs.Ring.{StandsForAll};
+ghost use Rattle.cb_crew.specs.Crew.{AreAllDesks, AreHandlersOf, AreInOrder, AreSidesOf, HasPlace, IsFreeHandOf, all_queued, inbox_of};
+ghost use Rattle.cb_crew.specs.Headline.{IsFinished, IsSettled};
+
+use crate::crew::Crew;
+use crate::desk::Desk;
+use crate::handler::Handler;
+use crate::ring::Hand;
+use crate::side::ReaderSide;
+use crate::work::{Fresh, Work};
+use cb_inbox::{EndedSeat, Inbox};
+use std::sync::Wait;
+
+impl<W: Work> Crew<W> {
+    /// Takes all desks out of the ring, serves all that is queued, ends each connection that lasts, and serves its end. The
+    /// desks come in the order of their peers. It takes no memory.
+    ///
+    /// The sides stand in the order of their peers, and the crew's first handler stands first.
+    pub fn finish<R: Wait>(
+        &self,
+        rt: &R,
+        sides: Vec<ReaderSide<W::Item, Fresh<W>>>,
+        handlers: Vec<Handler<W>>,
+    ) -> Vec<Desk<W>>
+        requires sides { AreSidesOf self.now sides.items }
+        requires handlers { AreHandlersOf self.now handlers.items }
+        ensures { IsFinished W.given W.is_closed self.now sides.items result.items }
+    {
+        let (hand, desks) = self.gather(handlers);
+        let mut desks = self.keep_all(rt, hand, desks);
+        desks.sort_unstable_by_key(|desk| desk.peer());
+        self.settle_all(rt, sides, desks)
+    }
+
+    /// Gives the one hand that stands for all handlers, and the list of the first.
+    fn gather(&self, handlers: Vec<Handler<W>>) -> (Hand<Desk<W>>, Vec<Desk<W>>)
+        requires { AreHandlersOf self.now handlers.items }
+        ensures hand { IsFreeHandOf self.now result.0 × StandsForAll result.0 }
+        ensures desks { (result.1.items ≡ []) × (length self.now.inboxes ≤ vec_capacity result.1) }
+    {
+        let ring = &self.ring;
+        let mut handlers = handlers.into_iter();
+        let Some(first) = handlers.next() else {
+            unreachable!()
+        };
+        let (mut hand, desks) = first.into_parts();
+        for handler in handlers {
+            let (other, _) = handler.into_parts();
+            ring.join(&mut hand, other);
+        }
+        (hand, desks)
+    }
+
+    /// Takes all desks out of the ring.
+    fn keep_all<R: Wait>(
+        &self,
+        rt: &R,
+        mut hand: Hand<Desk<W>>,
+        mut desks: Vec<Desk<W>>,
+    ) -> Vec<Desk<W>>
+        requires hand { IsFreeHandOf self.now hand × StandsForAll hand }
+        requires desks { (desks.items ≡ []) × (length self.now.inboxes ≤ vec_capacity desks) }
+        ensures { AreAllDesks self.now (map (shown_desk W.is_closed) result.items) }
+    {
+        for _ in rt.forever() {
+            let Some(desk) = self.ring.keep(rt, &mut hand) else {
+                return desks;
+            };
+            desks.push_reserved(desk);
+        }
+        unreachable!()
+    }
+
+    /// Settles each peer's desk with its reader's side.
+    fn settle_all<R: Wait>(
+        &self,
+        rt: &R,
+        sides: Vec<ReaderSide<W::Item, Fresh<W>>>,
+        mut desks: Vec<Desk<W>>,
+    ) -> Vec<Desk<W>>
+        requires sides { AreSidesOf self.now sides.items }
+        requires desks { AreInOrder self.now (map (shown_desk W.is_closed) desks.items) }
+        ensures { IsFinished W.given W.is_closed self.now sides.items result.items }
+    {
+        for (peer, side) in sides.into_iter().enumerate() {
+            settle(rt, &self.inboxes[peer], side, &mut desks[peer]);
+        }
+        desks
+    }
+}
+
+/// Serves all that a reader queued, ends its connection if one lasts, and serves its end.
+fn settle<W: Work, R: Wait>(
+    rt: &R,
+    inbox: &Inbox<W::Item, Fresh<W>>,
+    side: ReaderSide<W::Item, Fresh<W>>,
+    desk: &mut Desk<W>,
+)
+    requires inbox { (inbox_of side ≡ inbox.now.name) × (desk.old.inbox.name ≡ inbox.now.name) }
+    requires place { HasPlace side }
+    ensures same { desk.new.inbox ≡ desk.old.inbox }
+    ensures settled { IsSettled W.given W.is_closed (all_queued side) desk.new }
+{
+    match side {
+        ReaderSide::Live(mut reader) => {
+            desk.learn(reader.note(inbox));
+            desk.serve_all(rt);
+            reader.learn(inbox, desk.note());
+            let _some = inbox.capacity();
+            match reader.end(rt, inbox) {
+                Ok(ended) => settle_ended(rt, inbox, ended, desk),
+                Err(_) => unreachable!(),
+            }
+        }
+        ReaderSide::Ended(ended) => settle_ended(rt, inbox, ended, desk),
+    }
+}
+
+/// Serves all that a reader queued whose last connection ended.
+fn settle_ended<W: Work, R: Wait>(
+    rt: &R,
+    inbox: &Inbox<W::Item, Fresh<W>>,
+    mut ended: EndedSeat<W::Item, Fresh<W>>,
+    desk: &mut Desk<W>,
+)
+    requires inbox { (ended.inbox ≡ inbox.now.name) × (desk.old.inbox.name ≡ inbox.now.name) }
+    ensures same { desk.new.inbox ≡ desk.old.inbox }
+    ensures settled { IsSettled W.given W.is_closed ended.queued desk.new }
+{
+    desk.learn(ended.note(inbox));
+    desk.serve_all(rt);
+    ended.learn(inbox, desk.note());
+    ended.reached();
+    desk.served();
+}

@@ -1,0 +1,4 @@
+pub mod Folding
+pub mod Leaving
+pub mod Listing
+pub mod Rules

@@ -1,0 +1,63 @@
+ghost use Rattle.std.specs.Prelude.{◌≡◌, ◌≢◌, ◌++◌, ◌∷◌, [], List, All, IsOk, None};
+ghost use Rattle.std.specs.FinMap as finite;
+ghost use Rattle.cb_tx.specs.declared.tx.OutPoint.{OutPoint};
+ghost use Rattle.cb_tx.specs.declared.tx.Tx.{Tx};
+ghost use Rattle.cb_ledger.specs.Spend.{spend};
+ghost use Rattle.cb_ledger.specs.Touched.{IsMade, IsNamed};
+ghost use Rattle.cb_ledger.specs.Unspent.{Unspent};
+ghost use Rattle.cb_pool.specs.Folding.{Refolds};
+ghost use Rattle.cb_pool.specs.Listing.{AreNumbered, Listing, NamesDiffer, txs_of};
+ghost use Rattle.cb_pool.specs.Rules.{StandsAlone};
+
+use crate::pool::Pool;
+use cb_ledger::Ledger;
+
+/// Each transaction of a pool stands by itself, and no two have one name.
+pub fn each_stands_alone(pool: &Pool)
+    ensures alone { All StandsAlone (txs_of pool.now.list) }
+    ensures names { NamesDiffer (txs_of pool.now.list) }
+{
+    let _ = pool.members.len();
+}
+
+/// Until the numbers run out, each number of a pool is below the next one, and no two are alike.
+pub fn numbers_differ(pool: &Pool)
+    ensures { AreNumbered pool.now.list pool.now.next }
+{
+    let _ = &pool.members;
+}
+
+/// A transaction of a pool spends only what is unspent in the ledger, or what earlier ones of the pool make.
+pub fn each_spends_what_is_there(pool: &Pool, ledger: &Ledger)
+    requires { IsOk (spend ledger.now.unspent (txs_of pool.now.list)) }
+    ensures { (before after : List Tx) (tx : Tx) (point : OutPoint) → txs_of pool.now.list ≡ before ++ tx ∷ after
+        → IsNamed tx.inputs point → ¬ IsMade before point → finite.get ledger.now.unspent point ≢ None }
+{
+    each_stands_alone(pool);
+}
+
+/// No output is spent twice within a pool: a second one of its transactions can't spend it, unless it was made anew after
+/// the first.
+pub fn none_is_spent_twice(pool: &Pool, ledger: &Ledger)
+    requires { IsOk (spend ledger.now.unspent (txs_of pool.now.list)) }
+    ensures { (before between after : List Tx) (tx other : Tx) (point : OutPoint)
+        → txs_of pool.now.list ≡ before ++ tx ∷ (between ++ other ∷ after) → IsNamed tx.inputs point
+        → ¬ IsMade (tx ∷ between) point → ¬ IsNamed other.inputs point }
+{
+    each_stands_alone(pool);
+}
+
+/// There is one pool that another can be folded into.
+pub fn one_fold()
+    ensures { (u : Unspent) (first : List Tx) (old new other : Listing)
+        → Refolds u first old new → Refolds u first old other → new ≡ other }
+{}
+
+/// A pool whose list applies in turn to a ledger is folded into itself: none of its transactions is dropped, nor renumbered.
+pub fn stays_as_it_is(pool: &Pool, ledger: &Ledger)
+    requires { IsOk (spend ledger.now.unspent (txs_of pool.now.list)) }
+    ensures { Refolds ledger.now.unspent [] pool.now pool.now }
+{
+    each_stands_alone(pool);
+    let _ = pool.len();
+}

@@ -1,0 +1,22 @@
+//! The pool: transactions that wait for a block, in the order in which they came.
+#![tactic(auto)]
+
+mod candidate;
+mod checking;
+mod coins;
+mod law;
+mod members;
+mod pool;
+mod refolding;
+
+pub use candidate::Candidate;
+pub use law::{
+    each_spends_what_is_there, each_stands_alone, none_is_spent_twice, numbers_differ, one_fold,
+    stays_as_it_is,
+};
+pub use members::MOST_TXS;
+pub use pool::Pool;
+pub use refolding::Refolding;
+
+#[cfg(test)]
+mod tests;

@@ -1,0 +1,180 @@
+ghost use Rattle.std.specs.Prelude.{◌≡◌, ◌+◌, ◌<◌, ◌≤◌, ◌++◌, ◌∷◌, [], false, length, slice_get, All, Err, IfOk, IsOk, IsOkUnless, MatchOption, None, OnOk, Some};
+ghost use Rattle.cb_base.specs.declared.fault.Fault.TheVariants.{Memory};
+ghost use Rattle.cb_ledger.specs.Spend.{spend};
+ghost use Rattle.cb_pool.specs.Leaving.{touched_by};
+ghost use Rattle.cb_pool.specs.Listing.{NamesDiffer, txs_of};
+ghost use Rattle.cb_pool.specs.Rules.{Applies, Refuses, StandsAlone, is_named_in, named_in, txid_of};
+
+use crate::candidate::Candidate;
+use crate::checking::fault_over;
+use crate::coins::{make_outputs, spend_outputs};
+use cb_base::{Fault, Hash256};
+use cb_ledger::Ledger;
+use cb_tx::OutPoint;
+use indexmap::IndexMap;
+use indexmap::map::IntoValues;
+use std::alloc::{AllocError, Global};
+use std::collections::HashMap;
+use std::marker::Model;
+
+/// How many transactions a pool holds at the most.
+pub const MOST_TXS: usize = 10_000;
+
+/// A transaction of a pool, with the number of its arrival.
+#[derive(Debug, Drop)]
+pub struct Pooled {
+    pub(crate) tx: Candidate,
+    pub(crate) number: u64,
+}
+
+impl Clone for Pooled {
+    ghost is_clone = { λ pooled clone. clone ≡ pooled };
+
+    fn clone(&self) -> Result<Pooled, AllocError>
+        ensures { IfOk result (λ clone. clone ≡ self.now) }
+    {
+        Ok(Pooled {
+            tx: self.tx.clone()?,
+            number: self.number,
+        })
+    }
+}
+
+// The transactions of a pool under their names, in order, and each output that they spend or make, with what it has after
+// them. They are seen as their list, and the room for more.
+#[derive(Drop)]
+pub(crate) struct Members {
+    pub(crate) entries: IndexMap<Hash256, Pooled>,
+    coins: HashMap<OutPoint, Option<i64>>,
+}
+
+impl Model for Members {
+    ghost use Rattle.std.specs.HashMap.{spare};
+    ghost use Rattle.indexmap.specs.IndexMap as index;
+    ghost use Rattle.cb_pool.specs.Listing.{Roomy};
+
+    ghost Value = { Roomy };
+
+    ghost use Rattle.cb_pool.specs.Leaving.{AreMembers};
+
+    ghost view = { λ members. record { list = index.values members.entries; places = index.spare members.entries; coins = spare members.coins } };
+
+    ghost invariant = { λ members. AreMembers members.entries.entries (index.values members.entries) members.coins.entries };
+}
+
+impl Members {
+    pub(crate) fn new(alloc: Global) -> Members
+        ensures { result.list ≡ [] }
+    {
+        Members {
+            entries: IndexMap::new(alloc),
+            coins: HashMap::new(alloc),
+        }
+    }
+
+    // Room for so many transactions more, and for so many outputs that they touch.
+    pub(crate) fn reserve(&mut self, places: usize, coins: usize) -> Result<(), Fault>
+        ensures same { self.new.list ≡ self.old.list }
+        ensures places { OnOk result (places ≤ self.new.places) }
+        ensures coins { OnOk result (coins ≤ self.new.coins) }
+        ensures enough { places ≤ self.old.places → coins ≤ self.old.coins → IsOk result }
+        ensures memory { IsOkUnless result Memory }
+    {
+        self.entries.reserve(places)?;
+        self.coins.reserve(coins)?;
+        Ok(())
+    }
+
+    // Why the transaction doesn't come behind the others. It takes no memory.
+    pub(crate) fn fault_of(&self, ledger: &Ledger, candidate: &Candidate) -> Option<Fault>
+        requires { IsOk (spend ledger.now.unspent (txs_of self.now.list)) }
+        ensures { MatchOption result (Applies ledger.now.unspent (txs_of self.now.list) candidate.now)
+            (λ fault. Refuses ledger.now.unspent (txs_of self.now.list) candidate.now fault) }
+    {
+        let (txid, tx) = (candidate.txid(), candidate.tx());
+        if self.entries.contains_key(&txid) {
+            return Some(Fault::Known);
+        }
+        if let Some(fault) = fault_over(&self.coins, ledger, txid, tx) {
+            return Some(fault);
+        }
+        if self.entries.len() >= MOST_TXS {
+            return Some(Fault::PoolFull);
+        }
+        None
+    }
+
+    // The transaction comes behind the others. There must be room for it.
+    pub(crate) fn push(&mut self, candidate: Candidate, number: u64)
+        requires fresh { is_named_in (txs_of self.old.list) (txid_of candidate) ≡ false }
+        requires fits { length self.old.list < 10000 }
+        requires places { 0 < self.old.places }
+        requires coins { touched_by candidate ≤ self.old.coins }
+        ensures list { self.new.list ≡ self.old.list ++ record { tx = candidate; number = number } ∷ [] }
+        ensures places { self.old.places ≤ self.new.places + 1 }
+        ensures coins { self.old.coins ≤ self.new.coins + touched_by candidate }
+    {
+        let txid = candidate.txid();
+        spend_outputs(&mut self.coins, candidate.tx().inputs.as_slice());
+        make_outputs(&mut self.coins, txid, candidate.tx().outputs.as_slice());
+        let tx = Pooled {
+            tx: candidate,
+            number,
+        };
+        let had: Result<_, _> = self.entries.insert(txid, tx);
+        had.unwrap();
+    }
+
+    // The transaction of this name.
+    pub(crate) fn get(&self, txid: &Hash256) -> Option<&Candidate>
+        ensures { MatchOption result (named_in (txs_of self.now.list) txid.now ≡ None)
+            (λ tx. named_in (txs_of self.now.list) txid.now ≡ Some tx.now) }
+    {
+        match self.entries.get(txid) {
+            Some(pooled) => Some(&pooled.tx),
+            None => None,
+        }
+    }
+
+    // The transaction at a place.
+    pub(crate) fn at(&self, place: usize) -> Option<&Candidate>
+        ensures { MatchOption result (slice_get (txs_of self.now.list) place ≡ None)
+            (λ tx. slice_get (txs_of self.now.list) place ≡ Some tx.now) }
+    {
+        match self.entries.get_index(place) {
+            Some((_, pooled)) => Some(&pooled.tx),
+            None => None,
+        }
+    }
+
+    // They, given out in order.
+    pub(crate) fn into_list(self) -> IntoValues<Hash256, Pooled>
+        ensures { result ≡ self.list }
+    {
+        self.entries.into_values()
+    }
+
+    pub(crate) fn len(&self) -> usize
+        ensures len { result ≡ length self.now.list }
+        ensures few { result ≤ 10000 }
+        ensures alone { All StandsAlone (txs_of self.now.list) }
+        ensures names { NamesDiffer (txs_of self.now.list) }
+    {
+        self.entries.len()
+    }
+
+    // The same. The only error is `Fault::Memory`, and only where there is one.
+    pub(crate) fn copy(&self, alloc: Global) -> Result<Members, Fault>
+        ensures same { IfOk result (λ copy. copy.list ≡ self.now.list) }
+        ensures none { self.now.list ≡ [] → IsOk result }
+        ensures memory { IsOkUnless result Memory }
+    {
+        if self.entries.is_empty() {
+            return Ok(Members::new(alloc));
+        }
+        Ok(Members {
+            entries: self.entries.clone()?,
+            coins: self.coins.clone()?,
+        })
+    }
+}

@@ -1,0 +1,167 @@
+ghost use Rattle.std.specs.Prelude.{◌≡◌, ◌⊎◌, ◌==◌, ◌≤◌, [], length, slice_get, Err, IfOk, IsOk, IsOkUnless, MatchOption, MatchResult, None, Some};
+ghost use Rattle.cb_base.specs.declared.fault.Fault.TheVariants.{Memory};
+ghost use Rattle.cb_ledger.specs.Spend.{spend};
+ghost use Rattle.cb_pool.specs.Listing.{since_of, txs_of, with_last};
+ghost use Rattle.cb_pool.specs.Rules.{Applies, IsUntold, Refuses, is_named_in, named_in};
+
+use crate::candidate::Candidate;
+use crate::members::Members;
+use cb_base::{Fault, Hash256, Shared};
+use cb_ledger::Ledger;
+use cb_tx::Tx;
+use std::alloc::Global;
+use std::marker::Model;
+
+/// Transactions that wait for a block, each with the number of its arrival, in order: each of them can be spent behind those
+/// before it. It is seen as the list of them, and the number that the next one will take.
+///
+/// They are shared and never copied, and each is hashed once.
+#[derive(Drop)]
+pub struct Pool {
+    pub(crate) alloc: Global,
+    pub(crate) members: Members,
+    pub(crate) next: u64,
+}
+
+impl Model for Pool {
+    ghost use Rattle.cb_pool.specs.Listing.{Listing};
+
+    ghost Value = { Listing };
+
+    ghost use Rattle.cb_pool.specs.Listing.{AreNumbered};
+
+    ghost view = { λ pool. record { list = pool.members.list; next = pool.next } };
+
+    ghost invariant = { λ pool. AreNumbered pool.members.list pool.next };
+}
+
+impl Pool {
+    /// A pool without transactions, whose first number is 0.
+    pub fn new(alloc: Global) -> Pool
+        ensures list { result.list ≡ [] }
+        ensures next { result.next ≡ 0 }
+    {
+        Pool {
+            alloc,
+            members: Members::new(alloc),
+            next: 0,
+        }
+    }
+
+    /// Takes a transaction behind the others, and answers its number. The pool's list must apply in turn to the ledger.
+    ///
+    /// It is refused with the first of these: `Fault::BadTx` with the first rule that it breaks, `Fault::BadCoinbase` where
+    /// it is a coinbase, `Fault::Size64` where it has 64 bytes, `Fault::Known` where one of its name is there,
+    /// `Fault::NoInput` where an input isn't unspent behind the others, `Fault::Overspent` where its outputs are worth more
+    /// than its inputs, `Fault::Remade` where an output to be made is already unspent, `Fault::PoolFull` where 10,000 are
+    /// there. Then the pool is as before, and so with `Fault::Memory`.
+    ///
+    /// Its number is the next one. The number after 18,446,744,073,709,551,615 is that number again.
+    pub fn insert(&mut self, ledger: &Ledger, tx: Shared<Tx>) -> Result<u64, Fault>
+        requires { IsOk (spend ledger.now.unspent (txs_of self.old.list)) }
+        ensures exact { MatchResult result
+            (λ number. Applies ledger.now.unspent (txs_of self.old.list) tx × (number ≡ self.old.next) × (self.new ≡ with_last self.old tx))
+            (λ fault. ((fault ≡ Memory) ⊎ Refuses ledger.now.unspent (txs_of self.old.list) tx fault) × (self.new ≡ self.old)) }
+        ensures applies { IsOk (spend ledger.now.unspent (txs_of self.new.list)) }
+        // What can be told without memory is told first.
+        ensures unpaid { result ≡ Err Memory → IsUntold tx }
+    {
+        let candidate = Candidate::new(self.alloc, tx)?;
+        self.insert_candidate(ledger, candidate)
+    }
+
+    /// Takes a transaction that stands by itself, as `insert` does: it is neither checked nor hashed here.
+    ///
+    /// `Fault::Memory` only where there is no other reason against it.
+    pub fn insert_candidate(&mut self, ledger: &Ledger, candidate: Candidate) -> Result<u64, Fault>
+        requires { IsOk (spend ledger.now.unspent (txs_of self.old.list)) }
+        ensures exact { MatchResult result
+            (λ number. Applies ledger.now.unspent (txs_of self.old.list) candidate × (number ≡ self.old.next) × (self.new ≡ with_last self.old candidate))
+            (λ fault. ((fault ≡ Memory) ⊎ Refuses ledger.now.unspent (txs_of self.old.list) candidate fault) × (self.new ≡ self.old)) }
+        ensures applies { IsOk (spend ledger.now.unspent (txs_of self.new.list)) }
+        ensures unpaid { result ≡ Err Memory → Applies ledger.now.unspent (txs_of self.old.list) candidate }
+    {
+        if let Some(fault) = self.members.fault_of(ledger, &candidate) {
+            return Err(fault);
+        }
+        self.members.reserve(1, candidate.touched())?;
+        let number = self.next;
+        self.members.push(candidate, number);
+        self.next = number.saturating_add(1);
+        Ok(number)
+    }
+
+    /// The transaction of this name.
+    pub fn get(&self, txid: &Hash256) -> Option<&Candidate>
+        ensures { MatchOption result (named_in (txs_of self.now.list) txid.now ≡ None)
+            (λ tx. named_in (txs_of self.now.list) txid.now ≡ Some tx.now) }
+    {
+        self.members.get(txid)
+    }
+
+    /// Whether a transaction of this name is there.
+    pub fn contains(&self, txid: &Hash256) -> bool
+        ensures { result ≡ is_named_in (txs_of self.now.list) txid.now }
+    {
+        self.members.get(txid).is_some()
+    }
+
+    /// The transaction at a place, in order from 0.
+    pub fn at(&self, place: usize) -> Option<&Candidate>
+        ensures { MatchOption result (slice_get (txs_of self.now.list) place ≡ None)
+            (λ tx. slice_get (txs_of self.now.list) place ≡ Some tx.now) }
+    {
+        self.members.at(place)
+    }
+
+    /// How many transactions there are, at most 10,000.
+    pub fn len(&self) -> usize
+        ensures len { result ≡ length self.now.list }
+        ensures few { result ≤ 10000 }
+    {
+        self.members.len()
+    }
+
+    /// Whether there is none.
+    pub fn is_empty(&self) -> bool
+        ensures { result ≡ (length self.now.list == 0) }
+    {
+        self.len() == 0
+    }
+
+    /// The number that the next transaction takes.
+    pub fn next_number(&self) -> u64
+        ensures { result ≡ self.now.next }
+    {
+        self.next
+    }
+
+    /// The names of those whose number is at least this one, in order. The only error is `Fault::Memory`, and only where
+    /// there is one.
+    pub fn since(&self, number: u64) -> Result<Vec<Hash256>, Fault>
+        ensures exact { IfOk result (λ txids. txids.items ≡ since_of self.now.list number) }
+        ensures none { since_of self.now.list number ≡ [] → IsOk result }
+        ensures memory { IsOkUnless result Memory }
+    {
+        let mut txids = Vec::new(self.alloc);
+        for pooled in self.members.entries.values() {
+            if number <= pooled.number {
+                txids.push(pooled.tx.txid())?;
+            }
+        }
+        Ok(txids)
+    }
+
+    /// A pool that equals it, and shares its transactions. The only error is `Fault::Memory`.
+    pub fn copy(&self) -> Result<Pool, Fault>
+        ensures same { IfOk result (λ copy. copy ≡ self.now) }
+        ensures none { self.now.list ≡ [] → IsOk result }
+        ensures memory { IsOkUnless result Memory }
+    {
+        Ok(Pool {
+            alloc: self.alloc,
+            members: self.members.copy(self.alloc)?,
+            next: self.next,
+        })
+    }
+}
