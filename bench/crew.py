@@ -34,14 +34,35 @@ def ended(line):
     return int(told.split()[-1]) / 1e6, used.ru_utime + used.ru_stime
 
 
+def at_once(number, line):
+    """The seconds that the longest of so many runs took, each in a process of its own and all at the same time."""
+    runs = [subprocess.Popen([PROGRAM], stdin=subprocess.PIPE, stdout=subprocess.DEVNULL, stderr=subprocess.PIPE) for _ in range(number)]
+    for run in runs:
+        run.stdin.write(line.encode() + b"\n")
+        run.stdin.close()
+    told = [run.stderr.read().decode() for run in runs]
+    if any(run.wait() != 0 for run in runs):
+        sys.exit(f"'{line}' ended with a fault")
+    return max(int(text.split()[-1]) for text in told) / 1e6
+
+
 def line(mode, handlers, items, rounds, pause=0):
     return f"{mode} {PEERS} {handlers} {CAPACITY} {items} 1 {rounds} 64 {pause}"
 
 
+def cost_of(rounds):
+    """The microseconds that an item of so many rounds takes, on a processor that has been at work before."""
+    tried = f"loop 1 1 1 {TRIED_ITEMS} 1 {rounds}"
+    ended(tried)
+    return min(ended(tried)[0] for _ in range(RUNS)) * 1e6 / TRIED_ITEMS
+
+
 def rounds_of(microseconds):
-    """How many rounds of the hash take so long."""
-    took = min(ended(f"loop 1 1 1 {TRIED_ITEMS} 1 {TRIED_ROUNDS}")[0] for _ in range(RUNS))
-    return max(1, round(microseconds / (took * 1e6 / TRIED_ITEMS / TRIED_ROUNDS)))
+    """How many rounds of the hash take so long: found once roughly, and then by a work that is about as long."""
+    rounds = TRIED_ROUNDS
+    for _ in range(2):
+        rounds = max(1, round(rounds * microseconds / cost_of(rounds)))
+    return rounds
 
 
 def compare(name, items, rounds):
@@ -53,6 +74,9 @@ def compare(name, items, rounds):
     for mode, words in (("crew", "a crew"), ("mutex", "one queue under a lock")):
         told = ", ".join(f"{rates[mode, handlers]:,.0f} with {handlers}" for handlers in HANDLERS)
         print(f"  {words}: {told} handlers; 4 are {rates[mode, 4] / rates[mode, 1]:.2f} times 1")
+    alone = PEERS * items / min(at_once(1, line("loop", 1, items, rounds)) for _ in range(RUNS))
+    together = 4 * PEERS * items / min(at_once(4, line("loop", 1, items, rounds)) for _ in range(RUNS))
+    print(f"  the machine itself: 4 loops at once, each in a process of its own, are {together / alone:.2f} times 1")
 
 
 def idle(handlers):

@@ -5,13 +5,20 @@ use crate::signals::Signals;
 use cb_crew::{Crew, Handler, Turn, Work};
 use std::sync::Wait;
 
+/// For how many milliseconds a handler sleeps at first, and at the most, before it looks at the desks again.
+const SHORTEST_SLEEP: u64 = 10;
+
+const LONGEST_SLEEP: u64 = 1_000;
+
 /// How long a handler found nothing to do.
 #[derive(Drop)]
 struct Vigil {
-    /// How many turns in a row served nothing, since it lay down or since the last one that served something.
+    /// How many turns in a row served nothing, since the last one that served something or the last round in vain.
     fruitless: u16,
     /// By what it may sleep, once it lay down.
     seen: Option<u64>,
+    /// How many milliseconds its next sleep lasts at the most.
+    longest: u64,
 }
 
 impl Vigil {
@@ -19,36 +26,44 @@ impl Vigil {
         Vigil {
             fruitless: 0,
             seen: None,
+            longest: SHORTEST_SLEEP,
         }
     }
 
     /// A turn served something.
     fn served(&mut self, signals: &Signals) {
         self.fruitless = 0;
+        self.longest = SHORTEST_SLEEP;
         if self.seen.take().is_some() {
             signals.get_up();
         }
     }
 
-    /// A turn served nothing. After as many of these as there are peers the handler lies down, and after as many again it sleeps.
-    fn idled<R: Wait>(&mut self, rt: &R, signals: &Signals, peers: u16) {
+    /// A turn served nothing. Whether a round was in vain: as many such turns one after the other as there are peers.
+    fn is_in_vain(&mut self, peers: u16) -> bool {
         self.fruitless = self.fruitless.saturating_add(1);
         if self.fruitless < peers {
-            return;
+            return false;
         }
         self.fruitless = 0;
+        true
+    }
+
+    /// After a round in vain the handler lies down, and after another one it sleeps, twice as long each time.
+    fn rest<R: Wait>(&mut self, rt: &R, signals: &Signals) {
         match self.seen.take() {
             None => self.seen = Some(signals.lie_down()),
             Some(seen) => {
-                signals.sleep(rt, seen);
+                signals.sleep(rt, seen, self.longest);
                 signals.get_up();
+                self.longest = self.longest.saturating_mul(2).min(LONGEST_SLEEP);
             }
         }
     }
 }
 
-/// What a handler's thread does: it makes turns until it is told to stop and a turn after that serves nothing, and hands its
-/// handler back.
+/// What a handler's thread does: it makes turns until it is told to stop and a round is in vain, and hands its handler back.
+/// So what is queued when the last reader returned is served by all handlers, and not by one thread at the end.
 pub fn handle<W: Work, R: Wait>(
     rt: &R,
     crew: &Crew<W>,
@@ -70,10 +85,12 @@ pub fn handle<W: Work, R: Wait>(
                 vigil.served(signals);
             }
             Turn::Idle(_) | Turn::Shut(_) | Turn::NoDesk => {
-                if stopped {
-                    return handler;
+                if vigil.is_in_vain(crew.peers()) {
+                    if stopped {
+                        return handler;
+                    }
+                    vigil.rest(rt, signals);
                 }
-                vigil.idled(rt, signals, crew.peers());
             }
             Turn::Spent => return handler,
         }

@@ -5,15 +5,13 @@ use std::sync::atomic::{AtomicBool, AtomicU64, Ordering};
 use std::thread::Parker;
 use std::time::Duration;
 
-/// How many milliseconds a handler sleeps at the most before it looks at the desks again.
-const LONGEST_SLEEP: u64 = 10;
-
 /// How the threads of a crew wait for each other: handlers sleep where nothing is queued, and a reader where its inbox is full.
 /// No thread spins.
 ///
 /// A handler that is to sleep lies down first, goes round the ring once more, and then sleeps, unless the bell rang since it lay
-/// down. While it went round another handler may have held a desk, so it sleeps no longer than 10 milliseconds at a time. A reader rings after it queued something, but only where a handler lies down or sleeps. So while all handlers work, a
-/// reader looks at one number and writes none.
+/// down. While it went round another handler may have held a desk, so it sleeps for a while only, and looks again. A reader
+/// rings after it queued something, but only where a handler lies down or sleeps. So while all handlers work, a reader looks
+/// at one number and writes none.
 #[derive(Drop)]
 pub struct Signals {
     stopped: AtomicBool,
@@ -71,12 +69,12 @@ impl Signals {
         self.rings.load(Ordering::SeqCst)
     }
 
-    /// A handler that lay down sleeps until the bell rings, 10 milliseconds at the most. It doesn't sleep where the bell rang
-    /// since then.
-    pub fn sleep<R: Wait>(&self, rt: &R, seen: u64) {
+    /// A handler that lay down sleeps until the bell rings, so many milliseconds at the most. It doesn't sleep where the bell
+    /// rang since then.
+    pub fn sleep<R: Wait>(&self, rt: &R, seen: u64, longest: u64) {
         let rings = (seen % (1 << 32)) as u32;
         self.rings
-            .park_timeout(rt, rings, Duration::from_millis(LONGEST_SLEEP));
+            .park_timeout(rt, rings, Duration::from_millis(longest));
     }
 
     /// A handler that lay down gets up.

@@ -18,7 +18,7 @@ pub use law::{
     one_sound_list,
 };
 pub use rules::check_block;
-pub use soundness::{SoundBlock, genesis, sound};
+pub use soundness::{SoundBlock, genesis, sound, sound_by};
 pub use tree::{mutated, root};
 
 #[cfg(test)]

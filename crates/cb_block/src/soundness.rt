@@ -100,13 +100,11 @@ fn txids_of(alloc: Global, txs: &[Shared<Tx>]) -> Result<Vec<Hash256>, Fault>
     Ok(txids)
 }
 
-// The txids of a sound block: else the first reason why it isn't sound.
-fn sound_txids(alloc: Global, block: &Block) -> Result<Shared<Vec<Hash256>>, Fault>
-    ensures sound { IfOk result (λ _. IsSoundBlock block.now) }
-    ensures names { IfOk result (λ txids. txids.items ≡ names (texts block.now.txs)) }
-    ensures fits { IfOk result (λ _. All IsTx block.now.txs) }
-    ensures err { IfErr result (λ fault. (fault ≡ Memory) ⊎ IsUnsound block.now fault) }
-    ensures unpaid { (IsUnsound block.now Empty ⊎ IsUnsound block.now Size64) → IsErrAnd result (λ fault. fault ≢ Memory) }
+// Whether the block has transactions, and none of 64 bytes. It takes no memory.
+fn check_sizes(block: &Block) -> Result<(), Fault>
+    ensures some { IfOk result (λ _. 0 < length block.now.txs) }
+    ensures sizes { IfOk result (λ _. All (λ tx. length (tx_text tx) ≢ 64) block.now.txs) }
+    ensures err { IfErr result (λ fault. (fault ≢ Memory) × IsUnsound block.now fault) }
 {
     let txs = block.txs.as_slice();
     if txs.is_empty() {
@@ -115,7 +113,22 @@ fn sound_txids(alloc: Global, block: &Block) -> Result<Shared<Vec<Hash256>>, Fau
     if has_size_64(txs) {
         return Err(Fault::Size64);
     }
-    let txids = txids_of(alloc, txs)?;
+    Ok(())
+}
+
+// The txids, where the tree over them isn't mutated and has the header's root.
+fn tree_txids(
+    alloc: Global,
+    block: &Block,
+    txids: Vec<Hash256>,
+) -> Result<Shared<Vec<Hash256>>, Fault>
+    requires named { txids.items ≡ names (texts block.now.txs) }
+    requires some { 0 < length block.now.txs }
+    requires sizes { All (λ tx. length (tx_text tx) ≢ 64) block.now.txs }
+    ensures sound { IfOk result (λ _. IsSoundBlock block.now) }
+    ensures names { IfOk result (λ shared. shared.items ≡ txids.items) }
+    ensures err { IfErr result (λ fault. (fault ≡ Memory) ⊎ IsUnsound block.now fault) }
+{
     let (root, mutated) = tree(Vec::from_slice(alloc, txids.as_slice())?);
     if mutated {
         return Err(Fault::Mutated);
@@ -124,6 +137,35 @@ fn sound_txids(alloc: Global, block: &Block) -> Result<Shared<Vec<Hash256>>, Fau
         return Err(Fault::BadRoot);
     }
     Ok(Shared::new(alloc, txids)?)
+}
+
+// The txids of a sound block: else the first reason why it isn't sound.
+fn sound_txids(alloc: Global, block: &Block) -> Result<Shared<Vec<Hash256>>, Fault>
+    ensures sound { IfOk result (λ _. IsSoundBlock block.now) }
+    ensures names { IfOk result (λ txids. txids.items ≡ names (texts block.now.txs)) }
+    ensures fits { IfOk result (λ _. All IsTx block.now.txs) }
+    ensures err { IfErr result (λ fault. (fault ≡ Memory) ⊎ IsUnsound block.now fault) }
+    ensures unpaid { (IsUnsound block.now Empty ⊎ IsUnsound block.now Size64) → IsErrAnd result (λ fault. fault ≢ Memory) }
+{
+    check_sizes(block)?;
+    let txids = txids_of(alloc, block.txs.as_slice())?;
+    tree_txids(alloc, block, txids)
+}
+
+// The same, where the txids are known.
+fn known_txids(
+    alloc: Global,
+    block: &Block,
+    txids: Vec<Hash256>,
+) -> Result<Shared<Vec<Hash256>>, Fault>
+    requires { txids.items ≡ names (texts block.now.txs) }
+    ensures sound { IfOk result (λ _. IsSoundBlock block.now) }
+    ensures names { IfOk result (λ txids. txids.items ≡ names (texts block.now.txs)) }
+    ensures err { IfErr result (λ fault. (fault ≡ Memory) ⊎ IsUnsound block.now fault) }
+    ensures unpaid { (IsUnsound block.now Empty ⊎ IsUnsound block.now Size64) → IsErrAnd result (λ fault. fault ≢ Memory) }
+{
+    check_sizes(block)?;
+    tree_txids(alloc, block, txids)
 }
 
 /// Tells whether the block is sound: it has transactions, none of them has 64 bytes (CVE-2017-12842), its tree isn't
@@ -146,6 +188,30 @@ pub fn sound(alloc: Global, block: Shared<Block>) -> Result<SoundBlock, (Shared<
     match sound_txids(alloc, &block) {
         Ok(txids) => Ok(SoundBlock { block, txids }),
         Err(fault) => Err((block, fault)),
+    }
+}
+
+/// Tells whether the block of these txids is sound, as `sound` does: no transaction is hashed here.
+pub fn sound_by(
+    alloc: Global,
+    block: Shared<Block>,
+    txids: Vec<Hash256>,
+) -> Result<SoundBlock, (Shared<Block>, Fault)>
+    requires { txids.items ≡ names (texts block.txs) }
+    ensures ok { IfOk result (λ sound. (sound ≡ block) × IsSoundBlock block) }
+    ensures err { IfErr result (λ back. (back.0 ≡ block) × ((back.1 ≡ Memory) ⊎ IsUnsound block back.1)) }
+    ensures unpaid { (IsUnsound block Empty ⊎ IsUnsound block Size64) → IsErrAnd result (λ back. back.1 ≢ Memory) }
+    // Each list of byte strings that is sound under this header, and apart from this block's, is this block's.
+    ensures only { IfOk result (λ sound. (others : List (List ℕ)) → IsSound sound.header.root others
+        → AreApart (texts sound.txs) others → others ≡ texts sound.txs) }
+{
+    let known = known_txids(alloc, &block, txids);
+    match known {
+        Ok(shared) => Ok(SoundBlock {
+            block,
+            txids: shared,
+        }),
+        Err(back) => Err((block, back)),
     }
 }
 

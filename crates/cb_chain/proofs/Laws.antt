@@ -44,7 +44,7 @@ turns entry older =
     ]
 
 -- the tip is kept
-tip_kept : (tree : Tree) → ArePlanted tree → is_kept tree (best tree) ≡ true
+pub tip_kept : (tree : Tree) → ArePlanted tree → is_kept tree (best tree) ≡ true
 unfolding best
 tip_kept [] are = rw (same-refl genesis_hash) refl
 tip_kept (entry ∷ older) are =

@@ -22,6 +22,7 @@ pub mod Reasons
 pub mod Roots
 pub mod SideNodes
 pub mod Starts
+pub mod Stays
 pub mod Steps
 pub mod Tips
 pub mod Tries

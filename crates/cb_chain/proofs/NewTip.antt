@@ -32,14 +32,14 @@ climb_new entry older =
     let step : Step = record { place = suc (length older); entry = entry } in
     rw (same-refl (block_hash entry.header)) (reverse_cons (way older entry.header.prev) step)
 
-branch_new : (entry : Entry) (older : Tree) → branch (entry ∷ older) (block_hash entry.header) ≡ entry.header ∷ branch older entry.header.prev
+pub branch_new : (entry : Entry) (older : Tree) → branch (entry ∷ older) (block_hash entry.header) ≡ entry.header ∷ branch older entry.header.prev
 unfolding branch
 branch_new entry older = rw (same-refl (block_hash entry.header)) refl
 
-height_new : (entry : Entry) (older : Tree) → height_of (entry ∷ older) (block_hash entry.header) ≡ option_map suc (height_of older entry.header.prev)
+pub height_new : (entry : Entry) (older : Tree) → height_of (entry ∷ older) (block_hash entry.header) ≡ option_map suc (height_of older entry.header.prev)
 height_new entry older = rw (same-refl (block_hash entry.header)) refl
 
-height_other : (entry : Entry) (older : Tree) (hash : Hash256) → same hash (block_hash entry.header) ≡ false → height_of (entry ∷ older) hash ≡ height_of older hash
+pub height_other : (entry : Entry) (older : Tree) (hash : Hash256) → same hash (block_hash entry.header) ≡ false → height_of (entry ∷ older) hash ≡ height_of older hash
 height_other entry older hash isnt = rw isnt refl
 
 best_cond : (ok higher : Bool) (hash other : Hash256) → ok ≡ true → higher ≡ true → cond (ok && higher) hash other ≡ hash

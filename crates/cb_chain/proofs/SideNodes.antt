@@ -274,7 +274,7 @@ pub joined_aside : (older new : Tree) (block : Block) (change : Moves.Change) �
     → change ≡ no_change → joined older block ≡ (Ok change, new)
 joined_aside older new block change low grown empty = rw (low, grown, empty) refl
 
-active_aside : (entry : Entry) (older : Tree) → best (entry ∷ older) ≡ best older → same (best older) (block_hash entry.header) ≡ false → active (entry ∷ older) ≡ active older
+pub active_aside : (entry : Entry) (older : Tree) → best (entry ∷ older) ≡ best older → same (best older) (block_hash entry.header) ≡ false → active (entry ∷ older) ≡ active older
 unfolding branch
 active_aside entry older stays other =
     let branches : branch (entry ∷ older) (best older) ≡ branch older (best older) = rw other refl in

@@ -92,3 +92,11 @@ pub record LeadsOver (old : List Hash256) (change : Change) (new : List Hash256)
   pub old_is : old ≡ shared ++ reverse change.off
   pub new_is : new ≡ shared ++ change.on
   pub apart : PartAtOnce (reverse change.off) change.on
+
+-- The active chain is the same, and so is what is unspent behind it.
+abbrev pub Stays : Tree → Tree → Type 0
+Stays old new = (active new ≡ active old) × (unspent_after new (best new) ≡ unspent_after old (best old))
+
+-- A block on this parent would stand higher than the tip.
+abbrev pub MayLead : Tree → Hash256 → Type 0
+MayLead tree parent = (height : ℕ) × (height_of tree parent ≡ Some height) × (height_in tree (best tree) ≤ height)

@@ -1,4 +1,4 @@
-ghost use Rattle.std.specs.Prelude.{◌≡◌, ◌⊎◌, ◌∷◌, List, true, None, Some, Ok, Err, IfErr, IfOk, MatchResult, OnOk};
+ghost use Rattle.std.specs.Prelude.{◌≡◌, ◌≢◌, ◌⊎◌, ◌∷◌, [], List, map, reverse, true, None, Some, Ok, Err, IfErr, IfOk, MatchResult, OnOk};
 ghost use Rattle.cb_base.specs.declared.fault.Fault.TheVariants.{Memory};
 ghost use Rattle.cb_block.specs.Work.{HasWork};
 ghost use Rattle.cb_chain.specs.Best.{best};
@@ -6,7 +6,8 @@ ghost use Rattle.cb_chain.specs.Calls.{AcceptsBlock, AcceptsHeader, block_fault,
 ghost use Rattle.cb_chain.specs.Entries.{block_hash, is_kept};
 ghost use Rattle.cb_chain.specs.History.{BlockCall, Call, HeaderCall, IsHistoric, IsHistory};
 ghost use Rattle.cb_chain.specs.Keeping.{IsSpot, node_on, parent_fault};
-ghost use Rattle.cb_chain.specs.Laws.{LeadsOver, active_hashes};
+ghost use Rattle.cb_chain.specs.Following.{headers_above};
+ghost use Rattle.cb_chain.specs.Laws.{LeadsOver, MayLead, Stays, active_hashes};
 
 use crate::chain::Chain;
 use crate::change::{Change, Hashes};
@@ -145,6 +146,10 @@ impl Chain {
         ensures ok { IfOk result (λ change. AcceptsBlock self.old block (Ok change) self.new) }
         // From the old active chain to the new one.
         ensures moves { IfOk result (λ change. LeadsOver (active_hashes self.old) change (active_hashes self.new)) }
+        // What leaves the active chain for it stood above its parent's branch. Else the active chain stays.
+        ensures leads { IfOk result (λ change. change.on ≢ [] → MayLead self.old block.header.prev
+            × (change.off ≡ reverse (map block_hash (headers_above self.old block.header.prev)))) }
+        ensures stays { IfOk result (λ change. change.on ≡ []) → Stays self.old self.new }
         ensures err { IfErr result (λ fault. ((fault ≡ Memory) × (self.new ≡ self.old))
             ⊎ AcceptsBlock self.old block (Err fault) self.new) }
         // What is kept is that of the calls so far with this one, or without it where memory was wanting.

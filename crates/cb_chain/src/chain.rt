@@ -1,14 +1,14 @@
-ghost use Rattle.std.specs.Prelude.{◌≡◌, [], Ok, Some, map, option_copied, IfOk, IsOkUnless};
+ghost use Rattle.std.specs.Prelude.{◌≡◌, [], Ok, Some, map, option_copied, option_map, IfOk, IsOkUnless};
 ghost use Rattle.cb_base.specs.declared.fault.Fault.TheVariants.{Memory};
 ghost use Rattle.cb_chain.specs.Best.{best, unspent_after};
-ghost use Rattle.cb_chain.specs.Entries.{block_of, height_of, is_lacking, sound_block};
+ghost use Rattle.cb_chain.specs.Entries.{block_of, entry_of, height_of, is_lacking, sound_block};
 ghost use Rattle.cb_chain.specs.Keeping.{entry_from};
 
 use crate::node::Node;
 use crate::side::Side;
 use crate::tree::Tree;
 use cb_base::{Fault, Hash256};
-use cb_block::SoundBlock;
+use cb_block::{Header, SoundBlock};
 use cb_ledger::Ledger;
 use std::alloc::Global;
 use std::marker::Model;
@@ -91,6 +91,16 @@ impl Chain {
     {
         match self.tree.find(hash) {
             Some(node) => Some(node.height),
+            None => None,
+        }
+    }
+
+    /// The header of this hash, where it is known.
+    pub fn header(&self, hash: &Hash256) -> Option<&Header>
+        ensures { option_copied result ≡ option_map (λ entry. entry.header) (entry_of self.now hash.now) }
+    {
+        match self.tree.find(hash) {
+            Some(node) => Some(&node.header),
             None => None,
         }
     }

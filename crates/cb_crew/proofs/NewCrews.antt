@@ -1,8 +1,10 @@
 -- What loops keep while a crew is made, and what follows of it.
-use Rattle.std.proofs.Common.{◌≡◌, ◌⊎◌, inl, inr, None, Bool, ℕ, ◌+◌, ◌<◌, ◌≤◌, List, [], ◌∷◌, ◌++◌, length, map, get_or, All, refl, sym, ap, ap₂, subst, ◌∙◌, arith}
+use Rattle.std.proofs.Common.{◌≡◌, ◌⊎◌, inl, inr, None, Bool, ℕ, ◌+◌, ◌^◌, ◌<◌, ◌≤◌, List, [], ◌∷◌, ◌++◌, length, map, get_or, set, All, refl, sym, ap, ap₂, subst, ◌∙◌, arith}
 use Rattle.std.specs.List.{range_with_len}
+use Rattle.std.proofs.Math.Seq.{map-set_same}
+use Rattle.std.proofs.lemmas.Simd.{map-map}
 use Rattle.std.proofs.lemmas.List.{map-append, length-map, length-append, length_push, append_assoc, append-nil, get_or-map, nil_from_length}
-use Rattle.std.proofs.lemmas.List.Elements.{All-map, All-push}
+use Rattle.std.proofs.lemmas.List.Elements.{All-map, All-push, All-set}
 use Rattle.std.proofs.lemmas.List.FromFn.{length-range_with_len}
 use Rattle.std.specs.Vec.Iter.{into_iter_items, into_iter_steps}
 use Rattle.std.specs.declared.vec.IntoIter.{IntoIter}
@@ -181,3 +183,12 @@ opening_sides crew seats sides are is = rw (is, are) record {
   inboxes = names_of_seats _ _ (names_of crew);
   places = All-map HasPlace side.Live (map opening_seat (names_of crew)) (All-map (λ seat. HasPlace (side.Live seat)) opening_seat (names_of crew) (λ k name lt. omega arith));
 }
+
+-- and so they are where one of them queued something
+pub fed_sides : {M O : Type 0} (crew : CrewState) (seats fed : List (SeatState (Queued M O))) (sides : List (ReaderSide M O)) (k : ℕ) (seat put : SeatState (Queued M O)) → AreOpeningSeats crew seats → seat ≡ get_or seats k seat → fed ≡ set seats k put → put.inbox ≡ seat.inbox → length put.queued < 2 ^ 48 → sides ≡ map side.Live fed → AreSidesOf crew sides
+fed_sides crew seats fed sides k seat put are at fed_is same few is =
+    let opening = opening_sides crew seats (map side.Live seats) are refl in
+    rw (is, fed_is) record {
+      inboxes = map-map inbox_of side.Live (set seats k put) ∙ (map-set_same (λ (s : SeatState (Queued _ _)). s.inbox) seats k put seat (same ∙ ap (λ (s : SeatState (Queued _ _)). s.inbox) at) ∙ (sym (map-map inbox_of side.Live seats) ∙ opening.inboxes));
+      places = All-map HasPlace side.Live (set seats k put) (All-set (λ seat. HasPlace (side.Live seat)) seats k put few (subst (All (λ seat. HasPlace (side.Live seat))) (sym are) (All-map (λ seat. HasPlace (side.Live seat)) opening_seat (names_of crew) (λ j name lt. omega arith))));
+    }

@@ -232,18 +232,35 @@ fn a_desk_serves_all(rt: HostRuntime) -> Result<(), Fail> {
     Ok(())
 }
 
-/// Queues 7, 0 and 9.
+/// Queues these items.
 fn put_three<R: Wait>(
     rt: &R,
     inbox: &Inbox<u32, Fresh<Keeper>>,
     reader: &mut ReaderSeat<u32, Fresh<Keeper>>,
+    items: [u32; 3],
 ) -> bool
     requires { reader.old ≡ opening_seat inbox.now.name }
     ensures { (reader.new.inbox ≡ inbox.now.name) × (length reader.new.queued ≤ 3) }
 {
-    reader.put(rt, inbox, 7).is_ok()
-        && reader.put(rt, inbox, 0).is_ok()
-        && reader.put(rt, inbox, 9).is_ok()
+    let [first, second, third] = items;
+    reader.put(rt, inbox, first).is_ok()
+        && reader.put(rt, inbox, second).is_ok()
+        && reader.put(rt, inbox, third).is_ok()
+}
+
+// No turn was made when the crew finishes: the first peer's work was given its three items and the end, the others the end.
+#[test]
+fn row_b_nothing_served_before(rt: HostRuntime) -> Result<(), Fail> {
+    let made = three_peers(&rt, rt.alloc())?;
+    let crew = made.crew;
+    let mut readers = made.readers;
+    assert!(rt; put_three(&rt, crew.inbox(0), &mut readers[0], [7, 8, 9]));
+    let sides = live_sides(rt.alloc(), readers)?;
+    let desks = crew.finish(&rt, sides, made.handlers);
+    assert!(rt; ended_with(&desks, [10, 11, 12]));
+    assert_eq!(rt; desks[0].work().items.as_slice(), [7, 8, 9].as_slice());
+    assert!(rt; desks[1].work().items.is_empty() && desks[2].work().items.is_empty());
+    Ok(())
 }
 
 // A work closes at its second item: the turn ends there, the next one passes the third over, and then nothing is left.
@@ -254,7 +271,7 @@ fn row_c_a_work_that_closes(rt: HostRuntime) -> Result<(), Fail> {
     let shared = Shared::new(alloc, inbox)?;
     let past = Vec::with_capacity(alloc, 255)?;
     let mut desk = Desk::new(shared.clone()?, seat, fresh_work(alloc), past);
-    assert!(rt; put_three(&rt, &*shared, &mut reader));
+    assert!(rt; put_three(&rt, &*shared, &mut reader, [7, 0, 9]));
     assert!(rt; serves(&rt, &mut desk, 64, 2, 0));
     assert!(rt; serves(&rt, &mut desk, 64, 0, 1));
     assert!(rt; serves(&rt, &mut desk, 64, 0, 0));
@@ -273,7 +290,7 @@ fn row_b_the_next_connection(rt: HostRuntime) -> Result<(), Fail> {
     let inbox = &*shared;
     let past = Vec::with_capacity(alloc, 255)?;
     let mut desk = Desk::new(shared.clone()?, seat, fresh_work(alloc), past);
-    assert!(rt; put_three(&rt, inbox, &mut reader));
+    assert!(rt; put_three(&rt, inbox, &mut reader, [7, 0, 9]));
     assert!(rt; serves(&rt, &mut desk, 64, 2, 0));
     let Ok(ended) = reader.end(&rt, inbox) else {
         return Err(Fail::from("the end mark found no room"));

@@ -14,6 +14,8 @@ use Rattle.cb_chain.specs.History.{IsHistoric}
 use Rattle.cb_chain.specs.Keeping.{IsNode, IsSpot, entry_from, tree_of}
 use Rattle.cb_chain.proofs.SideNodes.{Grows, bad_on, bare_best, bare_node, block_free, grows_tree, told_broken, told_refused}
 use Rattle.cb_chain.proofs.Histories.{historic_block, historic_joined, history_block, history_joined}
+use Rattle.cb_chain.proofs.Reached.{planted_after}
+use Rattle.cb_chain.proofs.Stays.{block_stays, join_leads, join_stays}
 use Rattle.cb_chain.proofs.Undos.{grows_chain}
 use Rattle.cb_chain.proofs.chain.Chain.accept_block.Goals as goal
 
@@ -55,6 +57,25 @@ returns-in-Ok-clause-history c =
     history_joined c.args.self.now c.join.new.self c.args.block c.join.result c.block-2.ensures.sound (subst HasWork header has) (subst (λ (h : Header). block_fault c.args.self.now h ≡ None) header none) c.in-Ok.ensures.exact
     (subst (λ (b : Block). IfOk c.join.result (λ change. (Ok change, c.join.new.self) ≡ joined c.args.self.now b)) c.new.ensures c.join.ensures.ok)
     (subst (λ (b : Block). IfErr c.join.result (λ fault. ((fault ≡ Memory) × (c.join.new.self ≡ c.args.self.now)) ⊎ ((Err fault, c.join.new.self) ≡ joined c.args.self.now b))) c.new.ensures c.join.ensures.err)
+
+pub returns-in-Ok-clause-leads : goal.returns-in-Ok-clause-leads
+returns-in-Ok-clause-leads c =
+    let header : c.block-2.result.now.header ≡ c.args.block.header = ap (λ (b : Block). b.header) c.block-2.ensures.same in
+    let has : HasWork c.block-2.result.now.header = c.in_ok-hash.ensures.1 in
+    let none : block_fault c.args.self.now c.block-2.result.now.header ≡ None = c.in_ok-spot.ensures.none in
+    let are = planted_after c.args.self.now (subst IsHistoric c.self.view_is c.self.invariant.1) in
+    let ok = subst (λ (b : Block). IfOk c.join.result (λ change. (Ok change, c.join.new.self) ≡ joined c.args.self.now b)) c.new.ensures c.join.ensures.ok in
+    join_leads c.args.self.now c.join.new.self c.args.block c.join.result are (subst HasWork header has) (subst (λ (h : Header). block_fault c.args.self.now h ≡ None) header none) c.in-Ok.ensures.exact ok
+
+pub returns-in-Ok-clause-stays : goal.returns-in-Ok-clause-stays
+returns-in-Ok-clause-stays c =
+    let header : c.block-2.result.now.header ≡ c.args.block.header = ap (λ (b : Block). b.header) c.block-2.ensures.same in
+    let has : HasWork c.block-2.result.now.header = c.in_ok-hash.ensures.1 in
+    let none : block_fault c.args.self.now c.block-2.result.now.header ≡ None = c.in_ok-spot.ensures.none in
+    let are = planted_after c.args.self.now (subst IsHistoric c.self.view_is c.self.invariant.1) in
+    let ok = subst (λ (b : Block). IfOk c.join.result (λ change. (Ok change, c.join.new.self) ≡ joined c.args.self.now b)) c.new.ensures c.join.ensures.ok in
+    join_stays c.args.self.now c.join.new.self c.args.block c.join.result are (subst HasWork header has) (subst (λ (h : Header). block_fault c.args.self.now h ≡ None) header none) c.in-Ok.ensures.exact ok
+    (subst (λ (b : Block). IfErr c.join.result (λ fault. ((fault ≡ Memory) × (c.join.new.self ≡ c.args.self.now)) ⊎ ((Err fault, c.join.new.self) ≡ joined c.args.self.now b))) c.new.ensures c.join.ensures.err) c.join.ensures.moves
 
 pub invariant_of-self-in-Err-2 : goal.invariant_of-self-in-Err-2
 invariant_of-self-in-Err-2 c =
@@ -106,6 +127,8 @@ returns c =
     record {
       ok = tt;
       moves = tt;
+      leads = tt;
+      stays = λ _. block_stays c.args.self.now (tree_of c.add.new.self.nodes) c.args.block (Err c.in-Err.fault) (planted_after c.args.self.now (subst IsHistoric c.self.view_is c.self.invariant.1)) told tt tt;
       err = inr told;
       history = λ calls past. inr (c.args.self.now, past, (c.block-2.ensures.sound, Err c.in-Err.fault, told));
       unchanged = λ e. let same : c.in-Err.fault ≡ Memory = cc in absurd (other same);

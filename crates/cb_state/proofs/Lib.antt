@@ -1,0 +1,9 @@
+pub mod AskedFor
+pub mod Fits
+pub mod Mined
+pub mod MinedLaws
+pub mod OnceEach
+pub mod OneAnswer
+pub mod PutOff
+pub mod Takings
+pub mod TipHeight

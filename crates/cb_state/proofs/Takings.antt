@@ -1,0 +1,148 @@
+-- What a transaction and a block leave.
+use Rattle.std.proofs.Common.{◌≡◌, ◌∙◌, ◌⊎◌, ◌-◌, Bool, true, false, List, [], ◌∷◌, Option, None, Some, map, length, refl, sym, ap, subst, arith, inl, inr}
+use Rattle.std.specs.Prelude.{◌≢◌, nat_eq, filter, filter_map, option_map, slice_get, reverse, Result, Ok, Err, IfOk, IfSome, IsOk, MatchOption}
+use Rattle.std.proofs.lemmas.Bool.{eqb-true, false≢true}
+use Rattle.std.proofs.lemmas.List.{reverse-reverse}
+use Rattle.cb_base.specs.declared.fault.Fault.{Fault}
+use Rattle.cb_base.specs.declared.fault.Fault.TheVariants.{Memory}
+use Rattle.cb_base.specs.declared.hash.Hash256.{Hash256}
+use Rattle.cb_block.specs.declared.block.Block.{Block}
+use Rattle.cb_block.specs.declared.header.Header.{Header}
+use Rattle.cb_tx.specs.declared.tx.Tx.{Tx}
+use Rattle.cb_ledger.specs.Spend.{spend}
+use Rattle.cb_ledger.specs.Unspent.{Unspent}
+use Rattle.cb_chain.specs.declared.change.Change.{Change}
+use Rattle.cb_chain.specs.Best.{active}
+use Rattle.cb_chain.specs.Calls.{AcceptsBlock}
+use Rattle.cb_chain.specs.Entries.{Tree, block_hash}
+use Rattle.cb_chain.specs.Following.{headers_above}
+use Rattle.cb_chain.specs.Laws.{MayLead, Stays}
+use Rattle.cb_chain.specs.Locator.{locator_heights, locator_of}
+use Rattle.cb_pool.specs.Folding.{HasRoom, Refolds}
+use Rattle.cb_pool.specs.Listing.{Listing, Plan, txs_of, with_last}
+use Rattle.cb_pool.specs.Rules.{Applies, Refuses}
+use Rattle.cb_state.specs.declared.connection.Connection.{Connection}
+use Rattle.cb_state.specs.declared.giving.Taken.{Taken}
+use Rattle.cb_state.specs.Giving.{Follows, IsPlanOn, TakesBlock, TakesTx, TakesTxOver, announcers_after, became_tip, has_some, locator_for, txs_in, txs_put_off}
+use Rattle.cb_state.specs.State.{NodeState, IsUnspent, WaitOn}
+
+-- a locator is told of the active chain alone
+pub locator_stays : (old new : Tree) → Stays old new → locator_of old ≡ locator_of new
+locator_stays old new stays =
+    ap (λ (headers : List Header). filter_map (λ height. option_map block_hash (slice_get headers height)) (locator_heights (length headers - 1))) (sym stays.0)
+
+-- ---- a transaction
+
+pub tx_refused : (old : NodeState) (tx : Tx) (pool : Listing) (fault : Fault) (u : Unspent) (told : Result (Option Fault) Fault)
+    → IsUnspent old.tree u → ((fault ≡ Memory) ⊎ Refuses u (txs_of old.pool.list) tx fault) → pool ≡ old.pool
+    → IfOk told (λ refused. (refused ≡ Some fault) × (fault ≢ Memory))
+    → IfOk told (λ refused. TakesTx old tx refused (record old { pool = pool }))
+tx_refused old tx pool fault u (Err error) unspent why same_pool ok = tt
+tx_refused old tx pool fault u (Ok told) unspent (inl memory) same_pool ok = absurd (ok.1 memory)
+tx_refused old tx pool fault u (Ok told) unspent (inr refuses) same_pool ok =
+    let new : NodeState = record old { pool = pool } in
+    let one : new ≡ old = ap (λ (p : Listing). record old { pool = p }) same_pool in
+    (u, unspent, subst (λ (r : Option Fault). TakesTxOver u old tx r new) (sym ok.0) (refuses, one))
+
+pub tx_taken : (old : NodeState) (tx : Tx) (pool : Listing) (u : Unspent) → IsUnspent old.tree u → Applies u (txs_of old.pool.list) tx
+    → pool ≡ with_last old.pool tx → TakesTx old tx None (record old { pool = pool })
+tx_taken old tx pool u unspent applies is = (u, unspent, (applies, ap (λ (p : Listing). record old { pool = p }) is))
+
+-- ---- a block
+
+pub nothing_on : (hashes : List Hash256) → nat_eq (length hashes) 0 ≡ true → hashes ≡ []
+nothing_on [] e = refl
+nothing_on (hash ∷ hashes) e = absurd (omega (arith, eqb-true (length (hash ∷ hashes)) 0 e))
+
+pub something_on : (hashes : List Hash256) → nat_eq (length hashes) 0 ≡ false → hashes ≢ []
+something_on [] e = absurd (false≢true (sym e))
+something_on (hash ∷ hashes) e = λ none. absurd (let is : hash ∷ hashes ≡ [] = none in cc)
+
+-- what waits can still be spent where what is unspent stays
+pub waits_on : (old new : Tree) (pool : Listing) → WaitOn old pool → Stays old new → WaitOn new pool
+waits_on old new pool wait same_chain = λ u is. wait u (sym same_chain.1 ∙ is)
+
+-- it can be spent over what is unspent
+pub waits_over : (tree : Tree) (pool : Listing) (u : Unspent) → IsUnspent tree u → IsOk (spend u (txs_of pool.list)) → WaitOn tree pool
+waits_over tree pool u is ok = λ other are.
+    let one : Ok u ≡ Ok other = sym is ∙ are in
+    let same_u : u ≡ other = cc in
+    subst (λ (w : Unspent). IsOk (spend w (txs_of pool.list))) same_u ok
+
+pub block_refused : (old : NodeState) (tree : Tree) (block : Block) (from : Option Connection) (fault : Fault) (locator : List Hash256) (told : Result Taken Fault)
+    → (((fault ≡ Memory) × (tree ≡ old.tree)) ⊎ AcceptsBlock old.tree block (Err fault) tree) → Stays old.tree tree → locator ≡ locator_of old.tree
+    → IfOk told (λ taken. (taken.refused ≡ Some fault) × (taken.locator ≡ locator_for (Some fault) locator) × (fault ≢ Memory))
+    → IfOk told (λ taken. TakesBlock old block from taken (record old { tree = tree }))
+block_refused old tree block from fault locator (Err error) why same_chain located ok = tt
+block_refused old tree block from fault locator (Ok taken) (inl memory) same_chain located ok = absurd (ok.2 memory.0)
+block_refused old tree block from fault locator (Ok taken) (inr accepts) same_chain located ok = record {
+  answer = Err fault;
+  chain = accepts;
+  pool = Follows.stays refl refl;
+  announcers = refl;
+  refused = ok.0;
+  locator = ok.1 ∙ ap (locator_for (Some fault)) (located ∙ locator_stays old.tree tree same_chain) ∙ ap (λ (r : Option Fault). locator_for r (locator_of tree)) (sym ok.0);
+}
+
+tip_not : (change : Change) → change.on ≡ [] → became_tip (Ok change) ≡ false
+tip_not change none = ap has_some none
+
+some_long : (hashes : List Hash256) → hashes ≢ [] → has_some hashes ≡ true
+some_long [] some = absurd (some refl)
+some_long (hash ∷ hashes) some = refl
+
+pub block_aside : (old : NodeState) (tree : Tree) (block : Block) (from : Option Connection) (change : Change) (locator : List Hash256)
+    → AcceptsBlock old.tree block (Ok change) tree → change.on ≡ [] → locator ≡ []
+    → TakesBlock old block from (record { refused = None; locator = locator }) (record old { tree = tree })
+block_aside old tree block from change locator accepts none untold = record {
+  answer = Ok change;
+  chain = accepts;
+  pool = Follows.stays (tip_not change none) refl;
+  announcers = ap (λ (became : Bool). announcers_after old.announcers became from) (sym (tip_not change none));
+  refused = refl;
+  locator = untold;
+}
+
+-- the pool was folded anew by a plan
+abbrev pub Followed : Unspent → Listing → Listing → Option Plan → Type 0
+Followed u old new plan = MatchOption plan (new ≡ old) (λ p. Refolds u p.first old new × IsOk (spend u (txs_of new.list)))
+
+pub block_leads : (old : NodeState) (tree : Tree) (pool : Listing) (announcers : List Connection) (block : Block) (from : Option Connection) (change : Change) (plan : Option Plan) (u : Unspent) (locator : List Hash256)
+    → AcceptsBlock old.tree block (Ok change) tree → change.on ≢ []
+    → (change.on ≢ [] → MayLead old.tree block.header.prev × (change.off ≡ reverse (map block_hash (headers_above old.tree block.header.prev))))
+    → MatchOption plan (¬ MayLead old.tree block.header.prev) (IsPlanOn old block.header.prev)
+    → IsUnspent tree u → Followed u old.pool pool plan → announcers ≡ announcers_after old.announcers true from → locator ≡ []
+    → TakesBlock old block from (record { refused = None; locator = locator }) (record { tree = tree; pool = pool; announcers = announcers })
+block_leads old tree pool announcers block from change None u locator accepts some leads planned unspent followed thanked untold = absurd (planned (leads some).0)
+block_leads old tree pool announcers block from change (Some plan) u locator accepts some leads planned unspent followed thanked untold =
+    let hashes = map block_hash (headers_above old.tree block.header.prev) in
+    let tip : became_tip (Ok change) ≡ true = some_long change.on some in
+    let first : plan.first ≡ txs_put_off old.tree change.off = planned.first ∙ ap (txs_in old.tree) (sym (reverse-reverse hashes)) ∙ ap (txs_put_off old.tree) (sym (leads some).1) in
+    record {
+      answer = Ok change;
+      chain = accepts;
+      pool = Follows.folds change refl tip u unspent (subst (λ (txs : List Tx). Refolds u txs old.pool pool) first followed.0);
+      announcers = thanked ∙ ap (λ (became : Bool). announcers_after old.announcers became from) (sym tip);
+      refused = refl;
+      locator = untold;
+    }
+
+pub leads_waits : (old : NodeState) (tree : Tree) (pool : Listing) (parent : Hash256) (plan : Option Plan) (u : Unspent)
+    → MayLead old.tree parent → MatchOption plan (¬ MayLead old.tree parent) (IsPlanOn old parent)
+    → IsUnspent tree u → Followed u old.pool pool plan → WaitOn tree pool
+leads_waits old tree pool parent None u leads planned unspent followed = absurd (planned leads)
+leads_waits old tree pool parent (Some plan) u leads planned unspent followed = waits_over tree pool u unspent followed.1
+
+-- the plan's room is room for the pool
+pub room_of : (state : NodeState) (parent : Hash256) (plan : Option Plan) → MatchOption plan (¬ MayLead state.tree parent) (IsPlanOn state parent)
+    → IfSome plan (λ p. HasRoom p state.pool.list)
+room_of state parent None planned = tt
+room_of state parent (Some plan) planned = planned.room
+
+-- a plan for the whole state and the block that was shown
+pub planned_for : (whole old : NodeState) (shown block : Block) (plan : Option Plan) → old ≡ whole → shown ≡ block
+    → MatchOption plan (¬ MayLead whole.tree shown.header.prev) (IsPlanOn whole shown.header.prev)
+    → MatchOption plan (¬ MayLead old.tree block.header.prev) (IsPlanOn old block.header.prev)
+planned_for whole old shown block plan same_state same_block planned =
+    subst (λ (state : NodeState). MatchOption plan (¬ MayLead state.tree block.header.prev) (IsPlanOn state block.header.prev)) (sym same_state)
+    (subst (λ (b : Block). MatchOption plan (¬ MayLead whole.tree b.header.prev) (IsPlanOn whole b.header.prev)) same_block planned)

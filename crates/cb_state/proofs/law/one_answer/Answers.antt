@@ -1,0 +1,8 @@
+use Rattle.cb_state.proofs.OneAnswer.{one_taken, one_tx}
+use Rattle.cb_state.proofs.law.one_answer.Goals as goal
+
+pub returns-clause-tx : goal.returns-clause-tx
+returns-clause-tx c = one_tx
+
+pub returns-clause-block : goal.returns-clause-block
+returns-clause-block c = one_taken

@@ -1,0 +1,26 @@
+use Rattle.std.proofs.Common.{List, [], length, get_or, ap, arith}
+use Rattle.cb_state.specs.declared.inventory.Inventory.{Inventory}
+use Rattle.cb_state.specs.declared.inventory.Inventory.TheVariants.{Tx, Block}
+use Rattle.cb_state.specs.Wanting.{once}
+use Rattle.cb_state.proofs.OnceEach.{few_more, listed_more, none_noted}
+use Rattle.cb_state.proofs.state.State.wanted.Goals as goal
+
+pub loop-entry-init : goal.loop-entry-init
+unfolding once
+loop-entry-init c = record {
+  noted = record {
+    txs = λ txid. none_noted c.new-2.result.keys c.new.result.items txid (Tx txid) c.new-2.ensures.empty c.new.ensures.items;
+    blocks = λ hash. none_noted c.new-3.result.keys c.new.result.items hash (Block hash) c.new-3.ensures.empty c.new.ensures.items;
+  };
+  listed = c.new.ensures.items;
+  few = omega (arith, ap (λ (l : List Inventory). length l) c.new.ensures.items);
+}
+
+pub loop-entry-preserved : goal.loop-entry-preserved
+loop-entry-preserved c = record {
+  noted = c.in_ok-look_at.ensures.noted;
+  listed = listed_more c.args.self.now c.args.entries.now c.loop-entry.entry-index (Tx (record { 0 = [] })) c.loop-entry.wanted.list.items c.look_at.new.wanted.list.items c.loop-entry-test.true c.loop-entry.invariant.listed
+      c.in_ok-look_at.ensures.list;
+  few = few_more c.args.self.now c.loop-entry.wanted.list.items c.look_at.new.wanted.list.items (get_or c.args.entries.now c.loop-entry.entry-index (Tx (record { 0 = [] }))) c.loop-entry.entry-index c.loop-entry.invariant.few
+      c.in_ok-look_at.ensures.list;
+}

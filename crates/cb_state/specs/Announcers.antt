@@ -1,0 +1,25 @@
+-- Who is asked to announce new blocks as compact ones (BIP 152: at most three peers), by the blocks that they gave.
+use Rattle.std.specs.Prelude.{ℕ, ◌-◌, Bool, ◌&&◌, ◌||◌, false, not, nat_eq, List, [], ◌∷◌, ◌++◌, length, drop, filter}
+use Rattle.cb_state.specs.declared.connection.Connection.{Connection}
+
+abbrev pub same_connection : Connection → Connection → Bool
+same_connection a b = nat_eq a.peer b.peer && nat_eq a.generation b.generation
+
+abbrev pub is_among : List Connection → Connection → Bool
+is_among [] connection = false
+is_among (other ∷ others) connection = same_connection other connection || is_among others connection
+
+abbrev pub without : List Connection → Connection → List Connection
+without announcers connection = filter (λ other. not (same_connection other connection)) announcers
+
+-- the last three
+abbrev pub last_three : List Connection → List Connection
+last_three connections = drop (length connections - 3) connections
+
+-- It stands last, be it new or not, and of four the first leaves.
+abbrev pub with_announcer : List Connection → Connection → List Connection
+with_announcer announcers connection = last_three (without announcers connection ++ connection ∷ [])
+
+-- all connections of a peer leave
+abbrev pub without_peer : List Connection → ℕ → List Connection
+without_peer announcers peer = filter (λ other. not (nat_eq other.peer peer)) announcers

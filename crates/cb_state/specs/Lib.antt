@@ -1,0 +1,7 @@
+pub mod Announcers
+pub mod Giving
+pub mod Mining
+pub mod News
+pub mod Serving
+pub mod State
+pub mod Wanting

@@ -1,0 +1,44 @@
+-- What is served of the entries that a peer asks for (Bitcoin's protocol, `getdata`; BIP 152: only blocks near the tip are
+-- served as compact ones).
+use Rattle.std.specs.Prelude.{◌≡◌, ◌+◌, ℕ, Bool, nat_le, if◌then◌else◌, List, [], ◌∷◌, filter_map, Option, None, Some, unwrap_or}
+use Rattle.cb_base.specs.declared.hash.Hash256.{Hash256}
+use Rattle.cb_block.specs.declared.block.Block as blocks
+use Rattle.cb_tx.specs.declared.tx.Tx as txs
+use Rattle.cb_chain.specs.Best.{best}
+use Rattle.cb_chain.specs.Entries.{Tree, block_of}
+use Rattle.cb_chain.specs.Following.{headers_after}
+use Rattle.cb_chain.specs.Laws.{height_in}
+use Rattle.cb_pool.specs.Listing.{txs_of}
+use Rattle.cb_pool.specs.Rules.{named_in}
+use Rattle.cb_state.specs.declared.inventory.Inventory.{Inventory}
+use Rattle.cb_state.specs.declared.inventory.Inventory.TheVariants as entry
+use Rattle.cb_state.specs.declared.serving.Piece.{Piece}
+use Rattle.cb_state.specs.declared.serving.Piece.TheVariants as piece
+use Rattle.cb_state.specs.State.{NodeState}
+
+-- at most so many blocks stand above it on the active chain's height
+abbrev pub is_within : ℕ → Tree → Hash256 → Bool
+is_within depth tree hash = nat_le (height_in tree (best tree)) (height_in tree hash + depth)
+
+abbrev pub tx_piece : Inventory → Option txs.Tx → Piece
+tx_piece asked None = piece.Lacking asked
+tx_piece asked (Some tx) = piece.Tx tx
+
+abbrev pub whole_piece : Inventory → Option blocks.Block → Piece
+whole_piece asked None = piece.Lacking asked
+whole_piece asked (Some block) = piece.Whole block
+
+-- up to five below the tip as a compact block
+abbrev pub short_piece : Bool → Inventory → Option blocks.Block → Piece
+short_piece near asked None = piece.Lacking asked
+short_piece near asked (Some block) = if near then piece.Short block else piece.Whole block
+
+abbrev pub piece_of : NodeState → Inventory → Option Piece
+piece_of state (entry.Tx txid) = Some (tx_piece (entry.Tx txid) (named_in (txs_of state.pool.list) txid))
+piece_of state (entry.Block hash) = Some (whole_piece (entry.Block hash) (block_of state.tree hash))
+piece_of state (entry.CompactBlock hash) = Some (short_piece (is_within 5 state.tree hash) (entry.CompactBlock hash) (block_of state.tree hash))
+piece_of state (entry.Other kind hash) = None
+
+-- one for each entry of a known type, in order
+abbrev pub pieces_of : NodeState → List Inventory → List Piece
+pieces_of state entries = filter_map (piece_of state) entries

@@ -1,0 +1,6 @@
+/// One connection of a peer: the first has generation 1, and each next one the next generation.
+#[derive(Clone, Copy, Debug, PartialEq, Eq)]
+pub struct Connection {
+    pub peer: u16,
+    pub generation: u64,
+}

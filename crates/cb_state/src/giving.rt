@@ -1,0 +1,174 @@
+ghost use Rattle.std.specs.Prelude.{◌≡◌, ◌≢◌, ◌⊎◌, ◌≤◌, ◌++◌, [], drop, length, option_copied, IfErr, IfOk, IfSome, IsOk, IsOkUnless, MatchOption, MatchResult, OnErr, OnOk, Some, true};
+ghost use Rattle.cb_base.specs.declared.fault.Fault.TheVariants.{Memory};
+ghost use Rattle.cb_block.specs.Blocks.{MeetsBlockRules};
+ghost use Rattle.cb_chain.specs.Laws.{MayLead};
+ghost use Rattle.cb_ledger.specs.Spend.{spend};
+ghost use Rattle.cb_pool.specs.Folding.{HasRoom, Refolds};
+ghost use Rattle.cb_pool.specs.Listing.{txs_of};
+ghost use Rattle.cb_state.specs.Giving.{IsPlanOn, TakesBlock, TakesTx, announcers_after, locator_for, txs_above, txs_under};
+
+use crate::announcers::Announcers;
+use crate::connection::Connection;
+use crate::state::State;
+use cb_base::{Fault, Hash256, Shared};
+use cb_block::SoundBlock;
+use cb_chain::{Hashes, kept_meet_rules};
+use cb_ledger::Ledger;
+use cb_pool::{Candidate, Pool, Refolding};
+use cb_tx::Tx;
+use std::alloc::Global;
+
+/// What a block met.
+#[derive(Debug, Drop)]
+pub struct Taken {
+    /// Why it was refused, if it was.
+    pub refused: Option<Fault>,
+    /// The chain's locator, where the refusal is `Fault::NoParent`.
+    pub locator: Hashes,
+}
+
+// The locator that is told with a refusal.
+fn told_locator(alloc: Global, refused: Option<Fault>, locator: Vec<Hash256>) -> Hashes
+    ensures { result ≡ locator_for refused locator.items }
+{
+    match refused {
+        Some(fault) if fault == Fault::NoParent => Hashes::new(locator),
+        _ => Hashes::new(Vec::new(alloc)),
+    }
+}
+
+// What is told of what was refused for a fault: the fault, but for want of memory, which is an error.
+fn told(fault: Fault) -> Result<Option<Fault>, Fault>
+    ensures ok { IfOk result (λ refused. (refused ≡ Some fault) × (fault ≢ Memory)) }
+    ensures err { IfErr result (λ error. (error ≡ Memory) × (fault ≡ Memory)) }
+{
+    if fault == Fault::Memory {
+        return Err(fault);
+    }
+    Ok(Some(fault))
+}
+
+// What is told of a block that was refused for a fault.
+fn refusal(alloc: Global, fault: Fault, locator: Vec<Hash256>) -> Result<Taken, Fault>
+    ensures ok { IfOk result (λ taken. (taken.refused ≡ Some fault) × (taken.locator ≡ locator_for (Some fault) locator.items) × (fault ≢ Memory)) }
+    ensures err { IfErr result (λ error. (error ≡ Memory) × (fault ≡ Memory)) }
+{
+    let refused = told(fault)?;
+    Ok(Taken {
+        refused,
+        locator: told_locator(alloc, refused, locator),
+    })
+}
+
+// Pushes a block's transactions other than its coinbase, where there is a block. The only error is `Fault::Memory`.
+fn push_candidates(first: &mut Vec<Candidate>, block: Option<&SoundBlock>) -> Result<(), Fault>
+    requires rules { IfSome (option_copied block) (λ block. MeetsBlockRules block ⊎ (length block.txs ≤ 1)) }
+    ensures pushed { OnOk result (first.new.items ≡ first.old.items ++ drop 1 (txs_under (option_copied block.entry))) }
+    ensures memory { IsOkUnless result Memory }
+{
+    let Some(block) = block else {
+        return Ok(());
+    };
+    for place in 1..block.block().txs.as_slice().len() {
+        first.push(Candidate::of_block(block, place)?)?;
+    }
+    Ok(())
+}
+
+// Folds the pool anew by a plan, where there is one.
+fn follow(pool: &mut Pool, ledger: &Ledger, plan: Option<Refolding>)
+    requires room { IfSome plan (λ plan. HasRoom plan pool.old.list) }
+    ensures { MatchOption plan (pool.new ≡ pool.old) (λ plan. Refolds ledger.now.unspent plan.first pool.old pool.new
+        × IsOk (spend ledger.now.unspent (txs_of pool.new.list))) }
+{
+    if let Some(plan) = plan {
+        pool.refold_with(ledger, plan);
+    }
+}
+
+// The connection that gave a new tip, if one is named, becomes the last announcer.
+fn thank(announcers: &mut Announcers, from: Option<Connection>)
+    ensures { announcers.new ≡ announcers_after announcers.old true from }
+{
+    if let Some(connection) = from {
+        announcers.put_last(connection);
+    }
+}
+
+impl State {
+    /// A transaction comes into the pool, or is refused for the fault that is told.
+    ///
+    /// The only error is `Fault::Memory`, which changes nothing.
+    pub fn take_tx(&mut self, tx: Shared<Tx>) -> Result<Option<Fault>, Fault>
+        ensures taken { IfOk result (λ refused. TakesTx self.old tx refused self.new) }
+        ensures err { OnErr result (self.new ≡ self.old) }
+        ensures memory { IsOkUnless result Memory }
+    {
+        if let Err(fault) = self.pool.insert(self.chain.ledger(), tx) {
+            return told(fault);
+        }
+        Ok(None)
+    }
+
+    /// A block comes. Where it becomes the tip, the pool is folded anew behind the transactions of the blocks that were put
+    /// off, and the connection that is named, if one is, becomes the last announcer.
+    ///
+    /// The only error is `Fault::Memory`, which changes nothing.
+    pub fn take_block(
+        &mut self,
+        block: SoundBlock,
+        from: Option<Connection>,
+    ) -> Result<Taken, Fault>
+        ensures taken { IfOk result (λ taken. TakesBlock self.old block from taken self.new) }
+        ensures err { OnErr result (self.new ≡ self.old) }
+        ensures memory { IsOkUnless result Memory }
+    {
+        let locator = self.chain.locator()?;
+        let plan = self.plan_for(&block.block().header.prev)?;
+        let change = match self.chain.accept_block(block) {
+            Ok(change) => change,
+            Err(fault) => return refusal(self.alloc, fault, locator),
+        };
+        let taken = Taken {
+            refused: None,
+            locator: Hashes::new(Vec::new(self.alloc)),
+        };
+        if change.on.as_slice().is_empty() {
+            return Ok(taken);
+        }
+        follow(&mut self.pool, self.chain.ledger(), plan);
+        thank(&mut self.announcers, from);
+        Ok(taken)
+    }
+
+    // How the pool is folded anew where a block on this parent becomes the tip. There is no plan where that can't be, since
+    // the parent isn't known, or stands below the tip. The only error is `Fault::Memory`.
+    fn plan_for(&self, parent: &Hash256) -> Result<Option<Refolding>, Fault>
+        ensures plan { IfOk result (λ plan. MatchOption plan (¬ MayLead self.now.tree parent.now) (IsPlanOn self.now parent.now)) }
+        ensures memory { IsOkUnless result Memory }
+    {
+        let Some(height) = self.chain.height(parent) else {
+            return Ok(None);
+        };
+        if height < self.chain.tip_height() {
+            return Ok(None);
+        }
+        let first = self.put_off_for(parent)?;
+        Ok(Some(self.pool.refolding(first)?))
+    }
+
+    // The transactions other than coinbases of the blocks above the place where the active chain left a parent's branch, the
+    // lowest block's first. The only error is `Fault::Memory`.
+    fn put_off_for(&self, parent: &Hash256) -> Result<Vec<Candidate>, Fault>
+        ensures first { IfOk result (λ first. first.items ≡ txs_above self.now.tree parent.now) }
+        ensures memory { IsOkUnless result Memory }
+    {
+        kept_meet_rules(&self.chain);
+        let headers = self.chain.path(parent)?;
+        let mut first = Vec::new(self.alloc);
+        for header in headers.as_slice() {
+            push_candidates(&mut first, self.chain.block(&header.hash()))?;
+        }
+        Ok(first)
+    }
+}

@@ -1,0 +1,142 @@
+ghost use Rattle.std.specs.Prelude.{◌≡◌, ◌≤◌, [], false, if◌then◌else◌, length, None, IfOk, IsOk, IsOkUnless};
+ghost use Rattle.cb_base.specs.declared.fault.Fault.TheVariants.{Memory};
+ghost use Rattle.cb_chain.specs.Best.{best};
+ghost use Rattle.cb_chain.specs.Entries.{block_of};
+ghost use Rattle.cb_pool.specs.Listing.{since_of};
+ghost use Rattle.cb_state.specs.News.{IsNews, announced, way_from};
+
+use crate::connection::Connection;
+use crate::state::State;
+use cb_base::{Fault, Hash256};
+use cb_block::{Header, SoundBlock};
+use cb_chain::Hashes;
+use std::alloc::Global;
+use std::marker::Model;
+
+/// How many headers are announced at once at the most.
+pub const MOST_ANNOUNCED: usize = 8;
+
+/// Headers that are announced, at most eight. They are seen as their list.
+#[derive(Debug, Drop)]
+pub struct Announced {
+    list: Vec<Header>,
+}
+
+impl Model for Announced {
+    ghost use Rattle.std.specs.Prelude.{List, ◌≤◌, length};
+    ghost use Rattle.cb_block.specs.declared.header.Header.{Header};
+
+    ghost Value = { List Header };
+
+    ghost view = { λ headers. headers.list.items };
+
+    ghost invariant = { λ headers. length headers.list.items ≤ 8 };
+}
+
+impl Announced {
+    /// The headers in order.
+    pub fn as_slice(&self) -> &[Header]
+        ensures same { result.now ≡ self.now }
+        ensures few { length self.now ≤ 8 }
+    {
+        self.list.as_slice()
+    }
+
+    /// Their list, given out.
+    pub fn into_vec(self) -> Vec<Header>
+        ensures same { result.items ≡ self }
+        ensures few { length self ≤ 8 }
+    {
+        self.list
+    }
+}
+
+/// What a peer is told of what it doesn't know yet.
+#[derive(Debug, Drop)]
+pub struct News {
+    /// The tip.
+    pub tip: Hash256,
+    /// The headers from the branch of the tip that was told last up to the tip; of more than eight the last one alone.
+    pub path: Announced,
+    /// Whether there are more than eight.
+    pub long: bool,
+    /// The tip's block, where it was asked for and is the only new one.
+    pub block: Option<SoundBlock>,
+    /// The transactions that came into the pool since the number that was told last.
+    pub txids: Hashes,
+    /// The number that the next transaction takes.
+    pub next: u64,
+    /// Whether the connection is one of those that are asked to announce blocks as compact ones.
+    pub high: bool,
+}
+
+// Of more than eight headers the last one alone.
+fn to_announce(alloc: Global, way: Vec<Header>) -> Result<Announced, Fault>
+    ensures path { IfOk result (λ path. path ≡ announced way.items) }
+    ensures few { length way.items ≤ 8 → IsOk result }
+    ensures memory { IsOkUnless result Memory }
+{
+    if way.len() <= MOST_ANNOUNCED {
+        return Ok(Announced { list: way });
+    }
+    let list = Vec::from_slice(alloc, &way[way.len() - 1..])?;
+    Ok(Announced { list })
+}
+
+impl State {
+    /// What a connection is told that was told this tip, and of transactions below this number. The block is asked for by
+    /// `whole`.
+    ///
+    /// The only error is `Fault::Memory`, and only where there is something new.
+    pub fn news(
+        &self,
+        connection: Connection,
+        told: Option<Hash256>,
+        from: u64,
+        whole: bool,
+    ) -> Result<News, Fault>
+        ensures news { IfOk result (IsNews self.now connection told from whole) }
+        ensures none { way_from self.now.tree told ≡ [] → since_of self.now.pool.list from ≡ [] → IsOk result }
+        ensures memory { IsOkUnless result Memory }
+    {
+        let way = self.way_from(told)?;
+        let long = way.len() > MOST_ANNOUNCED;
+        let only = way.len() == 1;
+        Ok(News {
+            tip: self.chain.tip(),
+            path: to_announce(self.alloc, way)?,
+            long,
+            block: self.tip_block(whole & only)?,
+            txids: Hashes::new(self.pool.since(from)?),
+            next: self.pool.next_number(),
+            high: self.announcers.contains(connection),
+        })
+    }
+
+    // The headers from the branch of the tip that was told last up to the tip.
+    fn way_from(&self, told: Option<Hash256>) -> Result<Vec<Header>, Fault>
+        ensures way { IfOk result (λ way. way.items ≡ way_from self.now.tree told) }
+        ensures none { way_from self.now.tree told ≡ [] → IsOk result }
+        ensures memory { IsOkUnless result Memory }
+    {
+        match told {
+            Some(tip) => self.chain.path(&tip),
+            None => Ok(Vec::new(self.alloc)),
+        }
+    }
+
+    // The tip's block, where it is asked for.
+    fn tip_block(&self, asked: bool) -> Result<Option<SoundBlock>, Fault>
+        ensures block { IfOk result (λ block. block ≡ (if asked then block_of self.now.tree (best self.now.tree) else None)) }
+        ensures unasked { asked ≡ false → IsOk result }
+        ensures memory { IsOkUnless result Memory }
+    {
+        if !asked {
+            return Ok(None);
+        }
+        match self.chain.block(&self.chain.tip()) {
+            Some(block) => Ok(Some(block.copy()?)),
+            None => Ok(None),
+        }
+    }
+}
