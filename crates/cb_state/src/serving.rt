@@ -13,7 +13,7 @@ use cb_block::SoundBlock;
 use cb_tx::Tx;
 use std::marker::Model;
 
-// How far below the tip a block is served as a compact one at the most (BIP 152).
+// How far below the tip a block is served as a compact one at the most (own).
 const MOST_COMPACT_DEPTH: u32 = 5;
 
 /// What is served of an entry.
