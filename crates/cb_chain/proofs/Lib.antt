@@ -1,6 +1,7 @@
 pub mod Branches
 pub mod Forks
 pub mod Halts
+pub mod Headings
 pub mod Heights
 pub mod Histories
 pub mod Laws

@@ -1,19 +1,21 @@
 -- To a call there is one answer, and it leaves one tree.
 use Rattle.std.proofs.Common.{◌≡◌, ℕ, zero, suc, ◌<◌, List, [], ◌∷◌, eqb, cond, take, None, Some, Option, refl, sym, ap, subst, ◌∙◌, arith, inl, inr}
 use Rattle.std.specs.Prelude.{All, Result, Err, slice_get}
-use Rattle.std.proofs.lemmas.Bool.{cases_lt}
+use Rattle.std.proofs.lemmas.Bool.{cases_lt, false≢true}
 use Rattle.std.proofs.lemmas.Option.{slice_get_within, get_or_from_slice_get}
 use Rattle.cb_base.specs.Fault.{rule_number}
 use Rattle.cb_base.specs.declared.fault.Fault.{Fault}
 use Rattle.cb_base.specs.declared.fault.Fault.TheVariants.{BadCoinbase, BadTx, Oversize}
 use Rattle.cb_base.specs.declared.fault.TxRule.{TxRule}
 use Rattle.cb_base.specs.declared.fault.TxRule.TheVariants.{NoInputs, NoOutputs, TooLong, BadValue, BadSum, RepeatedInput, BadCoinbaseScript, NullInput}
+use Rattle.cb_base.specs.declared.hash.Hash256.{Hash256}
 use Rattle.cb_block.specs.declared.block.Block.{Block}
 use Rattle.cb_block.specs.declared.header.Header.{Header}
 use Rattle.cb_block.specs.Blocks.{BreaksFirst, IsRefused, MeetsBlockRules}
 use Rattle.cb_chain.specs.declared.change.Change.{Change}
 use Rattle.cb_chain.specs.Calls.{AcceptsBlock, AcceptsHeader, block_fault, header_fault}
-use Rattle.cb_chain.specs.Entries.{Tree}
+use Rattle.cb_chain.specs.Entries.{Tree, block_hash}
+use Rattle.cb_chain.specs.Headers.{TakesHeaders, goes_on}
 use Rattle.cb_chain.specs.History.{BlockCall, Call, HeaderCall, IsHistory, IsStep}
 use Rattle.cb_tx.specs.declared.tx.Tx.{Tx}
 use Rattle.cb_tx.specs.Rules.{IsLeastBroken, MeetsRules}
@@ -114,6 +116,21 @@ one_header old one other header a b (AcceptsHeader.refused _ fault is _ _) (Acce
 one_header old one other header a b (AcceptsHeader.kept work _ _ _) (AcceptsHeader.without_work lacks _ _) = absurd (lacks work)
 one_header old one other header a b (AcceptsHeader.kept _ none _ _) (AcceptsHeader.refused _ fault is _ _) = absurd (none_some fault (header_fault old header) none is)
 one_header old one other header a b (AcceptsHeader.kept _ _ u e) (AcceptsHeader.kept _ _ v f) = (u ∙ sym v, e ∙ sym f)
+
+-- headers in turn: one that is met isn't refused
+pub one_heading : (headers : List Header) (old one other : Tree) (against again : Option Fault) (met others : List Hash256) → TakesHeaders old headers against met one → TakesHeaders old headers again others other
+    → (against ≡ again) × (met ≡ others) × (one ≡ other)
+one_heading [] old one other against again met others t u = (t.0 ∙ sym u.0, t.1 ∙ sym u.1, t.2 ∙ sym u.2)
+one_heading (header ∷ headers) old one other against again met others (inl t) (inl u) =
+    let first = one_header old t.0 u.0 header t.2.0 u.2.0 t.2.2 u.2.2 in
+    let rest = one_heading headers t.0 one other against again t.1 u.1 t.4 (subst (λ (next : Tree). TakesHeaders next headers again u.1 other) (sym first.1) u.4) in
+    (rest.0, t.3 ∙ ap (λ (hs : List Hash256). block_hash header ∷ hs) rest.1 ∙ sym u.3, rest.2)
+one_heading (header ∷ headers) old one other against again met others (inl t) (inr u) =
+    let first = one_header old t.0 other header t.2.0 again t.2.2 u.1 in absurd (false≢true (sym u.0 ∙ sym (ap goes_on first.0) ∙ t.2.1))
+one_heading (header ∷ headers) old one other against again met others (inr t) (inl u) =
+    let first = one_header old one u.0 header against u.2.0 t.1 u.2.2 in absurd (false≢true (sym t.0 ∙ ap goes_on first.0 ∙ u.2.1))
+one_heading (header ∷ headers) old one other against again met others (inr t) (inr u) =
+    let first = one_header old one other header against again t.1 u.1 in (first.0, t.2 ∙ sym u.2, first.1)
 
 abbrev answered : Result Change Fault × Tree → Result Change Fault
 answered both = both.0

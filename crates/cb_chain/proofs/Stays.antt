@@ -15,7 +15,7 @@ use Rattle.cb_ledger.specs.Unspent.{Unspent}
 use Rattle.cb_chain.specs.declared.change.Change.{Change}
 use Rattle.cb_chain.specs.Best.{Stop, faulty, missing, active, best, branch, is_higher, unspent_after}
 use Rattle.cb_chain.specs.Calls.AcceptsBlock.{without_work, refused, breaks_rule, meets_rules}
-use Rattle.cb_chain.specs.Calls.{AcceptsBlock, bad_entry, block_entry, block_fault, change_of, joined, marked_above, no_change}
+use Rattle.cb_chain.specs.Calls.{AcceptsBlock, AcceptsHeader, bad_entry, block_entry, block_fault, change_of, header_entry, joined, marked_above, no_change}
 use Rattle.cb_chain.specs.Entries.{Entry, Tree, block_hash, entry_of, height_of, is_kept, is_known, same}
 use Rattle.cb_chain.specs.Following.{above_branch, headers_above}
 use Rattle.cb_chain.specs.Laws.{LeadsOver, MayLead, Stays, active_hashes, height_in}
@@ -24,14 +24,14 @@ use Rattle.cb_chain.proofs.Roots.{AreRooted, known_behind, known_first}
 use Rattle.cb_chain.proofs.Marks.{marks_keep_best, marks_keep_branch, marks_keep_unspent}
 use Rattle.cb_chain.proofs.NewTip.{best_new, best_other, branch_new, height_new, height_other, joined_err, joined_ok}
 use Rattle.cb_chain.proofs.Reached.{ArePlanted, kept_known, rooted_planted}
-use Rattle.cb_chain.proofs.SideNodes.{active_aside, bare_best, block_free, kept_other, low_best}
+use Rattle.cb_chain.proofs.SideNodes.{active_aside, bare_best, block_free, header_free, kept_other, low_best}
 
 -- ---- the active chain stays
 
 pub stays_same : (old new : Tree) → new ≡ old → Stays old new
 stays_same old new is = (ap active is, ap (λ (tree : Tree). unspent_after tree (best tree)) is)
 
-stays_then : (one mid other : Tree) → Stays one mid → Stays mid other → Stays one other
+pub stays_then : (one mid other : Tree) → Stays one mid → Stays mid other → Stays one other
 stays_then one mid other a b = (b.0 ∙ a.0, b.1 ∙ a.1)
 
 unspent_aside : (entry : Entry) (older : Tree) → best (entry ∷ older) ≡ best older → same (best older) (block_hash entry.header) ≡ false → unspent_after (entry ∷ older) (best (entry ∷ older)) ≡ unspent_after older (best older)
@@ -53,6 +53,13 @@ marks_stay first tree =
       ap reverse (ap (branch (marked_above first tree)) tip ∙ marks_keep_branch first tree (best tree)),
       ap (unspent_after (marked_above first tree)) tip ∙ marks_keep_unspent first tree (best tree),
     )
+
+-- a header alone never is the tip
+pub header_stays : (old new : Tree) (header : Header) (answer : Option Fault) → ArePlanted old → AcceptsHeader old header answer new → Stays old new
+header_stays old new header answer are (AcceptsHeader.without_work work told is) = stays_same old new is
+header_stays old new header answer are (AcceptsHeader.refused work fault why told is) = stays_same old new is
+header_stays old new header answer are (AcceptsHeader.kept work none told is) =
+    subst (Stays old) (sym is) (over_entry (header_entry header) old are (header_free old header none) (bare_best (header_entry header) old refl))
 
 -- ---- how long branches are
 

@@ -2,6 +2,7 @@ pub mod Best
 pub mod Calls
 pub mod Entries
 pub mod Following
+pub mod Headers
 pub mod History
 pub mod Keeping
 pub mod Laws

@@ -12,7 +12,7 @@ use Rattle.cb_chain.specs.declared.node.Node.{Node}
 use Rattle.cb_chain.specs.declared.side.Side.{Side}
 use Rattle.cb_chain.specs.Best.{best, faulty, unspent_after}
 use Rattle.cb_chain.specs.Entries.{Tree, entry_of, is_kept}
-use Rattle.cb_chain.specs.Keeping.{active_places, place_of, tree_of}
+use Rattle.cb_chain.specs.Keeping.{Grown, active_places, place_of, tree_of}
 
 -- the record at a place
 abbrev pub record_at : List (Option (List CoinChange)) → ℕ → Option (List CoinChange)
@@ -65,6 +65,11 @@ pub record IsChain (tree : Tree) (path : List ℕ) (undos : List (Option (List C
   pub undos_are : AreUndos tree undos
   pub tip : WasConnected tree undos (best tree)
   pub side_is : IfSome side (IsSide tree undos unspent)
+
+-- with no other change a chain over the one tree is one over the other
+abbrev pub KeepsChains : Grown → Grown → Type 0
+KeepsChains old new =
+    (path : List ℕ) (unspent : Unspent) (side : Option Side) → IsChain (tree_of old.nodes) path old.undos unspent side → IsChain (tree_of new.nodes) path new.undos unspent side
 
 -- a kept block stands at a place
 pub record IsKeptPlace (nodes : List Node) (place : ℕ) : Type 0 where

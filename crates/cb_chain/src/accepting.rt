@@ -5,13 +5,14 @@ ghost use Rattle.cb_chain.specs.Best.{best};
 ghost use Rattle.cb_chain.specs.Calls.{AcceptsBlock, AcceptsHeader, block_fault, header_fault, joined};
 ghost use Rattle.cb_chain.specs.Entries.{block_hash, is_kept};
 ghost use Rattle.cb_chain.specs.History.{BlockCall, Call, HeaderCall, IsHistoric, IsHistory};
-ghost use Rattle.cb_chain.specs.Keeping.{IsSpot, node_on, parent_fault};
+ghost use Rattle.cb_chain.specs.Keeping.{IsSpot, IsTree, node_on, parent_fault, tree_of};
 ghost use Rattle.cb_chain.specs.Following.{headers_above};
 ghost use Rattle.cb_chain.specs.Laws.{LeadsOver, MayLead, Stays, active_hashes};
 
 use crate::chain::Chain;
 use crate::change::{Change, Hashes};
 use crate::node::{Kept, Node};
+use crate::tree::Tree;
 use cb_base::{Fault, Hash256};
 use cb_block::{Header, SoundBlock, check_block, hash_with_work};
 
@@ -43,18 +44,18 @@ impl Spot {
     }
 }
 
-impl Chain {
+impl Tree {
     // Where a header stands on its parent, or the first reason against that. Its parent's block may be asked for.
     fn spot_on_parent(&self, header: Header, hash: Hash256, block: bool) -> Result<Spot, Fault>
         requires { hash ≡ block_hash header }
-        ensures ok { IfOk result (λ spot. IsSpot spot header self.now) }
-        ensures none { OnOk result (parent_fault self.now header.prev block ≡ None) }
-        ensures err { IfErr result (λ fault. parent_fault self.now header.prev block ≡ Some fault) }
+        ensures ok { IfOk result (λ spot. IsSpot spot header (tree_of self.now.nodes)) }
+        ensures none { OnOk result (parent_fault (tree_of self.now.nodes) header.prev block ≡ None) }
+        ensures err { IfErr result (λ fault. parent_fault (tree_of self.now.nodes) header.prev block ≡ Some fault) }
     {
-        let Some(parent) = self.tree.place(&header.prev) else {
+        let Some(parent) = self.place(&header.prev) else {
             return Err(Fault::NoParent);
         };
-        let node = self.tree.node(parent);
+        let node = self.node(parent);
         if node.marked {
             return Err(Fault::BadParent);
         }
@@ -73,21 +74,24 @@ impl Chain {
     }
 
     // Where a header will stand, or the first reason against it.
-    fn header_spot(&self, header: Header, hash: Hash256) -> Result<Spot, Fault>
+    pub(crate) fn header_spot(&self, header: Header, hash: Hash256) -> Result<Spot, Fault>
         requires { hash ≡ block_hash header }
-        ensures ok { IfOk result (λ spot. IsSpot spot header self.now) }
-        ensures none { OnOk result (header_fault self.now header ≡ None) }
-        ensures err { IfErr result (λ fault. header_fault self.now header ≡ Some fault) }
+        ensures ok { IfOk result (λ spot. IsSpot spot header (tree_of self.now.nodes)) }
+        ensures none { OnOk result (header_fault (tree_of self.now.nodes) header ≡ None) }
+        ensures err { IfErr result (λ fault. header_fault (tree_of self.now.nodes) header ≡ Some fault) }
+        ensures tree { IsTree self.now.nodes }
     {
-        if let Some(place) = self.tree.place(&hash) {
-            if self.tree.node(place).marked {
+        if let Some(place) = self.place(&hash) {
+            if self.node(place).marked {
                 return Err(Fault::BadParent);
             }
             return Err(Fault::Known);
         }
         self.spot_on_parent(header, hash, false)
     }
+}
 
+impl Chain {
     // Where a block will stand, or the first reason against it.
     fn block_spot(&self, header: Header, hash: Hash256) -> Result<Spot, Fault>
         requires { hash ≡ block_hash header }
@@ -105,7 +109,7 @@ impl Chain {
                 return Err(Fault::Known);
             }
         }
-        self.spot_on_parent(header, hash, true)
+        self.tree.spot_on_parent(header, hash, true)
     }
 
     /// Keeps a header.
@@ -127,8 +131,8 @@ impl Chain {
         ensures unpaid { result ≡ Err Memory → HasWork header × (header_fault self.old header ≡ None) }
     {
         let hash = hash_with_work(&header)?;
-        let spot = self.header_spot(header, hash)?;
-        self.tree.reserve()?;
+        let spot = self.tree.header_spot(header, hash)?;
+        self.tree.reserve(1)?;
         self.tree.add(spot.node(None, false), None);
         Ok(())
     }
@@ -167,7 +171,7 @@ impl Chain {
             Ok(()) => self.join(spot, Kept::new(block)),
             Err(fault) if fault == Fault::Memory => Err(fault),
             Err(fault) => {
-                self.tree.reserve()?;
+                self.tree.reserve(1)?;
                 self.tree.add(spot.node(None, true), None);
                 Err(fault)
             }
@@ -188,7 +192,7 @@ impl Chain {
         if spot.height > self.tip_height() {
             return self.lead(spot, kept);
         }
-        self.tree.reserve()?;
+        self.tree.reserve(1)?;
         self.tree.add(spot.node(Some(kept), false), None);
         Ok(Change {
             off: Hashes::new(Vec::new(self.alloc)),

@@ -10,6 +10,7 @@ ghost use Rattle.cb_ledger.specs.Unspent.{Unspent};
 ghost use Rattle.cb_chain.specs.Best.{active, best, faulty, missing, unspent_after};
 ghost use Rattle.cb_chain.specs.Calls.{AcceptsBlock, AcceptsHeader};
 ghost use Rattle.cb_chain.specs.Entries.{Entry, Tree, block_hash, is_kept, is_marked};
+ghost use Rattle.cb_chain.specs.Headers.{TakesHeaders};
 ghost use Rattle.cb_chain.specs.History.{Call, IsHistoric, IsHistory};
 ghost use Rattle.cb_chain.specs.declared.change.Change.{Change};
 ghost use Rattle.cb_chain.specs.Laws.{ComesAfter, IsLeftBy, IsMarkedFor, ReachesUp, BrokeRule, height_in};
@@ -23,13 +24,16 @@ pub fn has_history(chain: &Chain)
     let _ = &chain.tree;
 }
 
-/// One list of calls leaves one tree, and to a call over a tree there is one answer.
+/// One list of calls leaves one tree, and to a call over a tree there is one answer: to headers in turn too, which leave one
+/// tree.
 pub fn one_tree()
     ensures tree { (calls : List Call) (one other : Tree) → IsHistory calls one → IsHistory calls other → one ≡ other }
     ensures header { (old one other : Tree) (header : Header) (answer again : Option Fault)
         → AcceptsHeader old header answer one → AcceptsHeader old header again other → answer ≡ again }
     ensures block { (old one other : Tree) (block : Block) (answer again : Result Change Fault)
         → AcceptsBlock old block answer one → AcceptsBlock old block again other → answer ≡ again }
+    ensures headers { (old one other : Tree) (headers : List Header) (against again : Option Fault) (met others : List Hash256)
+        → TakesHeaders old headers against met one → TakesHeaders old headers again others other → (against ≡ again) × (met ≡ others) × (one ≡ other) }
 {}
 
 /// The active headers are linked: the first is the network's first header, each next one names the one before it by its

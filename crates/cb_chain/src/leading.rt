@@ -176,7 +176,7 @@ impl Chain {
         ensures err { IfErr result (λ fault. ((fault ≡ Memory) × (self.new ≡ self.old)) ⊎ ((Err fault, self.new) ≡ joined self.old kept)) }
         ensures unchanged { result ≡ Err Memory → self.new ≡ self.old }
     {
-        self.tree.reserve()?;
+        self.tree.reserve(1)?;
         let Plan {
             fork,
             branch,
@@ -210,7 +210,7 @@ impl Chain {
         ensures err { IfErr result (λ fault. ((fault ≡ Memory) × (self.new ≡ self.old)) ⊎ ((Err fault, self.new) ≡ joined self.old kept)) }
         ensures unchanged { result ≡ Err Memory → self.new ≡ self.old }
     {
-        self.tree.reserve()?;
+        self.tree.reserve(1)?;
         let tip = self.active[self.active.len() - 1];
         let mut side = starts_from(self.alloc, &self.tree, tip, &mut self.side, spot.parent);
         let tried = side.try_on(self.alloc, &self.ledger, &mut self.tree, spot.parent, &kept);

@@ -155,20 +155,20 @@ impl Tree {
         self.undos[place] = Some(undo);
     }
 
-    // Room for one node more.
-    pub(crate) fn reserve(&mut self) -> Result<(), Fault>
+    // Room for so many nodes more.
+    pub(crate) fn reserve(&mut self, count: usize) -> Result<(), Fault>
         ensures same { self.new.nodes ≡ self.old.nodes }
         ensures undos { self.new.undos ≡ self.old.undos }
         ensures tree { IsTree self.new.nodes }
-        ensures room { OnOk result (0 < self.new.room) }
+        ensures room { OnOk result (count ≤ self.new.room) }
         ensures memory { IsOkUnless result Memory }
     {
-        self.nodes.reserve(1)?;
-        self.newest.reserve(1)?;
-        self.elder.reserve(1)?;
-        self.undos.reserve(1)?;
-        self.found.reserve(self.nodes.len() + 1)?;
-        self.places.reserve(1)?;
+        self.nodes.reserve(count)?;
+        self.newest.reserve(count)?;
+        self.elder.reserve(count)?;
+        self.undos.reserve(count)?;
+        self.found.reserve(self.nodes.len() + count)?;
+        self.places.reserve(count)?;
         Ok(())
     }
 
@@ -178,6 +178,7 @@ impl Tree {
         requires node { IsNode node (tree_of self.old.nodes) }
         ensures nodes { self.new.nodes ≡ self.old.nodes ++ node ∷ [] }
         ensures undos { self.new.undos ≡ self.old.undos ++ undo ∷ [] }
+        ensures room { self.old.room ≤ self.new.room + 1 }
     {
         let place = self.nodes.len();
         let elder = put_above(self.newest.as_mut_slice(), &node, place);

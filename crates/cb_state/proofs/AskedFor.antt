@@ -1,5 +1,5 @@
 -- Who is among announcers, and the last three of them.
-use Rattle.std.proofs.Common.{◌≡◌, ℕ, ◌-◌, ◌≤◌, ◌||◌, List, [], ◌∷◌, length, drop, refl, sym, ap, arith}
+use Rattle.std.proofs.Common.{◌≡◌, ◌-◌, ◌≤◌, ◌||◌, List, [], ◌∷◌, length, drop, refl, sym, ap, arith}
 use Rattle.std.specs.Prelude.{remove}
 use Rattle.std.specs.List.{list_any}
 use Rattle.cb_state.specs.declared.connection.Connection.{Connection}

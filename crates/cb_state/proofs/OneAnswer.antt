@@ -1,5 +1,5 @@
--- To a transaction and a block over a state there is one answer, and they leave one state.
-use Rattle.std.proofs.Common.{◌≡◌, ◌∙◌, ◌⊎◌, ℕ, ◌<◌, ◌≤◌, Bool, true, false, List, [], ◌∷◌, ◌++◌, cond, eqb, Option, None, Some, filter, map, length, refl, sym, ap, subst, arith, inl, inr}
+-- To a transaction, a block and headers over a state there is one answer, and they leave one state.
+use Rattle.std.proofs.Common.{◌≡◌, ◌∙◌, ℕ, ◌≤◌, true, false, List, [], ◌∷◌, ◌++◌, cond, eqb, Option, None, Some, filter, length, refl, sym, ap, subst, arith, inl, inr}
 use Rattle.std.specs.Prelude.{Result, Ok, Err, IsOk}
 use Rattle.std.proofs.lemmas.Bool.{cases_lt, false≢true}
 use Rattle.cb_base.specs.Fault.{rule_number}
@@ -7,23 +7,24 @@ use Rattle.cb_base.specs.declared.fault.Fault.{Fault}
 use Rattle.cb_base.specs.declared.fault.Fault.TheVariants.{BadCoinbase, BadTx, Known, NoInput, Overspent, PoolFull, Remade, Size64}
 use Rattle.cb_base.specs.declared.fault.TxRule.{TxRule}
 use Rattle.cb_base.specs.declared.fault.TxRule.TheVariants.{NoInputs, NoOutputs, TooLong, BadValue, BadSum, RepeatedInput, BadCoinbaseScript, NullInput}
-use Rattle.cb_base.specs.declared.hash.Hash256.{Hash256}
 use Rattle.cb_block.specs.declared.block.Block.{Block}
+use Rattle.cb_block.specs.declared.header.Header.{Header}
 use Rattle.cb_tx.specs.declared.tx.Tx.{Tx}
 use Rattle.cb_tx.specs.Rules.{IsLeastBroken}
 use Rattle.cb_ledger.specs.Spend.{spend}
 use Rattle.cb_ledger.specs.Unspent.{Unspent}
 use Rattle.cb_chain.specs.declared.change.Change.{Change}
-use Rattle.cb_chain.specs.Entries.{Tree}
+use Rattle.cb_chain.specs.Entries.{Tree, is_lacking}
 use Rattle.cb_chain.specs.Locator.{locator_of}
-use Rattle.cb_chain.proofs.Once.{one_block}
+use Rattle.cb_chain.proofs.Once.{one_block, one_heading}
 use Rattle.cb_pool.specs.Folding.{Refolds}
-use Rattle.cb_pool.specs.Listing.{Listing, txs_of, with_last}
-use Rattle.cb_pool.specs.Rules.{Applies, CannotSpend, Refuses, RefusesAlone, StandsAlone, is_named_in, txid_of}
+use Rattle.cb_pool.specs.Listing.{txs_of}
+use Rattle.cb_pool.specs.Rules.{Applies, Refuses, RefusesAlone, StandsAlone, is_named_in, txid_of}
 use Rattle.cb_pool.proofs.Laws.{one_refold}
 use Rattle.cb_state.specs.declared.connection.Connection.{Connection}
+use Rattle.cb_state.specs.declared.giving.Heads.{Heads}
 use Rattle.cb_state.specs.declared.giving.Taken.{Taken}
-use Rattle.cb_state.specs.Giving.{Follows, TakesBlock, TakesTx, TakesTxOver, announcers_after, became_tip, locator_for, refused_for, txs_put_off}
+use Rattle.cb_state.specs.Giving.{Follows, TakesBlock, TakesHeads, TakesTx, TakesTxOver, announcers_after, became_tip, locator_for, refused_for, txs_put_off}
 use Rattle.cb_state.specs.State.{NodeState, IsUnspent}
 
 -- ---- records by their fields
@@ -33,6 +34,9 @@ same_state a b e f g = λ i. record { tree = e i; pool = f i; announcers = g i }
 
 same_taken : (a b : Taken) → a.refused ≡ b.refused → a.locator ≡ b.locator → a ≡ b
 same_taken a b e f = λ i. record { refused = e i; locator = f i }
+
+same_heads : (a b : Heads) → a.refused ≡ b.refused → a.lack ≡ b.lack → a.locator ≡ b.locator → a ≡ b
+same_heads a b e f g = λ i. record { refused = e i; lack = f i; locator = g i }
 
 one_unspent : (tree : Tree) (u w : Unspent) → IsUnspent tree u → IsUnspent tree w → u ≡ w
 one_unspent tree u w is are = let one : Ok u ≡ Ok w = sym is ∙ are in cc
@@ -172,3 +176,13 @@ one_taken old new other block from taken again a b =
           (a.locator ∙ ap (λ (r : Option Fault). locator_for r (locator_of new.tree)) refused ∙ ap (λ (t : Tree). locator_for again.refused (locator_of t)) tree ∙ sym b.locator),
       same_state new other tree pool (a.announcers ∙ ap (λ (r : Result Change Fault). announcers_after old.announcers (became_tip r) from) both.0 ∙ sym b.announcers),
     )
+
+-- ---- headers
+
+pub one_heads : (old new other : NodeState) (headers : List Header) (heads again : Heads) → TakesHeads old headers heads new → TakesHeads old headers again other → (heads ≡ again) × (new ≡ other)
+one_heads old new other headers heads again a b =
+    let one = one_heading headers old.tree new.tree other.tree heads.refused again.refused a.met b.met a.chain b.chain in
+    let lack : heads.lack ≡ again.lack = a.lack ∙ ap (filter (is_lacking new.tree)) one.1 ∙ ap (λ (t : Tree). filter (is_lacking t) b.met) one.2 ∙ sym b.lack in
+    let locator : heads.locator ≡ again.locator =
+    a.locator ∙ ap (λ (r : Option Fault). locator_for r (locator_of new.tree)) one.0 ∙ ap (λ (t : Tree). locator_for again.refused (locator_of t)) one.2 ∙ sym b.locator in
+    (same_heads heads again one.0 lack locator, same_state new other one.2 (a.pool ∙ sym b.pool) (a.announcers ∙ sym b.announcers))

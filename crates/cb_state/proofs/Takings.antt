@@ -1,4 +1,4 @@
--- What a transaction and a block leave.
+-- What a transaction, a block and headers leave.
 use Rattle.std.proofs.Common.{◌≡◌, ◌∙◌, ◌⊎◌, ◌-◌, Bool, true, false, List, [], ◌∷◌, Option, None, Some, map, length, refl, sym, ap, subst, arith, inl, inr}
 use Rattle.std.specs.Prelude.{◌≢◌, nat_eq, filter, filter_map, option_map, slice_get, reverse, Result, Ok, Err, IfOk, IfSome, IsOk, MatchOption}
 use Rattle.std.proofs.lemmas.Bool.{eqb-true, false≢true}
@@ -12,18 +12,19 @@ use Rattle.cb_tx.specs.declared.tx.Tx.{Tx}
 use Rattle.cb_ledger.specs.Spend.{spend}
 use Rattle.cb_ledger.specs.Unspent.{Unspent}
 use Rattle.cb_chain.specs.declared.change.Change.{Change}
-use Rattle.cb_chain.specs.Best.{active}
 use Rattle.cb_chain.specs.Calls.{AcceptsBlock}
-use Rattle.cb_chain.specs.Entries.{Tree, block_hash}
+use Rattle.cb_chain.specs.Entries.{Tree, block_hash, is_lacking}
 use Rattle.cb_chain.specs.Following.{headers_above}
+use Rattle.cb_chain.specs.Headers.{TakesHeaders}
 use Rattle.cb_chain.specs.Laws.{MayLead, Stays}
 use Rattle.cb_chain.specs.Locator.{locator_heights, locator_of}
 use Rattle.cb_pool.specs.Folding.{HasRoom, Refolds}
 use Rattle.cb_pool.specs.Listing.{Listing, Plan, txs_of, with_last}
 use Rattle.cb_pool.specs.Rules.{Applies, Refuses}
 use Rattle.cb_state.specs.declared.connection.Connection.{Connection}
+use Rattle.cb_state.specs.declared.giving.Heads.{Heads}
 use Rattle.cb_state.specs.declared.giving.Taken.{Taken}
-use Rattle.cb_state.specs.Giving.{Follows, IsPlanOn, TakesBlock, TakesTx, TakesTxOver, announcers_after, became_tip, has_some, locator_for, txs_in, txs_put_off}
+use Rattle.cb_state.specs.Giving.{Follows, IsPlanOn, TakesBlock, TakesHeads, TakesTx, TakesTxOver, announcers_after, became_tip, has_some, locator_for, txs_in, txs_put_off}
 use Rattle.cb_state.specs.State.{NodeState, IsUnspent, WaitOn}
 
 -- a locator is told of the active chain alone
@@ -146,3 +147,18 @@ pub planned_for : (whole old : NodeState) (shown block : Block) (plan : Option P
 planned_for whole old shown block plan same_state same_block planned =
     subst (λ (state : NodeState). MatchOption plan (¬ MayLead state.tree block.header.prev) (IsPlanOn state block.header.prev)) (sym same_state)
     (subst (λ (b : Block). MatchOption plan (¬ MayLead whole.tree b.header.prev) (IsPlanOn whole b.header.prev)) same_block planned)
+
+-- ---- headers
+
+-- the locator was read before the chain changed
+pub heads_taken : (old : NodeState) (tree : Tree) (headers : List Header) (heads : Heads) (met locator : List Hash256) → TakesHeaders old.tree headers heads.refused met tree → Stays old.tree tree
+    → locator ≡ locator_of old.tree → heads.lack ≡ filter (is_lacking tree) met → heads.locator ≡ locator_for heads.refused locator → TakesHeads old headers heads (record old { tree = tree })
+heads_taken old tree headers heads met locator takes stays read lack told =
+    record {
+      met = met;
+      chain = takes;
+      pool = refl;
+      announcers = refl;
+      lack = lack;
+      locator = told ∙ ap (locator_for heads.refused) (read ∙ locator_stays old.tree tree stays);
+    }

@@ -1,21 +1,24 @@
--- What a transaction and a block do to what peers share, and what is answered (Bitcoin's protocol).
-use Rattle.std.specs.Prelude.{◌≡◌, Bool, true, false, List, [], ◌∷◌, drop, map, reverse, Option, None, Some, Result, Ok, Err}
+-- What a transaction, a block and headers do to what peers share, and what is answered (Bitcoin's protocol).
+use Rattle.std.specs.Prelude.{◌≡◌, Bool, true, false, List, [], ◌∷◌, drop, filter, map, reverse, Option, None, Some, Result, Ok, Err}
 use Rattle.std.specs.List.{flat_map}
 use Rattle.cb_base.specs.declared.fault.Fault.{Fault}
 use Rattle.cb_base.specs.declared.fault.Fault.TheVariants.{NoParent}
 use Rattle.cb_base.specs.declared.hash.Hash256.{Hash256}
 use Rattle.cb_block.specs.declared.block.Block.{Block}
+use Rattle.cb_block.specs.declared.header.Header.{Header}
 use Rattle.cb_tx.specs.declared.tx.Tx.{Tx}
 use Rattle.cb_ledger.specs.Unspent.{Unspent}
 use Rattle.cb_chain.specs.declared.change.Change.{Change}
 use Rattle.cb_chain.specs.Calls.{AcceptsBlock}
-use Rattle.cb_chain.specs.Entries.{Tree, block_hash, block_of}
+use Rattle.cb_chain.specs.Entries.{Tree, block_hash, block_of, is_lacking}
 use Rattle.cb_chain.specs.Following.{headers_above}
+use Rattle.cb_chain.specs.Headers.{TakesHeaders}
 use Rattle.cb_chain.specs.Locator.{locator_of}
 use Rattle.cb_pool.specs.Folding.{HasRoom, Refolds}
 use Rattle.cb_pool.specs.Listing.{Plan, txs_of, with_last}
 use Rattle.cb_pool.specs.Rules.{Applies, Refuses}
 use Rattle.cb_state.specs.declared.connection.Connection.{Connection}
+use Rattle.cb_state.specs.declared.giving.Heads.{Heads}
 use Rattle.cb_state.specs.declared.giving.Taken.{Taken}
 use Rattle.cb_state.specs.Announcers.{with_announcer}
 use Rattle.cb_state.specs.State.{NodeState, IsUnspent}
@@ -88,3 +91,14 @@ pub record TakesBlock (old : NodeState) (block : Block) (from : Option Connectio
   pub announcers : new.announcers ≡ announcers_after old.announcers (became_tip answer) from
   pub refused : taken.refused ≡ refused_for answer
   pub locator : taken.locator ≡ locator_for taken.refused (locator_of new.tree)
+
+-- ---- headers
+
+-- The chain takes them in turn, and nothing else changes. Of those that are kept or known it is told which blocks are lacking.
+pub record TakesHeads (old : NodeState) (headers : List Header) (heads : Heads) (new : NodeState) : Type 0 where
+  pub met : List Hash256
+  pub chain : TakesHeaders old.tree headers heads.refused met new.tree
+  pub pool : new.pool ≡ old.pool
+  pub announcers : new.announcers ≡ old.announcers
+  pub lack : heads.lack ≡ filter (is_lacking new.tree) met
+  pub locator : heads.locator ≡ locator_for heads.refused (locator_of new.tree)

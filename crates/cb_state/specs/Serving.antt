@@ -1,12 +1,11 @@
 -- What is served of the entries that a peer asks for (Bitcoin's protocol, `getdata`; BIP 152: only blocks near the tip are
 -- served as compact ones).
-use Rattle.std.specs.Prelude.{◌≡◌, ◌+◌, ℕ, Bool, nat_le, if◌then◌else◌, List, [], ◌∷◌, filter_map, Option, None, Some, unwrap_or}
+use Rattle.std.specs.Prelude.{◌+◌, ℕ, Bool, nat_le, if◌then◌else◌, List, filter_map, Option, None, Some}
 use Rattle.cb_base.specs.declared.hash.Hash256.{Hash256}
 use Rattle.cb_block.specs.declared.block.Block as blocks
 use Rattle.cb_tx.specs.declared.tx.Tx as txs
 use Rattle.cb_chain.specs.Best.{best}
 use Rattle.cb_chain.specs.Entries.{Tree, block_of}
-use Rattle.cb_chain.specs.Following.{headers_after}
 use Rattle.cb_chain.specs.Laws.{height_in}
 use Rattle.cb_pool.specs.Listing.{txs_of}
 use Rattle.cb_pool.specs.Rules.{named_in}

@@ -1,18 +1,19 @@
-ghost use Rattle.std.specs.Prelude.{◌≡◌, ◌≢◌, ◌⊎◌, ◌≤◌, ◌++◌, [], drop, length, option_copied, IfErr, IfOk, IfSome, IsOk, IsOkUnless, MatchOption, MatchResult, OnErr, OnOk, Some, true};
+ghost use Rattle.std.specs.Prelude.{◌≡◌, ◌≢◌, ◌⊎◌, ◌≤◌, ◌++◌, [], drop, filter, length, option_copied, IfErr, IfOk, IfSome, IsOk, IsOkUnless, MatchOption, MatchResult, OnErr, OnOk, Some, true};
 ghost use Rattle.cb_base.specs.declared.fault.Fault.TheVariants.{Memory};
 ghost use Rattle.cb_block.specs.Blocks.{MeetsBlockRules};
+ghost use Rattle.cb_chain.specs.Entries.{is_lacking};
 ghost use Rattle.cb_chain.specs.Laws.{MayLead};
 ghost use Rattle.cb_ledger.specs.Spend.{spend};
 ghost use Rattle.cb_pool.specs.Folding.{HasRoom, Refolds};
 ghost use Rattle.cb_pool.specs.Listing.{txs_of};
-ghost use Rattle.cb_state.specs.Giving.{IsPlanOn, TakesBlock, TakesTx, announcers_after, locator_for, txs_above, txs_under};
+ghost use Rattle.cb_state.specs.Giving.{IsPlanOn, TakesBlock, TakesHeads, TakesTx, announcers_after, locator_for, txs_above, txs_under};
 
 use crate::announcers::Announcers;
 use crate::connection::Connection;
 use crate::state::State;
 use cb_base::{Fault, Hash256, Shared};
-use cb_block::SoundBlock;
-use cb_chain::{Hashes, kept_meet_rules};
+use cb_block::{Header, SoundBlock};
+use cb_chain::{Chain, Hashes, kept_meet_rules};
 use cb_ledger::Ledger;
 use cb_pool::{Candidate, Pool, Refolding};
 use cb_tx::Tx;
@@ -23,6 +24,17 @@ use std::alloc::Global;
 pub struct Taken {
     /// Why it was refused, if it was.
     pub refused: Option<Fault>,
+    /// The chain's locator, where the refusal is `Fault::NoParent`.
+    pub locator: Hashes,
+}
+
+/// What headers met that were given in turn.
+#[derive(Debug, Drop)]
+pub struct Heads {
+    /// Why one was refused, if one was.
+    pub refused: Option<Fault>,
+    /// The hashes of the headers before it whose blocks are lacking, in order.
+    pub lack: Hashes,
     /// The chain's locator, where the refusal is `Fault::NoParent`.
     pub locator: Hashes,
 }
@@ -73,6 +85,15 @@ fn push_candidates(first: &mut Vec<Candidate>, block: Option<&SoundBlock>) -> Re
         first.push(Candidate::of_block(block, place)?)?;
     }
     Ok(())
+}
+
+// The hashes whose blocks are neither kept nor marked bad, in order.
+fn lacking(chain: &Chain, hashes: Hashes) -> Hashes
+    ensures { result ≡ filter (is_lacking chain.now) hashes }
+{
+    let mut list = hashes.into_vec();
+    list.retain(|hash| chain.lacks(hash));
+    Hashes::new(list)
 }
 
 // Folds the pool anew by a plan, where there is one.
@@ -139,6 +160,23 @@ impl State {
         follow(&mut self.pool, self.chain.ledger(), plan);
         thank(&mut self.announcers, from);
         Ok(taken)
+    }
+
+    /// Headers come, and are kept in turn. One that is known is passed over, and the first other refusal ends it.
+    ///
+    /// The only error is `Fault::Memory`, which changes nothing: none of them is kept.
+    pub fn take_headers(&mut self, headers: &[Header]) -> Result<Heads, Fault>
+        ensures taken { IfOk result (λ heads. TakesHeads self.old headers.now heads self.new) }
+        ensures err { OnErr result (self.new ≡ self.old) }
+        ensures memory { IsOkUnless result Memory }
+    {
+        let locator = self.chain.locator()?;
+        let accepted = self.chain.accept_headers(headers)?;
+        Ok(Heads {
+            refused: accepted.refused,
+            lack: lacking(&self.chain, accepted.met),
+            locator: told_locator(self.alloc, accepted.refused, locator),
+        })
     }
 
     // How the pool is folded anew where a block on this parent becomes the tip. There is no plan where that can't be, since

@@ -6,50 +6,18 @@ ghost use Rattle.cb_pool.specs.Listing.{since_of};
 ghost use Rattle.cb_state.specs.News.{IsNews, announced, way_from};
 
 use crate::connection::Connection;
+use crate::listed::Listed;
 use crate::state::State;
 use cb_base::{Fault, Hash256};
 use cb_block::{Header, SoundBlock};
 use cb_chain::Hashes;
 use std::alloc::Global;
-use std::marker::Model;
 
 /// How many headers are announced at once at the most.
 pub const MOST_ANNOUNCED: usize = 8;
 
-/// Headers that are announced, at most eight. They are seen as their list.
-#[derive(Debug, Drop)]
-pub struct Announced {
-    list: Vec<Header>,
-}
-
-impl Model for Announced {
-    ghost use Rattle.std.specs.Prelude.{List, ◌≤◌, length};
-    ghost use Rattle.cb_block.specs.declared.header.Header.{Header};
-
-    ghost Value = { List Header };
-
-    ghost view = { λ headers. headers.list.items };
-
-    ghost invariant = { λ headers. length headers.list.items ≤ 8 };
-}
-
-impl Announced {
-    /// The headers in order.
-    pub fn as_slice(&self) -> &[Header]
-        ensures same { result.now ≡ self.now }
-        ensures few { length self.now ≤ 8 }
-    {
-        self.list.as_slice()
-    }
-
-    /// Their list, given out.
-    pub fn into_vec(self) -> Vec<Header>
-        ensures same { result.items ≡ self }
-        ensures few { length self ≤ 8 }
-    {
-        self.list
-    }
-}
+/// Headers that are announced, at most eight.
+pub type Announced = Listed<Header, MOST_ANNOUNCED>;
 
 /// What a peer is told of what it doesn't know yet.
 #[derive(Debug, Drop)]
@@ -77,10 +45,10 @@ fn to_announce(alloc: Global, way: Vec<Header>) -> Result<Announced, Fault>
     ensures memory { IsOkUnless result Memory }
 {
     if way.len() <= MOST_ANNOUNCED {
-        return Ok(Announced { list: way });
+        return Ok(Listed::from_few(way));
     }
     let list = Vec::from_slice(alloc, &way[way.len() - 1..])?;
-    Ok(Announced { list })
+    Ok(Listed::from_few(list))
 }
 
 impl State {

@@ -6,12 +6,12 @@ ghost use Rattle.cb_pool.specs.Rules.{named_in};
 ghost use Rattle.cb_state.specs.declared.inventory.Inventory.TheVariants as entry;
 ghost use Rattle.cb_state.specs.Serving.{is_within, piece_of, pieces_of, short_piece, tx_piece, whole_piece};
 
-use crate::inventory::{Entries, Inventory};
+use crate::inventory::{Entries, Inventory, MOST_ENTRIES};
+use crate::listed::Listed;
 use crate::state::State;
 use cb_base::{Fault, Hash256, Shared};
 use cb_block::SoundBlock;
 use cb_tx::Tx;
-use std::marker::Model;
 
 // How far below the tip a block is served as a compact one at the most (own).
 const MOST_COMPACT_DEPTH: u32 = 5;
@@ -29,39 +29,8 @@ pub enum Piece {
     Lacking(Inventory),
 }
 
-/// What is served of entries, at most 50,000 pieces. They are seen as their list.
-#[derive(Debug, Drop)]
-pub struct Pieces {
-    list: Vec<Piece>,
-}
-
-impl Model for Pieces {
-    ghost use Rattle.std.specs.Prelude.{List, ◌≤◌, length};
-    ghost use Rattle.cb_state.specs.declared.serving.Piece.{Piece};
-
-    ghost Value = { List Piece };
-
-    ghost view = { λ pieces. pieces.list.items };
-
-    ghost invariant = { λ pieces. length pieces.list.items ≤ 50000 };
-}
-
-impl Pieces {
-    /// The pieces in order.
-    pub fn as_slice(&self) -> &[Piece]
-        ensures same { result.now ≡ self.now }
-        ensures few { length self.now ≤ 50000 }
-    {
-        self.list.as_slice()
-    }
-
-    /// Their list, given out.
-    pub fn into_vec(self) -> Vec<Piece>
-        ensures { result.items ≡ self }
-    {
-        self.list
-    }
-}
+/// What is served of entries, at most 50,000 pieces.
+pub type Pieces = Listed<Piece, MOST_ENTRIES>;
 
 impl State {
     /// What is served of entries, in order: one piece for each of a known type. Transactions and blocks are shared and not
@@ -79,7 +48,7 @@ impl State {
                 list.push_reserved(piece);
             }
         }
-        Ok(Pieces { list })
+        Ok(Listed::from_few(list))
     }
 
     // What is served of an entry.

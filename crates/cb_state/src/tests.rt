@@ -10,8 +10,8 @@ const BLOCK: Hash256 = Hash256([2; 32]);
 
 fn entries_of(alloc: Global, list: &[Inventory]) -> Result<Entries, Fail> {
     match Entries::new(Vec::from_slice(alloc, list)?) {
-        Some(entries) => Ok(entries),
-        None => Err(Fail::from("too many entries")),
+        Ok(entries) => Ok(entries),
+        Err(_) => Err(Fail::from("too many entries")),
     }
 }
 

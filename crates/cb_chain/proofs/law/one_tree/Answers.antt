@@ -1,4 +1,4 @@
-use Rattle.cb_chain.proofs.Once.{one_block, one_header, one_history}
+use Rattle.cb_chain.proofs.Once.{one_block, one_header, one_heading, one_history}
 use Rattle.cb_chain.proofs.law.one_tree.Goals as goal
 
 pub returns-clause-tree : goal.returns-clause-tree
@@ -9,3 +9,6 @@ returns-clause-header c = λ old one other header a b is are. (one_header old on
 
 pub returns-clause-block : goal.returns-clause-block
 returns-clause-block c = λ old one other block a b is are. (one_block old one other block a b is are).0
+
+pub returns-clause-headers : goal.returns-clause-headers
+returns-clause-headers c = λ old one other headers against again met others is are. one_heading headers old one other against again met others is are

@@ -32,7 +32,8 @@ returns-clause-none c =
       | in_default w ↦ block_unknown c.self.inside.tree.nodes c.args.self.now c.args.header c.self.view_is (ap (place_of (tree_of c.self.inside.tree.nodes)) (sym c.requires) ∙ sym c.place.ensures.place ∙ w.in_default.is)
     ]
     in
-    subst (λ (o : Option Fault). OnOk c.spot_on_parent.result (o ≡ None)) (sym same) c.spot_on_parent.ensures.none
+    let view = ap (λ (tree : Tree). parent_fault tree c.args.header.prev true) c.self.view_is in
+    subst (λ (o : Option Fault). OnOk c.spot_on_parent.result (o ≡ None)) (view ∙ sym same) c.spot_on_parent.ensures.none
 
 pub returns-clause-err : goal.returns-clause-err
 returns-clause-err c =
@@ -45,7 +46,8 @@ returns-clause-err c =
       | in_default w ↦ block_unknown c.self.inside.tree.nodes c.args.self.now c.args.header c.self.view_is (ap (place_of (tree_of c.self.inside.tree.nodes)) (sym c.requires) ∙ sym c.place.ensures.place ∙ w.in_default.is)
     ]
     in
-    subst (λ (o : Option Fault). IfErr c.spot_on_parent.result (λ fault. o ≡ Some fault)) (sym same) c.spot_on_parent.ensures.err
+    let view = ap (λ (tree : Tree). parent_fault tree c.args.header.prev true) c.self.view_is in
+    subst (λ (o : Option Fault). IfErr c.spot_on_parent.result (λ fault. o ≡ Some fault)) (view ∙ sym same) c.spot_on_parent.ensures.err
 
 pub returns-then-node-clause-tip : goal.returns-then-node-clause-tip
 returns-then-node-clause-tip c = subst (λ (tree : Tree). is_kept tree (best tree) ≡ true) c.self.view_is (best_kept c.self.inside.tree.nodes c.place.ensures.tree)

@@ -1,26 +1,27 @@
 use Rattle.std.proofs.Common.{◌+◌, ◌≡◌, ◌∙◌, arith, ap, refl, sym, inl, inr, false}
 use Rattle.std.specs.Prelude.{is_some, not, ◌&&◌}
+use Rattle.cb_chain.specs.Keeping.{tree_of}
 use Rattle.cb_chain.proofs.SideNodes.{fault_bare, fault_high, fault_marked, fault_none, has_asked, known_at, parent_known, parent_unknown, spot_at}
-use Rattle.cb_chain.proofs.chain.Chain.spot_on_parent.Goals as goal
-use Rattle.cb_chain.proofs.chain.Chain.spot_on_parent.Goals.{else-block-via-then-block+else-is_none, else-block-via-else-block}
+use Rattle.cb_chain.proofs.tree.Tree.spot_on_parent.Goals as goal
+use Rattle.cb_chain.proofs.tree.Tree.spot_on_parent.Goals.{else-block-via-then-block+else-is_none, else-block-via-else-block}
 
 -- src/accepting.rt:48:13
 pub returns-in_default-clause-err : goal.returns-in_default-clause-err
 returns-in_default-clause-err c =
-    parent_unknown c.self.inside.tree.nodes c.args.self.now c.args.header.prev c.args.block c.self.view_is (sym c.place.ensures.place ∙ c.in_default.is)
+    parent_unknown c.args.self.now.nodes (tree_of c.args.self.now.nodes) c.args.header.prev c.args.block refl (sym c.place.ensures.place ∙ c.in_default.is)
 
 -- src/accepting.rt:52:13
 pub returns-then-node-clause-err : goal.returns-then-node-clause-err
 returns-then-node-clause-err c =
-    parent_known c.args.self.now c.args.header.prev c.node-node.result.now c.args.block
-    (known_at c.self.inside.tree.nodes c.args.self.now c.args.header.prev c.in-Some.parent c.node-node.result.now c.node-node.ensures.tree c.self.view_is (sym c.place.ensures.place ∙ c.in-Some.is) c.node-node.ensures.node)
+    parent_known (tree_of c.args.self.now.nodes) c.args.header.prev c.node-node.result.now c.args.block
+    (known_at c.args.self.now.nodes (tree_of c.args.self.now.nodes) c.args.header.prev c.in-Some.parent c.node-node.result.now c.node-node.ensures.tree refl (sym c.place.ensures.place ∙ c.in-Some.is) c.node-node.ensures.node)
     ∙ fault_marked c.node-node.result.now c.args.block c.if-node.true
 
 -- src/accepting.rt:55:13
 pub returns-then-is_none-clause-err : goal.returns-then-is_none-clause-err
 returns-then-is_none-clause-err c =
-    parent_known c.args.self.now c.args.header.prev c.node-node.result.now c.args.block
-    (known_at c.self.inside.tree.nodes c.args.self.now c.args.header.prev c.in-Some.parent c.node-node.result.now c.node-node.ensures.tree c.self.view_is (sym c.place.ensures.place ∙ c.in-Some.is) c.node-node.ensures.node)
+    parent_known (tree_of c.args.self.now.nodes) c.args.header.prev c.node-node.result.now c.args.block
+    (known_at c.args.self.now.nodes (tree_of c.args.self.now.nodes) c.args.header.prev c.in-Some.parent c.node-node.result.now c.node-node.ensures.tree refl (sym c.place.ensures.place ∙ c.in-Some.is) c.node-node.ensures.node)
     ∙ fault_bare c.node-node.result.now c.args.block c.if-node.false c.if-block.true (c.is_none.ensures ∙ ap not c.if-is_none.true)
 
 -- src/accepting.rt:58:13
@@ -32,16 +33,16 @@ returns-then-node-ge-MOST_HEIGHT-clause-err c =
       | else-block-via-else-block w ↦ has_asked c.args.block c.node-node.result.now (inl w.if-block.false)
     ]
     in
-    parent_known c.args.self.now c.args.header.prev c.node-node.result.now c.args.block
-    (known_at c.self.inside.tree.nodes c.args.self.now c.args.header.prev c.in-Some.parent c.node-node.result.now c.node-node.ensures.tree c.self.view_is (sym c.place.ensures.place ∙ c.in-Some.is) c.node-node.ensures.node)
+    parent_known (tree_of c.args.self.now.nodes) c.args.header.prev c.node-node.result.now c.args.block
+    (known_at c.args.self.now.nodes (tree_of c.args.self.now.nodes) c.args.header.prev c.in-Some.parent c.node-node.result.now c.node-node.ensures.tree refl (sym c.place.ensures.place ∙ c.in-Some.is) c.node-node.ensures.node)
     ∙ fault_high c.node-node.result.now c.args.block c.if-node.false asked (omega arith)
 
 -- src/accepting.rt:41:5
 pub returns-clause-ok : goal.returns-clause-ok
 returns-clause-ok c =
-    spot_at c.self.inside.tree.nodes c.args.self.now c.args.header (record { header = c.args.header; hash = c.args.hash; parent = c.in-Some.parent; height = c.node-node.result.now.height + 1 }) c.node-node.result.now
-    c.self.view_is (sym c.place.ensures.place ∙ c.in-Some.is)
-    (known_at c.self.inside.tree.nodes c.args.self.now c.args.header.prev c.in-Some.parent c.node-node.result.now c.node-node.ensures.tree c.self.view_is (sym c.place.ensures.place ∙ c.in-Some.is) c.node-node.ensures.node)
+    spot_at c.args.self.now.nodes (tree_of c.args.self.now.nodes) c.args.header (record { header = c.args.header; hash = c.args.hash; parent = c.in-Some.parent; height = c.node-node.result.now.height + 1 }) c.node-node.result.now
+    refl (sym c.place.ensures.place ∙ c.in-Some.is)
+    (known_at c.args.self.now.nodes (tree_of c.args.self.now.nodes) c.args.header.prev c.in-Some.parent c.node-node.result.now c.node-node.ensures.tree refl (sym c.place.ensures.place ∙ c.in-Some.is) c.node-node.ensures.node)
     refl c.requires refl c.if-node-ge-MOST_HEIGHT.false
 
 -- src/accepting.rt:41:5
@@ -53,6 +54,6 @@ returns-clause-none c =
       | else-block-via-else-block w ↦ has_asked c.args.block c.node-node.result.now (inl w.if-block.false)
     ]
     in
-    parent_known c.args.self.now c.args.header.prev c.node-node.result.now c.args.block
-    (known_at c.self.inside.tree.nodes c.args.self.now c.args.header.prev c.in-Some.parent c.node-node.result.now c.node-node.ensures.tree c.self.view_is (sym c.place.ensures.place ∙ c.in-Some.is) c.node-node.ensures.node)
+    parent_known (tree_of c.args.self.now.nodes) c.args.header.prev c.node-node.result.now c.args.block
+    (known_at c.args.self.now.nodes (tree_of c.args.self.now.nodes) c.args.header.prev c.in-Some.parent c.node-node.result.now c.node-node.ensures.tree refl (sym c.place.ensures.place ∙ c.in-Some.is) c.node-node.ensures.node)
     ∙ fault_none c.node-node.result.now c.args.block c.if-node.false asked c.if-node-ge-MOST_HEIGHT.false

@@ -1,0 +1,33 @@
+use Rattle.std.proofs.Common.{◌≡◌, ◌∙◌, Option, ap, refl, sym, subst, None, Some, false, IfErr, OnOk}
+use Rattle.cb_base.specs.declared.fault.Fault.{Fault}
+use Rattle.cb_chain.specs.Entries.{block_hash}
+use Rattle.cb_chain.specs.Calls.{header_fault}
+use Rattle.cb_chain.specs.Keeping.{parent_fault, place_of, tree_of}
+use Rattle.cb_chain.proofs.SideNodes.{header_known, header_marked, header_unknown, known_at}
+use Rattle.cb_chain.proofs.tree.Tree.header_spot.Goals as goal
+
+pub returns-then-node-clause-err : goal.returns-then-node-clause-err
+returns-then-node-clause-err c =
+    header_marked (tree_of c.args.self.now.nodes) c.args.header c.node.result.now
+    (known_at c.args.self.now.nodes (tree_of c.args.self.now.nodes) (block_hash c.args.header) c.in-Some.place c.node.result.now c.node.ensures.tree refl
+    (ap (place_of (tree_of c.args.self.now.nodes)) (sym c.requires) ∙ sym c.place.ensures.place ∙ c.in-Some.is) c.node.ensures.node) c.if-node.true
+
+pub returns-in-Some-clause-err : goal.returns-in-Some-clause-err
+returns-in-Some-clause-err c =
+    header_known (tree_of c.args.self.now.nodes) c.args.header c.node.result.now
+    (known_at c.args.self.now.nodes (tree_of c.args.self.now.nodes) (block_hash c.args.header) c.in-Some.place c.node.result.now c.node.ensures.tree refl
+    (ap (place_of (tree_of c.args.self.now.nodes)) (sym c.requires) ∙ sym c.place.ensures.place ∙ c.in-Some.is) c.node.ensures.node) c.if-node.false
+
+pub returns-clause-none : goal.returns-clause-none
+returns-clause-none c =
+    let same : header_fault (tree_of c.args.self.now.nodes) c.args.header ≡ parent_fault (tree_of c.args.self.now.nodes) c.args.header.prev false =
+    header_unknown c.args.self.now.nodes (tree_of c.args.self.now.nodes) c.args.header refl (ap (place_of (tree_of c.args.self.now.nodes)) (sym c.requires) ∙ sym c.place.ensures.place ∙ c.in_default.is)
+    in
+    subst (λ (o : Option Fault). OnOk c.spot_on_parent.result (o ≡ None)) (sym same) c.spot_on_parent.ensures.none
+
+pub returns-clause-err : goal.returns-clause-err
+returns-clause-err c =
+    let same : header_fault (tree_of c.args.self.now.nodes) c.args.header ≡ parent_fault (tree_of c.args.self.now.nodes) c.args.header.prev false =
+    header_unknown c.args.self.now.nodes (tree_of c.args.self.now.nodes) c.args.header refl (ap (place_of (tree_of c.args.self.now.nodes)) (sym c.requires) ∙ sym c.place.ensures.place ∙ c.in_default.is)
+    in
+    subst (λ (o : Option Fault). IfErr c.spot_on_parent.result (λ fault. o ≡ Some fault)) (sym same) c.spot_on_parent.ensures.err

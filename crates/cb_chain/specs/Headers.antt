@@ -1,0 +1,26 @@
+-- What headers that are given in turn do to the tree (Bitcoin's protocol, `headers`).
+use Rattle.std.specs.Prelude.{◌≡◌, ◌⊎◌, Bool, true, false, List, [], ◌∷◌, Option, None, Some}
+use Rattle.cb_base.specs.declared.fault.Fault.{Fault}
+use Rattle.cb_base.specs.declared.fault.Fault.TheVariants.{Known}
+use Rattle.cb_base.specs.declared.hash.Hash256.{Hash256}
+use Rattle.cb_block.specs.declared.header.Header.{Header}
+use Rattle.cb_chain.specs.Calls.{AcceptsHeader}
+use Rattle.cb_chain.specs.Entries.{Tree, block_hash}
+
+-- behind a header that is kept, or known, comes the next
+abbrev pub goes_on : Option Fault → Bool
+goes_on None = true
+goes_on (Some Known) = true
+goes_on other = false
+
+-- a header is kept, or known
+abbrev pub Meets : Tree → Header → Tree → Type 0
+Meets old header new = (answer : Option Fault) × (goes_on answer ≡ true) × AcceptsHeader old header answer new
+
+-- The hashes of headers that are kept or known are met, in order. The first header that is refused for anything else ends it:
+-- that is told, and nothing behind it is looked at.
+abbrev pub TakesHeaders : Tree → List Header → Option Fault → List Hash256 → Tree → Type 0
+TakesHeaders old [] against met new = (against ≡ None) × (met ≡ []) × (new ≡ old)
+TakesHeaders old (header ∷ headers) against met new =
+    ((next : Tree) × (others : List Hash256) × Meets old header next × (met ≡ block_hash header ∷ others) × TakesHeaders next headers against others new)
+    ⊎ ((goes_on against ≡ false) × AcceptsHeader old header against new × (met ≡ []))

@@ -1,0 +1,103 @@
+-- One entry more has one answer and leads to one state.
+use Rattle.std.proofs.Common.{◌≡◌, ◌∙◌, ℕ, Bool, true, false, List, [], ◌∷◌, ◌++◌, Option, None, Some, refl, sym, ap, subst}
+use Rattle.cb_base.specs.declared.hash.Hash256.{Hash256}
+use Rattle.cb_state.specs.declared.connection.Connection.{Connection}
+use Rattle.cb_state.specs.declared.inventory.Inventory.{Inventory}
+use Rattle.cb_state.specs.declared.news.News.{News}
+use Rattle.cb_state.specs.declared.wanting.Need.{Need}
+use Rattle.cb_state.specs.News.{IsNews}
+use Rattle.cb_state.specs.State.{NodeState}
+use Rattle.cb_state.specs.Wanting.{IsNeed, blocks_of, is_near}
+use Rattle.cb_state.proofs.OneAnswer.{one_heads, one_taken, one_tx}
+use Rattle.cb_journal.specs.declared.answer.Answer.{Answer}
+use Rattle.cb_journal.specs.declared.answer.Answer.TheVariants as answer
+use Rattle.cb_journal.specs.declared.entry.Entry.{Entry}
+use Rattle.cb_journal.specs.declared.entry.Entry.TheVariants.{Asked, Kick, Opened, Submitted}
+use Rattle.cb_journal.specs.declared.entry.Local.{Local}
+use Rattle.cb_journal.specs.declared.entry.Local.TheVariants as local
+use Rattle.cb_journal.specs.declared.question.Question.{Question}
+use Rattle.cb_journal.specs.declared.question.Question.TheVariants as question
+use Rattle.cb_journal.specs.declared.question.Request.{Request}
+use Rattle.cb_journal.specs.declared.question.Request.TheVariants.{After, Items}
+use Rattle.cb_journal.specs.Connections.{Slots, is_kicked}
+use Rattle.cb_journal.specs.Replica.{Does, Leads, ReplicaState, Steps, heard}
+use Rattle.cb_journal.specs.Replies.{Answers, IsServed, Replies, Submits, giver}
+
+-- ---- records by their fields
+
+same_need : (a b : Need) → a.entries ≡ b.entries → a.near ≡ b.near → a.locator ≡ b.locator → a ≡ b
+same_need a b e f g = λ i. record { entries = e i; near = f i; locator = g i }
+
+same_news : (a b : News) → a.tip ≡ b.tip → a.path ≡ b.path → a.long ≡ b.long → a.block ≡ b.block → a.txids ≡ b.txids → a.next ≡ b.next → a.high ≡ b.high → a ≡ b
+same_news a b d e f g h k l = λ i. record { tip = d i; path = e i; long = f i; block = g i; txids = h i; next = k i; high = l i }
+
+same_replica : (a b : ReplicaState) → a.node ≡ b.node → a.connections ≡ b.connections → a.entries ≡ b.entries → a ≡ b
+same_replica a b e f g = λ i. record { node = e i; connections = f i; entries = g i }
+
+-- ---- answers
+
+one_need : (state : NodeState) (entries : List Inventory) (a b : Need) → IsNeed state entries a → IsNeed state entries b → a ≡ b
+one_need state entries a b is are =
+    let same = is.wanted ∙ sym are.wanted in
+    same_need a b same (is.near ∙ ap (λ (es : List Inventory). is_near state (blocks_of es)) same ∙ sym are.near)
+    (is.locator ∙ rw same refl ∙ sym are.locator)
+
+one_news : (state : NodeState) (connection : Connection) (told : Option Hash256) (from : ℕ) (whole : Bool) (a b : News) → IsNews state connection told from whole a
+    → IsNews state connection told from whole b → a ≡ b
+one_news state connection told from whole a b is are =
+    same_news a b (is.tip ∙ sym are.tip) (is.path ∙ sym are.path) (is.long ∙ sym are.long) (is.block ∙ sym are.block) (is.txids ∙ sym are.txids) (is.next ∙ sym are.next) (is.high ∙ sym are.high)
+
+one_served : (state : NodeState) (request : Request) (told again : Answer) → IsServed state request told → IsServed state request again → told ≡ again
+one_served state (Items entries) told again is are = is ∙ sym are
+one_served state (After locator stop) told again is are = is ∙ sym are
+
+one_answer : (old new other : NodeState) (connection : Connection) (asked : Question) (told again : Answer) → Answers old connection asked told new → Answers old connection asked again other
+    → (told ≡ again) × (new ≡ other)
+one_answer old new other connection question.Admit told again h k = (h.0 ∙ sym k.0, h.1 ∙ sym k.1)
+one_answer old new other connection (question.Headers headers) told again (heads, e, is) (met, f, are) =
+    let one = one_heads old new other headers heads met is are in (e ∙ ap answer.Heads one.0 ∙ sym f, one.1)
+one_answer old new other connection question.Locator told again h k = (h.0 ∙ sym k.0, h.1 ∙ sym k.1)
+one_answer old new other connection (question.Want entries) told again (need, e, is, same) (lack, f, are, like) =
+    (e ∙ ap answer.Need (one_need old entries need lack is are) ∙ sym f, same ∙ sym like)
+one_answer old new other connection (question.GiveTx tx) told again (refused, e, is) (fault, f, are) =
+    let one = one_tx old new other tx refused fault is are in (e ∙ ap answer.TxTaken one.0 ∙ sym f, one.1)
+one_answer old new other connection (question.GiveBlock given) told again (taken, e, is) (met, f, are) =
+    let one = one_taken old new other given.block (giver connection given) taken met is are in (e ∙ ap answer.Taken one.0 ∙ sym f, one.1)
+one_answer old new other connection (question.Serve request) told again h k = (one_served old request told again h.0 k.0, h.1 ∙ sym k.1)
+one_answer old new other connection (question.News since) told again (news, e, is, same) (tale, f, are, like) =
+    (e ∙ ap answer.News (one_news old connection since.tip since.from since.whole news tale is are) ∙ sym f, same ∙ sym like)
+
+one_reply : (kicked : Bool) (old new other : NodeState) (connection : Connection) (asked : Question) (told again : Answer) → Replies kicked old connection asked told new
+    → Replies kicked old connection asked again other → (told ≡ again) × (new ≡ other)
+one_reply true old new other connection asked told again h k = (h.0 ∙ sym k.0, h.1 ∙ sym k.1)
+one_reply false old new other connection asked told again h k = one_answer old new other connection asked told again h k
+
+one_submit : (old new other : NodeState) (given : Local) (told again : Answer) → Submits old given told new → Submits old given again other → (told ≡ again) × (new ≡ other)
+one_submit old new other (local.Tx tx) told again (refused, e, is) (fault, f, are) =
+    let one = one_tx old new other tx refused fault is are in (e ∙ ap answer.TxTaken one.0 ∙ sym f, one.1)
+one_submit old new other (local.Block block) told again (taken, e, is) (met, f, are) =
+    let one = one_taken old new other block None taken met is are in (e ∙ ap answer.Taken one.0 ∙ sym f, one.1)
+
+-- ---- entries
+
+one_change : (old new other : NodeState) (connections after later : Slots) (entry : Entry) (told again : Option Answer) → Does old connections entry told new after
+    → Does old connections entry again other later → (told ≡ again) × (new ≡ other) × (after ≡ later)
+one_change old new other connections after later (Asked connection asked) told again (a, e, is, same) (b, f, are, like) =
+    let one = one_reply (is_kicked connections connection) old new other connection asked a b is are in (e ∙ ap Some one.0 ∙ sym f, one.1, same ∙ sym like)
+one_change old new other connections after later (Kick connection) told again h k = (h.0 ∙ sym k.0, h.1 ∙ sym k.1, h.2 ∙ sym k.2)
+one_change old new other connections after later (Opened connection) told again (e, is, same, grown) (f, are, like, more) = (e ∙ sym f, same ∙ sym like, grown ∙ sym more)
+one_change old new other connections after later (Submitted given) told again (a, e, is, same) (b, f, are, like) =
+    let one = one_submit old new other given a b is are in (e ∙ ap Some one.0 ∙ sym f, one.1, same ∙ sym like)
+
+pub one_step : (old new other : ReplicaState) (entry : Entry) (told again : Option Answer) → Steps old entry told new → Steps old entry again other → (told ≡ again) × (new ≡ other)
+one_step old new other entry told again h k =
+    let one = one_change old.node new.node other.node old.connections new.connections other.connections entry told again h.does k.does in
+    (one.0, same_replica new other one.1 one.2 (h.entries ∙ sym k.entries))
+
+pub one_end : (old new other : ReplicaState) (entries : List Entry) (answers again : List Answer) → Leads old entries answers new → Leads old entries again other
+    → (answers ≡ again) × (new ≡ other)
+one_end old new other [] answers again h k = (h.0 ∙ sym k.0, h.1 ∙ sym k.1)
+one_end old new other (entry ∷ entries) answers again (told, next, others, step, heard_all, rest) (said, after, more, walk, heard_too, end) =
+    let first = one_step old next after entry told said step walk in
+    let last = one_end next new other entries others more rest (subst (λ (s : ReplicaState). Leads s entries more other) (sym first.1) end) in
+    (heard_all ∙ ap (λ (xs : List Answer). heard entry told ++ xs) last.0 ∙ ap (λ (t : Option Answer). heard entry t ++ more) first.0 ∙ sym heard_too, last.1)

@@ -1,0 +1,5 @@
+pub mod Connections
+pub mod Journal
+pub mod Replica
+pub mod Replies
+pub mod Weight

@@ -1,0 +1,60 @@
+-- The state that a journal of calls leads to, and what its questions are answered: a fold over its entries (state machine
+-- replication).
+use Rattle.std.specs.Prelude.{◌≡◌, ℕ, ◌+◌, ◌<◌, List, [], ◌∷◌, ◌++◌, Option, None, Some}
+use Rattle.cb_state.specs.declared.connection.Connection.{Connection}
+use Rattle.cb_state.specs.Announcers.{without_peer}
+use Rattle.cb_state.specs.State.{NodeState}
+use Rattle.cb_state.specs.State as node
+use Rattle.cb_journal.specs.declared.answer.Answer.{Answer}
+use Rattle.cb_journal.specs.declared.entry.Entry.{Entry}
+use Rattle.cb_journal.specs.declared.entry.Entry.TheVariants.{Asked, Kick, Opened, Submitted}
+use Rattle.cb_journal.specs.Connections.{Slots, changed_at, counted, first_slots, is_kicked, kicked, latest_of, opened, put_in}
+use Rattle.cb_journal.specs.Replies.{Replies, Submits}
+
+-- what the peers share, what is known of their connections, and how many entries there were
+pub record ReplicaState : Type 0 where
+  pub node : NodeState
+  pub connections : Slots
+  pub entries : ℕ
+
+-- nothing was asked yet
+abbrev pub opening : ReplicaState
+opening = record { node = node.opening; connections = first_slots; entries = 0 }
+
+-- what is opened is the next connection of one of 64 peers
+abbrev pub IsNext : Slots → Connection → Type 0
+IsNext connections connection = (connection.peer < 64) × (connection.generation ≡ latest_of connections connection.peer + 1)
+
+-- an entry that can come
+abbrev pub IsFit : Slots → Entry → Type 0
+IsFit connections (Opened connection) = IsNext connections connection
+IsFit connections other = Unit {0}
+
+-- ---- one entry
+
+-- What it does to what peers share and to what is known of their connections, and what is answered.
+abbrev pub Does : NodeState → Slots → Entry → Option Answer → NodeState → Slots → Type 0
+Does old connections (Asked connection question) told new after =
+    (answer : Answer) × (told ≡ Some answer) × Replies (is_kicked connections connection) old connection question answer new × (after ≡ put_in counted connection connections)
+Does old connections (Kick connection) told new after = (told ≡ None) × (new ≡ old) × (after ≡ put_in kicked connection connections)
+-- a peer's earlier connections are no longer asked to announce blocks
+Does old connections (Opened connection) told new after =
+    (told ≡ None) × IsNext connections connection × (new ≡ record old { announcers = without_peer old.announcers connection.peer }) × (after ≡ changed_at opened connection.peer connections)
+Does old connections (Submitted local) told new after = (answer : Answer) × (told ≡ Some answer) × Submits old local answer new × (after ≡ connections)
+
+pub record Steps (old : ReplicaState) (entry : Entry) (told : Option Answer) (new : ReplicaState) : Type 0 where
+  pub does : Does old.node old.connections entry told new.node new.connections
+  pub entries : new.entries ≡ old.entries + 1
+
+-- ---- a journal
+
+-- the answer to a question, if it is one
+abbrev pub heard : Entry → Option Answer → List Answer
+heard (Asked connection question) (Some answer) = answer ∷ []
+heard entry other = []
+
+-- From one state the entries lead to another in turn, and these are the answers to the questions among them, in order.
+abbrev pub Leads : ReplicaState → List Entry → List Answer → ReplicaState → Type 0
+Leads old [] answers new = (answers ≡ []) × (new ≡ old)
+Leads old (entry ∷ entries) answers new =
+    (told : Option Answer) × (next : ReplicaState) × (others : List Answer) × Steps old entry told next × (answers ≡ heard entry told ++ others) × Leads next entries others new

@@ -1,0 +1,55 @@
+-- What is answered to each question, and what it leaves (Bitcoin's protocol, BIP 130, BIP 152).
+use Rattle.std.specs.Prelude.{◌≡◌, Bool, true, false, if◌then◌else◌, Option, None, Some}
+use Rattle.cb_base.specs.declared.fault.Fault.{Fault}
+use Rattle.cb_chain.specs.Following.{headers_after}
+use Rattle.cb_chain.specs.Locator.{locator_of}
+use Rattle.cb_state.specs.declared.connection.Connection.{Connection}
+use Rattle.cb_state.specs.declared.giving.Heads.{Heads}
+use Rattle.cb_state.specs.declared.giving.Taken.{Taken}
+use Rattle.cb_state.specs.declared.news.News.{News}
+use Rattle.cb_state.specs.declared.wanting.Need.{Need}
+use Rattle.cb_state.specs.Giving.{TakesBlock, TakesHeads, TakesTx}
+use Rattle.cb_state.specs.News.{IsNews}
+use Rattle.cb_state.specs.Serving.{pieces_of}
+use Rattle.cb_state.specs.State.{NodeState}
+use Rattle.cb_state.specs.Wanting.{IsNeed}
+use Rattle.cb_journal.specs.declared.answer.Answer.{Answer}
+use Rattle.cb_journal.specs.declared.answer.Answer.TheVariants as answer
+use Rattle.cb_journal.specs.declared.entry.Local.{Local}
+use Rattle.cb_journal.specs.declared.entry.Local.TheVariants as local
+use Rattle.cb_journal.specs.declared.question.Given.{Given}
+use Rattle.cb_journal.specs.declared.question.Question.{Question}
+use Rattle.cb_journal.specs.declared.question.Question.TheVariants as question
+use Rattle.cb_journal.specs.declared.question.Request.{Request}
+use Rattle.cb_journal.specs.declared.question.Request.TheVariants.{After, Items}
+
+-- A connection that knows compact blocks is thanked for a new tip.
+abbrev pub giver : Connection → Given → Option Connection
+giver connection given = if given.capable then Some connection else None
+
+abbrev pub IsServed : NodeState → Request → Answer → Type 0
+IsServed state (Items entries) told = told ≡ answer.Served (pieces_of state entries)
+IsServed state (After locator stop) told = told ≡ answer.Following (headers_after state.tree locator stop)
+
+-- a question of a connection that wasn't kicked
+abbrev pub Answers : NodeState → Connection → Question → Answer → NodeState → Type 0
+Answers old connection question.Admit told new = (told ≡ answer.Go) × (new ≡ old)
+Answers old connection (question.Headers headers) told new = (heads : Heads) × (told ≡ answer.Heads heads) × TakesHeads old headers heads new
+Answers old connection question.Locator told new = (told ≡ answer.Locator (locator_of old.tree)) × (new ≡ old)
+Answers old connection (question.Want entries) told new = (need : Need) × (told ≡ answer.Need need) × IsNeed old entries need × (new ≡ old)
+Answers old connection (question.GiveTx tx) told new = (refused : Option Fault) × (told ≡ answer.TxTaken refused) × TakesTx old tx refused new
+Answers old connection (question.GiveBlock given) told new =
+    (taken : Taken) × (told ≡ answer.Taken taken) × TakesBlock old given.block (giver connection given) taken new
+Answers old connection (question.Serve request) told new = IsServed old request told × (new ≡ old)
+Answers old connection (question.News since) told new =
+    (news : News) × (told ≡ answer.News news) × IsNews old connection since.tip since.from since.whole news × (new ≡ old)
+
+-- Each question of a kicked connection is answered so, and changes nothing.
+abbrev pub Replies : Bool → NodeState → Connection → Question → Answer → NodeState → Type 0
+Replies true old connection question told new = (told ≡ answer.Kicked) × (new ≡ old)
+Replies false old connection question told new = Answers old connection question told new
+
+-- what the node's own user hands in
+abbrev pub Submits : NodeState → Local → Answer → NodeState → Type 0
+Submits old (local.Tx tx) told new = (refused : Option Fault) × (told ≡ answer.TxTaken refused) × TakesTx old tx refused new
+Submits old (local.Block block) told new = (taken : Taken) × (told ≡ answer.Taken taken) × TakesBlock old block None taken new

@@ -1,0 +1,243 @@
+ghost use Rattle.std.specs.Prelude.{◌≡◌, ◌-◌, ◌<◌, ◌^◌, ◌++◌, ◌∷◌, [], replicate, IfOk, IfSome, IsOkUnless, OnErr, OnOk};
+ghost use Rattle.cb_base.specs.declared.fault.Fault.TheVariants.{Memory};
+ghost use Rattle.cb_journal.specs.Connections.{changed_at, connected_at, connected_of, counted, fresh, in_slot, is_kicked, kicked, latest_of, opened, put_in};
+
+use cb_base::Fault;
+use cb_state::Connection;
+use std::alloc::Global;
+use std::marker::Model;
+
+/// How many peers a node knows: 0 to 63.
+pub const PEERS: u16 = 64;
+
+/// What is known of a connection.
+#[derive(Clone, Copy, Debug, PartialEq, Eq)]
+pub struct Connected {
+    /// How many of its questions stand in the journal.
+    pub count: u64,
+    /// Whether it was kicked.
+    pub kicked: bool,
+}
+
+// The connections of a peer, by their generations. They are seen as their list.
+#[derive(Debug, Drop)]
+struct Slot {
+    list: Vec<Connected>,
+}
+
+impl Model for Slot {
+    ghost use Rattle.std.specs.Prelude.{List};
+    ghost use Rattle.cb_journal.specs.declared.connections.Connected.{Connected};
+
+    ghost Value = { List Connected };
+
+    ghost view = { λ slot. slot.list.items };
+}
+
+// A connection that has asked nothing.
+const FRESH: Connected = Connected {
+    count: 0,
+    kicked: false,
+};
+
+impl Slot {
+    // A peer's first connection.
+    fn new(alloc: Global) -> Result<Slot, Fault>
+        ensures first { IfOk result (λ slot. slot ≡ fresh ∷ []) }
+        ensures memory { IsOkUnless result Memory }
+    {
+        let mut list = Vec::with_capacity(alloc, 1)?;
+        list.push(FRESH)?;
+        Ok(Slot { list })
+    }
+
+    // The connection of a generation.
+    fn get(&self, generation: u64) -> Option<Connected>
+        ensures { result ≡ connected_at self.now generation }
+    {
+        if generation == 0 {
+            return None;
+        }
+        if generation > self.list.len() as u64 {
+            return None;
+        }
+        Some(self.list[(generation - 1) as usize])
+    }
+
+    // Another in place of the connection of a generation, if there is one.
+    fn put(&mut self, generation: u64, connected: Connected)
+        ensures { self.new ≡ in_slot (λ _. connected) generation self.old }
+    {
+        if generation == 0 {
+            return;
+        }
+        if generation > self.list.len() as u64 {
+            return;
+        }
+        self.list[(generation - 1) as usize] = connected;
+    }
+
+    // One connection more. The only error is `Fault::Memory`, which changes nothing.
+    fn open(&mut self) -> Result<(), Fault>
+        ensures ok { OnOk result (self.new ≡ self.old ++ fresh ∷ []) }
+        ensures err { OnErr result (self.new ≡ self.old) }
+        ensures memory { IsOkUnless result Memory }
+    {
+        self.list.push(FRESH)?;
+        Ok(())
+    }
+
+    // The same connections. The only error is `Fault::Memory`.
+    fn copy(&self, alloc: Global) -> Result<Slot, Fault>
+        ensures same { IfOk result (λ copy. copy ≡ self.now) }
+        ensures memory { IsOkUnless result Memory }
+    {
+        Ok(Slot {
+            list: Vec::from_slice(alloc, self.list.as_slice())?,
+        })
+    }
+}
+
+/// What is known of all connections of a node's peers. They are seen as a list for each peer, in which the first is of
+/// generation 1.
+#[derive(Debug, Drop)]
+pub struct Connections {
+    slots: Vec<Slot>,
+}
+
+impl Model for Connections {
+    ghost use Rattle.std.specs.Prelude.{◌≡◌, List, length};
+    ghost use Rattle.cb_journal.specs.declared.connections.Connected.{Connected};
+
+    ghost Value = { List (List Connected) };
+
+    ghost view = { λ connections. connections.slots.items };
+
+    ghost invariant = { λ connections. length connections.slots.items ≡ 64 };
+}
+
+impl Connections {
+    /// The first connection of each peer. The only error is `Fault::Memory`.
+    pub fn new(alloc: Global) -> Result<Connections, Fault>
+        ensures first { IfOk result (λ connections. connections ≡ replicate 64 (fresh ∷ [])) }
+        ensures memory { IsOkUnless result Memory }
+    {
+        Ok(Connections {
+            slots: first_slots(alloc)?,
+        })
+    }
+
+    /// What is known of a connection, if there is such a one.
+    pub fn get(&self, connection: Connection) -> Option<Connected>
+        ensures { result ≡ connected_of self.now connection }
+    {
+        self.slots
+            .get(connection.peer as usize)?
+            .get(connection.generation)
+    }
+
+    /// Whether a connection was kicked.
+    pub fn is_kicked(&self, connection: Connection) -> bool
+        ensures { result ≡ is_kicked self.now connection }
+    {
+        match self.get(connection) {
+            Some(connected) => connected.kicked,
+            None => false,
+        }
+    }
+
+    /// The generation of a peer's latest connection, 0 where there is no such peer.
+    pub fn latest(&self, peer: u16) -> u64
+        ensures { result ≡ latest_of self.now peer }
+    {
+        match self.slots.get(peer as usize) {
+            Some(slot) => slot.list.len() as u64,
+            None => 0,
+        }
+    }
+
+    // Something else is known of a connection, if there is such a one.
+    fn put(&mut self, connection: Connection, connected: Connected)
+        ensures { self.new ≡ put_in (λ _. connected) connection self.old }
+    {
+        let peer = connection.peer as usize;
+        if peer < self.slots.len() {
+            self.slots[peer].put(connection.generation, connected);
+        }
+    }
+
+    // One question more.
+    pub(crate) fn count(&mut self, connection: Connection)
+        requires { IfSome (connected_of self.old connection) (λ connected. connected.count < 2 ^ 64 - 1) }
+        ensures { self.new ≡ put_in counted connection self.old }
+    {
+        if let Some(connected) = self.get(connection) {
+            self.put(
+                connection,
+                Connected {
+                    count: connected.count + 1,
+                    kicked: connected.kicked,
+                },
+            );
+        }
+    }
+
+    // It is kicked.
+    pub(crate) fn kick(&mut self, connection: Connection)
+        ensures { self.new ≡ put_in kicked connection self.old }
+    {
+        if let Some(connected) = self.get(connection) {
+            self.put(
+                connection,
+                Connected {
+                    count: connected.count,
+                    kicked: true,
+                },
+            );
+        }
+    }
+
+    // A peer's next connection. The only error is `Fault::Memory`, which changes nothing.
+    pub(crate) fn open(&mut self, peer: u16) -> Result<(), Fault>
+        requires { peer < 64 }
+        ensures ok { OnOk result (self.new ≡ changed_at opened peer self.old) }
+        ensures err { OnErr result (self.new ≡ self.old) }
+        ensures memory { IsOkUnless result Memory }
+    {
+        self.slots[peer as usize].open()
+    }
+
+    /// The same connections. The only error is `Fault::Memory`.
+    pub fn copy(&self, alloc: Global) -> Result<Connections, Fault>
+        ensures same { IfOk result (λ copy. copy ≡ self.now) }
+        ensures memory { IsOkUnless result Memory }
+    {
+        Ok(Connections {
+            slots: copy_slots(alloc, self.slots.as_slice())?,
+        })
+    }
+}
+
+// Each peer's first connection. The only error is `Fault::Memory`.
+fn first_slots(alloc: Global) -> Result<Vec<Slot>, Fault>
+    ensures first { IfOk result (λ slots. slots.items ≡ replicate 64 (fresh ∷ [])) }
+    ensures memory { IsOkUnless result Memory }
+{
+    let mut slots = Vec::with_capacity(alloc, PEERS as usize)?;
+    for _ in 0..PEERS {
+        slots.push(Slot::new(alloc)?)?;
+    }
+    Ok(slots)
+}
+
+// The same connections of each peer. The only error is `Fault::Memory`.
+fn copy_slots(alloc: Global, slots: &[Slot]) -> Result<Vec<Slot>, Fault>
+    ensures same { IfOk result (λ copies. copies.items ≡ slots.now) }
+    ensures memory { IsOkUnless result Memory }
+{
+    let mut copies = Vec::with_capacity(alloc, slots.len())?;
+    for slot in slots {
+        copies.push(slot.copy(alloc)?)?;
+    }
+    Ok(copies)
+}

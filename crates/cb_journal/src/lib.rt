@@ -1,0 +1,22 @@
+//! What the peers of a node ask of it, what is answered, and the state that a journal of all calls leads to.
+#![tactic(auto)]
+
+mod answer;
+mod connections;
+mod entry;
+mod journal;
+mod law;
+mod question;
+mod replica;
+mod replying;
+
+pub use answer::{Answer, Following};
+pub use connections::{Connected, Connections, PEERS};
+pub use entry::{Entry, Local};
+pub use journal::{JOURNAL_ENTRIES, JOURNAL_WEIGHT, Journal};
+pub use law::{one_end, one_step};
+pub use question::{Given, HeaderList, Locator, Question, Request, Told};
+pub use replica::{MOST_CALLS, Replica};
+
+#[cfg(test)]
+mod tests;

@@ -1,0 +1,81 @@
+ghost use Rattle.std.specs.Prelude.{◌≡◌, IfOk, IsOkUnless, OnErr};
+ghost use Rattle.cb_base.specs.declared.fault.Fault.TheVariants.{Memory};
+ghost use Rattle.cb_journal.specs.Replies.{Answers, IsServed, Submits, giver};
+
+use crate::answer::Answer;
+use crate::entry::Local;
+use crate::question::{Given, Question, Request};
+use cb_base::Fault;
+use cb_chain::Hashes;
+use cb_state::{Connection, Listed, State};
+
+// The connection that gave a block, where it knows compact blocks.
+fn giver_of(connection: Connection, given: &Given) -> Option<Connection>
+    ensures { result ≡ giver connection given.now }
+{
+    if given.capable {
+        return Some(connection);
+    }
+    None
+}
+
+// What is served.
+fn served(state: &State, request: &Request) -> Result<Answer, Fault>
+    ensures answers { IfOk result (λ answer. IsServed state.now request.now answer) }
+    ensures memory { IsOkUnless result Memory }
+{
+    match request {
+        Request::Items(entries) => Ok(Answer::Served(state.serve(entries)?)),
+        Request::After(locator, stop) => {
+            let headers = state.chain().after(locator.as_slice(), stop)?;
+            Ok(Answer::Following(Listed::from_few(headers)))
+        }
+    }
+}
+
+// Answers a connection's question. The only error is `Fault::Memory`, which changes nothing.
+pub(crate) fn reply(
+    state: &mut State,
+    connection: Connection,
+    question: &Question,
+) -> Result<Answer, Fault>
+    ensures answers { IfOk result (λ answer. Answers state.old connection question.now answer state.new) }
+    ensures err { OnErr result (state.new ≡ state.old) }
+    ensures memory { IsOkUnless result Memory }
+{
+    match question {
+        Question::Admit => Ok(Answer::Go),
+        Question::Headers(headers) => {
+            let heads = state.take_headers(headers.as_slice())?;
+            Ok(Answer::Heads(heads))
+        }
+        Question::Locator => {
+            let locator = Hashes::new(state.chain().locator()?);
+            Ok(Answer::Locator(locator))
+        }
+        Question::Want(entries) => Ok(Answer::Need(state.want(entries)?)),
+        Question::GiveTx(tx) => Ok(Answer::TxTaken(state.take_tx(tx.clone()?)?)),
+        Question::GiveBlock(given) => {
+            let block = given.block.copy()?;
+            let from = giver_of(connection, given);
+            Ok(Answer::Taken(state.take_block(block, from)?))
+        }
+        Question::Serve(request) => served(state, request),
+        Question::News(told) => {
+            let news = state.news(connection, told.tip, told.from, told.whole)?;
+            Ok(Answer::News(news))
+        }
+    }
+}
+
+// What comes of what the node's own user hands in. The only error is `Fault::Memory`, which changes nothing.
+pub(crate) fn submit(state: &mut State, local: &Local) -> Result<Answer, Fault>
+    ensures answers { IfOk result (λ answer. Submits state.old local.now answer state.new) }
+    ensures err { OnErr result (state.new ≡ state.old) }
+    ensures memory { IsOkUnless result Memory }
+{
+    match local {
+        Local::Tx(tx) => Ok(Answer::TxTaken(state.take_tx(tx.clone()?)?)),
+        Local::Block(block) => Ok(Answer::Taken(state.take_block(block.copy()?, None)?)),
+    }
+}
