@@ -9,6 +9,11 @@ HEAD = "# Crates whose wrong bodies were all refused: how many, and the SHA-256 
 OWN, BELOW = ("src", "specs", "proofs", "attacks"), ("src", "specs", "proofs")
 
 
+def logic_of(version):
+    """Returns the name of the logic by which the toolchain proves, `logic HASH`: the kit before it is built anew more often."""
+    return version[version.index(b"logic ") :]
+
+
 def is_test(path):
     """Whether a source file is read by tests alone."""
     return path.name == "tests.rt" or path.name.endswith("_tests.rt") or "tests" in path.parts
@@ -19,13 +24,13 @@ class Tried:
 
     def __init__(self, repository):
         self.repository, self.path = repository, repository.root / FILE
-        self.toolchain = subprocess.run(["rt", "--version"], capture_output=True, check=True).stdout
+        self.logic = logic_of(subprocess.run(["rt", "--version"], capture_output=True, check=True).stdout)
         lines = self.path.read_text(encoding="utf-8").splitlines() if self.path.is_file() else []
         self.noted = {line.split()[0]: line for line in lines if line and not line.startswith("#")}
 
     def digest(self, crate):
-        """Returns the SHA-256 of the toolchain's name and of each file that a check of the crate's wrong bodies reads, with its path."""
-        found = hashlib.sha256(self.toolchain)
+        """Returns the SHA-256 of the logic's name and of each file that a check of the crate's wrong bodies reads, with its path."""
+        found = hashlib.sha256(self.logic)
         for it in [crate, *self.repository.below(crate)]:
             for part in OWN if it is crate else BELOW:
                 for file in sorted(path for path in (it.folder / part).rglob("*") if path.is_file()):
