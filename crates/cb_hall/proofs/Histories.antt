@@ -1,71 +1,98 @@
 -- Calls of a badge, one list behind another.
-use Rattle.std.proofs.Common.{◌≡◌, ℕ, List, [], ◌∷◌, ◌++◌, length, refl, sym, ap, subst, ◌∙◌, append_assoc, arith, true, inl, inr}
+use Rattle.std.proofs.Common.{◌≡◌, ◌∙◌, ◌^◌, ◌≤◌, ℕ, ◌+◌, List, [], ◌∷◌, ◌++◌, length, Option, Some, refl, sym, ap, subst, append_assoc, arith, true, inl, inr}
 use Rattle.std.specs.Prelude.{map}
 use Rattle.std.proofs.lemmas.List.{append-nil, length-append, map-append}
-use Rattle.cb_hall.specs.declared.hall.Entry.{Entry}
-use Rattle.cb_hall.specs.declared.hall.Question.{Question}
-use Rattle.cb_hall.specs.declared.hall.Answer.{Answer}
-use Rattle.cb_hall.specs.Hall.{BadgeState, Grants, IsFull}
-use Rattle.cb_hall.specs.Histories.{AreAnswers, Asks, IsMarkedFull, Reply, asked_by}
+use Rattle.cb_state.specs.declared.connection.Connection.{Connection}
+use Rattle.cb_journal.specs.declared.answer.Answer.{Answer}
+use Rattle.cb_journal.specs.declared.entry.Entry.{Entry}
+use Rattle.cb_journal.specs.declared.entry.Entry.TheVariants.{Asked}
+use Rattle.cb_journal.specs.declared.question.Question.{Question}
+use Rattle.cb_journal.specs.Journal.{JournalState}
+use Rattle.cb_journal.specs.Replica.{Leads}
+use Rattle.cb_journal.proofs.Leading.{leads_length, leads_one, leads_then}
+use Rattle.cb_hall.specs.Badge.{BadgeState, marked}
+use Rattle.cb_hall.specs.Hall.{Grants, HasHistory, IsFull}
+use Rattle.cb_hall.specs.Histories.{Asks, IsMarkedFull, Reply, asked_by, told_by}
 
-answers_append : (journal : List Entry) (peer : ℕ) (a b : List Reply) → AreAnswers journal peer a → AreAnswers (journal ++ map (asked_by peer) a) peer b → AreAnswers journal peer (a ++ b)
-answers_append journal peer [] b h k = subst (λ (j : List Entry). AreAnswers j peer b) (append-nil journal) k
-answers_append journal peer (reply ∷ a) b h k =
-    (h.0, answers_append (journal ++ asked_by peer reply ∷ []) peer a b h.1 (subst (λ (j : List Entry). AreAnswers j peer b) (sym (append_assoc journal (asked_by peer reply ∷ []) (map (asked_by peer) a))) k))
+asked_append : (connection : Connection) (xs ys : List Reply) → asked_by connection (xs ++ ys) ≡ asked_by connection xs ++ asked_by connection ys
+asked_append connection xs ys = map-append (λ reply. Asked connection reply.question) xs ys
+
+told_append : (xs ys : List Reply) → told_by (xs ++ ys) ≡ told_by xs ++ told_by ys
+told_append xs ys = map-append (λ reply. reply.answer) xs ys
 
 -- no call
-pub asks_none : (journal : List Entry) (badge : BadgeState) → Asks journal journal badge badge []
-asks_none journal badge = record { journal = sym (append-nil journal); answers = tt; peer = refl; count = omega arith; marked = λ h. h }
+pub asks_none : (hall : JournalState) (badge : BadgeState) → Asks hall hall badge badge []
+asks_none hall badge =
+    record {
+      leads = (refl, refl);
+      history = λ past answers h.
+          subst (λ (es : List Entry). HasHistory hall es (answers ++ [])) (sym (append-nil past))
+          (subst (λ (xs : List Answer). HasHistory hall past xs) (sym (append-nil answers)) h);
+      connection = refl;
+      count = omega arith;
+      marked = λ h. h;
+    }
 
 -- some calls, and then others
-pub asks_then : (j k l : List Entry) (a b c : BadgeState) (xs ys : List Reply) → Asks j k a b xs → Asks k l b c ys → Asks j l a c (xs ++ ys)
+pub asks_then : (j k l : JournalState) (a b c : BadgeState) (xs ys : List Reply) → Asks j k a b xs → Asks k l b c ys → Asks j l a c (xs ++ ys)
 asks_then j k l a b c xs ys x y =
-    let second : AreAnswers (j ++ map (asked_by a.peer) xs) a.peer ys =
-    subst (λ (js : List Entry). AreAnswers js a.peer ys) x.journal (subst (λ (p : ℕ). AreAnswers k p ys) x.peer y.answers) in
+    let second : Leads k.latest (asked_by a.connection ys) (told_by ys) l.latest = subst (λ (p : Connection). Leads k.latest (asked_by p ys) (told_by ys) l.latest) x.connection y.leads in
     let first_count = x.count in
     let next_count = y.count in
     record {
-      journal =
-          y.journal ∙ ap (λ (p : ℕ). k ++ map (asked_by p) ys) x.peer ∙ ap (λ (js : List Entry). js ++ map (asked_by a.peer) ys) x.journal
-          ∙ append_assoc j (map (asked_by a.peer) xs) (map (asked_by a.peer) ys)
-          ∙ ap (λ (es : List Entry). j ++ es) (sym (map-append (asked_by a.peer) xs ys));
-      answers = answers_append j a.peer xs ys x.answers second;
-      peer = y.peer ∙ x.peer;
+      leads =
+          subst (λ (es : List Entry). Leads j.latest es (told_by (xs ++ ys)) l.latest) (sym (asked_append a.connection xs ys))
+          (subst (λ (ts : List Answer). Leads j.latest (asked_by a.connection xs ++ asked_by a.connection ys) ts l.latest) (sym (told_append xs ys))
+          (leads_then j.latest k.latest l.latest (asked_by a.connection xs) (asked_by a.connection ys) (told_by xs) (told_by ys) x.leads second));
+      history = λ past answers h.
+          let both = y.history (past ++ asked_by a.connection xs) (answers ++ told_by xs) (x.history past answers h) in
+          let named : HasHistory l ((past ++ asked_by a.connection xs) ++ asked_by a.connection ys) ((answers ++ told_by xs) ++ told_by ys) =
+          subst (λ (p : Connection). HasHistory l ((past ++ asked_by a.connection xs) ++ asked_by p ys) ((answers ++ told_by xs) ++ told_by ys)) x.connection both in
+          let calls : (past ++ asked_by a.connection xs) ++ asked_by a.connection ys ≡ past ++ asked_by a.connection (xs ++ ys) =
+          append_assoc past (asked_by a.connection xs) (asked_by a.connection ys) ∙ ap (λ (es : List Entry). past ++ es) (sym (asked_append a.connection xs ys)) in
+          let told : (answers ++ told_by xs) ++ told_by ys ≡ answers ++ told_by (xs ++ ys) =
+          append_assoc answers (told_by xs) (told_by ys) ∙ ap (λ (ts : List Answer). answers ++ ts) (sym (told_append xs ys)) in
+          subst (λ (es : List Entry). HasHistory l es (answers ++ told_by (xs ++ ys))) calls
+          (subst (λ (ts : List Answer). HasHistory l ((past ++ asked_by a.connection xs) ++ asked_by a.connection ys) ts) told named);
+      connection = y.connection ∙ x.connection;
       count = omega (arith, length-append xs ys);
       marked = λ h. y.marked (x.marked h);
     }
 
 -- a call that was granted
-pub asks_one : (j k : List Entry) (a b : BadgeState) (question : Question) (answer : Answer) → Grants j k a b question answer → Asks j k a b (record { question = question; answer = answer } ∷ [])
+pub asks_one : (j k : JournalState) (a b : BadgeState) (question : Question) (answer : Answer) → Grants j k a b question answer → Asks j k a b (record { question = question; answer = answer } ∷ [])
 asks_one j k a b question answer g =
     record {
-      journal = g.journal;
-      answers = (g.answered, tt);
-      peer = ap (λ (x : BadgeState). x.peer) g.badge;
+      leads = leads_one j.latest k.latest (Asked a.connection question) (Some answer) g.grows.notes.steps;
+      history = g.grows.history;
+      connection = ap (λ (x : BadgeState). x.connection) g.badge;
       count = ap (λ (x : BadgeState). x.count) g.badge;
       marked = λ h. ap (λ (x : BadgeState). x.full) g.badge ∙ h;
     }
 
 -- a badge that was marked
-pub marked_full : (journal : List Entry) (old new : BadgeState) → new ≡ record { peer = old.peer; count = old.count; full = true } → IsFull journal old → IsMarkedFull journal new
-marked_full journal old new e h = subst (λ (b : BadgeState). IsMarkedFull journal b) (sym e) (refl, h)
+pub marked_full : (hall : JournalState) (old new : BadgeState) → new ≡ marked old → IsFull hall old → IsMarkedFull hall new
+marked_full hall old new e h = subst (λ (b : BadgeState). IsMarkedFull hall b) (sym e) (refl, h)
 
--- a call that was refused because there are too many
-pub asks_marked : (j k : List Entry) (a b : BadgeState) → k ≡ j → b ≡ record { peer = a.peer; count = a.count; full = true } → Asks j k a b []
+-- a call that was refused as one too many
+pub asks_marked : (j k : JournalState) (a b : BadgeState) → k ≡ j → b ≡ marked a → Asks j k a b []
 asks_marked j k a b e m =
+    subst (λ (x : BadgeState). Asks j k a x []) (sym m) (subst (λ (js : JournalState). Asks j js a (marked a) []) (sym e)
     record {
-      journal = e ∙ sym (append-nil j);
-      answers = tt;
-      peer = ap (λ (x : BadgeState). x.peer) m;
-      count = (let same = ap (λ (x : BadgeState). x.count) m in omega arith);
-      marked = λ h. ap (λ (x : BadgeState). x.full) m;
-    }
+      leads = (refl, refl);
+      history = (asks_none j a).history;
+      connection = refl;
+      count = omega arith;
+      marked = λ h. refl;
+    })
 
 -- a call that was refused for want of memory
-pub asks_starved : (j k : List Entry) (a b : BadgeState) → k ≡ j → b ≡ a → Asks j k a b []
-asks_starved j k a b e m = subst (λ (x : BadgeState). Asks j k a x []) (sym m) (subst (λ (js : List Entry). Asks j js a a []) (sym e) (asks_none j a))
+pub asks_starved : (j k : JournalState) (a b : BadgeState) → k ≡ j → b ≡ a → Asks j k a b []
+asks_starved j k a b e m = subst (λ (x : BadgeState). Asks j k a x []) (sym m) (subst (λ (js : JournalState). Asks j js a a []) (sym e) (asks_none j a))
 
 -- what is full stays so
-pub full_stays : (j k : List Entry) (a b : BadgeState) (xs : List Reply) → Asks j k a b xs → IsMarkedFull j a → IsMarkedFull k b
-full_stays j k a b xs x (mark, inl long) = (x.marked mark, inl (let len = ap length x.journal ∙ length-append j (map (asked_by a.peer) xs) in omega (arith, len, long)))
+pub full_stays : (j k : JournalState) (a b : BadgeState) (xs : List Reply) → Asks j k a b xs → IsMarkedFull j a → IsMarkedFull k b
+full_stays j k a b xs x (mark, inl long) =
+    let more = leads_length j.latest k.latest (asked_by a.connection xs) (told_by xs) x.leads in
+    (x.marked mark, inl (omega (arith, more, long)))
 full_stays j k a b xs x (mark, inr many) = (x.marked mark, inr (let more = x.count in omega (arith, more, many)))

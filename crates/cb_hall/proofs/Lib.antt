@@ -1,2 +1,10 @@
 pub mod Badges
+pub mod Extending
+pub mod Growing
 pub mod Histories
+pub mod Kicks
+pub mod Lookups
+pub mod LowBlocks
+pub mod Namesakes
+pub mod NextTip
+pub mod Replaying

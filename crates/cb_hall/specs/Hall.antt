@@ -1,37 +1,59 @@
--- The hall: its journal, the badges of the peers, and what it answers.
-use Rattle.std.specs.Prelude.{◌≡◌, ℕ, ◌+◌, ◌≤◌, ◌⊎◌, Bool, false, List, [], ◌∷◌, ◌++◌, map}
-use Rattle.std.specs.Prelude.{length}
-use Rattle.std.specs.List.{range_with_len}
-use Rattle.cb_hall.specs.declared.hall.Entry.{Entry}
-use Rattle.cb_hall.specs.declared.hall.Entry.TheVariants.{Asked}
-use Rattle.cb_hall.specs.declared.hall.Question.{Question}
-use Rattle.cb_hall.specs.declared.hall.Question.TheVariants.{Admit}
-use Rattle.cb_hall.specs.declared.hall.Answer.{Answer}
-use Rattle.cb_hall.specs.declared.hall.Answer.TheVariants.{Go}
+-- A hall: what a node's journal of calls leads to (state machine replication), and what a call of it does.
+use Rattle.std.specs.Prelude.{◌≡◌, ◌⊎◌, ℕ, ◌+◌, ◌≤◌, ◌^◌, List, [], ◌∷◌, ◌++◌, length, Option, None, Some}
+use Rattle.cb_chain.specs.Best.{best}
+use Rattle.cb_chain.specs.Laws.{height_in}
+use Rattle.cb_state.specs.declared.connection.Connection.{Connection}
+use Rattle.cb_state.specs.State.{NodeState}
+use Rattle.cb_journal.specs.declared.answer.Answer.{Answer}
+use Rattle.cb_journal.specs.declared.entry.Entry.{Entry}
+use Rattle.cb_journal.specs.declared.entry.Entry.TheVariants as entries
+use Rattle.cb_journal.specs.declared.entry.Local.{Local}
+use Rattle.cb_journal.specs.declared.question.Question.{Question}
+use Rattle.cb_journal.specs.Connections.{latest_of}
+use Rattle.cb_journal.specs.Journal.{JournalState, Notes}
+use Rattle.cb_journal.specs.Replica.{Leads, heard, opening}
+use Rattle.cb_hall.specs.Badge.{BadgeState, counted}
+use Rattle.cb_hall.specs.declared.look.Look.{Look}
 
--- a badge: whose it is, the calls that were granted, and whether one was refused as too many
-pub record BadgeState : Type 0 where
-  pub peer : ℕ
-  pub count : ℕ
-  pub full : Bool
+-- All calls since the beginning, of which the journal's are the last, and the answers to the questions among them: those that
+-- were dropped led from nothing to the state before the journal, and the journal leads on from there.
+pub record HasHistory (hall : JournalState) (past : List Entry) (answers : List Answer) : Type 0 where
+  pub dropped : List Entry
+  pub told : List Answer
+  pub before : Leads opening dropped told hall.base
+  pub since : List Answer
+  pub after : Leads hall.base hall.entries since hall.latest
+  pub calls : past ≡ dropped ++ hall.entries
+  pub heard_all : answers ≡ told ++ since
 
-abbrev pub fresh_badge : ℕ → BadgeState
-fresh_badge peer = record { peer = peer; count = 0; full = false }
+-- One call more: it is the journal's one new entry, and the last of all calls.
+pub record Grows (old : JournalState) (entry : Entry) (told : Option Answer) (new : JournalState) : Type 0 where
+  pub notes : Notes old entry told new
+  pub history : (past : List Entry) (answers : List Answer) → HasHistory old past answers → HasHistory new (past ++ entry ∷ []) (answers ++ heard entry told)
 
--- one badge for each of the peers below this number, in order
-abbrev pub AreBadges : ℕ → List BadgeState → Type 0
-AreBadges peers badges = badges ≡ map fresh_badge (range_with_len 0 peers)
+-- ---- calls
 
--- the answer to a call after this journal
-abbrev pub answer_to : List Entry → Entry → Answer
-answer_to journal (Asked peer Admit) = Go
+-- a peer's latest connection, and its next one
+abbrev pub latest_connection : JournalState → ℕ → Connection
+latest_connection hall peer = record { peer = peer; generation = latest_of hall.latest.connections peer }
 
--- no more calls are granted to this badge
-abbrev pub IsFull : List Entry → BadgeState → Type 0
-IsFull journal badge = (1000000 ≤ length journal) ⊎ (1000000 ≤ badge.count)
+abbrev pub next_connection : JournalState → ℕ → Connection
+next_connection hall peer = record { peer = peer; generation = latest_of hall.latest.connections peer + 1 }
 
--- a call was granted: it stands in the journal, the badge counts it, and the answer is the journal's
-pub record Grants (old new : List Entry) (had has : BadgeState) (question : Question) (answer : Answer) : Type 0 where
-  pub journal : new ≡ old ++ Asked had.peer question ∷ []
-  pub badge : has ≡ record { peer = had.peer; count = had.count + 1; full = had.full }
-  pub answered : answer ≡ answer_to old (Asked had.peer question)
+-- no more questions of this badge are granted
+abbrev pub IsFull : JournalState → BadgeState → Type 0
+IsFull hall badge = (2 ^ 62 ≤ hall.latest.entries) ⊎ (2 ^ 62 ≤ badge.count)
+
+-- A question was granted: it is one call more of the badge's connection, the badge counts it, and the answer is the journal's.
+pub record Grants (old new : JournalState) (had has : BadgeState) (question : Question) (answer : Answer) : Type 0 where
+  pub grows : Grows old (entries.Asked had.connection question) (Some answer) new
+  pub badge : has ≡ counted had
+
+-- what the node's own user hands in is one call more
+abbrev pub Submitted : JournalState → Local → JournalState → Answer → Type 0
+Submitted old local new answer = Grows old (entries.Submitted local) (Some answer) new
+
+-- ---- what is seen of it
+
+abbrev pub look_of : NodeState → Look
+look_of node = record { height = height_in node.tree (best node.tree); tip = best node.tree; pool = length node.pool.list }

@@ -1,8 +1,15 @@
-//! What the sessions of one node share, and what they ask of it.
+//! The state that the peers of a node share: what each of them asks is answered by a journal of all calls, under a badge.
 #![tactic(auto)]
 
+mod badge;
 mod hall;
+mod law;
+mod look;
+mod mined;
 #[cfg(test)]
 mod tests;
 
-pub use hall::{Answer, Badge, Entry, Hall, JOURNAL_LIMIT, Question};
+pub use badge::Badge;
+pub use hall::Hall;
+pub use law::{each_question_is_counted, mined_is_next_tip, one_hall, who_was_kicked};
+pub use look::Look;

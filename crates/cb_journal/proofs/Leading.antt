@@ -10,7 +10,7 @@ use Rattle.cb_journal.specs.declared.entry.Entry.{Entry}
 use Rattle.cb_journal.specs.declared.entry.Entry.TheVariants.{Asked, Kick, Opened, Submitted}
 use Rattle.cb_journal.specs.Connections.{AreCounted, Slots}
 use Rattle.cb_journal.specs.Journal.{Again, BeginsWith, IsJournal, IsPast, JournalState, Notes, is_to_begin_anew}
-use Rattle.cb_journal.specs.Replica.{Does, IsFit, Leads, ReplicaState, Steps, heard, opening}
+use Rattle.cb_journal.specs.Replica.{Does, IsFit, Leads, ReplicaState, Steps, Tells, heard, opening, slots_after}
 use Rattle.cb_journal.specs.Weight.{entry_weight, journal_weight}
 use Rattle.cb_journal.proofs.Once.{one_step}
 use Rattle.cb_journal.proofs.Slots.{counted_asked, counted_kicked, counted_more, counted_opened}
@@ -21,23 +21,34 @@ use Rattle.cb_journal.proofs.Slots.{counted_asked, counted_kicked, counted_more,
 more : (n : ℕ) → suc n ≡ n + 1
 more n = omega arith
 
-does_counted : (most : ℕ) (old new : NodeState) (connections after : Slots) (entry : Entry) (told : Option Answer) → Does old connections entry told new after
-    → AreCounted most connections → AreCounted (suc most) after
-does_counted most old new connections after (Asked connection question) told (answer, e, is, same) are = subst (AreCounted (suc most)) (sym same) (counted_asked most connection connections are)
-does_counted most old new connections after (Kick connection) told h are = subst (AreCounted (suc most)) (sym h.2) (counted_kicked most connection connections are)
-does_counted most old new connections after (Opened connection) told (e, is, same, grown) are = subst (AreCounted (suc most)) (sym grown) (counted_opened most connection.peer connections are)
-does_counted most old new connections after (Submitted local) told (answer, e, is, same) are = subst (AreCounted (suc most)) (sym same) (counted_more most connections are)
+after_counted : (most : ℕ) (connections : Slots) (entry : Entry) → AreCounted most connections → AreCounted (suc most) (slots_after connections entry)
+after_counted most connections (Asked connection question) are = counted_asked most connection connections are
+after_counted most connections (Kick connection) are = counted_kicked most connection connections are
+after_counted most connections (Opened connection) are = counted_opened most connection.peer connections are
+after_counted most connections (Submitted local) are = counted_more most connections are
 
 pub step_counted : (most : ℕ) (old new : NodeState) (connections after : Slots) (entry : Entry) (told : Option Answer) → Does old connections entry told new after
     → AreCounted most connections → AreCounted (most + 1) after
 step_counted most old new connections after entry told does are =
-    subst (λ (n : ℕ). AreCounted n after) (more most) (does_counted most old new connections after entry told does are)
+    subst (λ (n : ℕ). AreCounted n after) (more most) (subst (AreCounted (suc most)) (sym does.1) (after_counted most connections entry are))
 
-does_fit : (old new : NodeState) (connections after : Slots) (entry : Entry) (told : Option Answer) → Does old connections entry told new after → IsFit connections entry
-does_fit old new connections after (Asked connection question) told h = tt
-does_fit old new connections after (Kick connection) told h = tt
-does_fit old new connections after (Opened connection) told (e, is, same, grown) = is
-does_fit old new connections after (Submitted local) told h = tt
+tells_fit : (old new : NodeState) (connections : Slots) (entry : Entry) (told : Option Answer) → Tells old connections entry told new → IsFit connections entry
+tells_fit old new connections (Asked connection question) told h = tt
+tells_fit old new connections (Kick connection) told h = tt
+tells_fit old new connections (Opened connection) told (e, is, same) = is
+tells_fit old new connections (Submitted local) told h = tt
+
+pub does_fit : (old new : NodeState) (connections after : Slots) (entry : Entry) (told : Option Answer) → Does old connections entry told new after → IsFit connections entry
+does_fit old new connections after entry told does = tells_fit old new connections entry told does.0
+
+pub does_slots : (old new : NodeState) (connections after : Slots) (entry : Entry) (told : Option Answer) → Does old connections entry told new after → after ≡ slots_after connections entry
+does_slots old new connections after entry told does = does.1
+
+pub step_fit : (old new : ReplicaState) (entry : Entry) (told : Option Answer) → Steps old entry told new → IsFit old.connections entry
+step_fit old new entry told step = does_fit old.node new.node old.connections new.connections entry told step.does
+
+pub step_slots : (old new : ReplicaState) (entry : Entry) (told : Option Answer) → Steps old entry told new → new.connections ≡ slots_after old.connections entry
+step_slots old new entry told step = step.does.1
 
 -- ---- entries in turn
 

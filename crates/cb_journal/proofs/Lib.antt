@@ -1,4 +1,5 @@
 pub mod Answering
+pub mod Fitting
 pub mod Leading
 pub mod Once
 pub mod Slots

@@ -20,7 +20,7 @@ use Rattle.cb_journal.specs.declared.question.Question.TheVariants as question
 use Rattle.cb_journal.specs.declared.question.Request.{Request}
 use Rattle.cb_journal.specs.declared.question.Request.TheVariants.{After, Items}
 use Rattle.cb_journal.specs.Connections.{Slots, is_kicked}
-use Rattle.cb_journal.specs.Replica.{Does, Leads, ReplicaState, Steps, heard}
+use Rattle.cb_journal.specs.Replica.{Leads, ReplicaState, Steps, Tells, heard}
 use Rattle.cb_journal.specs.Replies.{Answers, IsServed, Replies, Submits, giver}
 
 -- ---- records by their fields
@@ -80,19 +80,19 @@ one_submit old new other (local.Block block) told again (taken, e, is) (met, f, 
 
 -- ---- entries
 
-one_change : (old new other : NodeState) (connections after later : Slots) (entry : Entry) (told again : Option Answer) → Does old connections entry told new after
-    → Does old connections entry again other later → (told ≡ again) × (new ≡ other) × (after ≡ later)
-one_change old new other connections after later (Asked connection asked) told again (a, e, is, same) (b, f, are, like) =
-    let one = one_reply (is_kicked connections connection) old new other connection asked a b is are in (e ∙ ap Some one.0 ∙ sym f, one.1, same ∙ sym like)
-one_change old new other connections after later (Kick connection) told again h k = (h.0 ∙ sym k.0, h.1 ∙ sym k.1, h.2 ∙ sym k.2)
-one_change old new other connections after later (Opened connection) told again (e, is, same, grown) (f, are, like, more) = (e ∙ sym f, same ∙ sym like, grown ∙ sym more)
-one_change old new other connections after later (Submitted given) told again (a, e, is, same) (b, f, are, like) =
-    let one = one_submit old new other given a b is are in (e ∙ ap Some one.0 ∙ sym f, one.1, same ∙ sym like)
+one_telling : (old new other : NodeState) (connections : Slots) (entry : Entry) (told again : Option Answer) → Tells old connections entry told new → Tells old connections entry again other
+    → (told ≡ again) × (new ≡ other)
+one_telling old new other connections (Asked connection asked) told again (a, e, is) (b, f, are) =
+    let one = one_reply (is_kicked connections connection) old new other connection asked a b is are in (e ∙ ap Some one.0 ∙ sym f, one.1)
+one_telling old new other connections (Kick connection) told again h k = (h.0 ∙ sym k.0, h.1 ∙ sym k.1)
+one_telling old new other connections (Opened connection) told again (e, is, same) (f, are, like) = (e ∙ sym f, same ∙ sym like)
+one_telling old new other connections (Submitted given) told again (a, e, is) (b, f, are) =
+    let one = one_submit old new other given a b is are in (e ∙ ap Some one.0 ∙ sym f, one.1)
 
 pub one_step : (old new other : ReplicaState) (entry : Entry) (told again : Option Answer) → Steps old entry told new → Steps old entry again other → (told ≡ again) × (new ≡ other)
 one_step old new other entry told again h k =
-    let one = one_change old.node new.node other.node old.connections new.connections other.connections entry told again h.does k.does in
-    (one.0, same_replica new other one.1 one.2 (h.entries ∙ sym k.entries))
+    let one = one_telling old.node new.node other.node old.connections entry told again h.does.0 k.does.0 in
+    (one.0, same_replica new other one.1 (h.does.1 ∙ sym k.does.1) (h.entries ∙ sym k.entries))
 
 pub one_end : (old new other : ReplicaState) (entries : List Entry) (answers again : List Answer) → Leads old entries answers new → Leads old entries again other
     → (answers ≡ again) × (new ≡ other)

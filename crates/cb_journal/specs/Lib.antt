@@ -1,4 +1,5 @@
 pub mod Connections
+pub mod Copying
 pub mod Journal
 pub mod Replica
 pub mod Replies

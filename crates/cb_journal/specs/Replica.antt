@@ -30,17 +30,33 @@ abbrev pub IsFit : Slots → Entry → Type 0
 IsFit connections (Opened connection) = IsNext connections connection
 IsFit connections other = Unit {0}
 
+-- what is known of connections behind it
+abbrev pub slots_after : Slots → Entry → Slots
+slots_after connections (Asked connection question) = put_in counted connection connections
+slots_after connections (Kick connection) = put_in kicked connection connections
+slots_after connections (Opened connection) = changed_at opened connection.peer connections
+slots_after connections (Submitted local) = connections
+
+-- Each entry can come behind the ones before it.
+abbrev pub AreFit : Slots → List Entry → Type 0
+AreFit connections [] = Unit {0}
+AreFit connections (entry ∷ entries) = IsFit connections entry × AreFit (slots_after connections entry) entries
+
 -- ---- one entry
 
--- What it does to what peers share and to what is known of their connections, and what is answered.
-abbrev pub Does : NodeState → Slots → Entry → Option Answer → NodeState → Slots → Type 0
-Does old connections (Asked connection question) told new after =
-    (answer : Answer) × (told ≡ Some answer) × Replies (is_kicked connections connection) old connection question answer new × (after ≡ put_in counted connection connections)
-Does old connections (Kick connection) told new after = (told ≡ None) × (new ≡ old) × (after ≡ put_in kicked connection connections)
+-- What it does to what peers share, and what is answered.
+abbrev pub Tells : NodeState → Slots → Entry → Option Answer → NodeState → Type 0
+Tells old connections (Asked connection question) told new =
+    (answer : Answer) × (told ≡ Some answer) × Replies (is_kicked connections connection) old connection question answer new
+Tells old connections (Kick connection) told new = (told ≡ None) × (new ≡ old)
 -- a peer's earlier connections are no longer asked to announce blocks
-Does old connections (Opened connection) told new after =
-    (told ≡ None) × IsNext connections connection × (new ≡ record old { announcers = without_peer old.announcers connection.peer }) × (after ≡ changed_at opened connection.peer connections)
-Does old connections (Submitted local) told new after = (answer : Answer) × (told ≡ Some answer) × Submits old local answer new × (after ≡ connections)
+Tells old connections (Opened connection) told new =
+    (told ≡ None) × IsNext connections connection × (new ≡ record old { announcers = without_peer old.announcers connection.peer })
+Tells old connections (Submitted local) told new = (answer : Answer) × (told ≡ Some answer) × Submits old local answer new
+
+-- and what it makes of what is known of connections
+abbrev pub Does : NodeState → Slots → Entry → Option Answer → NodeState → Slots → Type 0
+Does old connections entry told new after = Tells old connections entry told new × (after ≡ slots_after connections entry)
 
 pub record Steps (old : ReplicaState) (entry : Entry) (told : Option Answer) (new : ReplicaState) : Type 0 where
   pub does : Does old.node old.connections entry told new.node new.connections

@@ -4,6 +4,7 @@ ghost use Rattle.cb_journal.specs.Journal.{Again, BeginsWith, IsBounded, IsPast,
 ghost use Rattle.cb_journal.specs.Replica.{IsFit, Leads, Steps, heard};
 
 use crate::answer::Answer;
+use crate::copying::copy_entries;
 use crate::entry::Entry;
 use crate::replica::{MOST_CALLS, Replica};
 use cb_base::Fault;
@@ -137,10 +138,31 @@ impl Journal {
         Ok(())
     }
 
-    /// Computes all again from the state before the entries: the state after them, and the answers to their questions, in order.
+    /// Computes all again from the state before the entries: an equal journal, whose state after the entries is what they lead
+    /// to from there, and the answers to their questions, in order.
     ///
     /// The only error is `Fault::Memory`.
-    pub fn again(&self) -> Result<(Replica, Vec<Answer>), Fault>
+    pub fn again(&self) -> Result<(Journal, Vec<Answer>), Fault>
+        ensures same { IfOk result (λ made. made.0 ≡ self.now) }
+        ensures answers { IfOk result (λ made. Leads self.now.base self.now.entries made.1.items self.now.latest) }
+        ensures memory { IsOkUnless result Memory }
+    {
+        let entries = copy_entries(self.alloc, self.entries.as_slice())?;
+        let base = self.base.copy()?;
+        let (latest, answers) = self.replayed()?;
+        let journal = Journal {
+            alloc: self.alloc,
+            base,
+            entries,
+            weight: self.weight,
+            latest,
+        };
+        Ok((journal, answers))
+    }
+
+    // The state to which the entries lead from the one before them, and the answers to their questions, in order. The only
+    // error is `Fault::Memory`.
+    fn replayed(&self) -> Result<(Replica, Vec<Answer>), Fault>
         ensures same { IfOk result (λ made. made.0 ≡ self.now.latest) }
         ensures answers { IfOk result (λ made. Leads self.now.base self.now.entries made.1.items self.now.latest) }
         ensures memory { IsOkUnless result Memory }

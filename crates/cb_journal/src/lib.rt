@@ -3,6 +3,7 @@
 
 mod answer;
 mod connections;
+mod copying;
 mod entry;
 mod journal;
 mod law;

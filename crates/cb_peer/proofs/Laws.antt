@@ -5,10 +5,10 @@ use Rattle.std.proofs.lemmas.List.{append-nil}
 use Rattle.cb_wire.specs.declared.item.Item.{Item}
 use Rattle.cb_wire.specs.declared.item.Item.TheVariants.{Good, Damaged, Bad}
 use Rattle.cb_wire.specs.declared.message.Message.{Message}
-use Rattle.cb_hall.specs.declared.hall.Question.{Question}
-use Rattle.cb_hall.specs.declared.hall.Question.TheVariants.{Admit}
-use Rattle.cb_hall.specs.declared.hall.Answer.{Answer}
-use Rattle.cb_hall.specs.declared.hall.Answer.TheVariants.{Go}
+use Rattle.cb_journal.specs.declared.answer.Answer.{Answer}
+use Rattle.cb_journal.specs.declared.answer.Answer.TheVariants as answers
+use Rattle.cb_peer.specs.declared.ask.Ask.{Ask}
+use Rattle.cb_peer.specs.declared.ask.Ask.TheVariants.{Admit}
 use Rattle.cb_peer.specs.declared.settings.Settings.{Settings}
 use Rattle.cb_peer.specs.declared.state.State.{State}
 use Rattle.cb_peer.specs.declared.state.State.TheVariants.{Closed}
@@ -18,12 +18,11 @@ use Rattle.cb_peer.specs.declared.event.Event.TheVariants as events
 use Rattle.cb_peer.specs.declared.session.Standing.{Standing}
 use Rattle.cb_peer.specs.declared.trace.TraceEntry.{TraceEntry}
 use Rattle.cb_peer.specs.Event.{begins, kind_of}
-use Rattle.cb_peer.specs.Session.{SessionState, Stepped, answered, arrives, is_closed, open_step, processed, told}
+use Rattle.cb_peer.specs.Session.{SessionState, Stepped, answered, arrives, freed, is_closed, open_step, processed, told}
 use Rattle.cb_peer.specs.Fold.{Account, EachOpen, account_of, account_step, entry_step, first_account}
 use Rattle.cb_peer.specs.Prompt.{EachPrompt}
 use Rattle.cb_peer.specs.Law.{AnswersEach, EndsPromptly, answer_to_event, answer_to_item, answers_to}
 use Rattle.cb_peer.proofs.Folds.{entry_cases}
-use Rattle.cb_peer.proofs.Steps.{freed}
 
 -- ---- what is owed
 
@@ -62,12 +61,14 @@ processed_settles s (Some (Good message)) free fine = sym (append-nil (answer_to
 processed_settles s (Some Damaged) free fine = sym (ap owed free)
 processed_settles s (Some (Bad command fault)) free fine = no_bye (Closed reasons.BadMessage) refl (λ e. cc) fine
 
-answered_settles : (s : SessionState) (item : Option Item) (question : Question) (answer : Answer) → s.standing ≡ None → Settles (owed_to item) (answered s item question answer)
-answered_settles s item Admit Go free fine = processed_settles s item free fine
+answered_settles : (s : SessionState) (item : Option Item) (question : Ask) (answer : Answer) → s.standing ≡ Some (record { item = item; question = question }) → Settles (owed_to item) (answered s item question answer)
+answered_settles s item question answers.Kicked stands fine = no_bye (Closed reasons.Kicked) refl (λ e. cc) fine
+answered_settles s item Admit answers.Go stands fine = processed_settles (freed s) item refl fine
+answered_settles s item question other stands fine = sym (ap owed stands)
 
 told_settles : (standing : Option Standing) (s : SessionState) (answer : Answer) → s.standing ≡ standing → Settles (owed standing) (told standing s answer)
 told_settles None s answer same fine = sym (ap owed same)
-told_settles (Some standing) s answer same fine = answered_settles (freed s) standing.item standing.question answer refl fine
+told_settles (Some standing) s answer same fine = answered_settles s standing.item standing.question answer same fine
 
 -- what is owed before an event and by it
 abbrev pub due_at : SessionState → Event → List Message
@@ -107,12 +108,14 @@ processed_clears s (Some (Good message)) going closed = going_clears s _ going c
 processed_clears s (Some Damaged) going closed = going_clears s _ going closed
 processed_clears s (Some (Bad command fault)) going closed = refl
 
-answered_clears : (s : SessionState) (item : Option Item) (question : Question) (answer : Answer) → is_closed s.state ≡ false → Clears (answered s item question answer)
-answered_clears s item Admit Go going closed = processed_clears s item going closed
+answered_clears : (s : SessionState) (item : Option Item) (question : Ask) (answer : Answer) → is_closed s.state ≡ false → Clears (answered s item question answer)
+answered_clears s item question answers.Kicked going closed = refl
+answered_clears s item Admit answers.Go going closed = processed_clears (freed s) item going closed
+answered_clears s item question other going closed = going_clears s _ going closed
 
 told_clears : (standing : Option Standing) (s : SessionState) (answer : Answer) → is_closed s.state ≡ false → Clears (told standing s answer)
 told_clears None s answer going closed = going_clears s _ going closed
-told_clears (Some standing) s answer going closed = answered_clears (freed s) standing.item standing.question answer going closed
+told_clears (Some standing) s answer going closed = answered_clears s standing.item standing.question answer going closed
 
 open_clears : (s : SessionState) (event : Event) → is_closed s.state ≡ false → Clears (open_step s event)
 open_clears s (events.Said item) going closed = arrives_clears s.standing s (Some item) going closed

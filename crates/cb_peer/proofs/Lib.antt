@@ -1,3 +1,4 @@
+pub mod Fitting
 pub mod Folds
 pub mod Laws
 pub mod Questions

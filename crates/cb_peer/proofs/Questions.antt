@@ -3,7 +3,7 @@ use Rattle.std.proofs.Common.{◌≡◌, ℕ, ◌+◌, ◌<◌, ◌≤◌, ◌�
 use Rattle.std.specs.Prelude.{◌^◌, Option, filter}
 use Rattle.std.specs.List.{fold}
 use Rattle.std.proofs.lemmas.List.{drop_more, length-append}
-use Rattle.cb_hall.specs.declared.hall.Question.{Question}
+use Rattle.cb_peer.specs.declared.ask.Ask.{Ask}
 use Rattle.cb_peer.specs.declared.trace.TraceEntry.{TraceEntry}
 use Rattle.cb_peer.specs.declared.trace.Counts.{Counts}
 use Rattle.cb_peer.specs.Event.{is_told, kind_of}
@@ -35,19 +35,19 @@ asked_same a b [] session count = refl
 asked_same a b (entry ∷ entries) session count =
     let stepped = ap (λ (k : ℕ). entry_step k a.session entry) count ∙ ap (λ (s : SessionState). entry_step b.count s entry) session in
     ap (λ (s : SessionState). asked_at (account_at s 0) entry ++ asked_from (account_step a entry) entries) session
-    ∙ ap (λ (l : List (Option Question)). asked_at b entry ++ l)
+    ∙ ap (λ (l : List (Option Ask)). asked_at b entry ++ l)
     (asked_same (account_step a entry) (account_step b entry) entries (ap (λ (made : Stepped). made.session) stepped) (ap (λ (k : ℕ). k + 1) count))
 
 -- one entry more of those that are played again
-pub asked_turn : (asked asked' : List (Option Question)) (s s' : SessionState) (count : ℕ) (entries : List TraceEntry) (i : ℕ) (entry : TraceEntry) (all : List (Option Question)) → i < length entries → entry ≡ get_or entries i entry
+pub asked_turn : (asked asked' : List (Option Ask)) (s s' : SessionState) (count : ℕ) (entries : List TraceEntry) (i : ℕ) (entry : TraceEntry) (all : List (Option Ask)) → i < length entries → entry ≡ get_or entries i entry
     → asked' ≡ asked ++ asked_at (account_at s count) entry → s' ≡ (entry_step count s entry).session → asked ++ asked_from (account_at s count) (drop i entries) ≡ all
     → asked' ++ asked_from (account_at s' (count + 1)) (drop (i + 1) entries) ≡ all
 asked_turn asked asked' s s' count entries i entry all within is more stepped parts =
     let first : drop i entries ≡ entry ∷ drop (i + 1) entries = drop_more entries i entry within ∙ ap (λ (e : TraceEntry). e ∷ drop (i + 1) entries) (sym is) in
     let rest = asked_same (account_at s' (count + 1)) (account_step (account_at s count) entry) (drop (i + 1) entries) stepped refl in
-    ap (λ (l : List (Option Question)). l ++ asked_from (account_at s' (count + 1)) (drop (i + 1) entries)) more
+    ap (λ (l : List (Option Ask)). l ++ asked_from (account_at s' (count + 1)) (drop (i + 1) entries)) more
     ∙ append_assoc asked (asked_at (account_at s count) entry) (asked_from (account_at s' (count + 1)) (drop (i + 1) entries))
-    ∙ ap (λ (l : List (Option Question)). asked ++ (asked_at (account_at s count) entry ++ l)) rest
+    ∙ ap (λ (l : List (Option Ask)). asked ++ (asked_at (account_at s count) entry ++ l)) rest
     ∙ ap (λ (l : List TraceEntry). asked ++ asked_from (account_at s count) l) (sym first)
     ∙ parts
 
@@ -73,11 +73,11 @@ entries_few trace history h =
 asked_append : (account : Account) (xs ys : List TraceEntry) → asked_from account (xs ++ ys) ≡ asked_from account xs ++ asked_from (fold account_step account xs) ys
 asked_append account [] ys = refl
 asked_append account (x ∷ xs) ys =
-    ap (λ (l : List (Option Question)). asked_at account x ++ l) (asked_append (account_step account x) xs ys)
+    ap (λ (l : List (Option Ask)). asked_at account x ++ l) (asked_append (account_step account x) xs ys)
     ∙ sym (append_assoc (asked_at account x) (asked_from (account_step account x) xs) (asked_from (fold account_step (account_step account x) xs) ys))
 
 -- one question for each answer
-one_asked : (told : Bool) (question : Option Question) (rest : List (Option Question)) (x : TraceEntry) (xs : List TraceEntry) → length rest ≡ length xs → length (cond told (question ∷ []) [] ++ rest) ≡ length (cond told (x ∷ xs) xs)
+one_asked : (told : Bool) (question : Option Ask) (rest : List (Option Ask)) (x : TraceEntry) (xs : List TraceEntry) → length rest ≡ length xs → length (cond told (question ∷ []) [] ++ rest) ≡ length (cond told (x ∷ xs) xs)
 one_asked true question rest x xs e = omega (arith, e)
 one_asked false question rest x xs e = e
 
@@ -88,7 +88,7 @@ asked_number account (x ∷ xs) =
     (asked_number (account_step account x) xs)
 
 -- of the questions of the whole history, those since the base are the last
-pub asked_last : (trace : TraceView) (history : List TraceEntry) (asked : List (Option Question)) → asked ≡ asked_from (base_account trace) trace.entries → StandsFor trace history → AskedLast trace.settings history trace.before.told asked
+pub asked_last : (trace : TraceView) (history : List TraceEntry) (asked : List (Option Ask)) → asked ≡ asked_from (base_account trace) trace.entries → StandsFor trace history → AskedLast trace.settings history trace.before.told asked
 unfolding account_of
 asked_last trace history asked is h =
     let first = first_account trace.settings in
@@ -98,7 +98,7 @@ asked_last trace history asked is h =
       parts =
           ap (asked_from first) h.parts
           ∙ asked_append first h.dropped trace.entries
-          ∙ ap (λ (l : List (Option Question)). asked_from first h.dropped ++ l) (sym (asked_same (base_account trace) (fold account_step first h.dropped) trace.entries h.base count) ∙ sym is);
+          ∙ ap (λ (l : List (Option Ask)). asked_from first h.dropped ++ l) (sym (asked_same (base_account trace) (fold account_step first h.dropped) trace.entries h.base count) ∙ sym is);
       number = asked_number first h.dropped ∙ sym (ap (λ (c : Counts). c.told) h.before);
     }
 

@@ -3,22 +3,19 @@ use Rattle.std.proofs.Common.{◌≡◌, ℕ, ◌+◌, ◌≢◌, ◌<◌, ◌�
 use Rattle.std.specs.Prelude.{◌^◌}
 use Rattle.cb_wire.specs.declared.item.Item.{Item}
 use Rattle.cb_wire.specs.declared.item.Item.TheVariants.{Good, Damaged, Bad}
-use Rattle.cb_hall.specs.declared.hall.Question.{Question}
-use Rattle.cb_hall.specs.declared.hall.Question.TheVariants.{Admit}
-use Rattle.cb_hall.specs.declared.hall.Answer.{Answer}
-use Rattle.cb_hall.specs.declared.hall.Answer.TheVariants.{Go}
+use Rattle.cb_journal.specs.declared.answer.Answer.{Answer}
+use Rattle.cb_journal.specs.declared.answer.Answer.TheVariants as answers
+use Rattle.cb_peer.specs.declared.ask.Ask.{Ask}
+use Rattle.cb_peer.specs.declared.ask.Ask.TheVariants.{Admit}
 use Rattle.cb_peer.specs.declared.event.Event.{Event}
 use Rattle.cb_peer.specs.declared.event.Event.TheVariants as events
 use Rattle.cb_peer.specs.declared.session.Standing.{Standing}
 use Rattle.cb_peer.specs.declared.trace.TraceEntry.{TraceEntry}
+use Rattle.cb_peer.specs.Ask.{fits, question_of}
 use Rattle.cb_peer.specs.Event.{ends_at_once}
-use Rattle.cb_peer.specs.Session.{SessionState, Stepped, answered, arrives, is_closed, open_step, processed, question_left, questions_left, stays, step_of, told}
+use Rattle.cb_peer.specs.Session.{SessionState, Stepped, answered, arrives, freed, is_closed, open_step, processed, question_left, questions_left, stays, step_of, told}
 use Rattle.cb_peer.specs.Fold.{entry_step}
 use Rattle.cb_peer.proofs.Folds.{entry_cases}
-
--- the session as it is while what stood is processed
-abbrev pub freed : SessionState → SessionState
-freed s = record { settings = s.settings; state = s.state; standing = None }
 
 -- ---- one that ends the session is silent
 
@@ -38,12 +35,14 @@ processed_silent s (Some (Good message)) going closed = open_clash (is_closed s.
 processed_silent s (Some Damaged) going closed = refl
 processed_silent s (Some (Bad command fault)) going closed = refl
 
-answered_silent : (s : SessionState) (item : Option Item) (question : Question) (answer : Answer) → is_closed s.state ≡ false → IsSilent (answered s item question answer)
-answered_silent s item Admit Go going closed = processed_silent s item going closed
+answered_silent : (s : SessionState) (item : Option Item) (question : Ask) (answer : Answer) → is_closed s.state ≡ false → IsSilent (answered s item question answer)
+answered_silent s item question answers.Kicked going closed = refl
+answered_silent s item Admit answers.Go going closed = processed_silent (freed s) item going closed
+answered_silent s item question other going closed = refl
 
 told_silent : (standing : Option Standing) (s : SessionState) (answer : Answer) → is_closed s.state ≡ false → IsSilent (told standing s answer)
 told_silent None s answer going closed = refl
-told_silent (Some standing) s answer going closed = answered_silent (freed s) standing.item standing.question answer going closed
+told_silent (Some standing) s answer going closed = answered_silent s standing.item standing.question answer going closed
 
 open_silent : (s : SessionState) (event : Event) → is_closed s.state ≡ false → IsSilent (open_step s event)
 open_silent s (events.Said item) going closed = arrives_silent s.standing s (Some item) closed
@@ -87,8 +86,6 @@ fed_is before s event going other =
     entry_cases (λ made. made ≡ step_of s event) before s (record { event = event; starved = false }) going
     (λ full. absurd (other full)) (λ _ starved. absurd (let e : false ≡ true = starved in cc)) (λ _ _. sym same)
 
--- ---- what stands after a step
-
 -- ---- fewer answers are needed
 
 processed_free : (s : SessionState) (item : Option Item) → s.standing ≡ None → is_closed (processed s item).session.state ≡ false → (processed s item).session.standing ≡ None
@@ -97,16 +94,18 @@ processed_free s (Some (Good message)) e going = e
 processed_free s (Some Damaged) e going = e
 processed_free s (Some (Bad command fault)) e going = absurd cc
 
-answered_free : (s : SessionState) (item : Option Item) (question : Question) (answer : Answer) → s.standing ≡ None → is_closed (answered s item question answer).session.state ≡ false
+answered_free : (s : SessionState) (item : Option Item) (question : Ask) (answer : Answer) → fits (question_of question) answer ≡ true → is_closed (answered s item question answer).session.state ≡ false
     → questions_left (answered s item question answer).session.standing < question_left question
-answered_free s item Admit Go e going = (let none = ap questions_left (processed_free s item e going) in omega (arith, none))
+answered_free s item question answers.Kicked fit going = absurd cc
+answered_free s item Admit answers.Go fit going = (let none = ap questions_left (processed_free (freed s) item refl going) in omega (arith, none))
+answered_free s item Admit other fit going = absurd cc
 
--- an answer leaves fewer to be waited for
-pub told_fewer : (s : SessionState) (standing : Standing) (answer : Answer) → is_closed (told (Some standing) s answer).session.state ≡ false
+-- an answer that fits leaves fewer to be waited for
+pub told_fewer : (s : SessionState) (standing : Standing) (answer : Answer) → fits (question_of standing.question) answer ≡ true → is_closed (told (Some standing) s answer).session.state ≡ false
     → questions_left (told (Some standing) s answer).session.standing < questions_left (Some standing)
-told_fewer s standing answer going = answered_free (freed s) standing.item standing.question answer refl going
+told_fewer s standing answer fit going = answered_free s standing.item standing.question answer fit going
 
-left_few : (question : Question) → question_left question ≤ 6
+left_few : (question : Ask) → question_left question ≤ 6
 left_few Admit = omega arith
 
 -- at most six answers are needed

@@ -4,7 +4,7 @@ use Rattle.std.specs.Prelude.{◌^◌, min}
 use Rattle.std.proofs.lemmas.List.Sums.{sum_by_push}
 use Rattle.std.proofs.lemmas.List.{append-nil}
 use Rattle.cb_wire.specs.declared.message.Message.{Message}
-use Rattle.cb_hall.specs.declared.hall.Question.{Question}
+use Rattle.cb_peer.specs.declared.ask.Ask.{Ask}
 use Rattle.cb_peer.specs.declared.settings.Settings.{Settings}
 use Rattle.cb_peer.specs.declared.event.Event.{Event}
 use Rattle.cb_peer.specs.declared.trace.TraceEntry.{TraceEntry}
@@ -51,7 +51,7 @@ are_counts trace history h few =
     }
 
 -- what changes in a trace with an entry
-pub record Puts (base : SessionState) (settings : Settings) (before : Counts) (es es' : List TraceEntry) (x x' : SessionState) (t t' : Counts) (r r' : ℕ) (entry : TraceEntry) (sent : List Message) (asked : Option Question) : Type 0 where
+pub record Puts (base : SessionState) (settings : Settings) (before : Counts) (es es' : List TraceEntry) (x x' : SessionState) (t t' : Counts) (r r' : ℕ) (entry : TraceEntry) (sent : List Message) (asked : Option Ask) : Type 0 where
   pub trace : IsTrace (view settings base before es x t r)
   pub going : is_closed x.state ≡ false
   pub answers : Answers (entry_step t.entries x entry) x' sent asked
@@ -60,7 +60,7 @@ pub record Puts (base : SessionState) (settings : Settings) (before : Counts) (e
   pub less : r' + 1 ≡ r
   pub last : ends_at_once entry.event ≡ false → 2 ≤ r
 
-pub stands_more : (base : SessionState) (settings : Settings) (before : Counts) (es es' : List TraceEntry) (x x' : SessionState) (t t' : Counts) (r r' : ℕ) (entry : TraceEntry) (sent : List Message) (asked : Option Question)
+pub stands_more : (base : SessionState) (settings : Settings) (before : Counts) (es es' : List TraceEntry) (x x' : SessionState) (t t' : Counts) (r r' : ℕ) (entry : TraceEntry) (sent : List Message) (asked : Option Ask)
     → Puts base settings before es es' x x' t t' r r' entry sent asked
     → (history : List TraceEntry) → StandsFor (view settings base before es x t r) history → StandsFor (view settings base before es' x' t' r') (history ++ entry ∷ [])
 stands_more base settings before es es' x x' t t' r r' entry sent asked p history h =
@@ -77,7 +77,7 @@ stands_more base settings before es es' x x' t t' r r' entry sent asked p histor
       each = EachOpen_more settings history entry h.each (ap (λ (s : SessionState). is_closed s.state) (sym h.session) ∙ p.going);
     }
 
-pub trace_more : (base : SessionState) (settings : Settings) (before : Counts) (es es' : List TraceEntry) (x x' : SessionState) (t t' : Counts) (r r' : ℕ) (entry : TraceEntry) (sent : List Message) (asked : Option Question)
+pub trace_more : (base : SessionState) (settings : Settings) (before : Counts) (es es' : List TraceEntry) (x x' : SessionState) (t t' : Counts) (r r' : ℕ) (entry : TraceEntry) (sent : List Message) (asked : Option Ask)
     → Puts base settings before es es' x x' t t' r r' entry sent asked → IsTrace (view settings base before es' x' t' r')
 trace_more base settings before es es' x x' t t' r r' entry sent asked p =
     let stepped : is_closed x'.state ≡ false → is_closed (entry_step t.entries x entry).session.state ≡ false =
@@ -98,7 +98,7 @@ trace_more base settings before es es' x x' t t' r r' entry sent asked p =
       limit = λ h. (let more = entry_full t.entries x entry p.going (stepped h) in omega (arith, more, few, counted));
     }
 
-pub trace_steps : (base : SessionState) (settings : Settings) (before : Counts) (es es' : List TraceEntry) (x x' : SessionState) (t t' : Counts) (r r' : ℕ) (event : Event) (starved : Bool) (sent : List Message) (asked : Option Question)
+pub trace_steps : (base : SessionState) (settings : Settings) (before : Counts) (es es' : List TraceEntry) (x x' : SessionState) (t t' : Counts) (r r' : ℕ) (event : Event) (starved : Bool) (sent : List Message) (asked : Option Ask)
     → Puts base settings before es es' x x' t t' r r' (record { event = event; starved = starved }) sent asked → (takes_no_memory event ≡ true → starved ≡ false)
     → (is_told (kind_of event) ≡ true → (entry_step t.entries x (record { event = event; starved = false })).messages ≡ [] → starved ≡ false)
     → TraceSteps (view settings base before es x t r) (view settings base before es' x' t' r') event sent asked

@@ -2,13 +2,14 @@
 use Rattle.std.specs.Prelude.{◌≡◌, ℕ, ◌+◌, ◌^◌, ◌==◌, Bool, false, List, [], ◌∷◌, ◌++◌, length, map, filter, fold, Option, Some, if◌then◌else◌}
 use Rattle.std.specs.List.{list_any}
 use Rattle.cb_wire.specs.declared.message.Message.{Message}
-use Rattle.cb_hall.specs.declared.hall.Question.{Question}
 use Rattle.cb_hall.specs.Histories.{Reply}
+use Rattle.cb_peer.specs.declared.ask.Ask.{Ask}
 use Rattle.cb_peer.specs.declared.settings.Settings.{Settings}
 use Rattle.cb_peer.specs.declared.state.CloseReason.TheVariants as reasons
 use Rattle.cb_peer.specs.declared.event.Event.{Event}
 use Rattle.cb_peer.specs.declared.event.Event.TheVariants as events
 use Rattle.cb_peer.specs.declared.trace.TraceEntry.{TraceEntry}
+use Rattle.cb_peer.specs.Ask.{question_of}
 use Rattle.cb_peer.specs.Event.{Kind, kind_of, is_input}
 use Rattle.cb_peer.specs.Session.{SessionState, Stepped, opening, openings, is_closed, stays, closes, open_step, standing_question}
 
@@ -29,8 +30,8 @@ entry_step count s entry =
     else open_step s entry.event
 
 -- the reply that an event is to the question that stands
-abbrev pub replies_to : Option Question → Event → List Reply
-replies_to (Some question) (events.Told answer) = record { question = question; answer = answer } ∷ []
+abbrev pub replies_to : Option Ask → Event → List Reply
+replies_to (Some question) (events.Told answer) = record { question = question_of question; answer = answer } ∷ []
 replies_to standing event = []
 
 abbrev pub account_step : Account → TraceEntry → Account

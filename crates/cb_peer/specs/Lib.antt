@@ -1,3 +1,4 @@
+pub mod Ask
 pub mod Event
 pub mod Fold
 pub mod Law

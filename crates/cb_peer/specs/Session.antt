@@ -4,10 +4,10 @@ use Rattle.cb_wire.specs.declared.item.Item.{Item}
 use Rattle.cb_wire.specs.declared.item.Item.TheVariants.{Good, Damaged, Bad}
 use Rattle.cb_wire.specs.declared.message.Message.{Message}
 use Rattle.cb_wire.specs.declared.message.Message.TheVariants as messages
-use Rattle.cb_hall.specs.declared.hall.Question.{Question}
-use Rattle.cb_hall.specs.declared.hall.Question.TheVariants.{Admit}
-use Rattle.cb_hall.specs.declared.hall.Answer.{Answer}
-use Rattle.cb_hall.specs.declared.hall.Answer.TheVariants.{Go}
+use Rattle.cb_journal.specs.declared.answer.Answer.{Answer}
+use Rattle.cb_journal.specs.declared.answer.Answer.TheVariants as answers
+use Rattle.cb_peer.specs.declared.ask.Ask.{Ask}
+use Rattle.cb_peer.specs.declared.ask.Ask.TheVariants.{Admit}
 use Rattle.cb_peer.specs.declared.settings.Settings.{Settings}
 use Rattle.cb_peer.specs.declared.state.State.{State}
 use Rattle.cb_peer.specs.declared.state.State.TheVariants.{Start, Closed}
@@ -52,7 +52,7 @@ openings settings = []
 pub record Stepped : Type 0 where
   pub session : SessionState
   pub messages : List Message
-  pub question : Option Question
+  pub question : Option Ask
 
 -- nothing changes, nothing is sent
 abbrev pub stays : SessionState → Stepped
@@ -63,7 +63,7 @@ abbrev pub closes : CloseReason → SessionState → Stepped
 closes why s = record { session = record { settings = s.settings; state = Closed why; standing = None }; messages = []; question = None }
 
 -- a question is asked for an item, or for a tick where there is none, and both stand until the answer
-abbrev pub asks : SessionState → Option Item → Question → Stepped
+abbrev pub asks : SessionState → Option Item → Ask → Stepped
 asks s item question =
     record {
       session = record { settings = s.settings; state = s.state; standing = Some (record { item = item; question = question }) };
@@ -77,9 +77,14 @@ arrives None s item = asks s item Admit
 arrives (Some other) s item = stays s
 
 -- the question that stands
-abbrev pub standing_question : Option Standing → Option Question
+abbrev pub standing_question : Option Standing → Option Ask
 standing_question None = None
 standing_question (Some standing) = Some standing.question
+
+-- the item for which it stands, if there is one
+abbrev pub standing_item : Option Standing → Option Item
+standing_item None = None
+standing_item (Some standing) = standing.item
 
 -- the answer to a message by itself: to a ping its pong (BIP 31), to all else nothing
 abbrev pub reply_to : Message → List Message
@@ -94,14 +99,21 @@ processed s (Some (Good message)) = record { session = s; messages = reply_to me
 processed s (Some Damaged) = stays s
 processed s (Some (Bad command fault)) = closes reasons.BadMessage s
 
--- an answer to a question that was asked for an item: where leave is given, the item is processed
-abbrev pub answered : SessionState → Option Item → Question → Answer → Stepped
-answered s item Admit Go = processed s item
+-- nothing stands any more
+abbrev pub freed : SessionState → SessionState
+freed s = record { settings = s.settings; state = s.state; standing = None }
 
--- An answer comes, and nothing stands any more. One that nobody asked for doesn't fit.
+-- An answer to what was asked for an item. Where leave is given, the item is processed; where the connection was kicked, the
+-- session is over. An answer of another kind doesn't fit, and what stands goes on standing.
+abbrev pub answered : SessionState → Option Item → Ask → Answer → Stepped
+answered s item question answers.Kicked = closes reasons.Kicked s
+answered s item Admit answers.Go = processed (freed s) item
+answered s item question other = stays s
+
+-- An answer comes. One that nobody asked for doesn't fit.
 abbrev pub told : Option Standing → SessionState → Answer → Stepped
 told None s answer = stays s
-told (Some standing) s answer = answered (record { settings = s.settings; state = s.state; standing = None }) standing.item standing.question answer
+told (Some standing) s answer = answered s standing.item standing.question answer
 
 abbrev pub open_step : SessionState → Event → Stepped
 open_step s (events.Said item) = arrives s.standing s (Some item)
@@ -120,11 +132,12 @@ step_of s event = if is_closed s.state then stays s else open_step s event
 -- an event whose step takes no memory
 abbrev pub takes_no_memory : Event → Bool
 takes_no_memory (events.Said item) = false
-takes_no_memory (events.Told answer) = false
+takes_no_memory (events.Told answers.Kicked) = true
+takes_no_memory (events.Told other) = false
 takes_no_memory other = true
 
--- how many answers a question still leads to, its own among them: each answer leaves fewer
-abbrev pub question_left : Question → ℕ
+-- how many answers a question still leads to, its own among them: each answer that fits leaves fewer
+abbrev pub question_left : Ask → ℕ
 question_left Admit = 1
 
 abbrev pub questions_left : Option Standing → ℕ

@@ -6,7 +6,7 @@ use Rattle.cb_wire.specs.declared.item.Item.{Item}
 use Rattle.cb_wire.specs.declared.item.Item.TheVariants.{Good}
 use Rattle.cb_wire.specs.declared.message.Message.{Message}
 use Rattle.cb_wire.specs.Grammar.{payload_text}
-use Rattle.cb_hall.specs.declared.hall.Question.{Question}
+use Rattle.cb_peer.specs.declared.ask.Ask.{Ask}
 use Rattle.cb_peer.specs.declared.settings.Settings.{Settings}
 use Rattle.cb_peer.specs.declared.event.Event.{Event}
 use Rattle.cb_peer.specs.declared.event.Event.TheVariants as events
@@ -17,7 +17,7 @@ use Rattle.cb_peer.specs.Session.{SessionState, Stepped, is_closed, standing_que
 use Rattle.cb_peer.specs.Fold.{Account, EachOpen, account_step, entry_step, first_account, number_of, session_of}
 
 -- what a call answered is what a step makes
-pub record Answers (step : Stepped) (session : SessionState) (sent : List Message) (asked : Option Question) : Type 0 where
+pub record Answers (step : Stepped) (session : SessionState) (sent : List Message) (asked : Option Ask) : Type 0 where
   pub after : session ≡ step.session
   pub messages : sent ≡ step.messages
   pub question : asked ≡ step.question
@@ -108,7 +108,7 @@ pub record Grows (old new : TraceView) (entry : TraceEntry) : Type 0 where
 
 -- The trace was given an event, and answered with what its session sent and asked. It is starved only where the step
 -- takes memory, and never by an answer that sends nothing.
-pub record TraceSteps (old new : TraceView) (event : Event) (sent : List Message) (asked : Option Question) : Type 0 where
+pub record TraceSteps (old new : TraceView) (event : Event) (sent : List Message) (asked : Option Ask) : Type 0 where
   pub starved : Bool
   pub grows : Grows old new (record { event = event; starved = starved })
   pub messages : sent ≡ (next_step old (record { event = event; starved = starved })).messages
@@ -146,11 +146,11 @@ Readied old new false = RanOut old new
 -- ---- the questions that stood
 
 -- the question that stood before an answer
-abbrev pub asked_at : Account → TraceEntry → List (Option Question)
+abbrev pub asked_at : Account → TraceEntry → List (Option Ask)
 asked_at account entry = if is_told (kind_of entry.event) then standing_question account.session.standing ∷ [] else []
 
 -- the questions that stood before each answer, in order, folding the entries anew
-abbrev pub asked_from : Account → List TraceEntry → List (Option Question)
+abbrev pub asked_from : Account → List TraceEntry → List (Option Ask)
 asked_from account [] = []
 asked_from account (entry ∷ entries) = asked_at account entry ++ asked_from (account_step account entry) entries
 
@@ -160,7 +160,7 @@ base_account trace = record { session = trace.base; count = trace.before.entries
 
 -- Of all answers of the history, these questions stood before the last ones; as many answers as the trace keeps the number
 -- of were given before.
-pub record AskedLast (settings : Settings) (history : List TraceEntry) (told : ℕ) (asked : List (Option Question)) : Type 0 where
-  pub earlier : List (Option Question)
+pub record AskedLast (settings : Settings) (history : List TraceEntry) (told : ℕ) (asked : List (Option Ask)) : Type 0 where
+  pub earlier : List (Option Ask)
   pub parts : asked_from (first_account settings) history ≡ earlier ++ asked
   pub number : length earlier ≡ told

@@ -4,11 +4,11 @@ ghost use Rattle.cb_base.specs.declared.fault.Fault.TheVariants.{Memory};
 ghost use Rattle.cb_peer.specs.Fold.{entry_step};
 ghost use Rattle.cb_peer.specs.Trace.{asked_from};
 
+use crate::ask::Ask;
 use crate::session::Session;
 use crate::state::CloseReason;
 use crate::trace::{LAST_ENTRY, TraceEntry};
 use cb_base::Fault;
-use cb_hall::Question;
 use std::alloc::Global;
 
 /// Gives a session the entries behind so many others. The answer is, for each answer of the hall among them, in order,
@@ -20,7 +20,7 @@ pub(crate) fn questions_asked(
     session: &mut Session,
     before: u64,
     entries: &[TraceEntry],
-) -> Result<Vec<Option<Question>>, Fault>
+) -> Result<Vec<Option<Ask>>, Fault>
     requires few { before + length entries.now ≤ 2 ^ 62 }
     ensures asked { IfOk result (λ asked. asked.items ≡ asked_from (record { session = session.old; count = before; sent = []; replies = [] }) entries.now) }
     ensures memory { IsOkUnless result Memory }

@@ -2,7 +2,7 @@ ghost use Rattle.std.specs.Prelude.{◌≡◌, ◌≤◌};
 ghost use Rattle.cb_peer.specs.Trace.{payload_of};
 
 use cb_base::{Fault, Shared};
-use cb_hall::Answer;
+use cb_journal::Answer;
 use cb_wire::Item;
 
 /// What comes to a session.
@@ -20,7 +20,7 @@ pub enum Event {
     ReaderEnd,
     /// Memory ran out.
     NoMemory,
-    /// The hall's journal is full.
+    /// The hall grants no more questions.
     HallFull,
     /// A write failed.
     WriteFault,

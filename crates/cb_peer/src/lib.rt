@@ -2,6 +2,7 @@
 //! reads nothing, writes nothing and asks nobody: all that comes to it is an event.
 #![tactic(auto)]
 
+mod ask;
 mod asking;
 mod event;
 mod law;
@@ -13,6 +14,7 @@ mod state;
 mod tests;
 mod trace;
 
+pub use ask::Ask;
 pub use event::Event;
 pub use law::{each_item_is_answered, few_questions_stand};
 pub use oracle::Oracle;

@@ -3,11 +3,12 @@ ghost use Rattle.cb_base.specs.declared.fault.Fault.TheVariants.{Memory};
 ghost use Rattle.cb_wire.specs.Grammar.{IsWithinLimits};
 ghost use Rattle.cb_peer.specs.Session.{reply_to};
 
+use crate::ask::Ask;
 use crate::event::Event;
 use crate::settings::Settings;
 use crate::state::{CloseReason, State};
 use cb_base::{Fault, Shared};
-use cb_hall::{Answer, Question};
+use cb_journal::Answer;
 use cb_wire::{BoundedMessage, Item, Message};
 use std::alloc::Global;
 use std::marker::Model;
@@ -18,7 +19,7 @@ pub struct Standing {
     /// The item that came; None where it was a tick.
     pub item: Option<Shared<Item>>,
     /// The question that was asked for it.
-    pub question: Question,
+    pub question: Ask,
 }
 
 impl Standing {
@@ -58,8 +59,8 @@ impl Model for Session {
 
 impl Session {
     ghost use Rattle.std.specs.Prelude.{None};
-    ghost use Rattle.cb_hall.specs.declared.hall.Question.TheVariants.{Admit};
-    ghost use Rattle.cb_peer.specs.Session.{SessionState, arrives, closes, open_step, opening, openings, processed, standing_question, step_of, takes_no_memory, told};
+    ghost use Rattle.cb_peer.specs.Session.{SessionState, arrives, closes, freed, open_step, opening, openings, processed, standing_item, standing_question, step_of, takes_no_memory, told};
+    ghost use Rattle.cb_peer.specs.declared.event.Event.TheVariants as events;
     ghost use Rattle.cb_peer.specs.Event.{is_told, kind_of};
     ghost use Rattle.cb_peer.specs.declared.state.CloseReason.TheVariants as reasons;
     ghost use Rattle.cb_peer.specs.Trace.{Answers};
@@ -90,7 +91,7 @@ impl Session {
     }
 
     /// The question that stands.
-    pub fn question(&self) -> Option<Question>
+    pub fn question(&self) -> Option<Ask>
         ensures { result ≡ standing_question self.now.standing }
     {
         match &self.standing {
@@ -127,7 +128,7 @@ impl Session {
         &mut self,
         alloc: Global,
         event: &Event,
-    ) -> Result<(Vec<BoundedMessage>, Option<Question>), Fault>
+    ) -> Result<(Vec<BoundedMessage>, Option<Ask>), Fault>
         ensures ok { IfOk result (λ made. Answers (step_of self.old event.now) self.new made.0.items made.1) }
         ensures err { OnErr result (self.new ≡ (closes reasons.Memory self.old).session) }
         ensures memory { IsOkUnless result Memory }
@@ -146,7 +147,7 @@ impl Session {
         &mut self,
         alloc: Global,
         event: &Event,
-    ) -> Result<(Vec<BoundedMessage>, Option<Question>), Fault>
+    ) -> Result<(Vec<BoundedMessage>, Option<Ask>), Fault>
         ensures ok { IfOk result (λ made. Answers (open_step self.old event.now) self.new made.0.items made.1) }
         ensures err { OnErr result (self.new ≡ (closes reasons.Memory self.old).session) }
         ensures memory { IsOkUnless result Memory }
@@ -159,7 +160,7 @@ impl Session {
                 Err(_) => Err(self.starve()),
             },
             Event::Tick => Ok(self.arrive(alloc, None)),
-            Event::Told(answer) => self.hear_answer(alloc, *answer),
+            Event::Told(answer) => self.hear_answer(alloc, answer),
             Event::Broken(_) => Ok(self.close(alloc, CloseReason::BadStream)),
             Event::ReaderEnd => Ok(self.close(alloc, CloseReason::Bye)),
             Event::NoMemory => Ok(self.close(alloc, CloseReason::Memory)),
@@ -169,11 +170,7 @@ impl Session {
     }
 
     /// Ends the session.
-    pub fn close(
-        &mut self,
-        alloc: Global,
-        why: CloseReason,
-    ) -> (Vec<BoundedMessage>, Option<Question>)
+    pub fn close(&mut self, alloc: Global, why: CloseReason) -> (Vec<BoundedMessage>, Option<Ask>)
         ensures { Answers (closes why self.old) self.new result.0.items result.1 }
     {
         self.state = State::Closed(why);
@@ -196,7 +193,7 @@ impl Session {
         &mut self,
         alloc: Global,
         item: Option<Shared<Item>>,
-    ) -> (Vec<BoundedMessage>, Option<Question>)
+    ) -> (Vec<BoundedMessage>, Option<Ask>)
         ensures { Answers (arrives self.old.standing self.old item) self.new result.0.items result.1 }
     {
         if self.standing.is_some() {
@@ -204,27 +201,44 @@ impl Session {
         }
         self.standing = Some(Standing {
             item,
-            question: Question::Admit,
+            question: Ask::Admit,
         });
-        (Vec::new(alloc), Some(Question::Admit))
+        (Vec::new(alloc), Some(Ask::Admit))
     }
 
-    /// The hall's answer comes to what stands.
+    /// The hall's answer comes. Where it doesn't fit what stands, nothing changes and nothing is sent: that goes on standing.
     fn hear_answer(
         &mut self,
         alloc: Global,
-        answer: Answer,
-    ) -> Result<(Vec<BoundedMessage>, Option<Question>), Fault>
-        ensures ok { IfOk result (λ made. Answers (told self.old.standing self.old answer) self.new made.0.items made.1) }
+        answer: &Answer,
+    ) -> Result<(Vec<BoundedMessage>, Option<Ask>), Fault>
+        ensures ok { IfOk result (λ made. Answers (told self.old.standing self.old answer.now) self.new made.0.items made.1) }
         ensures err { OnErr result (self.new ≡ (closes reasons.Memory self.old).session) }
         ensures memory { IsOkUnless result Memory }
-        ensures silent { (told self.old.standing self.old answer).messages ≡ [] → IsOk result }
+        ensures calm { takes_no_memory (events.Told answer.now) ≡ true → IsOk result }
+        ensures silent { (told self.old.standing self.old answer.now).messages ≡ [] → IsOk result }
+    {
+        let Some(standing) = &self.standing else {
+            return Ok((Vec::new(alloc), None));
+        };
+        match (standing.question, answer) {
+            (_, Answer::Kicked) => Ok(self.close(alloc, CloseReason::Kicked)),
+            (Ask::Admit, Answer::Go) => {
+                let item = self.free();
+                self.process(alloc, item)
+            }
+            (Ask::Admit, _) => Ok((Vec::new(alloc), None)),
+        }
+    }
+
+    /// Nothing stands any more. The answer is the item for which it stood; None where that was a tick.
+    fn free(&mut self) -> Option<Shared<Item>>
+        ensures freed { self.new ≡ freed self.old }
+        ensures item { result ≡ standing_item self.old.standing }
     {
         match self.standing.take() {
-            None => Ok((Vec::new(alloc), None)),
-            Some(Standing { item, question }) => match (question, answer) {
-                (Question::Admit, Answer::Go) => self.process(alloc, item),
-            },
+            None => None,
+            Some(standing) => standing.item,
         }
     }
 
@@ -233,7 +247,7 @@ impl Session {
         &mut self,
         alloc: Global,
         item: Option<Shared<Item>>,
-    ) -> Result<(Vec<BoundedMessage>, Option<Question>), Fault>
+    ) -> Result<(Vec<BoundedMessage>, Option<Ask>), Fault>
         requires free { self.old.standing ≡ None }
         ensures ok { IfOk result (λ made. Answers (processed self.old item) self.new made.0.items made.1) }
         ensures err { OnErr result (self.new ≡ (closes reasons.Memory self.old).session) }

@@ -52,7 +52,7 @@ pub enum CloseReason {
     Memory,
     /// The trace has all the entries that it may have.
     TraceFull,
-    /// The hall's journal is full.
+    /// The hall grants no more questions.
     HallFull,
     /// A write failed.
     WriteFault,

@@ -1,6 +1,6 @@
 use super::*;
 use cb_base::Shared;
-use cb_hall::{Answer, Question};
+use cb_journal::{Answer, Question};
 use cb_wire::{BoundedMessage, Item, Message};
 use std::alloc::Global;
 use std::test::*;
@@ -45,7 +45,7 @@ fn row_21_a_trace_answers_a_ping(rt: HostRuntime) -> Result<(), Fail> {
     let (mut trace, opening) = Trace::new(alloc, SETTINGS)?;
     assert!(rt; opening.is_empty() && trace.question().is_none());
     assert!(rt; give(&mut trace, ping(alloc, 0)?).is_none());
-    assert!(rt; trace.question() == Some(Question::Admit));
+    assert!(rt; trace.question() == Some(Ask::Admit));
     assert!(rt; give(&mut trace, Event::Told(Answer::Go)) == Some(0));
     assert!(rt; give(&mut trace, Event::ReaderEnd).is_none());
     assert!(rt; trace.state() == State::Closed(CloseReason::Bye));
@@ -70,7 +70,7 @@ fn asked_tells_what_stood_before_each_answer(rt: HostRuntime) -> Result<(), Fail
     give(&mut trace, Event::Tick);
     give(&mut trace, Event::Told(Answer::Go));
     let asked = trace.asked(alloc)?;
-    let stood = [None, Some(Question::Admit), Some(Question::Admit)];
+    let stood = [None, Some(Ask::Admit), Some(Ask::Admit)];
     assert!(rt; asked.as_slice() == stood.as_slice());
     Ok(())
 }
@@ -80,9 +80,9 @@ fn a_copy_has_what_stands(rt: HostRuntime) -> Result<(), Fail> {
     let alloc = rt.alloc();
     let (mut session, _) = Session::new(alloc, SETTINGS)?;
     let (_, question) = session.step(alloc, &ping(alloc, 5)?)?;
-    assert!(rt; question == Some(Question::Admit));
+    assert!(rt; question == Some(Ask::Admit));
     let mut copy = session.copy()?;
-    assert!(rt; copy.question() == Some(Question::Admit) && copy.state() == State::Start);
+    assert!(rt; copy.question() == Some(Ask::Admit) && copy.state() == State::Start);
     assert!(rt; let_in(alloc, &mut session)? == Some(5));
     assert!(rt; let_in(alloc, &mut copy)? == Some(5));
     Ok(())
@@ -99,10 +99,41 @@ fn what_stands_is_copied_with_its_item(rt: HostRuntime) -> Result<(), Fail> {
     let alloc = rt.alloc();
     let standing = Standing {
         item: Some(Shared::new(alloc, Item::Damaged)?),
-        question: Question::Admit,
+        question: Ask::Admit,
     };
     let copy = standing.copy()?;
-    assert!(rt; copy.item.is_some() && copy.question == Question::Admit);
+    assert!(rt; copy.item.is_some() && copy.question == Ask::Admit);
+    Ok(())
+}
+
+/// A kick that nobody waits for changes nothing.
+#[test]
+fn a_kicked_session_is_over(rt: HostRuntime) -> Result<(), Fail> {
+    let alloc = rt.alloc();
+    let (mut trace, _) = Trace::new(alloc, SETTINGS)?;
+    give(&mut trace, Event::Told(Answer::Kicked));
+    assert!(rt; trace.state() == State::Start);
+    give(&mut trace, ping(alloc, 1)?);
+    assert!(rt; give(&mut trace, Event::Told(Answer::Kicked)).is_none());
+    assert!(rt; trace.state() == State::Closed(CloseReason::Kicked));
+    Ok(())
+}
+
+#[test]
+fn an_answer_of_another_kind_is_passed_over(rt: HostRuntime) -> Result<(), Fail> {
+    let alloc = rt.alloc();
+    let (mut session, _) = Session::new(alloc, SETTINGS)?;
+    session.step(alloc, &ping(alloc, 5)?)?;
+    let (messages, question) = session.step(alloc, &Event::Told(Answer::TxTaken(None)))?;
+    assert!(rt; messages.is_empty() && question.is_none());
+    assert!(rt; session.question() == Some(Ask::Admit));
+    assert!(rt; let_in(alloc, &mut session)? == Some(5));
+    Ok(())
+}
+
+#[test]
+fn a_session_asks_for_leave(rt: HostRuntime) -> Result<(), Fail> {
+    assert!(rt; matches!(Ask::Admit.question(), Question::Admit));
     Ok(())
 }
 

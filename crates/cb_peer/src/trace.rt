@@ -5,13 +5,13 @@ ghost use Rattle.cb_peer.specs.Trace.{Answers};
 ghost use Rattle.cb_peer.specs.Session.{is_closed, takes_no_memory};
 ghost use Rattle.cb_peer.specs.Fold.{entry_step};
 
+use crate::ask::Ask;
 use crate::asking::questions_asked;
 use crate::event::Event;
 use crate::session::Session;
 use crate::settings::Settings;
 use crate::state::{CloseReason, State};
 use cb_base::Fault;
-use cb_hall::Question;
 use cb_wire::{BoundedMessage, Item};
 use std::alloc::Global;
 use std::marker::Model;
@@ -131,7 +131,7 @@ impl Trace {
     }
 
     /// The question that stands.
-    pub fn question(&self) -> Option<Question>
+    pub fn question(&self) -> Option<Ask>
         ensures { result ≡ standing_question self.now.session.standing }
     {
         self.session.question()
@@ -214,7 +214,7 @@ impl Trace {
 
     /// Gives the session an event. The answer is the messages to send, in order, and the question to ask the hall
     /// after that. Where the session found no memory the entry is starved and nothing is sent.
-    pub fn step(&mut self, event: Event) -> (Vec<BoundedMessage>, Option<Question>)
+    pub fn step(&mut self, event: Event) -> (Vec<BoundedMessage>, Option<Ask>)
         requires going { IsOpen self.old }
         requires ready { 2 ≤ self.old.room }
         ensures { TraceSteps self.old self.new event result.0.items result.1 }
@@ -223,7 +223,7 @@ impl Trace {
     }
 
     /// Puts an event into the last place, where the session may go on only if there is one place more.
-    fn put(&mut self, event: Event) -> (Vec<BoundedMessage>, Option<Question>)
+    fn put(&mut self, event: Event) -> (Vec<BoundedMessage>, Option<Ask>)
         requires going { IsOpen self.old }
         requires spare { ends_at_once event ≡ false → 2 ≤ self.old.room }
         ensures { TraceSteps self.old self.new event result.0.items result.1 }
@@ -244,7 +244,7 @@ impl Trace {
     /// anew from the base.
     ///
     /// The only error is `Fault::Memory`.
-    pub fn asked(&self, alloc: Global) -> Result<Vec<Option<Question>>, Fault>
+    pub fn asked(&self, alloc: Global) -> Result<Vec<Option<Ask>>, Fault>
         ensures asked { IfOk result (λ asked. asked.items ≡ asked_from (base_account self.now) self.now.entries) }
         ensures memory { IsOkUnless result Memory }
         // Over a history for which the trace stands, these are the last.
@@ -259,7 +259,7 @@ impl Trace {
 #[derive(Drop)]
 struct Given {
     messages: Vec<BoundedMessage>,
-    question: Option<Question>,
+    question: Option<Ask>,
     starved: bool,
 }
 

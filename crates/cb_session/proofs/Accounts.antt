@@ -12,17 +12,19 @@ use Rattle.cb_wire.specs.Envelope.{envelope_text, text}
 use Rattle.cb_wire.specs.Stream.{texts}
 use Rattle.cb_io.specs.Writing.{counted, Wrote, WrotePart}
 use Rattle.cb_io.proofs.Known.{Appends-then}
-use Rattle.cb_hall.specs.declared.hall.Question.{Question}
-use Rattle.cb_hall.specs.declared.hall.Answer.{Answer}
-use Rattle.cb_hall.specs.Hall.{BadgeState}
+use Rattle.cb_journal.specs.declared.answer.Answer.{Answer}
+use Rattle.cb_journal.specs.declared.question.Question.{Question}
+use Rattle.cb_hall.specs.Badge.{BadgeState}
 use Rattle.cb_hall.specs.Histories.{Reply}
+use Rattle.cb_peer.specs.declared.ask.Ask.{Ask}
+use Rattle.cb_peer.specs.declared.ask.Ask.TheVariants.{Admit}
 use Rattle.cb_peer.specs.declared.settings.Settings.{Settings}
 use Rattle.cb_peer.specs.declared.event.Event.{Event}
 use Rattle.cb_peer.specs.declared.event.Event.TheVariants as events
 use Rattle.cb_peer.specs.declared.session.Standing.{Standing}
 use Rattle.cb_peer.specs.declared.trace.TraceEntry.{TraceEntry}
+use Rattle.cb_peer.specs.Ask.{fits, question_of}
 use Rattle.cb_peer.specs.Event.{Kind, begins, ends_at_once, is_hall_full, is_input, is_no_memory, is_tick, is_write_fault, kind_of, loses}
-use Rattle.cb_hall.specs.declared.hall.Question.TheVariants.{Admit}
 use Rattle.cb_peer.specs.Session.{SessionState, Stepped, is_closed, question_left, questions_left, standing_question, told as told_step}
 use Rattle.cb_peer.specs.Fold.{Account, EachOpen, account_of, account_step, entry_step, first_account, has_kind, inputs_of, replies, replies_to, sends, session_of}
 use Rattle.cb_peer.specs.Trace.{Grows, IsOpen, RanOut, Rests, TraceSteps, TraceView, next_step}
@@ -285,7 +287,7 @@ loss_plain events.NoMemory e = (refl, refl, refl, refl)
 loss_plain events.HallFull e = absurd cc
 loss_plain events.WriteFault e = (refl, refl, refl, refl)
 
-loss_replies : (standing : Option Question) (event : Event) → loses (kind_of event) ≡ true → replies_to standing event ≡ []
+loss_replies : (standing : Option Ask) (event : Event) → loses (kind_of event) ≡ true → replies_to standing event ≡ []
 loss_replies standing (events.Said item) e = absurd cc
 loss_replies standing (events.Broken fault) e = absurd cc
 loss_replies standing events.Tick e = absurd cc
@@ -335,21 +337,21 @@ accounts_ran told refused oracle from trace trace' hall badge held failed writte
 
 -- ---- asking
 
-reply_is : (standing : Option Question) (question : Question) (answer : Answer) → standing ≡ Some question → replies_to standing (events.Told answer) ≡ record { question = question; answer = answer } ∷ []
+reply_is : (standing : Option Ask) (question : Ask) (answer : Answer) → standing ≡ Some question → replies_to standing (events.Told answer) ≡ record { question = question_of question; answer = answer } ∷ []
 reply_is standing question answer e = ap (λ o. replies_to o (events.Told answer)) e
 
-no_reply : (standing : Option Question) → (replies_to standing events.HallFull ≡ []) × (replies_to standing events.NoMemory ≡ [])
+no_reply : (standing : Option Ask) → (replies_to standing events.HallFull ≡ []) × (replies_to standing events.NoMemory ≡ [])
 no_reply None = (refl, refl)
 no_reply (Some question) = (refl, refl)
 
 -- what the hall made of a question, as a change of the account
-pub answer_changes : {H : Type 0} (told : H → BadgeState → List Reply → H → BadgeState → Type 0) (refused : H → BadgeState → Fault → Type 0) (trace : TraceView) (failed : Bool) (hall hall' : H) (badge badge' : BadgeState) (question : Question) (event : Event)
-    → standing_question trace.session.standing ≡ Some question → AnswerOf told refused hall badge hall' badge' question event → Changes told refused trace failed hall hall' badge badge' event
+pub answer_changes : {H : Type 0} (told : H → BadgeState → List Reply → H → BadgeState → Type 0) (refused : H → BadgeState → Fault → Type 0) (trace : TraceView) (failed : Bool) (hall hall' : H) (badge badge' : BadgeState) (question : Ask) (event : Event)
+    → standing_question trace.session.standing ≡ Some question → AnswerOf told refused hall badge hall' badge' (question_of question) event → Changes told refused trace failed hall hall' badge badge' event
 answer_changes told refused trace failed hall hall' badge badge' question (events.Told answer) stands a =
     record {
       failed_told = λ e. absurd cc;
       full_told = λ e. absurd cc;
-      told_next = subst (λ (rs : List Reply). told hall badge rs hall' badge') (sym (reply_is (standing_question trace.session.standing) question answer stands)) a;
+      told_next = subst (λ (rs : List Reply). told hall badge rs hall' badge') (sym (reply_is (standing_question trace.session.standing) question answer stands)) a.0;
       no_tick = refl;
       free = λ e. absurd cc;
     }
@@ -400,26 +402,26 @@ answer_lacked told refused hall hall' badge badge' question events.WriteFault a 
 
 -- the session was told what the hall made of its question
 pub accounts_asked : {H : Type 0} (told : H → BadgeState → List Reply → H → BadgeState → Type 0) (refused : H → BadgeState → Fault → Type 0) (oracle : IsOracle told refused) (from : Origin H) (trace mid trace' : TraceView) (hall hall' : H) (badge badge' : BadgeState)
-    (held : Option (List ℕ)) (failed : Bool) (written : ℕ) (inputs : List Event) (question : Question) (event : Event) (sent : List Message) (asked : Option Question)
-    → IsOpen trace → Rests trace mid → standing_question trace.session.standing ≡ Some question → AnswerOf told refused hall badge hall' badge' question event → TraceSteps mid trace' event sent asked
+    (held : Option (List ℕ)) (failed : Bool) (written : ℕ) (inputs : List Event) (question : Ask) (event : Event) (sent : List Message) (asked : Option Ask)
+    → IsOpen trace → Rests trace mid → standing_question trace.session.standing ≡ Some question → AnswerOf told refused hall badge hall' badge' (question_of question) event → TraceSteps mid trace' event sent asked
     → Accounts told refused from (progress trace hall badge held failed written) inputs [] false false → Underway told refused from (progress trace' hall' badge' held failed written) inputs (texts sent) false
 accounts_asked told refused oracle from trace mid trace' hall hall' badge badge' held failed written inputs question event sent asked going r stands answer t a =
     let b = accounts_rest told refused from trace mid hall badge held failed written inputs [] false going r a in
     let stands' : standing_question mid.session.standing ≡ Some question = ap (λ (s : SessionState). standing_question s.standing) r.session ∙ stands in
     let grown = accounts_grow told refused oracle from mid trace' hall hall' badge badge' held failed written inputs [] false false (record { event = event; starved = t.starved }) (rest_open trace mid r going) b t.grows
-    (answer_changes told refused mid failed hall hall' badge badge' question event stands' answer) (λ e. inl (inr (inl (answer_lacked told refused hall hall' badge badge' question event answer e)))) in
+    (answer_changes told refused mid failed hall hall' badge badge' question event stands' answer) (λ e. inl (inr (inl (answer_lacked told refused hall hall' badge badge' (question_of question) event answer e)))) in
     record {
       lost = loses (kind_of event) || false;
       accounts =
           subst (λ (ms : List Message). Accounts told refused from (progress trace' hall' badge' held failed written) inputs (texts ms) (loses (kind_of event) || false) false) (sym t.messages)
           (subst (λ (is : List Event). Accounts told refused from (progress trace' hall' badge' held failed written) is (texts (next_step mid (record { event = event; starved = t.starved })).messages) (loses (kind_of event) || false) false)
-          (ap (λ (is : List Event). inputs ++ is) (no_input event (answer_no_input told refused hall hall' badge badge' question event answer)) ∙ append-nil inputs) grown);
+          (ap (λ (is : List Event). inputs ++ is) (no_input event (answer_no_input told refused hall hall' badge badge' (question_of question) event answer)) ∙ append-nil inputs) grown);
     }
 
 -- ---- what is left to be answered
 
 -- the question that stands in an open session
-pub question_open : (trace : TraceView) (question : Question) → open_question trace ≡ Some question → (is_closed trace.session.state ≡ false) × (standing_question trace.session.standing ≡ Some question)
+pub question_open : (trace : TraceView) (question : Ask) → open_question trace ≡ Some question → (is_closed trace.session.state ≡ false) × (standing_question trace.session.standing ≡ Some question)
 question_open trace question e =
     let by_state : (b : Bool) → is_closed trace.session.state ≡ b → cond b None (standing_question trace.session.standing) ≡ Some question → (is_closed trace.session.state ≡ false) × (standing_question trace.session.standing ≡ Some question) =
     elim [ true ↦ λ s x. absurd (let z : None ≡ Some question = x in cc) | false ↦ λ s x. (s, x) ] in
@@ -435,15 +437,15 @@ left_open trace e = ap (λ b. cond b 0 (questions_left trace.session.standing)) 
 left_closed : (trace : TraceView) → is_closed trace.session.state ≡ true → left_of trace ≡ 0
 left_closed trace e = ap (λ b. cond b 0 (questions_left trace.session.standing)) e
 
-question_some : (question : Question) → 1 ≤ question_left question
+question_some : (question : Ask) → 1 ≤ question_left question
 question_some Admit = omega arith
 
-standing_some : (standing : Option Standing) (question : Question) → standing_question standing ≡ Some question → 1 ≤ questions_left standing
+standing_some : (standing : Option Standing) (question : Ask) → standing_question standing ≡ Some question → 1 ≤ questions_left standing
 standing_some None question e = absurd cc
 standing_some (Some standing) question e = question_some standing.question
 
 -- a session that is over waits for nothing
-pub left_over : (trace trace' : TraceView) (question : Question) → open_question trace ≡ Some question → is_closed trace'.session.state ≡ true → left_of trace' < left_of trace
+pub left_over : (trace trace' : TraceView) (question : Ask) → open_question trace ≡ Some question → is_closed trace'.session.state ≡ true → left_of trace' < left_of trace
 left_over trace trace' question stands closed =
     let q = question_open trace question stands in
     let zero = left_closed trace' closed in
@@ -451,31 +453,33 @@ left_over trace trace' question stands closed =
     let some = standing_some trace.session.standing question q.1 in
     omega (arith, zero, same, some)
 
-told_fewer_of : (standing : Option Standing) (s : SessionState) (question : Question) (answer : Answer) → standing_question standing ≡ Some question → is_closed (told_step standing s answer).session.state ≡ false
-    → questions_left (told_step standing s answer).session.standing < questions_left standing
-told_fewer_of None s question answer stands going = absurd cc
-told_fewer_of (Some standing) s question answer stands going = told_fewer s standing answer going
+told_fewer_of : (standing : Option Standing) (s : SessionState) (question : Ask) (answer : Answer) → standing_question standing ≡ Some question → fits (question_of question) answer ≡ true
+    → is_closed (told_step standing s answer).session.state ≡ false → questions_left (told_step standing s answer).session.standing < questions_left standing
+told_fewer_of None s question answer stands fit going = absurd cc
+told_fewer_of (Some standing) s question answer stands fit going =
+    let same : standing.question ≡ question = (let e : Some standing.question ≡ Some question = stands in cc) in
+    told_fewer s standing answer (ap (λ (q : Ask). fits (question_of q) answer) same ∙ fit) going
 
--- an answer leaves fewer
-left_told : (mid trace' : TraceView) (question : Question) (answer : Answer) (starved : Bool) → is_closed mid.session.state ≡ false → standing_question mid.session.standing ≡ Some question
-    → Grows mid trace' (record { event = events.Told answer; starved = starved }) → is_closed trace'.session.state ≡ false → questions_left trace'.session.standing < questions_left mid.session.standing
-left_told mid trace' question answer starved going stands g after =
+-- an answer that fits leaves fewer
+left_told : (mid trace' : TraceView) (question : Ask) (answer : Answer) (starved : Bool) → is_closed mid.session.state ≡ false → standing_question mid.session.standing ≡ Some question
+    → fits (question_of question) answer ≡ true → Grows mid trace' (record { event = events.Told answer; starved = starved }) → is_closed trace'.session.state ≡ false → questions_left trace'.session.standing < questions_left mid.session.standing
+left_told mid trace' question answer starved going stands fit g after =
     let fewer : is_closed (next_step mid (record { event = events.Told answer; starved = starved })).session.state ≡ false
     → questions_left (next_step mid (record { event = events.Told answer; starved = starved })).session.standing < questions_left mid.session.standing =
     entry_cases (λ made. is_closed made.session.state ≡ false → questions_left made.session.standing < questions_left mid.session.standing) mid.total.entries mid.session (record { event = events.Told answer; starved = starved }) going
-    (λ _ x. absurd cc) (λ _ _ x. absurd cc) (λ _ _ x. told_fewer_of mid.session.standing mid.session question answer stands x) in
+    (λ _ x. absurd cc) (λ _ _ x. absurd cc) (λ _ _ x. told_fewer_of mid.session.standing mid.session question answer stands fit x) in
     subst (λ (s : SessionState). questions_left s.standing < questions_left mid.session.standing) (sym g.session) (fewer (ap (λ (s : SessionState). is_closed s.state) (sym g.session) ∙ after))
 
 -- what the hall made of the question leaves fewer
-pub left_asked : {H : Type 0} (told : H → BadgeState → List Reply → H → BadgeState → Type 0) (refused : H → BadgeState → Fault → Type 0) (hall hall' : H) (badge badge' : BadgeState) (trace mid trace' : TraceView) (question : Question) (event : Event) (starved : Bool)
-    → open_question trace ≡ Some question → Rests trace mid → AnswerOf told refused hall badge hall' badge' question event → Grows mid trace' (record { event = event; starved = starved }) → left_of trace' < left_of trace
+pub left_asked : {H : Type 0} (told : H → BadgeState → List Reply → H → BadgeState → Type 0) (refused : H → BadgeState → Fault → Type 0) (hall hall' : H) (badge badge' : BadgeState) (trace mid trace' : TraceView) (question : Ask) (event : Event) (starved : Bool)
+    → open_question trace ≡ Some question → Rests trace mid → AnswerOf told refused hall badge hall' badge' (question_of question) event → Grows mid trace' (record { event = event; starved = starved }) → left_of trace' < left_of trace
 left_asked told refused hall hall' badge badge' trace mid trace' question (events.Told answer) starved stands r a g =
     let q = question_open trace question stands in
     let by_state : (b : Bool) → is_closed trace'.session.state ≡ b → left_of trace' < left_of trace =
     elim [
       | true ↦ λ s. left_over trace trace' question stands s
       | false ↦ λ s.
-          let fewer = left_told mid trace' question answer starved (rest_open trace mid r q.0) (ap (λ (x : SessionState). standing_question x.standing) r.session ∙ q.1) g s in
+          let fewer = left_told mid trace' question answer starved (rest_open trace mid r q.0) (ap (λ (x : SessionState). standing_question x.standing) r.session ∙ q.1) a.1 g s in
           let after = left_open trace' s in
           let before = left_open trace q.0 in
           let same = ap (λ (x : SessionState). questions_left x.standing) r.session in
@@ -493,7 +497,7 @@ left_asked told refused hall hall' badge badge' trace mid trace' question events
 left_asked told refused hall hall' badge badge' trace mid trace' question events.WriteFault starved stands r a g = absurd a
 
 -- a step that ends the session has nothing to send
-pub silent_step : (trace trace' : TraceView) (event : Event) (sent : List Message) (asked : Option Question) → IsOpen trace → TraceSteps trace trace' event sent asked → is_closed trace'.session.state ≡ true → sent ≡ []
+pub silent_step : (trace trace' : TraceView) (event : Event) (sent : List Message) (asked : Option Ask) → IsOpen trace → TraceSteps trace trace' event sent asked → is_closed trace'.session.state ≡ true → sent ≡ []
 silent_step trace trace' event sent asked going t closed = t.messages ∙ silent_more trace trace' (record { event = event; starved = t.starved }) going t.grows closed
 
 -- ---- sending
@@ -592,7 +596,7 @@ record IsPlain (event : Event) : Type 0 where
   no_write : is_write_fault (kind_of event) ≡ false
   no_hall : is_hall_full (kind_of event) ≡ false
   no_shortage : is_no_memory (kind_of event) ≡ false
-  replies_none : (standing : Option Question) → replies_to standing event ≡ []
+  replies_none : (standing : Option Ask) → replies_to standing event ≡ []
 
 input_plain : (event : Event) → is_input (kind_of event) ≡ true → IsPlain event
 input_plain (events.Said item) e = record { no_tick = refl; no_write = refl; no_hall = refl; no_shortage = refl; replies_none = elim [ None ↦ refl | Some q ↦ refl ] }
@@ -606,7 +610,7 @@ input_plain events.WriteFault e = absurd cc
 
 -- an input was given, and its messages are on their way
 pub accounts_input : {H : Type 0} (told : H → BadgeState → List Reply → H → BadgeState → Type 0) (refused : H → BadgeState → Fault → Type 0) (oracle : IsOracle told refused) (from : Origin H) (trace mid trace' : TraceView) (hall : H) (badge : BadgeState)
-    (held : Option (List ℕ)) (failed : Bool) (written : ℕ) (inputs : List Event) (event : Event) (sent : List Message) (asked : Option Question)
+    (held : Option (List ℕ)) (failed : Bool) (written : ℕ) (inputs : List Event) (event : Event) (sent : List Message) (asked : Option Ask)
     → IsOpen trace → Rests trace mid → is_input (kind_of event) ≡ true → TraceSteps mid trace' event sent asked
     → Settled told refused from (progress trace hall badge held failed written) inputs false → Underway told refused from (progress trace' hall badge held failed written) (inputs ++ event ∷ []) (texts sent) false
 accounts_input told refused oracle from trace mid trace' hall badge held failed written inputs event sent asked going r input t s =

@@ -6,7 +6,7 @@ use Rattle.cb_wire.specs.declared.message.Message.{Message}
 use Rattle.cb_wire.specs.Stream.{Assembled, Ends, texts}
 use Rattle.cb_wire.proofs.Streams.{front_at-nil}
 use Rattle.cb_io.proofs.Known.{Appends-nothing, Consumes-nothing, Keeps-same}
-use Rattle.cb_hall.specs.Hall.{BadgeState}
+use Rattle.cb_hall.specs.Badge.{BadgeState}
 use Rattle.cb_hall.specs.Histories.{Reply}
 use Rattle.cb_peer.specs.declared.settings.Settings.{Settings}
 use Rattle.cb_peer.specs.declared.event.Event.{Event}

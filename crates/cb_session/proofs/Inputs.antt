@@ -15,12 +15,12 @@ use Rattle.cb_wire.specs.Envelope.{front_at}
 use Rattle.cb_wire.specs.Stream.{Assembled, Ends, Stream}
 use Rattle.cb_wire.proofs.Streams.{Stream-grows, reading_of}
 use Rattle.cb_io.proofs.Known.{Consumes-nothing, Consumes-then}
-use Rattle.cb_hall.specs.declared.hall.Question.{Question}
-use Rattle.cb_hall.specs.declared.hall.Question.TheVariants.{Admit}
-use Rattle.cb_hall.specs.declared.hall.Answer.{Answer}
-use Rattle.cb_hall.specs.declared.hall.Answer.TheVariants.{Go}
-use Rattle.cb_hall.specs.Hall.{BadgeState}
+use Rattle.cb_journal.specs.declared.answer.Answer.{Answer}
+use Rattle.cb_journal.specs.declared.answer.Answer.TheVariants as answers
+use Rattle.cb_hall.specs.Badge.{BadgeState}
 use Rattle.cb_hall.specs.Histories.{Reply}
+use Rattle.cb_peer.specs.declared.ask.Ask.{Ask}
+use Rattle.cb_peer.specs.declared.ask.Ask.TheVariants.{Admit}
 use Rattle.cb_peer.specs.declared.settings.Settings.{Settings}
 use Rattle.cb_peer.specs.declared.event.Event.{Event}
 use Rattle.cb_peer.specs.declared.event.Event.TheVariants as events
@@ -32,10 +32,9 @@ use Rattle.cb_peer.specs.declared.state.CloseReason.TheVariants.{Bye}
 use Rattle.cb_peer.specs.declared.session.Standing.{Standing}
 use Rattle.cb_peer.specs.declared.trace.TraceEntry.{TraceEntry}
 use Rattle.cb_peer.specs.Event.{is_input, is_reader_end, kind_of}
-use Rattle.cb_peer.specs.Session.{SessionState, answered, arrives, closes, is_closed, open_step, processed, stays, told as told_step}
+use Rattle.cb_peer.specs.Session.{SessionState, answered, arrives, closes, freed, is_closed, open_step, processed, stays, told as told_step}
 use Rattle.cb_peer.specs.Fold.{Account, EachOpen, account_of, account_step, entry_step, first_account, inputs_of, session_of}
 use Rattle.cb_peer.proofs.Folds.{entry_cases}
-use Rattle.cb_peer.proofs.Steps.{freed}
 use Rattle.cb_session.specs.declared.reading.ReadEnd.{ReadEnd}
 use Rattle.cb_session.specs.declared.reading.ReadEnd.TheVariants as ends
 use Rattle.cb_session.specs.Conversation.{Accounts, Gave, GaveItem, Origin, Progress, Settled}
@@ -340,12 +339,14 @@ processed_bye s (Some (Good message)) e = inl e
 processed_bye s (Some Damaged) e = inl e
 processed_bye s (Some (Bad command fault)) e = absurd (clash_reason reasons.BadMessage e (λ r. let x : reasons.BadMessage ≡ Bye = r in cc))
 
-answered_bye : (s : SessionState) (item : Option Item) (question : Question) (answer : Answer) {P : Type 0} → (answered s item question answer).session.state ≡ Closed Bye → WasBye s.state P
-answered_bye s item Admit Go e = processed_bye s item e
+answered_bye : (s : SessionState) (item : Option Item) (question : Ask) (answer : Answer) {P : Type 0} → (answered s item question answer).session.state ≡ Closed Bye → WasBye s.state P
+answered_bye s item question answers.Kicked e = absurd (clash_reason reasons.Kicked e (λ r. let x : reasons.Kicked ≡ Bye = r in cc))
+answered_bye s item Admit answers.Go e = processed_bye (freed s) item e
+answered_bye s item question other e = inl e
 
 told_bye : (standing : Option Standing) (s : SessionState) (answer : Answer) {P : Type 0} → (told_step standing s answer).session.state ≡ Closed Bye → WasBye s.state P
 told_bye None s answer e = inl e
-told_bye (Some standing) s answer e = answered_bye (freed s) standing.item standing.question answer e
+told_bye (Some standing) s answer e = answered_bye s standing.item standing.question answer e
 
 -- the session was closed by the peer's end, before the step or by it
 step_bye : (s : SessionState) (event : Event) → (open_step s event).session.state ≡ Closed Bye → WasBye s.state (is_reader_end event ≡ true)

@@ -5,13 +5,15 @@ use Rattle.cb_base.specs.declared.fault.Fault.TheVariants.{JournalFull, Memory}
 use Rattle.cb_wire.specs.declared.item.Item.{Item}
 use Rattle.cb_wire.specs.Stream.{texts}
 use Rattle.cb_io.specs.Writing.{Wrote}
-use Rattle.cb_hall.specs.Hall.{BadgeState}
+use Rattle.cb_hall.specs.Badge.{BadgeState}
 use Rattle.cb_hall.specs.Histories.{Reply}
-use Rattle.cb_hall.specs.declared.hall.Question.{Question}
+use Rattle.cb_journal.specs.declared.question.Question.{Question}
+use Rattle.cb_peer.specs.declared.ask.Ask.{Ask}
 use Rattle.cb_peer.specs.declared.settings.Settings.{Settings}
 use Rattle.cb_peer.specs.declared.event.Event.{Event}
 use Rattle.cb_peer.specs.declared.event.Event.TheVariants as events
 use Rattle.cb_peer.specs.declared.trace.TraceEntry.{TraceEntry}
+use Rattle.cb_peer.specs.Ask.{fits}
 use Rattle.cb_peer.specs.Event.{ends_at_once, is_hall_full, is_no_memory, is_tick, is_write_fault, kind_of, loses}
 use Rattle.cb_peer.specs.Session.{is_closed, questions_left, standing_question}
 use Rattle.cb_peer.specs.Fold.{first_account, has_kind, inputs_of, replies, sends}
@@ -114,7 +116,7 @@ abbrev pub left_of : TraceView → ℕ
 left_of trace = if is_closed trace.session.state then 0 else questions_left trace.session.standing
 
 -- the question that stands, while the session goes on
-abbrev pub open_question : TraceView → Option Question
+abbrev pub open_question : TraceView → Option Ask
 open_question trace = if is_closed trace.session.state then None else standing_question trace.session.standing
 
 -- an event that ends the session at once and by which messages may be lost: no memory, or a write that failed
@@ -122,9 +124,9 @@ pub record IsLoss (event : Event) : Type 0 where
   pub loses_messages : loses (kind_of event) ≡ true
   pub ends : ends_at_once event ≡ true
 
--- what the hall made of a question: the event that tells it
+-- What the hall made of a question: the event that tells it. An answer is of the kind that the question asks for.
 abbrev pub AnswerOf : {H : Type 0} → (H → BadgeState → List Reply → H → BadgeState → Type 0) → (H → BadgeState → Fault → Type 0) → H → BadgeState → H → BadgeState → Question → Event → Type 0
-AnswerOf told refused old had new has question (events.Told answer) = told old had (record { question = question; answer = answer } ∷ []) new has
+AnswerOf told refused old had new has question (events.Told answer) = told old had (record { question = question; answer = answer } ∷ []) new has × (fits question answer ≡ true)
 AnswerOf told refused old had new has question events.HallFull = told old had [] new has × refused new has JournalFull
 AnswerOf told refused old had new has question events.NoMemory = told old had [] new has × refused new has Memory
 AnswerOf told refused old had new has question other = ⊥

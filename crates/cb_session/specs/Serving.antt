@@ -5,7 +5,7 @@ use Rattle.std.specs.Io.KnownBytes.{Consumes, IsAtEnd}
 use Rattle.cb_base.specs.declared.fault.Fault.{Fault}
 use Rattle.cb_wire.specs.declared.item.Item.{Item}
 use Rattle.cb_wire.specs.Stream.{Assembled, Stream}
-use Rattle.cb_hall.specs.Hall.{BadgeState}
+use Rattle.cb_hall.specs.Badge.{BadgeState}
 use Rattle.cb_hall.specs.Histories.{Reply}
 use Rattle.cb_peer.specs.declared.settings.Settings.{Settings}
 use Rattle.cb_peer.specs.declared.state.State.TheVariants.{Closed}

@@ -3,6 +3,7 @@ ghost use Rattle.std.specs.Prelude.{◌≡◌, ◌≢◌, ◌⊎◌, ◌<◌, �
 ghost use Rattle.cb_wire.specs.Stream.{texts};
 ghost use Rattle.cb_wire.specs.declared.item.Item.{Item};
 ghost use Rattle.cb_io.specs.Writing.{IsOfSink};
+ghost use Rattle.cb_peer.specs.Ask.{question_of};
 ghost use Rattle.cb_peer.specs.declared.event.Event.{Event};
 ghost use Rattle.cb_peer.specs.declared.event.Event.TheVariants as events;
 ghost use Rattle.cb_peer.specs.Event.{ends_at_once, is_input, is_no_memory, is_write_fault, kind_of, loses};
@@ -11,9 +12,9 @@ ghost use Rattle.cb_peer.specs.Trace.{IsOpen};
 ghost use Rattle.cb_session.specs.Conversation.{Accounts, AnswerOf, Gave, GaveItem, IsLoss, Origin, Sent, Settled, Underway, WritesOn, left_of, open_question, progress};
 
 use cb_base::{Fault, Shared};
-use cb_hall::{Badge, Question};
+use cb_hall::Badge;
 use cb_io::{Sink, WriteFault, write_out};
-use cb_peer::{Event, Oracle, State, Trace};
+use cb_peer::{Ask, Event, Oracle, State, Trace};
 use cb_wire::{BoundedMessage, Item};
 use std::alloc::Global;
 
@@ -118,7 +119,7 @@ impl<'a, W: Sink, H: Oracle> Conversation<'a, W, H> {
     }
 
     /// The question that stands, while the session goes on.
-    fn question(&self) -> Option<Question>
+    fn question(&self) -> Option<Ask>
         ensures { result ≡ open_question self.now.trace.now }
     {
         if self.trace.state().is_closed() {
@@ -129,7 +130,7 @@ impl<'a, W: Sink, H: Oracle> Conversation<'a, W, H> {
 
     /// Asks the hall the question that stands, and gives the session the answer: what it sends then. The place of the
     /// answer is made before the hall is asked. Nothing is on its way while the hall is asked.
-    fn ask(&mut self, alloc: Global, question: Question) -> Vec<BoundedMessage>
+    fn ask(&mut self, alloc: Global, question: Ask) -> Vec<BoundedMessage>
         requires stands { open_question self.old.trace.now ≡ Some question }
         ensures ends { (self.new.trace.ghost_name ≡ self.old.trace.ghost_name) × (self.new.writer.ghost_name ≡ self.old.writer.ghost_name) × (self.new.hall.ghost_name ≡ self.old.hall.ghost_name) × (self.new.badge.ghost_name ≡ self.old.badge.ghost_name) }
         ensures sink { self.new.writer.now ≡ self.old.writer.now }
@@ -204,11 +205,11 @@ fn share(alloc: Global, item: Item) -> Option<Shared<Item>>
     Shared::new(alloc, item).ok()
 }
 
-/// Asks the hall a question. What it makes of it is an event.
-fn ask_hall<H: Oracle>(hall: &mut H, badge: &mut Badge, question: Question) -> Event
-    ensures { AnswerOf H.told H.refused hall.old badge.old hall.new badge.new question result }
+/// Asks the hall what a session asks. What it makes of it is an event.
+fn ask_hall<H: Oracle>(hall: &mut H, badge: &mut Badge, asked: Ask) -> Event
+    ensures { AnswerOf H.told H.refused hall.old badge.old hall.new badge.new (question_of asked) result }
 {
-    match hall.ask(badge, question) {
+    match hall.ask(badge, asked.question()) {
         Ok(answer) => Event::Told(answer),
         Err(fault) if fault == Fault::JournalFull => Event::HallFull,
         Err(_) => Event::NoMemory,

@@ -8,10 +8,11 @@ mod serving;
 #[cfg(test)]
 mod tests;
 
-pub use cb_hall::{Answer, Badge, Entry, Hall, JOURNAL_LIMIT, Question};
+pub use cb_hall::{Badge, Hall};
 pub use cb_io::{In, Out, Sink, SinkFailure, Source, WriteEnd, WriteFault, write_out};
+pub use cb_journal::{Answer, Entry, Question};
 pub use cb_peer::{
-    CloseReason, Counts, Event, Oracle, Session, Settings, Standing, State, Trace, TraceEntry,
+    Ask, CloseReason, Counts, Event, Oracle, Session, Settings, Standing, State, Trace, TraceEntry,
 };
 pub use conversation::Conversation;
 pub use reading::{ReadEnd, Reading};

@@ -41,7 +41,8 @@ pub fn serve<R: Source, W: Sink>(
     badge: &mut Badge,
     settings: Settings,
 ) -> Result<Served, Fault>
-    // What the hall was asked and told is in its journal, which grew by exactly that.
+    // All calls of the hall grew by exactly what the session asked, in order, and each answer is that of the state to which the
+    // calls before it led.
     ensures served { IfOk result (λ served. Serves (λ old had replies new has. Asks old new had has replies) IsRefused
         (origin_of settings hall.old badge.old (W.contents writer.old) (W.has_failed writer.old))
         (R.remaining reader.old) (R.remaining reader.new) (R.has_failed reader.new)

@@ -181,20 +181,42 @@ struct Outcome {
     calls: usize,
 }
 
+/// A hall of one peer, and the badge of its connection.
+fn hall_of_one(alloc: Global) -> Result<(Hall, Badge), Fail> {
+    let (hall, mut badges) = Hall::new(alloc, 1)?;
+    match badges.pop() {
+        Some(badge) => Ok((hall, badge)),
+        None => Err(Fail::from("no badge")),
+    }
+}
+
+/// The badge of a connection.
+fn badge_of_one(alloc: Global) -> Result<Badge, Fail> {
+    match hall_of_one(alloc) {
+        Ok((_, badge)) => Ok(badge),
+        Err(fail) => Err(fail),
+    }
+}
+
 /// Serves a connection with a hall of its own.
 fn serve_once(alloc: Global, pieces: Pieces, room: Room) -> Result<Outcome, Fail> {
-    let (mut hall, mut badges) = Hall::new(alloc, 1)?;
-    let mut badge = badges.pop().ok_or(Fault::Memory)?;
+    match hall_of_one(alloc) {
+        Ok((mut hall, mut badge)) => serve_with(alloc, pieces, room, &mut hall, &mut badge),
+        Err(fail) => Err(fail),
+    }
+}
+
+/// Serves a connection with a hall.
+fn serve_with(
+    alloc: Global,
+    pieces: Pieces,
+    room: Room,
+    hall: &mut Hall,
+    badge: &mut Badge,
+) -> Result<Outcome, Fail> {
     let mut reader = In::new(pieces);
     let mut writer = Out::new(room);
-    let served = serve(
-        alloc,
-        &mut reader,
-        &mut writer,
-        &mut hall,
-        &mut badge,
-        SETTINGS,
-    )?;
+    let served = serve(alloc, &mut reader, &mut writer, hall, badge, SETTINGS)?;
     Ok(Outcome {
         state: served.trace.state(),
         read: served.read,
@@ -235,11 +257,19 @@ fn give(trace: &mut Trace, event: Event) {
     }
 }
 
-/// Grants two questions, and no more: for want of memory, or because it is full.
+/// How a third question is refused, or what it is answered.
+#[derive(Clone, Copy, PartialEq, Eq)]
+enum Third {
+    Full,
+    Starved,
+    Kicked,
+}
+
+/// Gives leave twice, and no more.
 #[derive(Drop)]
 struct TwoAnswers {
     granted: u32,
-    full: bool,
+    third: Third,
 }
 
 impl Oracle for TwoAnswers {
@@ -247,13 +277,17 @@ impl Oracle for TwoAnswers {
 
     ghost refused = { λ hall badge fault. ⊤ };
 
-    fn ask(&mut self, _badge: &mut Badge, _question: Question) -> Result<Answer, Fault> {
+    fn ask(&mut self, _badge: &mut Badge, question: Question) -> Result<Answer, Fault> {
         if self.granted >= 2 {
-            if self.full {
-                return Err(Fault::JournalFull);
-            }
-            return Err(Fault::Memory);
+            return match self.third {
+                Third::Full => Err(Fault::JournalFull),
+                Third::Starved => Err(Fault::Memory),
+                Third::Kicked => Ok(Answer::Kicked),
+            };
         }
+        let Question::Admit = question else {
+            return Ok(Answer::Kicked);
+        };
         self.granted += 1;
         Ok(Answer::Go)
     }
@@ -265,15 +299,14 @@ impl Oracle for TwoAnswers {
     ghost full_stays = { λ a b x y replies h k. tt };
 }
 
-/// How a session ends whose third question is refused, and how many bytes it wrote.
-fn serve_two_answers(alloc: Global, full: bool) -> Result<(State, u64), Fail> {
-    let (_, mut badges) = Hall::new(alloc, 1)?;
-    let mut badge = badges.pop().ok_or(Fault::Memory)?;
+/// How a session ends by its third question, and how many bytes it wrote.
+fn serve_two_answers(alloc: Global, third: Third) -> Result<(State, u64), Fail> {
+    let mut badge = badge_of_one(alloc)?;
     let mut given = reader_of(alloc, &[])?;
     given.bytes = PING.repeat(alloc, 5)?;
     let mut reader = In::new(given);
     let mut writer = Out::new(writer_for(alloc, usize::MAX));
-    let mut two = TwoAnswers { granted: 0, full };
+    let mut two = TwoAnswers { granted: 0, third };
     let served = serve_by(
         alloc,
         &mut reader,
@@ -287,26 +320,63 @@ fn serve_two_answers(alloc: Global, full: bool) -> Result<(State, u64), Fail> {
 
 #[test]
 fn a_third_question_that_is_refused_ends_the_session(rt: HostRuntime) -> Result<(), Fail> {
-    let full = serve_two_answers(rt.alloc(), true)?;
+    let full = serve_two_answers(rt.alloc(), Third::Full)?;
     assert!(rt; full == (State::Closed(CloseReason::HallFull), 64));
-    let starved = serve_two_answers(rt.alloc(), false)?;
+    let starved = serve_two_answers(rt.alloc(), Third::Starved)?;
     assert!(rt; starved == (State::Closed(CloseReason::Memory), 64));
+    let kicked = serve_two_answers(rt.alloc(), Third::Kicked)?;
+    assert!(rt; kicked == (State::Closed(CloseReason::Kicked), 64));
     Ok(())
 }
 
+/// What serving comes to with a hall that has kicked the connection before.
+fn serve_behind_a_kick(alloc: Global, hall: &mut Hall, badge: &mut Badge) -> Result<Outcome, Fail> {
+    hall.kick(0)?;
+    let pieces = reader_of(alloc, &[PING.as_slice(), PING.as_slice()])?;
+    serve_with(alloc, pieces, writer_for(alloc, usize::MAX), hall, badge)
+}
+
+/// The same with a hall of its own.
+fn serve_kicked(alloc: Global) -> Result<Outcome, Fail> {
+    match hall_of_one(alloc) {
+        Ok((mut hall, mut badge)) => serve_behind_a_kick(alloc, &mut hall, &mut badge),
+        Err(fail) => Err(fail),
+    }
+}
+
 #[test]
-fn a_conversation_takes_an_item_and_then_a_stream(rt: HostRuntime) -> Result<(), Fail> {
-    let alloc = rt.alloc();
-    let (mut hall, mut badges) = Hall::new(alloc, 1)?;
-    let mut badge = badges.pop().ok_or(Fault::Memory)?;
+fn a_kicked_connection_is_closed_by_its_first_answer(rt: HostRuntime) -> Result<(), Fail> {
+    let ended = serve_kicked(rt.alloc())?;
+    assert!(rt; ended.state == State::Closed(CloseReason::Kicked));
+    assert!(rt; ended.written == 0 && ended.calls == 2);
+    Ok(())
+}
+
+/// How a conversation goes that is given an item, reads a stream, and ends for want of memory.
+#[derive(Drop)]
+struct Talk {
+    /// What was written after the item, and in all.
+    first: u64,
+    all: u64,
+    end: ReadEnd,
+    state: State,
+    taken: Vec<u8>,
+    calls: usize,
+}
+
+/// A conversation over a hall in which 1,000 bytes were written before.
+fn converse(
+    alloc: Global,
+    pieces: Pieces,
+    hall: &mut Hall,
+    badge: &mut Badge,
+) -> Result<Talk, Fail> {
     let mut writer = Out::new(writer_for(alloc, usize::MAX));
     let (mut trace, _) = Trace::new(alloc, SETTINGS)?;
-    let mut given = reader_of(alloc, &[])?;
-    given.bytes = PING.repeat(alloc, 2)?;
-    let mut reader = In::new(given);
+    let mut reader = In::new(pieces);
     let mut buffer = vec![in alloc; 0u8; 10]?;
     let mut assembler = Assembler::new(alloc);
-    let mut conversation = Conversation::new(&mut trace, &mut writer, &mut hall, &mut badge, 1000);
+    let mut conversation = Conversation::new(&mut trace, &mut writer, hall, badge, 1000);
     if !conversation.state().is_closed() {
         conversation.give_item(alloc, Item::Good(BoundedMessage::new(Message::Ping(0))));
     }
@@ -318,15 +388,36 @@ fn a_conversation_takes_an_item_and_then_a_stream(rt: HostRuntime) -> Result<(),
         conversation.lose(Event::NoMemory);
     }
     let state = conversation.state();
-    assert_eq!(rt; first, 1032);
-    assert_eq!(rt; end, ReadEnd::Eof);
-    assert_eq!(rt; all, 1096);
-    assert_eq!(rt; state, State::Closed(CloseReason::Memory));
-    assert_eq!(rt;
-        writer.into_inner().taken.as_slice(),
-        PONG.repeat(alloc, 3)?.as_slice()
-    );
-    assert_eq!(rt; hall.journal().len(), 3);
+    Ok(Talk {
+        first,
+        all,
+        end,
+        state,
+        taken: writer.into_inner().taken,
+        calls: hall.journal().len(),
+    })
+}
+
+/// The same with a hall of its own.
+fn converse_once(alloc: Global, pieces: Pieces) -> Result<Talk, Fail> {
+    match hall_of_one(alloc) {
+        Ok((mut hall, mut badge)) => converse(alloc, pieces, &mut hall, &mut badge),
+        Err(fail) => Err(fail),
+    }
+}
+
+#[test]
+fn a_conversation_takes_an_item_and_then_a_stream(rt: HostRuntime) -> Result<(), Fail> {
+    let alloc = rt.alloc();
+    let mut given = reader_of(alloc, &[])?;
+    given.bytes = PING.repeat(alloc, 2)?;
+    let told = converse_once(alloc, given)?;
+    assert_eq!(rt; told.first, 1032);
+    assert_eq!(rt; told.end, ReadEnd::Eof);
+    assert_eq!(rt; told.all, 1096);
+    assert_eq!(rt; told.state, State::Closed(CloseReason::Memory));
+    assert_eq!(rt; told.taken.as_slice(), PONG.repeat(alloc, 3)?.as_slice());
+    assert_eq!(rt; told.calls, 3);
     Ok(())
 }
 
@@ -500,7 +591,7 @@ fn a_ping_is_answered_when_the_hall_lets_it(rt: HostRuntime) -> Result<(), Fail>
     let ping = Event::Said(Shared::new(alloc, Item::Good(BoundedMessage::new(Message::Ping(0))))?);
     let (messages, question) = session.step(alloc, &ping)?;
     assert_eq!(rt; messages.len(), 0);
-    assert_eq!(rt; question, Some(Question::Admit));
+    assert_eq!(rt; question, Some(Ask::Admit));
     let (messages, question) = session.step(alloc, &Event::Told(Answer::Go))?;
     assert_eq!(rt; question, None);
     let mut writer = Out::new(writer_for(alloc, 32));

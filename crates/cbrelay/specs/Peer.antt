@@ -1,8 +1,8 @@
 -- What `serve` comes to for its peer.
 use Rattle.std.specs.Prelude.{◌≡◌, ℕ, pos, Bool, true, false, ◌⊎◌, List, [], ◌∷◌, ◌++◌, codes, Option, Result, Ok, Err}
 use Rattle.std.specs.Io.KnownBytes.{Appends}
-use Rattle.cb_hall.specs.declared.hall.Entry.{Entry}
-use Rattle.cb_hall.specs.Hall.{BadgeState, fresh_badge}
+use Rattle.cb_journal.specs.Journal.{JournalState, new_journal}
+use Rattle.cb_hall.specs.Badge.{BadgeState, first_of, fresh_badge}
 use Rattle.cb_hall.specs.Histories.{Asks, IsRefused}
 use Rattle.cb_peer.specs.declared.state.State.TheVariants.{Closed}
 use Rattle.cb_peer.specs.declared.state.CloseReason.{CloseReason}
@@ -16,19 +16,20 @@ use Rattle.cbrelay.specs.declared.ending.Halt.{Halt}
 use Rattle.cbrelay.specs.declared.ending.Halt.TheVariants.{ReadFailed, WriteFailed}
 use Rattle.cbrelay.specs.Ending.{reason_status}
 
--- where serving begins: the peer's settings, an empty journal, and the badge of peer 0
-abbrev pub peer_origin : Option (List ℕ) → Bool → Origin (List Entry)
-peer_origin held failed = origin_of (record { inbound = true; nonce = 1; time = pos 0; height = pos 0; salt = 0 }) [] (fresh_badge 0) held failed
+-- where serving begins: the peer's settings, a hall that nobody has asked anything, and the badge of the first connection of
+-- peer 0
+abbrev pub peer_origin : Option (List ℕ) → Bool → Origin JournalState
+peer_origin held failed = origin_of (record { inbound = true; nonce = 1; time = pos 0; height = pos 0; salt = 0 }) new_journal (fresh_badge (first_of 0)) held failed
 
 -- The connection was served to its end, from its source as it was (input) to its source as it is (remaining), and from
 -- what the writer held to what it holds, which had failed before or not; its session is closed for this reason.
 pub record WasServed (input remaining : Option (List ℕ)) (read_failed : Bool) (held holds : Option (List ℕ)) (had_failed write_failed : Bool) (reason : CloseReason) : Type 0 where
   pub trace : TraceView
-  pub journal : List Entry
+  pub hall : JournalState
   pub badge : BadgeState
   pub written : ℕ
   pub end : ReadEnd
-  pub serves : Serves (λ old had replies new has. Asks old new had has replies) IsRefused (peer_origin held had_failed) input remaining read_failed (progress trace journal badge holds write_failed written) end
+  pub serves : Serves (λ old had replies new has. Asks old new had has replies) IsRefused (peer_origin held had_failed) input remaining read_failed (progress trace hall badge holds write_failed written) end
   pub closed : trace.session.state ≡ Closed reason
 
 -- the line on standard error

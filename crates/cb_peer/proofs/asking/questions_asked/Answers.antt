@@ -1,6 +1,6 @@
 use Rattle.std.proofs.Common.{◌≡◌, List, [], ◌∷◌, ◌++◌, Option, sym, ap, ◌∙◌, arith}
 use Rattle.std.proofs.lemmas.List.{append-nil}
-use Rattle.cb_hall.specs.declared.hall.Question.{Question}
+use Rattle.cb_peer.specs.declared.ask.Ask.{Ask}
 use Rattle.cb_peer.specs.Trace.{asked_at}
 use Rattle.cb_peer.proofs.Questions.{account_at, asked_not, asked_told, asked_turn}
 use Rattle.cb_peer.proofs.asking.questions_asked.Goals as goal
@@ -17,11 +17,11 @@ loop-entry-preserved c =
           let pushed : c.if-is_answer.asked.items ≡ w.push.new.self.items = cc in
           pushed
           ∙ w.in_ok-push.ensures.items
-          ∙ ap (λ (question : Option Question). so_far ++ question ∷ []) w.question.ensures
-          ∙ ap (λ (l : List (Option Question)). so_far ++ l) (asked_told here entry (sym c.is_answer.ensures ∙ w.if-is_answer.true))
+          ∙ ap (λ (question : Option Ask). so_far ++ question ∷ []) w.question.ensures
+          ∙ ap (λ (l : List (Option Ask)). so_far ++ l) (asked_told here entry (sym c.is_answer.ensures ∙ w.if-is_answer.true))
       | else-is_answer w ↦
           let same : c.if-is_answer.asked.items ≡ so_far = cc in
-          same ∙ sym (append-nil so_far) ∙ ap (λ (l : List (Option Question)). so_far ++ l) (asked_not here entry (sym c.is_answer.ensures ∙ w.if-is_answer.false))
+          same ∙ sym (append-nil so_far) ∙ ap (λ (l : List (Option Ask)). so_far ++ l) (asked_not here entry (sym c.is_answer.ensures ∙ w.if-is_answer.false))
     ] in
     record {
       counted = (let counted = c.loop-entry.invariant.counted in omega (arith, counted));

@@ -6,7 +6,7 @@ pub returns-in-Ok-serve : goal.returns-in-Ok-serve
 returns-in-Ok-serve g c =
     inl record {
       trace = c.in-Ok-serve.served.trace;
-      journal = c.serve.new.hall;
+      hall = c.serve.new.hall;
       badge = c.serve.new.badge;
       written = c.in-Ok-serve.served.written;
       end = c.in-Ok-serve.served.read;

@@ -1,0 +1,38 @@
+-- What holds of all calls of a hall, in the words of who asks.
+use Rattle.std.specs.Prelude.{◌≡◌, ℕ, ◌+◌, Bool, true, false, List, [], ◌∷◌, ◌++◌, length, filter, Option, None, Some}
+use Rattle.cb_state.specs.declared.connection.Connection.{Connection}
+use Rattle.cb_state.specs.Announcers.{same_connection}
+use Rattle.cb_journal.specs.declared.answer.Answer.{Answer}
+use Rattle.cb_journal.specs.declared.answer.Answer.TheVariants.{Kicked}
+use Rattle.cb_journal.specs.declared.connections.Connected.{Connected}
+use Rattle.cb_journal.specs.declared.entry.Entry.{Entry}
+use Rattle.cb_journal.specs.declared.entry.Entry.TheVariants.{Asked, Kick}
+use Rattle.cb_journal.specs.declared.question.Question.{Question}
+use Rattle.cb_journal.specs.Connections.{connected_of, is_kicked}
+use Rattle.cb_journal.specs.Replica.{Leads, ReplicaState, Steps}
+
+-- A question of this connection, wherever it stands among the calls, is answered so, and changes nothing that peers share; and
+-- the connection stays kicked.
+pub record AreTurnedAway (old : ReplicaState) (calls : List Entry) (connection : Connection) (new : ReplicaState) : Type 0 where
+  pub stays : is_kicked new.connections connection ≡ true
+  pub told : (before after : List Entry) (question : Question) (answers : List Answer) (asked next : ReplicaState) (answer : Option Answer)
+      → calls ≡ before ++ Asked connection question ∷ after → Leads old before answers asked → Steps asked (Asked connection question) answer next
+      → (answer ≡ Some Kicked) × (next.node ≡ asked.node)
+
+-- one of the calls kicked this connection
+abbrev pub WasKicked : List Entry → Connection → Type 0
+WasKicked calls connection = (before after : List Entry) × (calls ≡ before ++ Kick connection ∷ after)
+
+abbrev pub is_question_of : Connection → Entry → Bool
+is_question_of connection (Asked other question) = same_connection other connection
+is_question_of connection other = false
+
+-- how many of the calls are questions of this connection
+abbrev pub questions_of : Connection → List Entry → ℕ
+questions_of connection calls = length (filter (is_question_of connection) calls)
+
+-- a connection that was there is there, and has as many questions more as the calls have of it
+abbrev pub CountsItsQuestions : ReplicaState → List Entry → Connection → ReplicaState → Type 0
+CountsItsQuestions old calls connection new =
+    (had : Connected) → connected_of old.connections connection ≡ Some had
+    → (has : Connected) × (connected_of new.connections connection ≡ Some has) × (has.count ≡ had.count + questions_of connection calls)

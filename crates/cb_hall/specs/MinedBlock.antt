@@ -1,0 +1,57 @@
+-- What becomes of a mined block that is given to its node at once (Bitcoin's consensus, as far as this node knows it).
+use Rattle.std.specs.Prelude.{◌≡◌, ◌≢◌, ◌⊎◌, ◌+◌, true, List, [], ◌∷◌, ◌++◌, Any, None, Some, Err}
+use Rattle.std.specs.FinMap as finite
+use Rattle.cb_base.specs.declared.fault.Fault.TheVariants.{BadParent, Known, Remade, TooMany}
+use Rattle.cb_tx.specs.declared.tx.OutPoint.{OutPoint}
+use Rattle.cb_tx.specs.declared.tx.Tx.{Tx}
+use Rattle.cb_tx.specs.Rules.{IsCoinbase}
+use Rattle.cb_block.specs.declared.block.Block.{Block}
+use Rattle.cb_block.specs.declared.header.Header.{Header}
+use Rattle.cb_block.specs.Text.{header_text}
+use Rattle.cb_ledger.specs.Spend.{spend}
+use Rattle.cb_ledger.specs.Unspent.{Unspent}
+use Rattle.cb_chain.specs.Best.{active, best}
+use Rattle.cb_chain.specs.Entries.{Entry, Tree, block_hash, block_of, entry_of, is_marked}
+use Rattle.cb_chain.specs.Laws.{height_in}
+use Rattle.cb_pool.specs.Rules.{txid_of}
+use Rattle.cb_state.specs.declared.giving.Taken.{Taken}
+use Rattle.cb_state.specs.State.{IsUnspent, NodeState}
+
+-- It is the tip and is kept, and the active chain is longer by its header alone.
+pub record IsNextTip (old : Tree) (block : Block) (new : Tree) : Type 0 where
+  pub tip : best new ≡ block_hash block.header
+  pub kept : block_of new (block_hash block.header) ≡ Some block
+  pub chain : active new ≡ active old ++ block.header ∷ []
+  pub height : height_in new (best new) ≡ height_in old (best old) + 1
+
+-- Another header is known under the header's hash: two different strings have one double hash.
+pub record HasNamesake (tree : Tree) (header : Header) : Type 0 where
+  pub entry : Entry
+  pub known : entry_of tree (block_hash header) ≡ Some entry
+  pub alike : block_hash entry.header ≡ block_hash header
+  pub other : header_text entry.header ≢ header_text header
+
+abbrev pub first_output : Tx → OutPoint
+first_output tx = record { txid = txid_of tx; index = 0 }
+
+-- The coinbase's output is unspent already, or a transaction behind it has its name, though it is no coinbase.
+abbrev pub IsMadeAgain : Unspent → List Tx → Type 0
+IsMadeAgain u [] = ⊥
+IsMadeAgain u (coinbase ∷ others) =
+    (finite.contains_key u (first_output coinbase) ≡ true) ⊎ Any (λ tx. (¬ IsCoinbase tx) × (txid_of tx ≡ txid_of coinbase)) others
+
+-- Behind the tip it can't be spent, since an output that it makes is unspent already.
+pub record MakesAgain (tree : Tree) (block : Block) : Type 0 where
+  pub unspent : Unspent
+  pub behind_tip : IsUnspent tree unspent
+  pub fault : spend unspent block.txs ≡ Err Remade
+  pub again : IsMadeAgain unspent block.txs
+
+-- It is the next tip. Else it is refused, and for one of four reasons: its hash was marked bad before, the tip stands as high
+-- as any may, another header has its hash, or it makes an output that is unspent already.
+pub data FaresAsMined (old : NodeState) (block : Block) (taken : Taken) (new : NodeState) : Type 0 where
+  is_next_tip : taken.refused ≡ None → IsNextTip old.tree block new.tree → FaresAsMined old block taken new
+  was_marked : taken.refused ≡ Some BadParent → is_marked old.tree (block_hash block.header) ≡ true → FaresAsMined old block taken new
+  tip_is_full : taken.refused ≡ Some TooMany → height_in old.tree (best old.tree) ≡ 1000000000 → FaresAsMined old block taken new
+  has_namesake : taken.refused ≡ Some Known → HasNamesake old.tree block.header → FaresAsMined old block taken new
+  makes_again : taken.refused ≡ Some Remade → MakesAgain old.tree block → FaresAsMined old block taken new

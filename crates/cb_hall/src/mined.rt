@@ -1,0 +1,25 @@
+//! What becomes of a mined block that is given to a state.
+ghost use Rattle.std.specs.Prelude.{None};
+ghost use Rattle.cb_state.specs.declared.giving.Taken.{Taken};
+ghost use Rattle.cb_state.specs.Giving.{TakesBlock};
+ghost use Rattle.cb_state.specs.Mining.{IsMined};
+ghost use Rattle.cb_state.specs.State.{NodeState};
+ghost use Rattle.cb_hall.specs.MinedBlock.{FaresAsMined};
+
+use cb_block::SoundBlock;
+use cb_chain::has_history;
+use cb_state::{State, mined_meets_rules};
+
+// What becomes of a mined block that is given to its state at once, whoever gives it.
+pub(crate) fn mined_fares(state: &State, mark: u8, block: &SoundBlock)
+    requires { IsMined state.now mark block.now }
+    ensures { (taken : Taken) (new : NodeState) → TakesBlock state.now block.now None taken new → FaresAsMined state.now block.now taken new }
+{
+    let chain = state.chain();
+    has_history(chain);
+    let _height = chain.tip_height();
+    let _ledger = chain.ledger();
+    let _pool = state.pool();
+    mined_meets_rules(state, mark, block);
+    let _text = block.block().header.text();
+}

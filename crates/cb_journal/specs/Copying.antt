@@ -1,0 +1,26 @@
+-- What is copied without fail (own): what holds no list, whose copy takes memory, and shares nothing, whose owners can be too
+-- many.
+use Rattle.std.specs.Prelude.{Bool, true, false}
+use Rattle.cb_journal.specs.declared.answer.Answer.{Answer}
+use Rattle.cb_journal.specs.declared.answer.Answer.TheVariants as answer
+use Rattle.cb_journal.specs.declared.entry.Entry.{Entry}
+use Rattle.cb_journal.specs.declared.entry.Entry.TheVariants.{Asked, Submitted}
+use Rattle.cb_journal.specs.declared.question.Question.{Question}
+use Rattle.cb_journal.specs.declared.question.Question.TheVariants as question
+
+abbrev pub is_plain_question : Question → Bool
+is_plain_question question.Admit = true
+is_plain_question question.Locator = true
+is_plain_question (question.News since) = true
+is_plain_question other = false
+
+abbrev pub is_plain_entry : Entry → Bool
+is_plain_entry (Asked connection question) = is_plain_question question
+is_plain_entry (Submitted local) = false
+is_plain_entry other = true
+
+abbrev pub is_plain_answer : Answer → Bool
+is_plain_answer answer.Go = true
+is_plain_answer answer.Kicked = true
+is_plain_answer (answer.TxTaken refused) = true
+is_plain_answer other = false

@@ -1,0 +1,242 @@
+ghost use Rattle.std.specs.Prelude.{◌≡◌, IfOk, IsOk, IsOkUnless, IsTrue, option_copied};
+ghost use Rattle.cb_base.specs.declared.fault.Fault.TheVariants.{Memory};
+ghost use Rattle.cb_journal.specs.Copying.{is_plain_answer, is_plain_entry, is_plain_question};
+
+use crate::answer::Answer;
+use crate::entry::{Entry, Local};
+use crate::question::{Given, Question, Request};
+use cb_base::Fault;
+use cb_block::SoundBlock;
+use cb_chain::Hashes;
+use cb_state::{Heads, Listed, Need, News, Piece, Pieces, Taken};
+use std::alloc::Global;
+
+// The same list once more. The only error is `Fault::Memory`.
+fn copy_list<T: Copy, const MOST: usize>(
+    alloc: Global,
+    list: &Listed<T, MOST>,
+) -> Result<Listed<T, MOST>, Fault>
+    ensures same { IfOk result (λ copy. copy ≡ list.now) }
+    ensures memory { IsOkUnless result Memory }
+{
+    let copy = Vec::from_slice(alloc, list.as_slice())?;
+    Ok(Listed::from_few(copy))
+}
+
+// The same hashes once more. The only error is `Fault::Memory`.
+fn copy_hashes(alloc: Global, hashes: &Hashes) -> Result<Hashes, Fault>
+    ensures same { IfOk result (λ copy. copy ≡ hashes.now) }
+    ensures memory { IsOkUnless result Memory }
+{
+    Ok(Hashes::new(Vec::from_slice(alloc, hashes.as_slice())?))
+}
+
+// The same block once more, where there is one. The only error is `Fault::Memory`.
+fn copy_block(block: Option<&SoundBlock>) -> Result<Option<SoundBlock>, Fault>
+    ensures same { IfOk result (λ copy. copy ≡ option_copied block.entry) }
+    ensures memory { IsOkUnless result Memory }
+{
+    match block {
+        Some(block) => Ok(Some(block.copy()?)),
+        None => Ok(None),
+    }
+}
+
+// ---- what is asked
+
+impl Given {
+    /// The same block once more, which is shared. The only error is `Fault::Memory`.
+    pub fn copy(&self) -> Result<Given, Fault>
+        ensures same { IfOk result (λ copy. copy ≡ self.now) }
+        ensures memory { IsOkUnless result Memory }
+    {
+        Ok(Given {
+            block: self.block.copy()?,
+            capable: self.capable,
+        })
+    }
+}
+
+impl Request {
+    /// The same request once more. The only error is `Fault::Memory`.
+    pub fn copy(&self, alloc: Global) -> Result<Request, Fault>
+        ensures same { IfOk result (λ copy. copy ≡ self.now) }
+        ensures memory { IsOkUnless result Memory }
+    {
+        match self {
+            Request::Items(entries) => Ok(Request::Items(copy_list(alloc, entries)?)),
+            Request::After(locator, stop) => Ok(Request::After(copy_list(alloc, locator)?, *stop)),
+        }
+    }
+}
+
+impl Question {
+    /// The same question once more, which shares its transaction or block.
+    ///
+    /// The only error is `Fault::Memory`. A question for leave, for a locator or for news takes none.
+    pub fn copy(&self, alloc: Global) -> Result<Question, Fault>
+        ensures same { IfOk result (λ copy. copy ≡ self.now) }
+        ensures memory { IsOkUnless result Memory }
+        ensures unpaid { IsTrue (is_plain_question self.now) → IsOk result }
+    {
+        match self {
+            Question::Admit => Ok(Question::Admit),
+            Question::Headers(headers) => Ok(Question::Headers(copy_list(alloc, headers)?)),
+            Question::Locator => Ok(Question::Locator),
+            Question::Want(entries) => Ok(Question::Want(copy_list(alloc, entries)?)),
+            Question::GiveTx(tx) => Ok(Question::GiveTx(tx.clone()?)),
+            Question::GiveBlock(given) => Ok(Question::GiveBlock(given.copy()?)),
+            Question::Serve(request) => Ok(Question::Serve(request.copy(alloc)?)),
+            Question::News(told) => Ok(Question::News(*told)),
+        }
+    }
+}
+
+impl Local {
+    /// The same transaction or block once more, which is shared. The only error is `Fault::Memory`.
+    pub fn copy(&self) -> Result<Local, Fault>
+        ensures same { IfOk result (λ copy. copy ≡ self.now) }
+        ensures memory { IsOkUnless result Memory }
+    {
+        match self {
+            Local::Tx(tx) => Ok(Local::Tx(tx.clone()?)),
+            Local::Block(block) => Ok(Local::Block(block.copy()?)),
+        }
+    }
+}
+
+impl Entry {
+    /// The same call once more, which shares its transaction or block.
+    ///
+    /// The only error is `Fault::Memory`. A kick, the opening of a connection, and a question for leave, for a locator or for
+    /// news take none.
+    pub fn copy(&self, alloc: Global) -> Result<Entry, Fault>
+        ensures same { IfOk result (λ copy. copy ≡ self.now) }
+        ensures memory { IsOkUnless result Memory }
+        ensures unpaid { IsTrue (is_plain_entry self.now) → IsOk result }
+    {
+        match self {
+            Entry::Asked(connection, question) => {
+                Ok(Entry::Asked(*connection, question.copy(alloc)?))
+            }
+            Entry::Kick(connection) => Ok(Entry::Kick(*connection)),
+            Entry::Opened(connection) => Ok(Entry::Opened(*connection)),
+            Entry::Submitted(local) => Ok(Entry::Submitted(local.copy()?)),
+        }
+    }
+}
+
+// The same calls once more, in order. The only error is `Fault::Memory`.
+pub(crate) fn copy_entries(alloc: Global, entries: &[Entry]) -> Result<Vec<Entry>, Fault>
+    ensures same { IfOk result (λ copies. copies.items ≡ entries.now) }
+    ensures memory { IsOkUnless result Memory }
+{
+    let mut copies = Vec::with_capacity(alloc, entries.len())?;
+    for entry in entries {
+        copies.push(entry.copy(alloc)?)?;
+    }
+    Ok(copies)
+}
+
+// ---- what is answered
+
+// What headers met, once more. The only error is `Fault::Memory`.
+fn copy_heads(alloc: Global, heads: &Heads) -> Result<Heads, Fault>
+    ensures same { IfOk result (λ copy. copy ≡ heads.now) }
+    ensures memory { IsOkUnless result Memory }
+{
+    Ok(Heads {
+        refused: heads.refused,
+        lack: copy_hashes(alloc, &heads.lack)?,
+        locator: copy_hashes(alloc, &heads.locator)?,
+    })
+}
+
+// What a block met, once more. The only error is `Fault::Memory`.
+fn copy_taken(alloc: Global, taken: &Taken) -> Result<Taken, Fault>
+    ensures same { IfOk result (λ copy. copy ≡ taken.now) }
+    ensures memory { IsOkUnless result Memory }
+{
+    Ok(Taken {
+        refused: taken.refused,
+        locator: copy_hashes(alloc, &taken.locator)?,
+    })
+}
+
+// What is wanted, once more. The only error is `Fault::Memory`.
+fn copy_need(alloc: Global, need: &Need) -> Result<Need, Fault>
+    ensures same { IfOk result (λ copy. copy ≡ need.now) }
+    ensures memory { IsOkUnless result Memory }
+{
+    Ok(Need {
+        entries: copy_list(alloc, &need.entries)?,
+        near: need.near,
+        locator: copy_hashes(alloc, &need.locator)?,
+    })
+}
+
+// What is new, once more, where its block is shared. The only error is `Fault::Memory`.
+fn copy_news(alloc: Global, news: &News) -> Result<News, Fault>
+    ensures same { IfOk result (λ copy. copy ≡ news.now) }
+    ensures memory { IsOkUnless result Memory }
+{
+    Ok(News {
+        tip: news.tip,
+        path: copy_list(alloc, &news.path)?,
+        long: news.long,
+        block: copy_block(news.block.as_ref())?,
+        txids: copy_hashes(alloc, &news.txids)?,
+        next: news.next,
+        high: news.high,
+    })
+}
+
+// What is served of an entry, once more, where a transaction or block is shared. The only error is `Fault::Memory`.
+fn copy_piece(piece: &Piece) -> Result<Piece, Fault>
+    ensures same { IfOk result (λ copy. copy ≡ piece.now) }
+    ensures memory { IsOkUnless result Memory }
+{
+    match piece {
+        Piece::Tx(tx) => Ok(Piece::Tx(tx.clone()?)),
+        Piece::Whole(block) => Ok(Piece::Whole(block.copy()?)),
+        Piece::Short(block) => Ok(Piece::Short(block.copy()?)),
+        Piece::Lacking(entry) => Ok(Piece::Lacking(*entry)),
+    }
+}
+
+// The same pieces once more, in order. The only error is `Fault::Memory`.
+fn copy_pieces(alloc: Global, pieces: &Pieces) -> Result<Pieces, Fault>
+    ensures same { IfOk result (λ copy. copy ≡ pieces.now) }
+    ensures memory { IsOkUnless result Memory }
+{
+    let pieces = pieces.as_slice();
+    let mut copies = Vec::with_capacity(alloc, pieces.len())?;
+    for piece in pieces {
+        copies.push(copy_piece(piece)?)?;
+    }
+    Ok(Listed::from_few(copies))
+}
+
+impl Answer {
+    /// The same answer once more, which shares its transactions and blocks.
+    ///
+    /// The only error is `Fault::Memory`. Leave, what a kicked connection is told, and what a transaction met take none.
+    pub fn copy(&self, alloc: Global) -> Result<Answer, Fault>
+        ensures same { IfOk result (λ copy. copy ≡ self.now) }
+        ensures memory { IsOkUnless result Memory }
+        ensures unpaid { IsTrue (is_plain_answer self.now) → IsOk result }
+    {
+        match self {
+            Answer::Go => Ok(Answer::Go),
+            Answer::Kicked => Ok(Answer::Kicked),
+            Answer::Heads(heads) => Ok(Answer::Heads(copy_heads(alloc, heads)?)),
+            Answer::Locator(locator) => Ok(Answer::Locator(copy_hashes(alloc, locator)?)),
+            Answer::Need(need) => Ok(Answer::Need(copy_need(alloc, need)?)),
+            Answer::TxTaken(refused) => Ok(Answer::TxTaken(*refused)),
+            Answer::Taken(taken) => Ok(Answer::Taken(copy_taken(alloc, taken)?)),
+            Answer::Served(pieces) => Ok(Answer::Served(copy_pieces(alloc, pieces)?)),
+            Answer::Following(headers) => Ok(Answer::Following(copy_list(alloc, headers)?)),
+            Answer::News(news) => Ok(Answer::News(copy_news(alloc, news)?)),
+        }
+    }
+}
