@@ -192,10 +192,8 @@ fn hall_of_one(alloc: Global) -> Result<(Hall, Badge), Fail> {
 
 /// The badge of a connection.
 fn badge_of_one(alloc: Global) -> Result<Badge, Fail> {
-    match hall_of_one(alloc) {
-        Ok((_, badge)) => Ok(badge),
-        Err(fail) => Err(fail),
-    }
+    let (_hall, badge) = hall_of_one(alloc)?;
+    Ok(badge)
 }
 
 /// Serves a connection with a hall of its own.
