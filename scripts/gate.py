@@ -1,6 +1,6 @@
 """Runs the gate `rt ci` and passes on what it prints; before its last line, says when each of its parts was through.
 
-Usage: scripts/gate.py ATTACKED, where ATTACKED is the last line of ./attack, told once more before the last line of `rt ci`.
+Usage: scripts/gate.py [ATTACKED], where ATTACKED is the last line of ./attack, told once more before the last line of `rt ci`.
 The status is that of `rt ci`.
 """
 
@@ -31,7 +31,8 @@ def main():
     for name, seconds in through.items():
         print(f"test: gate: {name} through after {seconds:.0f} s")
     print(f"test: the gate: {time.monotonic() - began:.0f} s")
-    print(f"./attack: {sys.argv[1]}")
+    for attacked in sys.argv[1:]:
+        print(f"./attack: {attacked}")
     print(last, end="", flush=True)
     return status
 

@@ -1,0 +1,124 @@
+#!/usr/bin/env python3
+"""Counts the growths of memory that a hall meets at a small block and at a large one, and refuses each growth in turn.
+
+It needs the built program crates/bench_hall/out/bench_hall (as ./build bench_hall leaves it), a C compiler as `cc`, and python3, and
+takes some seconds. A block of 200 bytes and one of 900,000, with as many transactions, are given, served and told as news: a call has
+to meet as many growths of as many bytes for the one as for the other, so that the block is shared and never copied. Then each growth
+is refused in turn while three blocks take the place of two under a pool of ten, and a look before and after each call tells whether
+anything changed: each run has to end as with ample memory, or with status 4. The status is 0 where both is so.
+"""
+
+import struct
+import sys
+import tempfile
+
+from bench import built, usage
+from calls import Block, Tx
+from chain import GENESIS, record
+from hall_calls import Play, question_text, repeated
+from plain_hall import NULL_POINT, AnyTx, paying
+from refuse_growth import Growths, build, in_turn, run
+
+SMALL, LARGE, REPEATS = 200, 900_000, 10
+# How many transactions wait in the pool, of which the blocks that are put off have some.
+POOL, PUT_OFF = 10, 2
+
+
+def sized(prev, size):
+    """A block of a coinbase whose text has this size."""
+    def made(script):
+        return Block(prev, [AnyTx([(NULL_POINT, bytes(4))], [50], bytes(script))])
+
+    rest = size - len(made(0).text)
+    # The script's length takes one byte, or five.
+    block = made(rest if rest < 253 else rest - 4)
+    assert len(block.text) == size
+    return block
+
+
+def asked(*question):
+    kind, text = question_text(question)
+    return kind, struct.pack("<HQ", 0, 1) + text
+
+
+def growths(program, library, data):
+    """The growths of a run that comes to its end."""
+    ran, met = run([program], data, library, 0)
+    if ran.returncode != 0:
+        sys.exit(f"the program ended with status {ran.returncode}, and told {ran.stdout!r}")
+    return met
+
+
+def of_call(program, library, ground, call, repeats):
+    """The growths that a call meets when it is made so many times: those of reading it are taken off."""
+    none, some = (growths(program, library, ground + repeated(count, *call)) for count in (0, repeats))
+    return Growths(*((more - less) / repeats for less, more in zip(none, some)))
+
+
+def of_each(program, library, size):
+    """The growths of giving a block, of serving it and of news of it."""
+    block = sized(GENESIS, size)
+    give, name = asked("block", block, True), block.header.name
+    yield of_call(program, library, b"", give, 1)
+    for question in (("items", [(2, name), (4, name)]), ("news", GENESIS, 0, True)):
+        yield of_call(program, library, record(*give), asked(*question), REPEATS)
+
+
+def counted(program, library):
+    """How many calls don't meet the same growths at a small and at a large block."""
+    differing = 0
+    for name, small, large in zip(("giving a block", "serving it twice", "news of it"), *(of_each(program, library, size) for size in (SMALL, LARGE))):
+        differing += small != large
+        print(f"{name} meets {small.count:g} growths of {small.bytes:,.0f} bytes at a block of {SMALL} bytes, "
+              f"and {large.count:g} of {large.bytes:,.0f} bytes at {LARGE:,}")
+    return differing
+
+
+def reorganisation():
+    """Three blocks take the place of two, whose transactions stand in front of a pool then, beside a look before and after the last."""
+    play = Play()
+    marks = iter(range(1, 1_000))
+    coins, prev = [], GENESIS
+
+    def give(txs, prev):
+        block = Block(prev, [Tx(next(marks), [], [50]), *txs])
+        play.ask((0, 1), "block", block, True)
+        return block
+
+    for _ in range(POOL):
+        coins.append(give([], prev))
+        prev = coins[-1].header.name
+    pool = [paying(next(marks), [(coin.txs[0].name, 0)], [50]) for coin in coins]
+    fork = prev
+    for tx in pool:
+        play.ask((1, 1), "tx", tx)
+    for place in range(PUT_OFF):
+        prev = give([pool[place]], prev).header.name
+    for tx in pool[:PUT_OFF]:
+        play.ask((2, 1), "tx", paying(next(marks), [(tx.name, 0)], [50]))
+    prev = fork
+    for _ in range(PUT_OFF):
+        prev = give([], prev).header.name
+    play.records.append(record(b"c"))
+    give([], prev)
+    assert len(play.hall.now.pool) == POOL + PUT_OFF and play.hall.now.height() == POOL + PUT_OFF + 1
+    play.look()
+    play.ask((1, 1), "news", None, 0, False)
+    return play
+
+
+def main():
+    words = usage(__doc__, program="the program, if not crates/bench_hall/out/bench_hall").parse_args()
+    program = built(words.program, "bench_hall")
+    play = reorganisation()
+    differences = play.differences(program)
+    for difference in differences:
+        print(difference)
+    with tempfile.TemporaryDirectory() as folder:
+        library = build(folder)
+        failures = counted(program, library) + in_turn("three blocks for two under a pool of ten", "bench_hall", [], b"".join(play.records), library)
+    sys.exit(1 if failures or differences else 0)
+
+
+if __name__ == "__main__":
+    main()

@@ -1,0 +1,379 @@
+"""A plain hall: what the peers of a node share, and what each question is answered, by the rules in docs/PROTOCOL.md.
+
+It was written apart from the program. It keeps all calls that were granted, and where the journal began anew; how things stand is
+computed from the calls (now and then that is kept, so that a call doesn't cost all of them).
+"""
+
+import copy
+import struct
+from collections import Counter
+from types import SimpleNamespace
+
+from bench import compact_size, hash_twice, merkle_root
+from calls import MOST_MONEY, Block, Header, Plain, Tx, connected, has_work, line
+from chain import GENESIS
+
+NULL_POINT = (bytes(32), 0xFFFF_FFFF)
+PEERS, GENESIS_SIZE, GENESIS_TIME = 64, 285, 1_296_688_602
+POOL, ANNOUNCERS, ANNOUNCED, DEPTH, BLOCK_BYTES = 10_000, 3, 8, 5, 1_000_000
+JOURNAL_ENTRIES, JOURNAL_WEIGHT, ENTRY_WEIGHT, LISTED_WEIGHT = 1_000_000, 64_000_000, 64, 40
+# How many calls are folded at the most to tell how things stand.
+FOLDED = 16
+
+
+# ---- transactions and blocks
+
+
+class AnyTx(Tx):
+    """A transaction of any inputs, each a point and a script, and any values."""
+
+    def __init__(self, inputs, values, script=b"\x51"):
+        self.inputs, self.values = inputs, values
+        self.spent = [] if [point for point, _ in inputs] == [NULL_POINT] else [point for point, _ in inputs]
+        made = b"".join(struct.pack("<q", value) + compact_size(len(script)) + script for value in values)
+        spent = b"".join(point[0] + struct.pack("<I", point[1]) + compact_size(len(text)) + text + b"\xff" * 4 for point, text in inputs)
+        self.text = struct.pack("<i", 1) + compact_size(len(inputs)) + spent + compact_size(len(values)) + made + bytes(4)
+        self.name = hash_twice(self.text)
+
+    def is_coinbase(self):
+        return [point for point, _ in self.inputs] == [NULL_POINT]
+
+    def broken_rule(self):
+        points = [point for point, _ in self.inputs]
+        if not points:
+            return 1
+        if not self.values:
+            return 2
+        if len(self.text) > 1_000_000:
+            return 3
+        if any(not 0 <= value <= MOST_MONEY for value in self.values):
+            return 4
+        if sum(self.values) > MOST_MONEY:
+            return 5
+        if len(set(points)) < len(points):
+            return 6
+        if self.is_coinbase():
+            return None if 2 <= len(self.inputs[0][1]) <= 100 else 7
+        return 8 if NULL_POINT in points else None
+
+
+def paying(mark, spent, values):
+    """A transaction that spends these points."""
+    return AnyTx([(point, struct.pack("<I", mark)) for point in spent], values)
+
+
+class MinedBlock(Block):
+    """A block with the time of its height and the least nonce that serves."""
+
+    def __init__(self, prev, height, txs):
+        self.txs = txs
+        root, nonce, text = merkle_root([tx.name for tx in txs]), 0, b""
+        while not text or not has_work(text):
+            text = struct.pack("<i", 1) + prev + root + struct.pack("<III", GENESIS_TIME + height, 0x207F_FFFF, nonce)
+            nonce += 1
+        self.header = Header(text)
+        self.text = self.header.text + compact_size(len(txs)) + b"".join(tx.text for tx in txs)
+
+
+# ---- what peers share
+
+
+def shown(name):
+    return name[::-1].hex()
+
+
+def applied(unspent, tx):
+    """Why a transaction can't be spent, or what is unspent behind it."""
+    behind = dict(unspent)
+    fault = connected(behind, SimpleNamespace(txs=[tx]))
+    return (fault, unspent) if fault else (None, behind)
+
+
+class Shared:
+    """The chain, the pool with its numbers of arrival, the announcers, and what is known of the connections."""
+
+    def __init__(self):
+        self.chain = Plain()
+        self.pool, self.next = [], 0
+        self.announcers = []
+        self.asked, self.kicked, self.generations = Counter(), set(), Counter({peer: 1 for peer in range(PEERS)})
+
+    def copy(self):
+        """Another one, which shares what never changes."""
+        other = copy.copy(self)
+        other.chain = copy.copy(self.chain)
+        for name in ("headers", "heights", "kept", "marked"):
+            setattr(other.chain, name, copy.copy(getattr(self.chain, name)))
+        for name in ("pool", "announcers", "asked", "kicked", "generations"):
+            setattr(other, name, copy.copy(getattr(self, name)))
+        return other
+
+    def latest(self, peer):
+        return (peer, self.generations[peer])
+
+    def tip(self):
+        return self.chain.tip()
+
+    def height(self):
+        return self.chain.height(self.tip())
+
+    def unspent(self):
+        return self.chain.unspent(self.tip())[0]
+
+    def lacks(self, name):
+        return not self.chain.has_block(name) and name not in self.chain.marked
+
+    def has_block(self, name):
+        return self.chain.has_block(name) and name not in self.chain.marked
+
+    # ---- entries
+
+    def step(self, entry):
+        """One call more: the line of what is answered, and how much that tells."""
+        kind, *rest = entry
+        if kind == "kick":
+            self.kicked.add(rest[0])
+        elif kind == "opened":
+            peer, self.generations[peer] = rest[0]
+            self.announcers = [other for other in self.announcers if other[0] != peer]
+        elif kind == "submitted":
+            return self.answer(None, rest[0])
+        else:
+            connection, question = rest
+            self.asked[connection] += 1
+            return ("kicked", 0) if connection in self.kicked else self.answer(connection, question)
+        return None
+
+    def answer(self, connection, question):
+        kind, *rest = question
+        return getattr(self, "answer_" + kind)(connection, *rest)
+
+    def answer_admit(self, _):
+        return "go", 1
+
+    def answer_locator(self, _):
+        return line("locator", self.chain.locator()), 0
+
+    def answer_headers(self, _, headers):
+        refused, lack = "-", []
+        for header in headers:
+            ended = self.chain.take_header(header)
+            if ended not in ("taken", "F18 Known"):
+                refused = ended
+                break
+            lack += [header.name] if self.lacks(header.name) else []
+        return line(line(f"heads {refused} lack", lack) + " locator", self.locator_for(refused)), 0
+
+    def locator_for(self, refused):
+        return self.chain.locator() if refused == "F23 NoParent" else []
+
+    def answer_want(self, _, entries):
+        pooled = {tx.name for tx, _ in self.pool}
+        wanted = [(kind, name) for kind, name in dict.fromkeys(entries) if kind == 1 and name not in pooled or kind == 2 and self.lacks(name)]
+        blocks = [name for kind, name in wanted if kind == 2]
+        near = len(blocks) == 1 and blocks[0] in self.chain.headers and self.chain.headers[blocks[0]].prev == self.tip()
+        told = "".join(f" {kind} {shown(name)}" for kind, name in wanted)
+        return line(f"need{told} near {str(near).lower()} locator", self.chain.locator() if blocks else []), len(wanted)
+
+    def answer_tx(self, _, tx):
+        refused = self.refusal(tx)
+        if refused is None:
+            self.pool.append((tx, self.next))
+            self.next += 1
+        return f"tx {refused or '-'}", int(refused is None)
+
+    def refusal(self, tx):
+        """Why the pool doesn't take a transaction."""
+        if tx.broken_rule():
+            return f"F5 BadTx {tx.broken_rule()}"
+        if tx.is_coinbase():
+            return "F10 BadCoinbase"
+        if len(tx.text) == 64:
+            return "F8 Size64"
+        if tx.name in [other.name for other, _ in self.pool]:
+            return "F18 Known"
+        fault, _ = applied(self.unspent_behind(), tx)
+        return fault or ("F20 PoolFull" if len(self.pool) >= POOL else None)
+
+    def unspent_behind(self):
+        """What is unspent behind the pool."""
+        unspent = self.unspent()
+        for tx, _ in self.pool:
+            _, unspent = applied(unspent, tx)
+        return unspent
+
+    def answer_block(self, connection, block, capable):
+        before = dict(self.chain.kept)
+        ended = self.chain.take_block(block)
+        refused = "-" if isinstance(ended, tuple) else ended
+        if isinstance(ended, tuple) and ended[1]:
+            self.refold([tx for name in reversed(ended[0]) for tx in before[name].txs if not tx.is_coinbase()])
+            if connection is not None and capable:
+                self.announcers = ([other for other in self.announcers if other != connection] + [connection])[-ANNOUNCERS:]
+        return line(f"block {refused} locator", self.locator_for(refused)), int(refused == "-")
+
+    def refold(self, first):
+        """The pool anew: transactions of blocks that were put off, and then its own, as far as they apply in turn."""
+        offered = [(tx, None) for tx in first] + self.pool
+        self.pool, unspent = [], self.unspent()
+        for tx, number in offered:
+            fault, behind = applied(unspent, tx)
+            if fault or tx.name in [other.name for other, _ in self.pool] or len(self.pool) == POOL:
+                continue
+            unspent = behind
+            self.pool.append((tx, self.next if number is None else number))
+            self.next += number is None
+
+    def answer_items(self, _, entries):
+        pieces = [self.piece(kind, name) for kind, name in entries if kind in (1, 2, 4)]
+        return "served" + "".join(pieces), len(pieces)
+
+    def piece(self, kind, name):
+        if kind == 1:
+            for tx, _ in self.pool:
+                if tx.name == name:
+                    return f" tx {shown(name)} {len(tx.text)}"
+        elif self.has_block(name):
+            near = kind == 4 and self.chain.height(name) + DEPTH >= self.height()
+            size = GENESIS_SIZE if name == GENESIS else len(self.chain.kept[name].text)
+            return f" {'short' if near else 'whole'} {shown(name)} {size}"
+        return f" lacking {kind} {shown(name)}"
+
+    def answer_after(self, _, locator, stop):
+        return line("following", self.chain.after(locator, stop)), 0
+
+    def answer_news(self, connection, tip, number, whole):
+        way = self.chain.path(tip) if tip is not None else []
+        is_long, only = len(way) > ANNOUNCED, len(way) == 1
+        block = f" block {shown(self.tip())} {len(self.chain.kept[self.tip()].text)}" if whole and only else ""
+        txids = [tx.name for tx, other in self.pool if other >= number]
+        told = line(line("news", [self.tip()]) + " path", way[-1:] if is_long else way) + f" long {str(is_long).lower()}{block}"
+        high = str(connection in self.announcers).lower()
+        return line(told + " txids", txids) + f" next {self.next} high {high}", len(txids)
+
+    # ---- what is seen
+
+    def look(self):
+        return line(f"look height {self.height()} pool {len(self.pool)} tip", [self.tip()])
+
+    def mined(self, mark):
+        """The block of the next height: the longest beginning of the pool that fits."""
+        height = self.height() + 1
+        txs = [AnyTx([(NULL_POINT, struct.pack("<I", height) + bytes([mark]))], [5_000_000_000])]
+        size = 80 + len(txs[0].text)
+        for tx, _ in self.pool:
+            size += len(tx.text)
+            if size + len(compact_size(len(txs) + 1)) > BLOCK_BYTES:
+                break
+            txs.append(tx)
+        return MinedBlock(self.tip(), height, txs)
+
+
+def mined_line(block, height):
+    script = block.txs[0].inputs[0][1].hex()
+    count, size = len(block.txs), len(block.txs[0].text)
+    return f"mined {shown(block.header.name)} {len(block.text)} txs {count} time {GENESIS_TIME + height} script {script} size {size}"
+
+
+# ---- the hall
+
+
+def weight(entry):
+    """For how many bytes an entry counts in the journal."""
+    kind, *rest = entry
+    content = 0
+    if kind in ("asked", "submitted"):
+        word, *content_of = rest[-1]
+        if word in ("tx", "block"):
+            content = len(content_of[0].text)
+        elif word in ("headers", "want", "items", "after"):
+            content = LISTED_WEIGHT * len(content_of[0])
+    return ENTRY_WEIGHT + content
+
+
+class PlainHall:
+    """All calls, where the journal began anew, and the connections in the order in which they were opened."""
+
+    def __init__(self):
+        self.calls, self.start = [], 0
+        self.connections = [(peer, 1) for peer in range(PEERS)]
+        # So many calls lead to what is kept here, and all of them to the other.
+        self.kept = (0, Shared())
+        self.now = Shared()
+
+    def folded(self, count):
+        """To what so many calls lead, from the beginning."""
+        shared = Shared()
+        for entry in self.calls[:count]:
+            shared.step(entry)
+        return shared
+
+    def note(self, entry):
+        """A call more: the line of what is answered, and how much it tells."""
+        weights = sum(weight(other) for other in self.calls[self.start:])
+        if len(self.calls) - self.start >= JOURNAL_ENTRIES or weights + weight(entry) > JOURNAL_WEIGHT:
+            self.start = len(self.calls)
+        self.calls.append(entry)
+        count, shared = self.kept[0], self.kept[1].copy()
+        for other in self.calls[count:]:
+            told = shared.step(other)
+        self.now = shared
+        if len(self.calls) - count >= FOLDED:
+            self.kept = (len(self.calls), shared.copy())
+        return told
+
+    # ---- calls; each gives a line and how much it tells
+
+    def ask(self, connection, question):
+        return self.note(("asked", connection, question))
+
+    def submit(self, question):
+        return self.note(("submitted", question))
+
+    def open(self, peer):
+        connection = (peer, self.now.generations[peer] + 1)
+        self.note(("opened", connection))
+        self.connections.append(connection)
+        return f"opened {connection[0]}.{connection[1]}", 0
+
+    def kick(self, peer):
+        self.note(("kick", self.now.latest(peer)))
+        return f"kick {peer}", 0
+
+    def mine(self, mark):
+        return mined_line(self.now.mined(mark), self.now.height() + 1), 0
+
+    def extend(self, mark):
+        return self.submit(("block", self.now.mined(mark), False))
+
+    def checkpoint(self):
+        self.start = len(self.calls)
+        return "checkpoint", 0
+
+    # ---- what is seen
+
+    def look(self):
+        return self.now.look(), 0
+
+    def asked(self, entries):
+        return Counter(entry[1] for entry in entries if entry[0] == "asked")
+
+    def counts(self):
+        """How long the journal is, and how often who has asked: before it, and by now, which a badge tells too."""
+        before, by_now = self.asked(self.calls[:self.start]), self.asked(self.calls)
+        text = f"journal {len(self.calls) - self.start}"
+        for peer, generation in self.connections:
+            connection = (peer, generation)
+            if by_now[connection]:
+                kicked = str(("kick", connection) in self.calls).lower()
+                text += f" {peer}.{generation} {before[connection]} {by_now[connection]} {by_now[connection]} {kicked}"
+        return text, 0
+
+    def again(self):
+        journal = self.calls[self.start:]
+        return f"again journal {len(journal)} answers {sum(self.asked(journal).values())} same true", 0
+
+    def replay(self):
+        if self.start:
+            return "replay of a part", 0
+        return f"replay journal {len(self.calls)} {self.folded(len(self.calls)).look()}", 0

@@ -1,0 +1,149 @@
+ghost use Rattle.std.specs.Prelude.{◌≡◌, IfOk};
+ghost use Rattle.bench_hall.specs.Playing.{call_kind, question_kind};
+
+use crate::call::{Call, Sight};
+use cb_base::{Cursor, Fault, Hash256, Shared};
+use cb_block::{Header, SoundBlock, read_block, read_header, sound};
+use cb_journal::{Given, HeaderList, Local, Locator, Question, Request, Told};
+use cb_state::{Connection, Entries, Inventory, Listed};
+use cb_tx::{Tx, read_hash, read_tx};
+use std::alloc::Global;
+
+// A peer and a generation.
+fn read_connection(cursor: &mut Cursor) -> Result<Connection, Fault> {
+    let peer = cursor.u16()?;
+    let generation = cursor.u64()?;
+    Ok(Connection { peer, generation })
+}
+
+// An entry of inventory: a type in four bytes, and a hash.
+fn read_entry(cursor: &mut Cursor) -> Result<Inventory, Fault> {
+    let kind = cursor.u32()?;
+    let hash = read_hash(cursor)?;
+    Ok(match kind {
+        1 => Inventory::Tx(hash),
+        2 => Inventory::Block(hash),
+        4 => Inventory::CompactBlock(hash),
+        _ => Inventory::Other(kind, hash),
+    })
+}
+
+fn read_entries(alloc: Global, cursor: &mut Cursor) -> Result<Entries, Fault> {
+    let mut entries = Vec::new(alloc);
+    for _ in 0..cursor.left() / 36 {
+        entries.push(read_entry(cursor)?)?;
+    }
+    as_listed(entries)
+}
+
+fn read_hashes(alloc: Global, cursor: &mut Cursor) -> Result<Locator, Fault> {
+    let mut hashes = Vec::new(alloc);
+    for _ in 0..cursor.left() / 32 {
+        hashes.push(read_hash(cursor)?)?;
+    }
+    as_listed(hashes)
+}
+
+fn read_headers(alloc: Global, cursor: &mut Cursor) -> Result<HeaderList, Fault> {
+    let mut headers = Vec::new(alloc);
+    for _ in 0..cursor.left() / 80 {
+        headers.push(read_header(cursor)?)?;
+    }
+    as_listed(headers)
+}
+
+// The list, if it isn't too long.
+fn as_listed<T: Drop, const MOST: usize>(list: Vec<T>) -> Result<Listed<T, MOST>, Fault> {
+    match Listed::new(list) {
+        Ok(listed) => Ok(listed),
+        Err(_) => Err(Fault::TooMany),
+    }
+}
+
+fn read_shared_tx<'a>(alloc: Global, cursor: &mut Cursor<'a>) -> Result<Shared<Tx>, Fault> {
+    let tx = read_tx(alloc, cursor)?;
+    Ok(Shared::new(alloc, tx)?)
+}
+
+// A block, which must be sound.
+fn read_sound<'a>(alloc: Global, cursor: &mut Cursor<'a>) -> Result<SoundBlock, Fault> {
+    let block = read_block(alloc, cursor)?;
+    match sound(alloc, Shared::new(alloc, block)?) {
+        Ok(block) => Ok(block),
+        Err((_, fault)) => Err(fault),
+    }
+}
+
+// Whether the peer knows compact blocks in a byte, and the block.
+fn read_given<'a>(alloc: Global, cursor: &mut Cursor<'a>) -> Result<Given, Fault> {
+    let capable = cursor.u8()? != 0;
+    let block = read_sound(alloc, cursor)?;
+    Ok(Given { block, capable })
+}
+
+// Whether the block is asked for in a byte, the number of the first transaction that wasn't told, and the tip that was told, if
+// one was.
+fn read_told(cursor: &mut Cursor) -> Result<Told, Fault> {
+    let whole = cursor.u8()? != 0;
+    let from = cursor.u64()?;
+    let tip = if cursor.left() > 0 {
+        Some(read_hash(cursor)?)
+    } else {
+        None
+    };
+    Ok(Told { tip, from, whole })
+}
+
+fn read_question<'a>(alloc: Global, kind: u8, cursor: &mut Cursor<'a>) -> Result<Question, Fault>
+    ensures { IfOk result (λ question. question_kind question ≡ kind) }
+{
+    match kind {
+        b'a' => Ok(Question::Admit),
+        b'h' => Ok(Question::Headers(read_headers(alloc, cursor)?)),
+        b'l' => Ok(Question::Locator),
+        b'w' => Ok(Question::Want(read_entries(alloc, cursor)?)),
+        b't' => Ok(Question::GiveTx(read_shared_tx(alloc, cursor)?)),
+        b'b' => Ok(Question::GiveBlock(read_given(alloc, cursor)?)),
+        b's' => Ok(Question::Serve(Request::Items(read_entries(alloc, cursor)?))),
+        b'f' => {
+            let stop = read_hash(cursor)?;
+            let locator = read_hashes(alloc, cursor)?;
+            Ok(Question::Serve(Request::After(locator, stop)))
+        }
+        b'n' => Ok(Question::News(read_told(cursor)?)),
+        _ => Err(Fault::NotEnabled),
+    }
+}
+
+/// The call of a record. A question begins with its connection: a peer in two bytes and a generation in eight. Then comes, of
+/// the kinds
+///
+/// - `a` and `l` (leave, locator) nothing;
+/// - `h` headers; `w` and `s` (want, serve) entries of inventory; `f` (after) a stop and the hashes of a locator;
+/// - `t` a transaction; `b` whether the peer knows compact blocks, and a block;
+/// - `n` (news) whether the block is asked for, a number of arrival in eight bytes, and the tip that was told, if one was.
+///
+/// The others: `o` and `k` (open, kick) a peer, `T` and `B` what is handed in, `m` and `M` (mine, extend) a mark, and `p`, `i`,
+/// `j`, `g` and `r` (checkpoint, look, counts, again, replay) nothing.
+pub fn read_call<'a>(alloc: Global, kind: u8, cursor: &mut Cursor<'a>) -> Result<Call, Fault>
+    ensures { IfOk result (λ call. call_kind call ≡ kind) }
+{
+    match kind {
+        b'o' => Ok(Call::Open(cursor.u16()?)),
+        b'k' => Ok(Call::Kick(cursor.u16()?)),
+        b'T' => Ok(Call::Submit(Local::Tx(read_shared_tx(alloc, cursor)?))),
+        b'B' => Ok(Call::Submit(Local::Block(read_sound(alloc, cursor)?))),
+        b'M' => Ok(Call::Extend(cursor.u8()?)),
+        b'p' => Ok(Call::Checkpoint),
+        b'i' => Ok(Call::See(Sight::Look)),
+        b'j' => Ok(Call::See(Sight::Counts)),
+        b'g' => Ok(Call::See(Sight::Again)),
+        b'r' => Ok(Call::See(Sight::Replay)),
+        b'm' => Ok(Call::See(Sight::Mine(cursor.u8()?))),
+        _ => {
+            let connection = read_connection(cursor)?;
+            let question = read_question(alloc, kind, cursor)?;
+            Ok(Call::Ask(connection, question))
+        }
+    }
+}
