@@ -1,0 +1,4 @@
+pub mod Counting
+pub mod Introducing
+pub mod Requesting
+pub mod RoundTrips

@@ -1,0 +1,150 @@
+//! The messages `sendcmpct` and `getheaders`.
+ghost use Rattle.std.specs.Prelude.{◌≡◌, ℕ, ◌^◌, ◌<◌, ◌≤◌, List, ◌++◌, length, All, IfOk, IsOk, IsOkUnless, OnOk, Ok, Err};
+ghost use Rattle.cb_base.specs.CompactSize.{Gives};
+ghost use Rattle.cb_base.specs.declared.fault.Fault.{Fault};
+ghost use Rattle.cb_base.specs.declared.fault.Fault.TheVariants.{Memory};
+ghost use Rattle.cb_tx.specs.Reading.{GivesInMemory};
+ghost use Rattle.cb_tx.specs.Text.{list_text};
+ghost use Rattle.cb_payload.specs.Lists.{IsHash, hash_text};
+ghost use Rattle.cb_payload.specs.Requests.{IsRequest, TakesMemory, compact_relay_at, compact_relay_text, flag_at, request_at, request_count_at, request_text};
+
+use crate::inventory::Locator;
+use crate::lists::{locator_size, put_list, read_list};
+use cb_base::{Cursor, Fault, Hash256};
+use cb_tx::read_hash;
+use std::alloc::Global;
+
+/// How a peer wants to be told of blocks (BIP 152, `sendcmpct`).
+#[derive(Clone, Copy, Debug, PartialEq, Eq)]
+pub struct CompactRelay {
+    /// Whether it wants compact blocks at once, without being asked for them.
+    pub high_bandwidth: bool,
+    /// The version of compact blocks that it speaks of.
+    pub version: u64,
+}
+
+/// A request for headers (`getheaders`).
+#[derive(Debug, Drop)]
+pub struct HeadersRequest {
+    /// The version of the protocol.
+    pub version: u32,
+    /// Hashes of the chain that the peer has, the newest first.
+    pub locator: Locator,
+    /// The last header that is wanted; 32 zero bytes for as many as there are.
+    pub stop: Hash256,
+}
+
+/// A flag: 0 or 1. Any other byte is `Fault::BadBool`.
+#[tactic(auto, unfolding(crate::specs::Requests::flag_at))]
+fn read_flag(cursor: &mut Cursor) -> Result<bool, Fault>
+    ensures { Gives (flag_at cursor.old) result cursor.new }
+{
+    let byte = cursor.u8()?;
+    if byte == 0 {
+        Ok(false)
+    } else if byte == 1 {
+        Ok(true)
+    } else {
+        Err(Fault::BadBool)
+    }
+}
+
+/// Reads the payload of a `sendcmpct`. After a fault the cursor may stand anywhere.
+#[tactic(auto, unfolding(crate::specs::Requests::compact_relay_at))]
+pub fn read_compact_relay(cursor: &mut Cursor) -> Result<CompactRelay, Fault>
+    ensures { Gives (compact_relay_at cursor.old) result cursor.new }
+{
+    let high_bandwidth = read_flag(cursor)?;
+    let version = cursor.u64()?;
+    Ok(CompactRelay {
+        high_bandwidth,
+        version,
+    })
+}
+
+/// Writes the payload of a `sendcmpct`. The only error is `Fault::Memory`.
+#[tactic(auto, unfolding(crate::specs::Requests::compact_relay_text), using(cb_tx::proofs::Appends::appends))]
+pub fn put_compact_relay(out: &mut Vec<u8>, relay: &CompactRelay) -> Result<(), Fault>
+    ensures ok { OnOk result (out.new.items ≡ out.old.items ++ compact_relay_text relay.now) }
+    ensures memory { IsOkUnless result Memory }
+    ensures kept { OnOk result (relay.now.version < 2 ^ 64) }
+{
+    out.push(if relay.high_bandwidth { 1 } else { 0 })?;
+    out.extend_from_slice(&relay.version.to_le_bytes())?;
+    Ok(())
+}
+
+/// Reads the payload of a `getheaders`. After a fault the cursor may stand anywhere.
+#[tactic(auto, unfolding(crate::specs::Requests::request_at, crate::specs::Requests::request_count_at))]
+pub fn read_request(alloc: Global, cursor: &mut Cursor) -> Result<HeadersRequest, Fault>
+    ensures exact { GivesInMemory (request_at cursor.old) result cursor.new }
+    // Up to the count no memory is taken.
+    ensures unpaid { (fault : Fault) → request_count_at cursor.old ≡ Err fault → result ≡ Err fault }
+    // Nor is any for a count of 0.
+    ensures paid { result ≡ Err Memory → TakesMemory cursor.old }
+{
+    let version = cursor.u32()?;
+    let locator = read_list(alloc, cursor)?;
+    let stop = read_hash(cursor)?;
+    Ok(HeadersRequest {
+        version,
+        locator,
+        stop,
+    })
+}
+
+/// A hash's bytes, which are 32.
+fn hash_bytes(hash: &Hash256) -> &[u8]
+    ensures bytes { result.now ≡ hash.now.0 }
+    ensures len { length hash.now.0 ≡ 32 }
+{
+    hash.0.as_slice()
+}
+
+/// Writes the payload of a `getheaders`. The only error is `Fault::Memory`.
+#[tactic(auto, unfolding(crate::specs::Requests::request_text), using(cb_tx::proofs::Appends::appends))]
+pub fn put_request(out: &mut Vec<u8>, request: &HeadersRequest) -> Result<(), Fault>
+    ensures ok { OnOk result (out.new.items ≡ out.old.items ++ request_text request.now) }
+    ensures memory { IsOkUnless result Memory }
+    ensures kept { OnOk result (IsRequest request.now) }
+{
+    out.extend_from_slice(&request.version.to_le_bytes())?;
+    put_list(out, request.locator.as_slice())?;
+    out.extend_from_slice(hash_bytes(&request.stop))?;
+    Ok(())
+}
+
+impl CompactRelay {
+    /// How many bytes its text has.
+    #[tactic(auto, unfolding(crate::specs::Requests::compact_relay_text))]
+    pub fn size(&self) -> u64
+        ensures size { result ≡ length (compact_relay_text self.now) }
+        ensures limit { result ≤ 9 }
+    {
+        9
+    }
+}
+
+impl HeadersRequest {
+    /// How many bytes its text has.
+    #[tactic(auto, unfolding(crate::specs::Requests::request_text))]
+    pub fn size(&self) -> u64
+        ensures size { result ≡ length (request_text self.now) }
+        ensures limit { result ≤ 4000 }
+    {
+        locator_size(&self.locator) + hash_bytes(&self.stop).len() as u64 + 4
+    }
+
+    /// An equal one. The only error is `Fault::Memory`, and one with an empty locator takes none.
+    pub fn copy(&self, alloc: Global) -> Result<HeadersRequest, Fault>
+        ensures equal { IfOk result (λ copy. copy ≡ self.now) }
+        ensures memory { IsOkUnless result Memory }
+        ensures unpaid { length self.now.locator ≡ 0 → IsOk result }
+    {
+        Ok(HeadersRequest {
+            version: self.version,
+            locator: self.locator.copy(alloc)?,
+            stop: self.stop,
+        })
+    }
+}

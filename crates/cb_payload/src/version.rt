@@ -1,0 +1,279 @@
+//! The message `version`.
+ghost use Rattle.std.specs.Prelude.{if◌then◌else◌, ◌≡◌, ℕ, ◌^◌, ◌<◌, ◌≤◌, Bool, true, not, FitsSigned, List, ◌++◌, length, min, IfOk, IsOkUnless, MatchResult, OnOk, IsOk, Ok, Err};
+ghost use Rattle.std.specs.Int.{w32, w64, to_le_bytes, cast_unsigned};
+ghost use Rattle.cb_base.specs.CompactSize.{Gives};
+ghost use Rattle.cb_base.specs.Reading.{bytes_at};
+ghost use Rattle.cb_base.specs.declared.fault.Fault.{Fault};
+ghost use Rattle.cb_base.specs.declared.fault.Fault.TheVariants.{Memory};
+ghost use Rattle.cb_payload.specs.RoundTrip as reading;
+ghost use Rattle.cb_payload.specs.Version.{IsAddress, IsVersion, TakesMemory, address_at, address_text, agent_at, agent_text, relay_of, version_at, version_text};
+
+use crate::listed::Listed;
+use cb_base::{Cursor, Fault, copy_bytes, put_compact};
+use std::alloc::Global;
+
+/// The name of a node's software (`version`): bytes that nobody here reads.
+pub type Agent = Listed<u8, 256>;
+
+/// A network address, as `version` has it: without a time.
+#[derive(Clone, Copy, Debug, PartialEq, Eq)]
+pub struct NetAddress {
+    pub services: u64,
+    /// An IPv6 address, or an IPv4 address in its last four bytes.
+    pub ip: [u8; 16],
+    pub port: u16,
+}
+
+/// How a node introduces itself.
+#[derive(Debug, Drop)]
+pub struct Version {
+    /// The version of the protocol that it speaks.
+    pub version: i32,
+    pub services: u64,
+    /// Seconds since the start of 1970.
+    pub time: i64,
+    pub receiver: NetAddress,
+    pub sender: NetAddress,
+    /// A number by which a node knows its own message.
+    pub nonce: u64,
+    pub agent: Agent,
+    /// The height of its best chain.
+    pub height: i32,
+    /// Whether it wants to be told of transactions (BIP 37).
+    pub relay: bool,
+}
+
+/// What a `version` says, with its agent still in the payload.
+#[derive(Drop)]
+struct Told<'a> {
+    version: i32,
+    services: u64,
+    time: i64,
+    receiver: NetAddress,
+    sender: NetAddress,
+    nonce: u64,
+    agent: &'a [u8],
+    height: i32,
+    relay: bool,
+}
+
+/// The next 16 bytes. After a fault the cursor may stand anywhere.
+fn read_ip(cursor: &mut Cursor) -> Result<[u8; 16], Fault>
+    ensures { Gives (bytes_at 16 cursor.old) result cursor.new }
+{
+    let bytes = cursor.take(16)?;
+    let mut ip = [0u8; 16];
+    ip.copy_from_slice(bytes);
+    Ok(ip)
+}
+
+#[tactic(auto, unfolding(crate::specs::Version::address_at))]
+fn read_address(cursor: &mut Cursor) -> Result<NetAddress, Fault>
+    ensures { Gives (address_at cursor.old) result cursor.new }
+{
+    let services = cursor.u64()?;
+    let ip = read_ip(cursor)?;
+    let port = cursor.u16_big()?;
+    Ok(NetAddress { services, ip, port })
+}
+
+/// The agent, in the payload. One of more than 256 bytes is `Fault::TooMany`, whether they are there or not.
+#[tactic(auto, unfolding(crate::specs::Version::agent_at))]
+fn read_agent<'a>(cursor: &mut Cursor<'a>) -> Result<&'a [u8], Fault>
+    ensures exact { MatchResult result (λ agent. agent_at cursor.old ≡ Ok (agent.now, cursor.new)) (λ fault. agent_at cursor.old ≡ Err fault) }
+    ensures few { IfOk result (λ agent. length agent.now ≤ 256) }
+{
+    let len = cursor.compact()?;
+    if len > 256 {
+        return Err(Fault::TooMany);
+    }
+    cursor.take(len as usize)
+}
+
+/// What the relay byte says: yes where it isn't 0, or isn't there.
+fn read_relay(cursor: &mut Cursor) -> bool
+    ensures { result ≡ relay_of cursor.old }
+{
+    match cursor.u8() {
+        Ok(byte) => byte != 0,
+        Err(_) => true,
+    }
+}
+
+#[tactic(auto, unfolding(crate::specs::Version::version_at))]
+fn told_by(payload: &[u8]) -> Result<Told<'_>, Fault>
+    ensures exact { MatchResult result
+        (λ told. version_at payload.now ≡ Ok (record { version = told.version; services = told.services; time = told.time; receiver = told.receiver; sender = told.sender; nonce = told.nonce; agent = told.agent.now; height = told.height; relay = told.relay }))
+        (λ fault. version_at payload.now ≡ Err fault) }
+    ensures few { IfOk result (λ told. length told.agent.now ≤ 256) }
+{
+    let mut cursor = Cursor::new(payload);
+    let version = cursor.i32()?;
+    let services = cursor.u64()?;
+    let time = cursor.i64()?;
+    let receiver = read_address(&mut cursor)?;
+    let sender = read_address(&mut cursor)?;
+    let nonce = cursor.u64()?;
+    let agent = read_agent(&mut cursor)?;
+    let height = cursor.i32()?;
+    let relay = read_relay(&mut cursor);
+    Ok(Told {
+        version,
+        services,
+        time,
+        receiver,
+        sender,
+        nonce,
+        agent,
+        height,
+        relay,
+    })
+}
+
+/// Reads the payload of a `version`. What stands behind the relay byte is ignored.
+pub fn read_version(alloc: Global, payload: &[u8]) -> Result<Version, Fault>
+    ensures exact { reading.Gives (version_at payload.now) result }
+    // No memory is taken before all else was read.
+    ensures unpaid { (fault : Fault) → version_at payload.now ≡ Err fault → result ≡ Err fault }
+    ensures paid { result ≡ Err Memory → TakesMemory payload.now }
+{
+    let told = told_by(payload)?;
+    let agent = Agent::from_few(copy_bytes(alloc, told.agent)?);
+    Ok(Version {
+        version: told.version,
+        services: told.services,
+        time: told.time,
+        receiver: told.receiver,
+        sender: told.sender,
+        nonce: told.nonce,
+        agent,
+        height: told.height,
+        relay: told.relay,
+    })
+}
+
+#[tactic(auto, unfolding(crate::specs::Version::address_text), using(cb_tx::proofs::Appends::appends))]
+fn put_address(out: &mut Vec<u8>, address: NetAddress) -> Result<(), Fault>
+    ensures ok { OnOk result (out.new.items ≡ out.old.items ++ address_text address) }
+    ensures memory { IsOkUnless result Memory }
+    ensures kept { IsAddress address }
+{
+    out.extend_from_slice(&address.services.to_le_bytes())?;
+    out.extend_from_slice(address.ip.as_slice())?;
+    out.extend_from_slice(&address.port.to_be_bytes())?;
+    Ok(())
+}
+
+#[tactic(auto, unfolding(crate::specs::Version::agent_text), using(cb_tx::proofs::Appends::appends))]
+fn put_agent(out: &mut Vec<u8>, agent: &Agent) -> Result<(), Fault>
+    ensures ok { OnOk result (out.new.items ≡ out.old.items ++ agent_text agent.now) }
+    ensures memory { IsOkUnless result Memory }
+    ensures kept { length agent.now ≤ 256 }
+{
+    let bytes = agent.as_slice();
+    put_compact(out, bytes.len() as u64)?;
+    out.extend_from_slice(bytes)?;
+    Ok(())
+}
+
+/// The first three numbers. The only error is `Fault::Memory`.
+#[tactic(auto, using(cb_tx::proofs::Appends::appends))]
+fn put_numbers(out: &mut Vec<u8>, version: &Version) -> Result<(), Fault>
+    ensures ok { OnOk result (out.new.items ≡ out.old.items ++ (to_le_bytes w32 (cast_unsigned w32 version.now.version) ++ (to_le_bytes w64 version.now.services
+        ++ to_le_bytes w64 (cast_unsigned w64 version.now.time)))) }
+    ensures memory { IsOkUnless result Memory }
+    ensures version { OnOk result (FitsSigned w32 version.now.version) }
+    ensures services { OnOk result (version.now.services < 2 ^ 64) }
+    ensures time { OnOk result (FitsSigned w64 version.now.time) }
+{
+    out.extend_from_slice(&version.version.to_le_bytes())?;
+    out.extend_from_slice(&version.services.to_le_bytes())?;
+    out.extend_from_slice(&version.time.to_le_bytes())?;
+    Ok(())
+}
+
+/// What stands behind the addresses, but for the relay byte. The only error is `Fault::Memory`.
+#[tactic(auto, using(cb_tx::proofs::Appends::appends))]
+fn put_tail(out: &mut Vec<u8>, version: &Version) -> Result<(), Fault>
+    ensures ok { OnOk result (out.new.items ≡ out.old.items ++ (to_le_bytes w64 version.now.nonce ++ (agent_text version.now.agent
+        ++ to_le_bytes w32 (cast_unsigned w32 version.now.height)))) }
+    ensures memory { IsOkUnless result Memory }
+    ensures nonce { OnOk result (version.now.nonce < 2 ^ 64) }
+    ensures agent { OnOk result (length version.now.agent ≤ 256) }
+    ensures height { OnOk result (FitsSigned w32 version.now.height) }
+{
+    out.extend_from_slice(&version.nonce.to_le_bytes())?;
+    put_agent(out, &version.agent)?;
+    out.extend_from_slice(&version.height.to_le_bytes())?;
+    Ok(())
+}
+
+/// The relay byte that is written.
+fn relay_byte(relay: bool) -> u8
+    ensures { result ≡ (if relay then 1 else 0) }
+{
+    if relay { 1 } else { 0 }
+}
+
+/// Writes the payload of a `version`. The only error is `Fault::Memory`.
+#[tactic(auto, unfolding(crate::specs::Version::version_text, crate::specs::Version::version_fields), using(cb_tx::proofs::Appends::appends))]
+pub fn put_version(out: &mut Vec<u8>, version: &Version) -> Result<(), Fault>
+    ensures ok { OnOk result (out.new.items ≡ out.old.items ++ version_text version.now) }
+    ensures memory { IsOkUnless result Memory }
+    ensures kept { OnOk result (IsVersion version.now) }
+{
+    put_numbers(out, version)?;
+    put_address(out, version.receiver)?;
+    put_address(out, version.sender)?;
+    put_tail(out, version)?;
+    out.push(relay_byte(version.relay))?;
+    Ok(())
+}
+
+#[tactic(auto, unfolding(crate::specs::Version::address_text))]
+fn address_size(address: NetAddress) -> u64
+    ensures size { result ≡ length (address_text address) }
+    ensures limit { result ≤ 26 }
+{
+    address.ip.as_slice().len() as u64 + 10
+}
+
+#[tactic(auto, unfolding(crate::specs::Version::agent_text, cb_base::specs::CompactSize::compact_text))]
+fn agent_size(agent: &Agent) -> u64
+    ensures size { result ≡ length (agent_text agent.now) }
+    ensures limit { result ≤ 259 }
+{
+    let len = agent.as_slice().len() as u64;
+    if len < 253 { len + 1 } else { len + 3 }
+}
+
+impl Version {
+    /// How many bytes its text has.
+    #[tactic(auto, unfolding(crate::specs::Version::version_text, crate::specs::Version::version_fields))]
+    pub fn size(&self) -> u64
+        ensures size { result ≡ length (version_text self.now) }
+        ensures limit { result ≤ 1000 }
+    {
+        let addresses = address_size(self.receiver) + address_size(self.sender);
+        agent_size(&self.agent) + addresses + 33
+    }
+
+    /// An equal one. The only error is `Fault::Memory`, and one with an empty agent takes none.
+    pub fn copy(&self, alloc: Global) -> Result<Version, Fault>
+        ensures equal { IfOk result (λ copy. copy ≡ self.now) }
+        ensures memory { IsOkUnless result Memory }
+        ensures unpaid { length self.now.agent ≡ 0 → IsOk result }
+    {
+        Ok(Version {
+            version: self.version,
+            services: self.services,
+            time: self.time,
+            receiver: self.receiver,
+            sender: self.sender,
+            nonce: self.nonce,
+            agent: self.agent.copy(alloc)?,
+            height: self.height,
+            relay: self.relay,
+        })
+    }
+}
