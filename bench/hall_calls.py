@@ -25,6 +25,8 @@ CALLS, STORED, STORED_SEED, SHORT = 400, 300, 25, 1_500
 # The connections that ask are mostly of so many peers. Blocks are on one branch alone up to this height, and the journal has so many
 # entries before it first begins anew.
 ASKING, HIGH, EARLY = 6, 12, 100
+# The first block's hash, as it is shown.
+FIRST = "0f9188f13cb7b2c71f2a335e3a4fc328bf5beb436012afca590b1a11466e2206"
 # With this entry more a journal begins anew.
 MOST_ENTRIES = 1_000_000
 REFUSED_TXS = ["F5 BadTx 1", "F5 BadTx 2", "F5 BadTx 4", "F5 BadTx 5", "F5 BadTx 6", "F5 BadTx 7", "F5 BadTx 8", "F8 Size64",
@@ -194,6 +196,8 @@ def row_b_first_block_made(play):
     play.begin()
     told = play.mine(7)
     expect(told[told.index(" 147"):], " 147 txs 1 time 1296688603 script 0100000007 size 66")
+    expect(play.extend(7), "block - locator")
+    expect(play.look()[:20], "look height 1 pool 0")
 
 
 def row_c_kicked(play):
@@ -202,8 +206,43 @@ def row_c_kicked(play):
     play.kick(0)
     expect(play.ask((0, 1), "locator"), "kicked")
     expect(play.counts()[0:9], "journal 2")
-    expect(play.ask((1, 1), "locator"), "locator 0f9188f13cb7b2c71f2a335e3a4fc328bf5beb436012afca590b1a11466e2206")
+    expect(play.ask((1, 1), "locator"), f"locator {FIRST}")
     expect(play.replay(), f"replay journal 3 {play.look()}")
+
+
+def kicked_and_opened_again(play):
+    """A kicked peer connects again, and all is the same if it is computed again, also behind a checkpoint."""
+    play.begin()
+    expect(play.ask((1, 1), "admit"), "go")
+    play.kick(1)
+    expect(play.ask((1, 1), "locator"), "kicked")
+    expect(play.ask((0, 1), "locator"), f"locator {FIRST}")
+    expect(play.open(1), "opened 1.2")
+    expect(play.ask((1, 2), "admit"), "go")
+    expect(play.again(), "again journal 6 answers 4 same true")
+    play.checkpoint()
+    expect(play.counts(), "journal 0 0.1 1 1 1 false 1.1 2 2 2 true 1.2 1 1 1 false")
+    expect(play.again(), "again journal 0 answers 0 same true")
+
+
+def wanted_once(play):
+    """An unknown transaction and an unknown block are wanted once, and a compact block isn't."""
+    play.begin()
+    tx, block = (1, bytes([1]) * 32), (2, bytes([2]) * 32)
+    told = play.ask((0, 1), "want", [tx, block, tx, (4, block[1]), block])
+    expect(told, f"need 1 {'01' * 32} 2 {'02' * 32} near false locator {FIRST}")
+
+
+def served_of_a_new_hall(play):
+    """The first block whole, or as a compact one; nothing for another type; and what isn't there."""
+    play.begin()
+    told = play.ask((0, 1), "items", [(2, GENESIS), (4, GENESIS), (9, GENESIS), (1, bytes([1]) * 32)])
+    expect(told, f"served whole {FIRST} 285 short {FIRST} 285 lacking 1 {'01' * 32}")
+
+
+def nothing_is_new(play):
+    play.begin()
+    expect(play.ask((1, 1), "news", GENESIS, 0, True), f"news {FIRST} path long false txids next 0 high false")
 
 
 def tx_of_64_bytes(mark=0x04030201):
@@ -235,7 +274,7 @@ def row_14_announcers(play):
 
 def worked_examples(play):
     for example in (row_a_pool_over_a_reorganisation, row_b_first_block_made, row_c_kicked, row_8_refused_for_its_size, row_13_compact_near_the_tip,
-                    row_14_announcers):
+                    row_14_announcers, kicked_and_opened_again, wanted_once, served_of_a_new_hall, nothing_is_new):
         example(play)
 
 

@@ -1,12 +1,19 @@
 """Which crates' wrong bodies were all refused when they were last tried, as the file attacks.tried notes it."""
 
 import hashlib
+import re
 import subprocess
+
+from wrong_bodies import FUNCTION
 
 FILE = "attacks.tried"
 HEAD = "# Crates whose wrong bodies were all refused: how many, and the SHA-256 of all that a check of them reads. Written by ./attack --note.\n"
 # what a check of a crate reads of it, and of a crate below
 OWN, BELOW = ("src", "specs", "proofs", "attacks"), ("src", "specs", "proofs")
+# where a crate names its tests
+NAMES_TESTS = re.compile(r"#\[cfg\(test\)\]\n *mod \w+;\n")
+# files of proofs that speak of the goals of one function, which no other crate can name
+OF_GOALS = ("Answers.antt", "Invariants.antt")
 
 
 def logic_of(version):
@@ -19,6 +26,42 @@ def is_test(path):
     return path.name == "tests.rt" or path.name.endswith("_tests.rt") or "tests" in path.parts
 
 
+def without_tests(text):
+    """Returns a source as a check reads it that isn't of tests, without empty lines."""
+    return "\n".join(line for line in NAMES_TESTS.sub("", text).split("\n") if line.strip())
+
+
+def depth_of(line):
+    """Returns how many brackets a line opens and doesn't close; a comment opens none."""
+    text = "" if line.lstrip().startswith("//") else line
+    return sum((it in "({[") - (it in ")}]") for it in text)
+
+
+def opens_body(line, indent, lines, kept):
+    """Keeps the lines of a function's header from its first on, and returns whether a body follows."""
+    depth = depth_of(line)
+    while True:
+        is_own, end = bool(line[len(indent) :][:1].strip()), line.rstrip()[-1:]
+        if depth == 0 and (end == ";" or (end == "}" and is_own)):
+            return False
+        if depth == 1 and end == "{" and is_own:
+            return True
+        line = next(lines)
+        kept.append(line)
+        depth += depth_of(line)
+
+
+def without_bodies(text):
+    """Returns a source, as rt fmt lays it out, without the bodies of its functions, of which a crate above is told nothing."""
+    kept, lines = [], iter(text.split("\n"))
+    for line in lines:
+        kept.append(line)
+        found = FUNCTION.match(line)
+        if found and opens_body(line, found[1], lines, kept):
+            kept.append(next(it for it in lines if it == found[1] + "}"))
+    return "\n".join(kept)
+
+
 class Tried:
     """The file's lines, by the names of crates, and what they would be now."""
 
@@ -29,15 +72,23 @@ class Tried:
         self.noted = {line.split()[0]: line for line in lines if line and not line.startswith("#")}
 
     def digest(self, crate):
-        """Returns the SHA-256 of the logic's name and of each file that a check of the crate's wrong bodies reads, with its path."""
+        """Returns the SHA-256 of the logic's name and of all that a check of the crate's wrong bodies reads, with its path.
+
+        That is each of its own files but its tests. Of a crate below it is what that one's library tells: definitions,
+        lemmas, and each function with its contract, but neither its body nor how that was proved.
+        """
         found = hashlib.sha256(self.logic)
         for it in [crate, *self.repository.below(crate)]:
             for part in OWN if it is crate else BELOW:
                 for file in sorted(path for path in (it.folder / part).rglob("*") if path.is_file()):
                     name = file.relative_to(it.folder)
-                    if it is crate or not is_test(name):
-                        text = file.read_bytes()
-                        found.update(f"{it.name} {name.as_posix()} {len(text)}\n".encode() + text)
+                    if is_test(name) or (it is not crate and name.name in OF_GOALS):
+                        continue
+                    text = file.read_bytes()
+                    if file.suffix == ".rt":
+                        source = without_tests(text.decode())
+                        text = (source if it is crate else without_bodies(source)).encode()
+                    found.update(f"{it.name} {name.as_posix()} {len(text)}\n".encode() + text)
         return found.hexdigest()
 
     def line(self, crate, count):

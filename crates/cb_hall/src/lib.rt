@@ -6,8 +6,6 @@ mod hall;
 mod law;
 mod look;
 mod mined;
-#[cfg(test)]
-mod tests;
 
 pub use badge::Badge;
 pub use hall::Hall;

@@ -22,46 +22,6 @@ fn first_of(peer: u16) -> Connection {
     }
 }
 
-// What the first connection of a peer is told: leave, a locator, or that it was kicked.
-fn ask(journal: &mut Journal, peer: u16, question: Question) -> char {
-    match journal.note(Entry::Asked(first_of(peer), question)) {
-        Ok(Some(Answer::Go)) => 'g',
-        Ok(Some(Answer::Locator(_))) => 'l',
-        Ok(Some(Answer::Kicked)) => 'k',
-        _ => '?',
-    }
-}
-
-fn kick(journal: &mut Journal, peer: u16) -> bool {
-    journal.note(Entry::Kick(first_of(peer))).is_ok()
-}
-
-// How many questions are answered again, and how many calls stand in the journal that is made again.
-fn made_again(journal: &Journal) -> (usize, usize) {
-    match journal.again() {
-        Ok((again, answers)) => (answers.len(), again.entries().len()),
-        Err(_) => (0, 0),
-    }
-}
-
-#[test]
-fn a_kicked_connection_is_turned_away(rt: HostRuntime) -> Result<(), Fail> {
-    let mut journal = Journal::new(rt.alloc())?;
-    assert!(rt; kick(&mut journal, 0));
-    assert!(rt; ask(&mut journal, 0, Question::Locator) == 'k');
-    assert!(rt; ask(&mut journal, 1, Question::Locator) == 'l');
-    assert!(rt; ask(&mut journal, 1, Question::Admit) == 'g');
-    assert!(rt; journal.entries().len() == 4);
-    let (answers, entries) = made_again(&journal);
-    assert!(rt; answers == 3 && entries == 4);
-    assert!(rt; journal.checkpoint().is_ok());
-    assert!(rt; journal.entries().is_empty() && journal.latest().entries() == 4);
-    assert!(rt; ask(&mut journal, 0, Question::Admit) == 'k');
-    Ok(())
-}
-
-// ---- copies
-
 // A list of one.
 fn alone<T: Copy, const MOST: usize>(alloc: Global, item: T) -> Result<Listed<T, MOST>, Fault> {
     let mut list = Vec::with_capacity(alloc, 1)?;

@@ -23,8 +23,3 @@ pub use news::{Announced, MOST_ANNOUNCED, News};
 pub use serving::{Piece, Pieces};
 pub use state::State;
 pub use wanting::Need;
-
-#[cfg(test)]
-mod mining_tests;
-#[cfg(test)]
-mod tests;
