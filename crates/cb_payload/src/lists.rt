@@ -232,7 +232,12 @@ fn items_of<T: ListItem>(alloc: Global, cursor: &mut Cursor, count: usize) -> Re
     Ok(items)
 }
 
-/// A list of at most `MOST` items, behind its count. After a fault the cursor may stand anywhere.
+/// A list of at most `MOST` items of `WIDTH` bytes each, behind its count (Bitcoin's protocol: `inv`, `getdata`, `notfound`,
+/// `headers`, and the locator of `getheaders`). After a fault the cursor may stand anywhere.
+///
+/// `Fault::NotShortest` where the count is spelled longer than it needs, `Fault::TooMany` where it is above `MOST`,
+/// `Fault::Truncated` where the items don't fit in what is left, `Fault::BadBool` where a header's count of transactions isn't
+/// 0, and `Fault::Memory`, which no empty list needs.
 #[tactic(auto, unfolding(crate::specs::Lists::listed_at))]
 pub fn read_list<T: ListItem, const MOST: usize>(
     alloc: Global,

@@ -49,7 +49,10 @@ fn read_flag(cursor: &mut Cursor) -> Result<bool, Fault>
     }
 }
 
-/// Reads the payload of a `sendcmpct`. After a fault the cursor may stand anywhere.
+/// Reads the payload of a `sendcmpct` (BIP 152): a flag of one byte and a version of eight. It takes no memory.
+///
+/// `Fault::BadBool` where the flag is neither 0 nor 1, and `Fault::Truncated` where bytes lack. After a fault the cursor may
+/// stand anywhere.
 #[tactic(auto, unfolding(crate::specs::Requests::compact_relay_at))]
 pub fn read_compact_relay(cursor: &mut Cursor) -> Result<CompactRelay, Fault>
     ensures { Gives (compact_relay_at cursor.old) result cursor.new }
@@ -74,7 +77,10 @@ pub fn put_compact_relay(out: &mut Vec<u8>, relay: &CompactRelay) -> Result<(), 
     Ok(())
 }
 
-/// Reads the payload of a `getheaders`. After a fault the cursor may stand anywhere.
+/// Reads the payload of a `getheaders` (Bitcoin's protocol): a version of four bytes, at most 101 hashes behind their count,
+/// and the hash to stop at.
+///
+/// `Fault::Truncated` where bytes lack, else the faults of its list (`read_list`). After a fault the cursor may stand anywhere.
 #[tactic(auto, unfolding(crate::specs::Requests::request_at, crate::specs::Requests::request_count_at))]
 pub fn read_request(alloc: Global, cursor: &mut Cursor) -> Result<HeadersRequest, Fault>
     ensures exact { GivesInMemory (request_at cursor.old) result cursor.new }

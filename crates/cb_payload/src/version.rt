@@ -130,7 +130,10 @@ fn told_by(payload: &[u8]) -> Result<Told<'_>, Fault>
     })
 }
 
-/// Reads the payload of a `version`. What stands behind the relay byte is ignored.
+/// Reads the payload of a `version` (Bitcoin's protocol, with the relay byte of BIP 37). What stands behind that is ignored.
+///
+/// `Fault::Truncated` where bytes lack, `Fault::NotShortest` where the agent's length is spelled longer than it needs,
+/// `Fault::TooMany` where it is above 256, and `Fault::Memory`, which no version without an agent needs.
 pub fn read_version(alloc: Global, payload: &[u8]) -> Result<Version, Fault>
     ensures exact { reading.Gives (version_at payload.now) result }
     // No memory is taken before all else was read.
