@@ -277,8 +277,16 @@ fn replies(alloc: Global, message: &Message) -> Result<Vec<BoundedMessage>, Faul
 {
     match message {
         Message::Ping(nonce) => one_message(alloc, Message::Pong(*nonce)),
-        Message::Verack
+        Message::Version(_)
+        | Message::Verack
         | Message::Pong(_)
+        | Message::SendHeaders
+        | Message::SendCmpct(_)
+        | Message::Inv(_)
+        | Message::GetData(_)
+        | Message::NotFound(_)
+        | Message::Headers(_)
+        | Message::GetHeaders(_)
         | Message::Tx(_)
         | Message::Block(_)
         | Message::Unknown(_, _) => Ok(Vec::new(alloc)),

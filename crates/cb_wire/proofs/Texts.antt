@@ -10,10 +10,10 @@ use Rattle.std.proofs.lemmas.Slice.Eq.{bytes_eq-Decides}
 use Rattle.cb_base.specs.declared.hash.Hash256.{Hash256}
 use Rattle.cb_base.specs.DoubleHash.{double_hash}
 use Rattle.cb_wire.specs.declared.message.Message.{Message}
-use Rattle.cb_wire.specs.declared.message.Message.TheVariants.{Verack, Ping, Pong, Tx, Block, Unknown}
+use Rattle.cb_wire.specs.declared.message.Message.TheVariants.{Unknown}
 use Rattle.cb_wire.specs.declared.command.Command.{Command}
 use Rattle.cb_wire.specs.Grammar.{name_of, payload_text, IsMessage, IsWithinLimits, IsProper, message_under}
-use Rattle.cb_wire.proofs.Messages.{text_read}
+use Rattle.cb_wire.proofs.Messages.{name_of-command, payload_most, text_read}
 use Rattle.cb_base.specs.declared.fault.Fault.{Fault}
 use Rattle.cb_base.proofs.Fields.{ok_is}
 use Rattle.cb_wire.proofs.Names.{command-le, command_in-field}
@@ -60,15 +60,6 @@ checksum_is payload front hash h e = e ∙ ap (λ (x : Hash256). take 4 x.0) h
 checksum-length : (payload : List ℕ) → length (checksum payload) ≡ 4
 unfolding checksum
 checksum-length payload = omega (arith, length-take 4 (double_hash payload).0, length-double_hash payload)
-
--- the command of a message is of a command's form
-pub name_of-command : (message : Message) → IsMessage message → is_command (name_of message) ≡ true
-name_of-command Verack h = refl
-name_of-command (Ping nonce) h = refl
-name_of-command (Pong nonce) h = refl
-name_of-command (Tx tx) h = refl
-name_of-command (Block block) h = refl
-name_of-command (Unknown name payload) h = h.form
 
 command_field-length : (name : List ℕ) → is_command name ≡ true → length (command_field name) ≡ 12
 command_field-length name e =
@@ -179,7 +170,7 @@ text-stream message rest items after fault h limit s =
     envelope-item (name_of message) (payload_text message) rest e
     ∙ item_under-message (known_command (name_of message)) (name_of message) (payload_text message) message (text_read message h) in (
       length (payload_text message),
-      front_at-whole (text message ++ rest) (length (payload_text message)) (envelope-whole (name_of message) (payload_text message) rest e limit),
+      front_at-whole (text message ++ rest) (length (payload_text message)) (envelope-whole (name_of message) (payload_text message) rest e (payload_most message h limit)),
       sym item,
       subst (λ (bytes : List ℕ). Stream bytes items after fault) (sym (envelope-after (name_of message) (payload_text message) rest e)) s,
     )

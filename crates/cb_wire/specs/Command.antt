@@ -3,16 +3,24 @@ use Rattle.std.specs.Prelude.{◌≡◌, ℕ, ◌-◌, ◌&&◌, Bool, true, Lis
 use Rattle.std.specs.List.{list_all, position_or_len}
 use Rattle.std.specs.Str.{bytes_eq}
 use Rattle.cb_wire.specs.declared.command.Command.{Command}
-use Rattle.cb_wire.specs.declared.command.Command.TheVariants.{Verack, Ping, Pong, Tx, Block}
+use Rattle.cb_wire.specs.declared.command.Command.TheVariants.{Version, Verack, Ping, Pong, SendHeaders, SendCmpct, Inv, GetData, NotFound, Headers, GetHeaders, Tx, Block}
 
 -- the known commands
 abbrev pub known_commands : List Command
-known_commands = Verack ∷ Ping ∷ Pong ∷ Tx ∷ Block ∷ []
+known_commands = Version ∷ Verack ∷ Ping ∷ Pong ∷ SendHeaders ∷ SendCmpct ∷ Inv ∷ GetData ∷ NotFound ∷ Headers ∷ GetHeaders ∷ Tx ∷ Block ∷ []
 
 abbrev pub command_name : Command → List ℕ
+command_name Version = codes "version"
 command_name Verack = codes "verack"
 command_name Ping = codes "ping"
 command_name Pong = codes "pong"
+command_name SendHeaders = codes "sendheaders"
+command_name SendCmpct = codes "sendcmpct"
+command_name Inv = codes "inv"
+command_name GetData = codes "getdata"
+command_name NotFound = codes "notfound"
+command_name Headers = codes "headers"
+command_name GetHeaders = codes "getheaders"
 command_name Tx = codes "tx"
 command_name Block = codes "block"
 

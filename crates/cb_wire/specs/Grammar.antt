@@ -1,55 +1,92 @@
--- The grammar of messages: the one spelling of each, and reading from the left.
-use Rattle.std.specs.Prelude.{◌≡◌, ℕ, ◌≤◌, ◌<◌, ◌^◌, ◌⊎◌, List, [], ◌∷◌, length, codes, Option, Some, None, Result, Ok, Err, IsOk}
+-- The grammar of messages: the spelling of each, and reading from the left. Each message has one row in each table; what has
+-- several fields stands in cb_payload.
+use Rattle.std.specs.Prelude.{◌≡◌, ℕ, ◌≤◌, ◌<◌, ◌^◌, ◌⊎◌, List, [], ◌∷◌, length, All, Option, Some, None, Result, Ok, Err, IsOk}
 use Rattle.std.specs.Int.{w64, to_le_bytes}
 use Rattle.cb_base.specs.declared.fault.Fault.{Fault}
-use Rattle.cb_base.specs.declared.fault.Fault.TheVariants.{Memory, Trailing}
+use Rattle.cb_base.specs.declared.fault.Fault.TheVariants.{Trailing}
 use Rattle.cb_base.specs.Reading.{◌>>=◌, number_at}
-use Rattle.cb_tx.specs.Text.{tx_text, IsTx}
+use Rattle.cb_tx.specs.Text.{list_text, tx_text, IsTx}
 use Rattle.cb_tx.specs.Reading as transactions
-use Rattle.cb_block.specs.Text.{block_text, IsBlock}
+use Rattle.cb_block.specs.Text.{block_text, IsBlock, IsHeader}
 use Rattle.cb_block.specs.Reading as blocks
 use Rattle.cb_wire.specs.declared.command.Command.{Command}
 use Rattle.cb_wire.specs.declared.command.Command.TheVariants as known
 use Rattle.cb_wire.specs.declared.message.Message.{Message}
-use Rattle.cb_wire.specs.declared.message.Message.TheVariants.{Verack, Ping, Pong, Tx, Block, Unknown}
-use Rattle.cb_wire.specs.Command.{known_command, IsUnknownName}
+use Rattle.cb_wire.specs.declared.message.Message.TheVariants.{Version, Verack, Ping, Pong, SendHeaders, SendCmpct, Inv, GetData, NotFound, Headers, GetHeaders, Tx, Block, Unknown}
+use Rattle.cb_wire.specs.Command.{command_name, known_command, IsUnknownName}
+use Rattle.cb_payload.specs.Lists.{CountsSome, IsEntry, entry_at, entry_text, limited_at, listed_at, listed_header_at, listed_header_text}
+use Rattle.cb_payload.specs.Requests as requests
+use Rattle.cb_payload.specs.Version as versions
 
 -- the name that a message goes under
 abbrev pub name_of : Message → List ℕ
-name_of Verack = codes "verack"
-name_of (Ping nonce) = codes "ping"
-name_of (Pong nonce) = codes "pong"
-name_of (Tx tx) = codes "tx"
-name_of (Block block) = codes "block"
+name_of (Version version) = command_name known.Version
+name_of Verack = command_name known.Verack
+name_of (Ping nonce) = command_name known.Ping
+name_of (Pong nonce) = command_name known.Pong
+name_of SendHeaders = command_name known.SendHeaders
+name_of (SendCmpct relay) = command_name known.SendCmpct
+name_of (Inv entries) = command_name known.Inv
+name_of (GetData entries) = command_name known.GetData
+name_of (NotFound entries) = command_name known.NotFound
+name_of (Headers headers) = command_name known.Headers
+name_of (GetHeaders request) = command_name known.GetHeaders
+name_of (Tx tx) = command_name known.Tx
+name_of (Block block) = command_name known.Block
 name_of (Unknown name payload) = name
 
--- the one spelling of a message's payload
+-- the text of a message's payload: the spelling that is written
 abbrev pub payload_text : Message → List ℕ
+payload_text (Version version) = versions.version_text version
 payload_text Verack = []
 payload_text (Ping nonce) = to_le_bytes w64 nonce
 payload_text (Pong nonce) = to_le_bytes w64 nonce
+payload_text SendHeaders = []
+payload_text (SendCmpct relay) = requests.compact_relay_text relay
+payload_text (Inv entries) = list_text entry_text entries
+payload_text (GetData entries) = list_text entry_text entries
+payload_text (NotFound entries) = list_text entry_text entries
+payload_text (Headers headers) = list_text listed_header_text headers
+payload_text (GetHeaders request) = requests.request_text request
 payload_text (Tx tx) = tx_text tx
 payload_text (Block block) = block_text block
 payload_text (Unknown name payload) = payload
 
+-- these bytes are a payload of the message: its text, and of a version also what says the same otherwise
+abbrev pub IsPayload : List ℕ → Message → Type 0
+IsPayload bytes (Version version) = versions.IsVersionPayload bytes version
+IsPayload bytes message = payload_text message ≡ bytes
+
 -- these bytes spell the message under this name
 pub record Spells (name bytes : List ℕ) (message : Message) : Type 0 where
   pub under : name_of message ≡ name
-  pub spelled : payload_text message ≡ bytes
+  pub spelled : IsPayload bytes message
 
--- what the types of a message's fields keep: numbers in their ranges, hashes of 32 bytes, and an unknown name that is no
--- known one
+-- What the types of a message's fields keep: numbers in their ranges, hashes of 32 bytes, an unknown name that is no known
+-- one, and lists that are no longer than the protocol allows: 50,000 entries, 2,000 headers, 101 hashes of a locator, an
+-- agent of 256 bytes.
 abbrev pub IsMessage : Message → Type 0
+IsMessage (Version version) = versions.IsVersion version
 IsMessage Verack = Unit {0}
 IsMessage (Ping nonce) = nonce < 2 ^ 64
 IsMessage (Pong nonce) = nonce < 2 ^ 64
+IsMessage SendHeaders = Unit {0}
+IsMessage (SendCmpct relay) = relay.version < 2 ^ 64
+IsMessage (Inv entries) = (length entries ≤ 50000) × All IsEntry entries
+IsMessage (GetData entries) = (length entries ≤ 50000) × All IsEntry entries
+IsMessage (NotFound entries) = (length entries ≤ 50000) × All IsEntry entries
+IsMessage (Headers headers) = (length headers ≤ 2000) × All IsHeader headers
+IsMessage (GetHeaders request) = requests.IsRequest request
 IsMessage (Tx tx) = IsTx tx
 IsMessage (Block block) = IsBlock block
 IsMessage (Unknown name payload) = IsUnknownName name
 
--- at most 4,000,000 bytes of payload
+-- At most 4,000,000 bytes of payload. Where each field has a limit of its own, as the types keep it, there are always fewer.
 abbrev pub IsWithinLimits : Message → Type 0
-IsWithinLimits message = length (payload_text message) ≤ 4000000
+IsWithinLimits (Tx tx) = length (tx_text tx) ≤ 4000000
+IsWithinLimits (Block block) = length (block_text block) ≤ 4000000
+IsWithinLimits (Unknown name payload) = length payload ≤ 4000000
+IsWithinLimits message = Unit {0}
 
 -- a message as the types keep it, and within the limits
 pub record IsProper (message : Message) : Type 0 where
@@ -63,9 +100,17 @@ whole (value, byte ∷ bytes) = Err Trailing
 
 -- the payload of a known command, read from the left: the message, or the fault of the first field that can't be read
 abbrev pub payload_at : Command → List ℕ → Result Message Fault
+payload_at known.Version bytes = versions.version_at bytes >>= λ version. Ok (Version version)
 payload_at known.Verack bytes = whole (Verack, bytes)
 payload_at known.Ping bytes = number_at w64 bytes >>= λ nonce. whole (Ping nonce.0, nonce.1)
 payload_at known.Pong bytes = number_at w64 bytes >>= λ nonce. whole (Pong nonce.0, nonce.1)
+payload_at known.SendHeaders bytes = whole (SendHeaders, bytes)
+payload_at known.SendCmpct bytes = requests.compact_relay_at bytes >>= λ relay. whole (SendCmpct relay.0, relay.1)
+payload_at known.Inv bytes = listed_at 50000 36 entry_at bytes >>= λ entries. whole (Inv entries.0, entries.1)
+payload_at known.GetData bytes = listed_at 50000 36 entry_at bytes >>= λ entries. whole (GetData entries.0, entries.1)
+payload_at known.NotFound bytes = listed_at 50000 36 entry_at bytes >>= λ entries. whole (NotFound entries.0, entries.1)
+payload_at known.Headers bytes = listed_at 2000 81 listed_header_at bytes >>= λ headers. whole (Headers headers.0, headers.1)
+payload_at known.GetHeaders bytes = requests.request_at bytes >>= λ request. whole (GetHeaders request.0, request.1)
 payload_at known.Tx bytes = transactions.tx_at bytes >>= λ tx. whole (Tx tx.0, tx.1)
 payload_at known.Block bytes = blocks.block_at bytes >>= λ block. whole (Block block.0, block.1)
 
@@ -81,17 +126,28 @@ message_at name bytes = message_under (known_command name) name bytes
 abbrev pub IsFaulty : List ℕ → List ℕ → Fault → Type 0
 IsFaulty name bytes fault = message_at name bytes ≡ Err fault
 
--- The fault is met before any memory is taken: by the first count of a transaction or a block, or anywhere in another
--- known command's payload.
+-- The fault is met before any memory is taken: by the first count of a list, a transaction or a block, or anywhere in
+-- another known command's payload.
 abbrev pub IsUnpaid : Option Command → List ℕ → Fault → Type 0
+IsUnpaid (Some known.Inv) bytes fault = limited_at 50000 36 bytes ≡ Err fault
+IsUnpaid (Some known.GetData) bytes fault = limited_at 50000 36 bytes ≡ Err fault
+IsUnpaid (Some known.NotFound) bytes fault = limited_at 50000 36 bytes ≡ Err fault
+IsUnpaid (Some known.Headers) bytes fault = limited_at 2000 81 bytes ≡ Err fault
+IsUnpaid (Some known.GetHeaders) bytes fault = requests.request_count_at bytes ≡ Err fault
 IsUnpaid (Some known.Tx) bytes fault = transactions.first_count_at bytes ≡ Err fault
 IsUnpaid (Some known.Block) bytes fault = blocks.first_count_at bytes ≡ Err fault
 IsUnpaid (Some command) bytes fault = payload_at command bytes ≡ Err fault
 IsUnpaid None bytes fault = ⊥
 
--- Reading takes memory: that of a transaction or a block with items or of a whole one, or that of a command that isn't
--- known, whose name is kept.
+-- Reading takes memory: that of a list that isn't empty, of a version with an agent, of a transaction or a block with items
+-- or of a whole one, or that of a command that isn't known, whose name is kept.
 abbrev pub IsPaid : Option Command → List ℕ → Type 0
+IsPaid (Some known.Version) bytes = versions.TakesMemory bytes
+IsPaid (Some known.Inv) bytes = CountsSome 50000 36 bytes
+IsPaid (Some known.GetData) bytes = CountsSome 50000 36 bytes
+IsPaid (Some known.NotFound) bytes = CountsSome 50000 36 bytes
+IsPaid (Some known.Headers) bytes = CountsSome 2000 81 bytes
+IsPaid (Some known.GetHeaders) bytes = requests.TakesMemory bytes
 IsPaid (Some known.Tx) bytes = transactions.TakesMemory bytes ⊎ IsOk (payload_at known.Tx bytes)
 IsPaid (Some known.Block) bytes = blocks.TakesMemory bytes ⊎ IsOk (payload_at known.Block bytes)
 IsPaid (Some command) bytes = ⊥
@@ -99,12 +155,13 @@ IsPaid None bytes = Unit {0}
 
 -- The message holds no memory of its own, so that a copy takes none.
 abbrev pub HoldsNothing : Message → Type 0
+HoldsNothing (Version version) = length version.agent ≡ 0
+HoldsNothing (Inv entries) = length entries ≡ 0
+HoldsNothing (GetData entries) = length entries ≡ 0
+HoldsNothing (NotFound entries) = length entries ≡ 0
+HoldsNothing (Headers headers) = length headers ≡ 0
+HoldsNothing (GetHeaders request) = length request.locator ≡ 0
 HoldsNothing (Tx tx) = ⊥
 HoldsNothing (Block block) = ⊥
 HoldsNothing (Unknown name payload) = ⊥
 HoldsNothing message = Unit {0}
-
--- an answer that takes memory: the definition's, or that memory ran out
-abbrev pub Gives : {A : Type 0} → Result A Fault → Result A Fault → Type 0
-Gives read (Ok value) = read ≡ Ok value
-Gives read (Err fault) = (fault ≡ Memory) ⊎ (read ≡ Err fault)

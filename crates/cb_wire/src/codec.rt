@@ -1,29 +1,28 @@
-ghost use Rattle.std.specs.Prelude.{◌≡◌, ◌⊎◌, ◌≤◌, [], ◌∷◌, ◌++◌, length, codes, Ok, Err, Some, None, IfOk, OnOk, OnErr, IsOkUnless};
+ghost use Rattle.std.specs.Prelude.{◌≡◌, ◌⊎◌, ◌≤◌, [], ◌∷◌, ◌++◌, length, Ok, Err, Some, None, IfOk, OnOk, OnErr, IsOkUnless};
 ghost use Rattle.cb_base.specs.declared.fault.Fault.{Fault};
 ghost use Rattle.cb_base.specs.declared.fault.Fault.TheVariants.{Memory};
-ghost use Rattle.cb_block.specs.Text.{IsBlock, block_text};
-ghost use Rattle.cb_tx.specs.Text.{IsTx, tx_text};
 ghost use Rattle.cb_wire.specs.Command.{IsCommand, known_command};
 ghost use Rattle.cb_wire.specs.declared.message.Message.{Message};
 ghost use Rattle.cb_wire.specs.declared.item.Item.TheVariants.{Good};
-ghost use Rattle.cb_wire.specs.Grammar.{message_at, payload_at, Gives, Spells, IsMessage, IsPaid, IsUnpaid, IsWithinLimits, whole};
+ghost use Rattle.cb_wire.specs.Grammar.{message_at, Spells, IsMessage, IsPaid, IsUnpaid, IsWithinLimits};
+ghost use Rattle.cb_payload.specs.RoundTrip.{Gives};
 ghost use Rattle.cb_wire.specs.Envelope.{envelope_text, text};
 ghost use Rattle.cb_wire.specs.Stream.{Stream};
 
 use crate::command::{Command, UnknownName};
 use crate::envelope::{COMMAND_LEN, HEADER_LEN, MAGIC};
-use crate::message::{Message, Payload};
-use cb_base::{Cursor, Fault, Shared, dsha};
-use cb_block::{Block, read_block, write_block};
-use cb_tx::{Tx, read_tx, write_tx};
+use crate::message::{Message, put_payload, read_payload};
+use crate::payload::Payload;
+use cb_base::{Fault, dsha};
 use std::alloc::Global;
 
 /// Reads the payload of a message. A command that isn't known gives its payload as it is.
 ///
 /// `command` is of a command's form: 1 to 12 bytes from the space to the tilde. An error is `Fault::Memory`, or the
-/// fault of the first field from the left that can't be read: `Truncated` where bytes lack or a count of items doesn't
-/// fit in what is left, `NotShortest` where a count or a length is spelled longer than it needs, and last `Trailing`
-/// where bytes are left over.
+/// fault of the first field from the left that can't be read: `NotShortest` where a count or a length is spelled longer
+/// than it needs, `TooMany` where it is above its limit, `Truncated` where bytes lack or a count of items doesn't fit in
+/// what is left, `BadBool` where a flag is neither 0 nor 1 or a header's count isn't 0, and last `Trailing` where bytes are
+/// left over, which a `version` never is.
 pub fn decode(alloc: Global, command: &str, payload: &[u8]) -> Result<Message, Fault>
     requires { IsCommand command.now }
     // What is read is spelled so.
@@ -59,38 +58,6 @@ fn message_under(alloc: Global, name: &str, payload: &[u8]) -> Result<Message, F
     }
 }
 
-/// The payload of a known command: one arm for each.
-pub fn read_payload(alloc: Global, command: Command, payload: &[u8]) -> Result<Message, Fault>
-    ensures exact { Gives (payload_at command payload.now) result }
-    ensures unpaid { (fault : Fault) → IsUnpaid (Some command) payload.now fault → result ≡ Err fault }
-    ensures paid { result ≡ Err Memory → IsPaid (Some command) payload.now }
-{
-    let mut cursor = Cursor::new(payload);
-    match command {
-        Command::Verack => whole(Message::Verack, &cursor),
-        Command::Ping => whole(Message::Ping(cursor.u64()?), &cursor),
-        Command::Pong => whole(Message::Pong(cursor.u64()?), &cursor),
-        Command::Tx => {
-            let tx = whole(read_tx(alloc, &mut cursor)?, &cursor)?;
-            Ok(Message::Tx(Shared::new(alloc, tx)?))
-        }
-        Command::Block => {
-            let block = whole(read_block(alloc, &mut cursor)?, &cursor)?;
-            Ok(Message::Block(Shared::new(alloc, block)?))
-        }
-    }
-}
-
-/// A value that was read from all of the bytes: `Fault::Trailing` where some are left over.
-fn whole<T: Drop>(value: T, cursor: &Cursor) -> Result<T, Fault>
-    ensures { result ≡ whole (value, cursor.now) }
-{
-    if cursor.left() > 0 {
-        return Err(Fault::Trailing);
-    }
-    Ok(value)
-}
-
 /// Writes a message with its envelope: the one text of the message.
 ///
 /// The only error is `Fault::Memory`.
@@ -108,7 +75,7 @@ pub fn encode(alloc: Global, message: &Message) -> Result<Vec<u8>, Fault>
     Ok(bytes)
 }
 
-/// Writes a message with its envelope at the end of a buffer: one arm for each.
+/// Writes a message with its envelope at the end of a buffer.
 ///
 /// The only error is `Fault::Memory`, which leaves the buffer as it was.
 pub fn encode_into(alloc: Global, buffer: &mut Vec<u8>, message: &Message) -> Result<(), Fault>
@@ -119,40 +86,9 @@ pub fn encode_into(alloc: Global, buffer: &mut Vec<u8>, message: &Message) -> Re
     // Each number of what is written is one of its field, and each hash has 32 bytes.
     ensures kept { OnOk result (IsMessage message.now) }
 {
-    match message {
-        Message::Verack => put_envelope(buffer, "verack", &[]),
-        Message::Ping(nonce) => put_envelope(buffer, "ping", nonce.to_le_bytes().as_slice()),
-        Message::Pong(nonce) => put_envelope(buffer, "pong", nonce.to_le_bytes().as_slice()),
-        Message::Tx(tx) => put_tx(alloc, buffer, tx),
-        Message::Block(block) => put_block(alloc, buffer, block),
-        Message::Unknown(name, payload) => put_envelope(buffer, name.as_str(), payload.as_slice()),
-    }
-}
-
-/// The envelope of a transaction.
-fn put_tx(alloc: Global, buffer: &mut Vec<u8>, tx: &Tx) -> Result<(), Fault>
-    requires { length (tx_text tx.now) ≤ 4000000 }
-    ensures text { OnOk result (buffer.new.items ≡ buffer.old.items ++ envelope_text (codes "tx") (tx_text tx.now)) }
-    ensures err { OnErr result (buffer.new.items ≡ buffer.old.items) }
-    ensures memory { IsOkUnless result Memory }
-    ensures fits { OnOk result (IsTx tx.now) }
-{
     let mut payload = Vec::new(alloc);
-    write_tx(&mut payload, tx)?;
-    put_envelope(buffer, "tx", payload.as_slice())
-}
-
-/// The envelope of a block.
-fn put_block(alloc: Global, buffer: &mut Vec<u8>, block: &Block) -> Result<(), Fault>
-    requires { length (block_text block.now) ≤ 4000000 }
-    ensures text { OnOk result (buffer.new.items ≡ buffer.old.items ++ envelope_text (codes "block") (block_text block.now)) }
-    ensures err { OnErr result (buffer.new.items ≡ buffer.old.items) }
-    ensures memory { IsOkUnless result Memory }
-    ensures fits { OnOk result (IsBlock block.now) }
-{
-    let mut payload = Vec::new(alloc);
-    write_block(&mut payload, block)?;
-    put_envelope(buffer, "block", payload.as_slice())
+    put_payload(&mut payload, message)?;
+    put_envelope(buffer, message.name(), payload.as_slice())
 }
 
 /// The envelope of a payload, in one growth: magic, the command and zeros up to twelve bytes, the length, the checksum,

@@ -9,9 +9,17 @@ use std::marker::Model;
 /// The commands whose payloads are understood.
 #[derive(Clone, Copy, Debug, PartialEq, Eq)]
 pub enum Command {
+    Version,
     Verack,
     Ping,
     Pong,
+    SendHeaders,
+    SendCmpct,
+    Inv,
+    GetData,
+    NotFound,
+    Headers,
+    GetHeaders,
     Tx,
     Block,
 }
@@ -31,9 +39,17 @@ impl Command {
         ensures { result ≡ known_command name.now }
     {
         match name {
+            "version" => Some(Command::Version),
             "verack" => Some(Command::Verack),
             "ping" => Some(Command::Ping),
             "pong" => Some(Command::Pong),
+            "sendheaders" => Some(Command::SendHeaders),
+            "sendcmpct" => Some(Command::SendCmpct),
+            "inv" => Some(Command::Inv),
+            "getdata" => Some(Command::GetData),
+            "notfound" => Some(Command::NotFound),
+            "headers" => Some(Command::Headers),
+            "getheaders" => Some(Command::GetHeaders),
             "tx" => Some(Command::Tx),
             "block" => Some(Command::Block),
             _ => None,
@@ -45,9 +61,17 @@ impl Command {
         ensures { result.now ≡ command_name self.now }
     {
         match self {
+            Command::Version => "version",
             Command::Verack => "verack",
             Command::Ping => "ping",
             Command::Pong => "pong",
+            Command::SendHeaders => "sendheaders",
+            Command::SendCmpct => "sendcmpct",
+            Command::Inv => "inv",
+            Command::GetData => "getdata",
+            Command::NotFound => "notfound",
+            Command::Headers => "headers",
+            Command::GetHeaders => "getheaders",
             Command::Tx => "tx",
             Command::Block => "block",
         }

@@ -8,10 +8,11 @@ ghost use Rattle.cb_wire.specs.Command.{IsCommand, command_in, is_command, is_co
 ghost use Rattle.cb_wire.specs.Grammar.{payload_at};
 ghost use Rattle.cb_wire.specs.Envelope.{IsFrontOf, checksum, front_at, item_at, item_under, outcome, told_length};
 
-use crate::codec::read_payload;
+use crate::bounded::BoundedMessage;
 use crate::command::{Command, UnknownName};
 use crate::item::Item;
-use crate::message::{BoundedMessage, Message, Payload};
+use crate::message::{Message, read_payload};
+use crate::payload::Payload;
 use cb_base::{Cursor, Fault, dsha};
 use std::alloc::Global;
 use std::str::from_utf8;

@@ -1,8 +1,8 @@
 ghost use Rattle.std.specs.Prelude.{◌≡◌, IfOk, IsOk, IsOkUnless};
 ghost use Rattle.cb_base.specs.declared.fault.Fault.TheVariants.{Memory};
 
+use crate::bounded::BoundedMessage;
 use crate::command::Command;
-use crate::message::BoundedMessage;
 use cb_base::Fault;
 use std::alloc::Global;
 

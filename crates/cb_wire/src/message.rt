@@ -1,84 +1,50 @@
-ghost use Rattle.std.specs.Prelude.{◌≡◌, IsTrue, ◌↔◌, length, IfOk, IsOk, IsOkUnless};
+//! The table of messages: each has one row in each function here, and a command of its name in command.rt.
+//!
+//! How a payload of several fields is read and written stands in cb_payload, and so does its grammar.
+ghost use Rattle.std.specs.Prelude.{◌≡◌, ◌≤◌, ◌⊎◌, ◌++◌, IsTrue, ◌↔◌, length, IfOk, IsOk, IsOkUnless, OnOk, Ok, Err, Some};
+ghost use Rattle.cb_base.specs.declared.fault.Fault.{Fault};
 ghost use Rattle.cb_base.specs.declared.fault.Fault.TheVariants.{Memory};
+ghost use Rattle.cb_wire.specs.Command.{IsCommand, IsUnknownName};
+ghost use Rattle.cb_wire.specs.Grammar.{HoldsNothing, IsMessage, IsPaid, IsUnpaid, IsWithinLimits, name_of, payload_at, payload_text, whole};
+ghost use Rattle.cb_payload.specs.RoundTrip.{Gives};
 
-use crate::command::UnknownName;
-use cb_base::{Fault, Shared, copy_bytes};
-use cb_block::Block;
-use cb_tx::Tx;
+use crate::command::{Command, UnknownName};
+use crate::payload::Payload;
+use cb_base::{Cursor, Fault, Shared};
+use cb_block::{Block, read_block, write_block};
+use cb_payload::{
+    CompactRelay, Entries, HeaderList, HeadersRequest, Version, entries_size, headers_size,
+    put_compact_relay, put_list, put_request, put_version, read_compact_relay, read_list,
+    read_request, read_version,
+};
+use cb_tx::{Tx, read_tx, write_tx};
 use std::alloc::Global;
-use std::marker::Model;
-
-/// Bytes that a message carries and that aren't understood. They are seen as their list.
-#[derive(Debug, Drop)]
-pub struct Payload {
-    bytes: Vec<u8>,
-}
-
-impl Model for Payload {
-    ghost use Rattle.std.specs.Prelude.{ℕ, List};
-
-    ghost Value = { List ℕ };
-
-    ghost view = { λ payload. payload.bytes.items };
-}
-
-impl Payload {
-    /// Takes the bytes over.
-    pub fn new(bytes: Vec<u8>) -> Payload
-        ensures { result ≡ bytes.items }
-    {
-        Payload { bytes }
-    }
-
-    /// The bytes.
-    pub fn as_slice(&self) -> &[u8]
-        ensures { result.now ≡ self.now }
-    {
-        self.bytes.as_slice()
-    }
-
-    /// Gives the bytes back.
-    pub fn into_bytes(self) -> Vec<u8>
-        ensures { result.items ≡ self }
-    {
-        self.bytes
-    }
-
-    /// How many bytes there are.
-    pub fn len(&self) -> usize
-        ensures { result ≡ length self.now }
-    {
-        self.bytes.len()
-    }
-
-    /// Whether there are none.
-    pub fn is_empty(&self) -> bool
-        ensures { IsTrue result ↔ (length self.now ≡ 0) }
-    {
-        self.bytes.is_empty()
-    }
-
-    /// An equal payload. The only error is `Fault::Memory`, and an empty payload takes none.
-    pub fn copy(&self, alloc: Global) -> Result<Payload, Fault>
-        ensures equal { IfOk result (λ copy. copy ≡ self.now) }
-        ensures memory { IsOkUnless result Memory }
-        ensures unpaid { length self.now ≡ 0 → IsOk result }
-    {
-        Ok(Payload {
-            bytes: copy_bytes(alloc, self.bytes.as_slice())?,
-        })
-    }
-}
 
 /// A message of the protocol.
 #[derive(Debug, Drop)]
 pub enum Message {
+    /// `version`: how the sender introduces itself.
+    Version(Version),
     /// `verack`: the sender has read our version.
     Verack,
     /// `ping`, with its nonce.
     Ping(u64),
     /// `pong` (BIP 31), with the nonce of the ping that it answers.
     Pong(u64),
+    /// `sendheaders` (BIP 130): the sender wants to be told of blocks by their headers.
+    SendHeaders,
+    /// `sendcmpct` (BIP 152): how the sender wants to be told of blocks by compact ones.
+    SendCmpct(CompactRelay),
+    /// `inv`: transactions and blocks that the sender has.
+    Inv(Entries),
+    /// `getdata`: transactions and blocks that it asks for.
+    GetData(Entries),
+    /// `notfound`: what it was asked for and doesn't have.
+    NotFound(Entries),
+    /// `headers`: headers of blocks, one on another.
+    Headers(HeaderList),
+    /// `getheaders`: a request for headers.
+    GetHeaders(HeadersRequest),
     /// `tx`: a transaction.
     Tx(Shared<Tx>),
     /// `block`: a header, and transactions of which nothing says that they belong to it.
@@ -87,10 +53,115 @@ pub enum Message {
     Unknown(UnknownName, Payload),
 }
 
-impl Message {
-    ghost use Rattle.cb_wire.specs.Grammar.{HoldsNothing, IsWithinLimits};
+/// The payload of a known command: one arm for each.
+pub fn read_payload(alloc: Global, command: Command, payload: &[u8]) -> Result<Message, Fault>
+    ensures exact { Gives (payload_at command payload.now) result }
+    ensures unpaid { (fault : Fault) → IsUnpaid (Some command) payload.now fault → result ≡ Err fault }
+    ensures paid { result ≡ Err Memory → IsPaid (Some command) payload.now }
+{
+    let mut cursor = Cursor::new(payload);
+    match command {
+        Command::Version => Ok(Message::Version(read_version(alloc, payload)?)),
+        Command::Verack => whole(Message::Verack, &cursor),
+        Command::Ping => whole(Message::Ping(cursor.u64()?), &cursor),
+        Command::Pong => whole(Message::Pong(cursor.u64()?), &cursor),
+        Command::SendHeaders => whole(Message::SendHeaders, &cursor),
+        Command::SendCmpct => {
+            let relay = read_compact_relay(&mut cursor)?;
+            whole(Message::SendCmpct(relay), &cursor)
+        }
+        Command::Inv => whole(Message::Inv(read_list(alloc, &mut cursor)?), &cursor),
+        Command::GetData => whole(Message::GetData(read_list(alloc, &mut cursor)?), &cursor),
+        Command::NotFound => whole(Message::NotFound(read_list(alloc, &mut cursor)?), &cursor),
+        Command::Headers => whole(Message::Headers(read_list(alloc, &mut cursor)?), &cursor),
+        Command::GetHeaders => {
+            let request = read_request(alloc, &mut cursor)?;
+            whole(Message::GetHeaders(request), &cursor)
+        }
+        Command::Tx => {
+            let tx = whole(read_tx(alloc, &mut cursor)?, &cursor)?;
+            Ok(Message::Tx(Shared::new(alloc, tx)?))
+        }
+        Command::Block => {
+            let block = whole(read_block(alloc, &mut cursor)?, &cursor)?;
+            Ok(Message::Block(Shared::new(alloc, block)?))
+        }
+    }
+}
 
-    /// An equal message, which shares its transaction or block with this one: only an unknown command takes memory.
+/// A value that was read from all of the bytes: `Fault::Trailing` where some are left over.
+fn whole<T: Drop>(value: T, cursor: &Cursor) -> Result<T, Fault>
+    ensures { result ≡ whole (value, cursor.now) }
+{
+    if cursor.left() > 0 {
+        return Err(Fault::Trailing);
+    }
+    Ok(value)
+}
+
+/// Writes the payload of a message at the end: one arm for each. The only error is `Fault::Memory`.
+pub fn put_payload(out: &mut Vec<u8>, message: &Message) -> Result<(), Fault>
+    ensures ok { OnOk result (out.new.items ≡ out.old.items ++ payload_text message.now) }
+    ensures memory { IsOkUnless result Memory }
+    // Each number of what is written is one of its field, each hash has 32 bytes, and each list is short enough.
+    ensures kept { OnOk result (IsMessage message.now) }
+{
+    match message {
+        Message::Version(version) => put_version(out, version)?,
+        Message::Verack | Message::SendHeaders => {}
+        Message::Ping(nonce) => out.extend_from_slice(&nonce.to_le_bytes())?,
+        Message::Pong(nonce) => out.extend_from_slice(&nonce.to_le_bytes())?,
+        Message::SendCmpct(relay) => put_compact_relay(out, relay)?,
+        Message::Inv(entries) => put_list(out, entries.as_slice())?,
+        Message::GetData(entries) => put_list(out, entries.as_slice())?,
+        Message::NotFound(entries) => put_list(out, entries.as_slice())?,
+        Message::Headers(headers) => put_list(out, headers.as_slice())?,
+        Message::GetHeaders(request) => put_request(out, request)?,
+        Message::Tx(tx) => write_tx(out, tx)?,
+        Message::Block(block) => write_block(out, block)?,
+        Message::Unknown(name, payload) => put_unknown(out, name, payload)?,
+    }
+    Ok(())
+}
+
+/// The payload of an unknown command, as it came. The only error is `Fault::Memory`.
+fn put_unknown(out: &mut Vec<u8>, name: &UnknownName, payload: &Payload) -> Result<(), Fault>
+    ensures ok { OnOk result (out.new.items ≡ out.old.items ++ payload.now) }
+    ensures memory { IsOkUnless result Memory }
+    ensures kept { IsUnknownName name.now }
+{
+    // Its name is of the form that its type keeps.
+    let _name = name.as_str();
+    out.extend_from_slice(payload.as_slice())?;
+    Ok(())
+}
+
+impl Message {
+    /// The name of its command, as an envelope has it.
+    pub fn name(&self) -> &str
+        ensures name { result.now ≡ name_of self.now }
+        ensures form { IsCommand result.now }
+    {
+        match self {
+            Message::Version(_) => Command::Version.name(),
+            Message::Verack => Command::Verack.name(),
+            Message::Ping(_) => Command::Ping.name(),
+            Message::Pong(_) => Command::Pong.name(),
+            Message::SendHeaders => Command::SendHeaders.name(),
+            Message::SendCmpct(_) => Command::SendCmpct.name(),
+            Message::Inv(_) => Command::Inv.name(),
+            Message::GetData(_) => Command::GetData.name(),
+            Message::NotFound(_) => Command::NotFound.name(),
+            Message::Headers(_) => Command::Headers.name(),
+            Message::GetHeaders(_) => Command::GetHeaders.name(),
+            Message::Tx(_) => Command::Tx.name(),
+            Message::Block(_) => Command::Block.name(),
+            Message::Unknown(name, _) => name.as_str(),
+        }
+    }
+
+    /// An equal message, which shares its transaction or block with this one: only a list, an agent or an unknown command
+    /// takes memory.
     ///
     /// The only error is `Fault::Memory`, and a message that holds no memory takes none.
     pub fn copy(&self, alloc: Global) -> Result<Message, Fault>
@@ -99,9 +170,17 @@ impl Message {
         ensures unpaid { HoldsNothing self.now → IsOk result }
     {
         Ok(match self {
+            Message::Version(version) => Message::Version(version.copy(alloc)?),
             Message::Verack => Message::Verack,
             Message::Ping(nonce) => Message::Ping(*nonce),
             Message::Pong(nonce) => Message::Pong(*nonce),
+            Message::SendHeaders => Message::SendHeaders,
+            Message::SendCmpct(relay) => Message::SendCmpct(*relay),
+            Message::Inv(entries) => Message::Inv(entries.copy(alloc)?),
+            Message::GetData(entries) => Message::GetData(entries.copy(alloc)?),
+            Message::NotFound(entries) => Message::NotFound(entries.copy(alloc)?),
+            Message::Headers(headers) => Message::Headers(headers.copy(alloc)?),
+            Message::GetHeaders(request) => Message::GetHeaders(request.copy(alloc)?),
             Message::Tx(tx) => Message::Tx(tx.clone()?),
             Message::Block(block) => Message::Block(block.clone()?),
             Message::Unknown(name, payload) => {
@@ -110,87 +189,41 @@ impl Message {
         })
     }
 
-    /// Whether the message is within the limits of the protocol: its payload has at most 4,000,000 bytes.
+    /// Whether the message is within the limits of the protocol: its payload has at most 4,000,000 bytes. That of a
+    /// message whose fields have limits of their own always has fewer.
     pub fn is_within_limits(&self) -> bool
         ensures { IsTrue result ↔ IsWithinLimits self.now }
     {
         match self {
-            Message::Verack | Message::Ping(_) | Message::Pong(_) => true,
+            Message::Version(_) | Message::Verack | Message::Ping(_) | Message::Pong(_) => true,
+            Message::SendHeaders | Message::SendCmpct(_) => true,
+            Message::Inv(_) | Message::GetData(_) | Message::NotFound(_) => true,
+            Message::Headers(_) | Message::GetHeaders(_) => true,
             Message::Tx(tx) => tx.size() <= 4_000_000,
             Message::Block(block) => block.size() <= 4_000_000,
             Message::Unknown(_, payload) => payload.len() <= 4_000_000,
         }
     }
-}
-
-/// A message within the limits of the protocol. It is seen as that message.
-#[derive(Debug, Drop)]
-pub struct BoundedMessage {
-    message: Message,
-}
-
-impl Model for BoundedMessage {
-    ghost use Rattle.cb_wire.specs.declared.message.Message.{Message};
-
-    ghost Value = { Message };
-
-    ghost view = { λ bounded. bounded.message };
-
-    ghost use Rattle.cb_wire.specs.Grammar.{IsWithinLimits};
-
-    ghost invariant = { λ bounded. IsWithinLimits bounded.message };
-}
-
-impl BoundedMessage {
-    ghost use Rattle.std.specs.Prelude.{◌≤◌};
-    ghost use Rattle.cb_wire.specs.Grammar.{HoldsNothing, IsWithinLimits, payload_text};
-
-    /// Takes a message that is within the limits.
-    pub fn new(message: Message) -> BoundedMessage
-        requires { IsWithinLimits message }
-        ensures { result ≡ message }
-    {
-        BoundedMessage { message }
-    }
-
-    /// The message.
-    pub fn message(&self) -> &Message
-        ensures message { result.now ≡ self.now }
-        ensures limits { IsWithinLimits self.now }
-    {
-        &self.message
-    }
 
     /// How many bytes the payload has.
     pub fn payload_len(&self) -> u64
+        requires { IsWithinLimits self.now }
         ensures payload { result ≡ length (payload_text self.now) }
         ensures limit { result ≤ 4000000 }
     {
-        match &self.message {
-            Message::Verack => 0,
+        match self {
+            Message::Version(version) => version.size(),
+            Message::Verack | Message::SendHeaders => 0,
             Message::Ping(_) | Message::Pong(_) => 8,
+            Message::SendCmpct(relay) => relay.size(),
+            Message::Inv(entries) => entries_size(entries),
+            Message::GetData(entries) => entries_size(entries),
+            Message::NotFound(entries) => entries_size(entries),
+            Message::Headers(headers) => headers_size(headers),
+            Message::GetHeaders(request) => request.size(),
             Message::Tx(tx) => tx.size(),
             Message::Block(block) => block.size(),
             Message::Unknown(_, payload) => payload.len() as u64,
         }
-    }
-
-    /// Gives the message out.
-    pub fn into_message(self) -> Message
-        ensures message { result ≡ self }
-        ensures limits { IsWithinLimits self }
-    {
-        self.message
-    }
-
-    /// An equal message. The only error is `Fault::Memory`, and a message that holds no memory takes none.
-    pub fn copy(&self, alloc: Global) -> Result<BoundedMessage, Fault>
-        ensures equal { IfOk result (λ copy. copy ≡ self.now) }
-        ensures memory { IsOkUnless result Memory }
-        ensures unpaid { HoldsNothing self.now → IsOk result }
-    {
-        Ok(BoundedMessage {
-            message: self.message.copy(alloc)?,
-        })
     }
 }

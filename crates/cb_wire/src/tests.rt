@@ -2,6 +2,7 @@ ghost use Rattle.std.specs.Prelude.{◌<◌};
 
 use super::*;
 use cb_base::Fault;
+use cb_block::Header;
 use std::alloc::Global;
 use std::test::*;
 
@@ -58,6 +59,26 @@ const SIZE_64: &str =
 /// The envelope's 24 bytes before it. Its checksum was computed by another implementation of SHA-256.
 const SIZE_64_FRONT: &str = "fabfb5da74780000000000000000000040000000b18f9f90";
 
+/// The first block's hash and its transaction's txid, as they are sent.
+const FIRST_HASH: &str = "06226e46111a0b59caaf126043eb5bbf28c34f3a5e332a1fc7b2b73cf188910f";
+
+const FIRST_TXID: &str = "3ba3edfd7a7b12b27ac72c3e67768f617fc81bc3888a51323a9fb8aa4b1e5e4a";
+
+/// A version of 97 bytes: 70014, services 1, the time 1231006505, the receiver with services 9 at 127.0.0.1 and port 18444,
+/// a sender of zeros, the nonce 7, the agent /cbrelay:1/, the height 3, and the relay byte 1.
+const VERSION: &str =
+    "7e110100010000000000000029ab5f4900000000090000000000000000000000000000000000ffff7f000001480c000000000000000000000000000000000000000000000000000007000000000000000b2f636272656c61793a312f0300000001";
+
+/// What `sendcmpct` says for high bandwidth and version 2.
+const HIGH_BANDWIDTH: &str = "010200000000000000";
+
+/// The first block as an entry of inventory.
+const INV_OF_THE_BLOCK: &str =
+    "0200000006226e46111a0b59caaf126043eb5bbf28c34f3a5e332a1fc7b2b73cf188910f";
+
+/// 32 zero bytes.
+const NO_HASH: &str = "0000000000000000000000000000000000000000000000000000000000000000";
+
 /// The line that stands for a transaction of version 1 without inputs and outputs.
 const NO_INPUTS_LINE: &str =
     "tx d21633ba23f70118185227be58a63527675641ad37967e2aa461559f577aec43 10";
@@ -92,12 +113,13 @@ fn encoded(alloc: Global, message: &Message) -> Result<Vec<u8>, Fail> {
 }
 
 /// Whether what a payload is decoded to, and a copy of that, are encoded as an envelope of these 24 bytes and it.
-fn comes_back(alloc: Global, command: &str, front: &str, payload: &str) -> Result<bool, Fail> {
+fn comes_back(alloc: Global, command: &str, front: &str, payload: &[&str]) -> Result<bool, Fail> {
     if !Command::is_name(command) {
         return Ok(false);
     }
-    let envelope = bytes_of(alloc, [front, payload].as_slice())?;
-    let payload = bytes_of(alloc, [payload].as_slice())?;
+    let payload = bytes_of(alloc, payload)?;
+    let mut envelope = bytes_of(alloc, [front].as_slice())?;
+    envelope.extend_from_slice(payload.as_slice())?;
     let message = decode(alloc, command, payload.as_slice())?;
     let copy = message.copy(alloc)?;
     let first = encoded(alloc, &message)?;
@@ -105,9 +127,69 @@ fn comes_back(alloc: Global, command: &str, front: &str, payload: &str) -> Resul
     Ok(first.as_slice() == envelope.as_slice() && second.as_slice() == envelope.as_slice())
 }
 
+/// A line for a list's name and length, and one for each entry, which begins with two spaces.
+fn entries_line(alloc: Global, name: &str, entries: &[InvEntry]) -> Result<String, Fail> {
+    let mut text = format!(in alloc; "{name} {}", entries.len())?;
+    for entry in entries {
+        let hash = entry.hash.show(alloc)?;
+        write!(text, "\n  {} {hash}", entry.kind)?;
+    }
+    Ok(text)
+}
+
+/// A line for the number of headers, and one for each, which begins with two spaces.
+fn headers_line(alloc: Global, headers: &[Header]) -> Result<String, Fail> {
+    let mut text = format!(in alloc; "headers {}", headers.len())?;
+    for header in headers {
+        let hash = header.hash().show(alloc)?;
+        write!(text, "\n  {hash}")?;
+    }
+    Ok(text)
+}
+
+/// The line that stands for a version: each of its fields.
+fn version_line(alloc: Global, version: &Version) -> Result<String, Fail> {
+    let agent = hex::encode(alloc, version.agent.as_slice())?;
+    let mut text = format!(in alloc; "version {} services {}", version.version, version.services)?;
+    write!(text, " time {} to {}", version.time, version.receiver.port)?;
+    write!(
+        text,
+        " from {} nonce {}",
+        version.sender.port, version.nonce
+    )?;
+    let relay = if version.relay { "yes" } else { "no" };
+    write!(
+        text,
+        " agent {agent} height {} relay {relay}",
+        version.height
+    )?;
+    Ok(text)
+}
+
+/// The line that stands for a request for headers.
+fn request_line(alloc: Global, request: &HeadersRequest) -> Result<String, Fail> {
+    let stop = request.stop.show(alloc)?;
+    Ok(format!(in alloc;
+        "getheaders {} {} {stop}",
+        request.version,
+        request.locator.as_slice().len()
+    )?)
+}
+
 /// The line that stands for a message.
 fn message_line(alloc: Global, message: &Message) -> Result<String, Fail> {
     Ok(match message {
+        Message::Version(version) => version_line(alloc, version)?,
+        Message::SendHeaders => String::from_str(alloc, "sendheaders")?,
+        Message::SendCmpct(relay) => {
+            let flag = if relay.high_bandwidth { 1u8 } else { 0u8 };
+            format!(in alloc; "sendcmpct {flag} {}", relay.version)?
+        }
+        Message::Inv(entries) => entries_line(alloc, "inv", entries.as_slice())?,
+        Message::GetData(entries) => entries_line(alloc, "getdata", entries.as_slice())?,
+        Message::NotFound(entries) => entries_line(alloc, "notfound", entries.as_slice())?,
+        Message::Headers(headers) => headers_line(alloc, headers.as_slice())?,
+        Message::GetHeaders(request) => request_line(alloc, request)?,
         Message::Verack => String::from_str(alloc, "verack")?,
         Message::Ping(nonce) => format!(in alloc; "ping {nonce}")?,
         Message::Pong(nonce) => format!(in alloc; "pong {nonce}")?,
@@ -356,6 +438,67 @@ fn each_command_is_decoded(rt: HostRuntime) -> Result<(), Fail> {
     Ok(())
 }
 
+/// Each message of a handshake and of blocks that are announced: what its payload says, and that it is written so again.
+/// The envelopes' checksums were computed by another implementation of SHA-256.
+#[test]
+fn each_message_is_read_and_written(rt: HostRuntime) -> Result<(), Fail> {
+    for (command, front, payload, expected) in [
+        (
+            "version",
+            "fabfb5da76657273696f6e000000000061000000758a2c25",
+            [VERSION, "", ""],
+            "version 70014 services 1 time 1231006505 to 18444 from 0 nonce 7 agent 2f636272656c61793a312f height 3 relay yes",
+        ),
+        (
+            "sendheaders",
+            "fabfb5da73656e646865616465727300000000005df6e0e2",
+            ["", "", ""],
+            "sendheaders",
+        ),
+        (
+            "sendcmpct",
+            "fabfb5da73656e64636d706374000000090000005f09f00d",
+            [HIGH_BANDWIDTH, "", ""],
+            "sendcmpct 1 2",
+        ),
+        (
+            "inv",
+            "fabfb5da696e7600000000000000000049000000c0923ed8",
+            ["0201000000", FIRST_TXID, INV_OF_THE_BLOCK],
+            "inv 2\n  1 4a5e1e4baab89f3a32518a88c31bc87f618f76673e2cc77ab2127b7afdeda33b\n  2 0f9188f13cb7b2c71f2a335e3a4fc328bf5beb436012afca590b1a11466e2206",
+        ),
+        (
+            "getdata",
+            "fabfb5da67657464617461000000000025000000df78fe34",
+            ["0104000000", FIRST_HASH, ""],
+            "getdata 1\n  4 0f9188f13cb7b2c71f2a335e3a4fc328bf5beb436012afca590b1a11466e2206",
+        ),
+        (
+            "notfound",
+            "fabfb5da6e6f74666f756e64000000002500000016f8423e",
+            ["0102000000", FIRST_HASH, ""],
+            "notfound 1\n  2 0f9188f13cb7b2c71f2a335e3a4fc328bf5beb436012afca590b1a11466e2206",
+        ),
+        (
+            "headers",
+            "fabfb5da68656164657273000000000052000000ef069e24",
+            ["01", FIRST_HEADER, "00"],
+            "headers 1\n  0f9188f13cb7b2c71f2a335e3a4fc328bf5beb436012afca590b1a11466e2206",
+        ),
+        (
+            "getheaders",
+            "fabfb5da676574686561646572730000450000003b4e31a9",
+            ["7e11010001", FIRST_HASH, NO_HASH],
+            "getheaders 70014 1 0000000000000000000000000000000000000000000000000000000000000000",
+        ),
+    ] {
+        let line = decoded_line(rt.alloc(), command, payload.as_slice())?;
+        assert_eq!(rt; line.as_str(), expected);
+        assert!(rt; comes_back(rt.alloc(), command, front, payload.as_slice())?);
+    }
+    Ok(())
+}
+
 /// The first block and its transaction as messages, in one piece and byte by byte.
 #[test]
 fn row_c_the_first_block(rt: HostRuntime) -> Result<(), Fail> {
@@ -430,17 +573,15 @@ fn a_transaction_or_a_block_is_all_of_its_payload(rt: HostRuntime) -> Result<(),
 /// A transaction of 64 bytes is a message like any other.
 #[test]
 fn row_8_as_a_message(rt: HostRuntime) -> Result<(), Fail> {
-    assert!(rt; comes_back(rt.alloc(), "tx", SIZE_64_FRONT, SIZE_64)?);
+    assert!(rt; comes_back(rt.alloc(), "tx", SIZE_64_FRONT, [SIZE_64].as_slice())?);
     Ok(())
 }
 
 #[test]
 fn transactions_and_blocks_are_encoded(rt: HostRuntime) -> Result<(), Fail> {
-    assert!(rt; comes_back(rt.alloc(), "tx", TX_FRONT, FIRST_TX)?);
-    let mut block = String::from_str(rt.alloc(), FIRST_HEADER)?;
-    block.push_str("01")?;
-    block.push_str(FIRST_TX)?;
-    assert!(rt; comes_back(rt.alloc(), "block", BLOCK_FRONT, block.as_str())?);
+    assert!(rt; comes_back(rt.alloc(), "tx", TX_FRONT, [FIRST_TX].as_slice())?);
+    let block = [FIRST_HEADER, "01", FIRST_TX];
+    assert!(rt; comes_back(rt.alloc(), "block", BLOCK_FRONT, block.as_slice())?);
     Ok(())
 }
 

@@ -3,6 +3,7 @@ pub mod Cutting
 pub mod Entering
 pub mod Peers
 pub mod Reporting
+pub mod Requests
 pub mod SimRead
 pub mod SimReportLemmas
 pub mod SimRunLemmas

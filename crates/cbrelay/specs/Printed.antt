@@ -1,7 +1,7 @@
 -- What `decode` prints.
-use Rattle.std.specs.Prelude.{ℕ, List, [], ◌++◌, length, reverse, codes, Option, Some, None}
+use Rattle.std.specs.Prelude.{ℕ, List, [], ◌++◌, length, reverse, codes, if◌then◌else◌, Option, Some, None}
 use Rattle.std.specs.List.{flat_map}
-use Rattle.std.specs.Fmt.{decimal}
+use Rattle.std.specs.Fmt.{decimal, signed_decimal}
 use Rattle.cb_base.specs.declared.fault.Fault.{Fault}
 use Rattle.cb_base.specs.Fault.{fault_text}
 use Rattle.hex.specs.Hex.{encode_lower}
@@ -11,8 +11,13 @@ use Rattle.cb_tx.specs.Text.{tx_text}
 use Rattle.cb_tx.specs.declared.tx.Tx as transactions
 use Rattle.cb_block.specs.Text.{header_text}
 use Rattle.cb_block.specs.declared.block.Block as blocks
+use Rattle.cb_block.specs.declared.header.Header as headers
 use Rattle.cb_wire.specs.declared.message.Message.{Message}
-use Rattle.cb_wire.specs.declared.message.Message.TheVariants.{Verack, Ping, Pong, Tx, Block, Unknown}
+use Rattle.cb_wire.specs.declared.message.Message.TheVariants.{Version, Verack, Ping, Pong, SendHeaders, SendCmpct, Inv, GetData, NotFound, Headers, GetHeaders, Tx, Block, Unknown}
+use Rattle.cb_payload.specs.declared.inventory.InvEntry.{InvEntry}
+use Rattle.cb_payload.specs.declared.requests.CompactRelay.{CompactRelay}
+use Rattle.cb_payload.specs.declared.requests.HeadersRequest.{HeadersRequest}
+use Rattle.cb_payload.specs.declared.version.Version as versions
 use Rattle.cb_wire.specs.declared.item.Item.{Item}
 use Rattle.cb_wire.specs.declared.item.Item.TheVariants.{Good, Damaged, Bad}
 use Rattle.cb_wire.specs.Command.{command_name}
@@ -29,8 +34,48 @@ tx_line tx = codes "tx " ++ hash_shown (double_hash (tx_text tx)) ++ codes " " +
 abbrev pub block_line : blocks.Block → List ℕ
 block_line block = codes "block " ++ hash_shown (double_hash (header_text block.header)) ++ codes " " ++ decimal (length block.txs) ++ codes "\n"
 
+-- a version: its number, the services, the height and the agent in hex
+abbrev pub version_line : versions.Version → List ℕ
+version_line v =
+    codes "version " ++ signed_decimal v.version ++ codes " services " ++ decimal v.services ++ codes " height " ++ signed_decimal v.height ++ codes " agent " ++ encode_lower v.agent ++ codes "\n"
+
+-- how a peer wants to be told of blocks: the flag as a number, and the version
+abbrev pub compact_relay_line : CompactRelay → List ℕ
+compact_relay_line relay = codes "sendcmpct " ++ (if relay.high_bandwidth then codes "1 " else codes "0 ") ++ decimal relay.version ++ codes "\n"
+
+-- a request for headers: how many hashes its locator has, and the hash to stop at
+abbrev pub counted_line : ℕ → Hash256 → List ℕ
+counted_line count stop = codes "getheaders " ++ decimal count ++ codes " " ++ hash_shown stop ++ codes "\n"
+
+abbrev pub request_line : HeadersRequest → List ℕ
+request_line request = counted_line (length request.locator) request.stop
+
+-- an entry of inventory: two spaces, its type and its hash
+abbrev pub entry_line : InvEntry → List ℕ
+entry_line entry = codes "  " ++ decimal entry.kind ++ codes " " ++ hash_shown entry.hash ++ codes "\n"
+
+-- entries, behind how many there are
+abbrev pub entries_text : List ℕ → List InvEntry → List ℕ
+entries_text name entries = name ++ codes " " ++ decimal (length entries) ++ codes "\n" ++ flat_map entry_line entries
+
+-- a header: two spaces and its hash
+abbrev pub header_line : headers.Header → List ℕ
+header_line header = codes "  " ++ hash_shown (double_hash (header_text header)) ++ codes "\n"
+
+-- headers, behind how many there are
+abbrev pub headers_text : List headers.Header → List ℕ
+headers_text list = codes "headers " ++ decimal (length list) ++ codes "\n" ++ flat_map header_line list
+
 -- a message: its name and what it carries
 abbrev pub message_text : Message → List ℕ
+message_text (Version version) = version_line version
+message_text SendHeaders = codes "sendheaders\n"
+message_text (SendCmpct relay) = compact_relay_line relay
+message_text (Inv entries) = entries_text (codes "inv") entries
+message_text (GetData entries) = entries_text (codes "getdata") entries
+message_text (NotFound entries) = entries_text (codes "notfound") entries
+message_text (Headers list) = headers_text list
+message_text (GetHeaders request) = request_line request
 message_text Verack = codes "verack\n"
 message_text (Ping nonce) = codes "ping " ++ decimal nonce ++ codes "\n"
 message_text (Pong nonce) = codes "pong " ++ decimal nonce ++ codes "\n"
