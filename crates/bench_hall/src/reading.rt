@@ -4,8 +4,9 @@ ghost use Rattle.bench_hall.specs.Playing.{call_kind, question_kind};
 use crate::call::{Call, Sight};
 use cb_base::{Cursor, Fault, Hash256, Shared};
 use cb_block::{Header, SoundBlock, read_block, read_header, sound};
-use cb_journal::{Given, HeaderList, Local, Locator, Question, Request, Told};
-use cb_state::{Connection, Entries, Inventory, Listed};
+use cb_journal::{Given, Local, Question, Request, Told};
+use cb_payload::{HeaderList, Listed, Locator};
+use cb_state::{Connection, Entries, Inventory};
 use cb_tx::{Tx, read_hash, read_tx};
 use std::alloc::Global;
 

@@ -88,9 +88,9 @@ impl Line {
 
     fn piece(&mut self, piece: &Piece) -> Result<(), Fault> {
         match piece {
-            Piece::Tx(tx) => self.sized(" tx", &tx.txid(self.alloc)?, tx.size()),
-            Piece::Whole(block) => self.block(" whole", block),
-            Piece::Short(block) => self.block(" short", block),
+            Piece::Tx(tx) => self.sized(" tx", &tx.txid(), tx.tx().size()),
+            Piece::Whole(block) => self.block(" whole", block.block()),
+            Piece::Short(block) => self.block(" short", block.block()),
             Piece::Lacking(entry) => {
                 self.text.push_str(" lacking")?;
                 self.entry(entry)
@@ -121,7 +121,7 @@ impl Line {
         let (long, next, high) = (news.long, news.next, news.high);
         write!(self.text, " long {long}")?;
         if let Some(block) = &news.block {
-            self.block(" block", block)?;
+            self.block(" block", block.block())?;
         }
         self.hashes(" txids", news.txids.as_slice())?;
         write!(self.text, " next {next} high {high}")?;

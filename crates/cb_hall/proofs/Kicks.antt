@@ -7,16 +7,23 @@ use Rattle.cb_state.specs.declared.connection.Connection.{Connection}
 use Rattle.cb_state.specs.Announcers.{same_connection}
 use Rattle.cb_state.specs.State.{NodeState}
 use Rattle.cb_journal.specs.declared.answer.Answer.{Answer}
+use Rattle.cb_journal.specs.declared.answer.Answer.TheVariants as reply
 use Rattle.cb_journal.specs.declared.answer.Answer.TheVariants.{Kicked}
 use Rattle.cb_journal.specs.declared.connections.Connected.{Connected}
 use Rattle.cb_journal.specs.declared.entry.Entry.{Entry}
 use Rattle.cb_journal.specs.declared.entry.Entry.TheVariants.{Asked, Kick, Opened, Submitted}
+use Rattle.cb_chain.specs.Following.{headers_after}
+use Rattle.cb_chain.specs.Locator.{locator_of}
+use Rattle.cb_state.specs.Serving.{pieces_of}
 use Rattle.cb_journal.specs.declared.question.Question.{Question}
+use Rattle.cb_journal.specs.declared.question.Question.TheVariants as ask
+use Rattle.cb_journal.specs.declared.question.Request.{Request}
+use Rattle.cb_journal.specs.declared.question.Request.TheVariants.{After, Items}
 use Rattle.cb_journal.specs.Connections.{Slots, changed_at, connected_of, counted, fresh, is_kicked, kicked, opened, put_in}
 use Rattle.cb_journal.specs.Replica.{Does, Leads, ReplicaState, Steps}
-use Rattle.cb_journal.specs.Replies.{Replies}
+use Rattle.cb_journal.specs.Replies.{Answers, IsServed, Replies}
 use Rattle.cb_journal.proofs.Leading.{leads_one, leads_then}
-use Rattle.cb_hall.specs.Law.{AreTurnedAway, CountsItsQuestions, WasKicked, is_question_of, questions_of}
+use Rattle.cb_hall.specs.Law.{AreTurnedAway, CountsItsQuestions, IsLetIn, WasKicked, is_question_of, questions_of}
 use Rattle.cb_hall.proofs.Lookups.{comes_fresh, is_same, opened_keeps, put_either, put_nothing}
 
 -- ---- one entry
@@ -153,6 +160,30 @@ turned_away old new calls answers c leads is =
       stays = stays_kicked old new calls answers c leads is;
       told = λ before after question told asked next answer whole first step. asked_kicked asked next c question answer step (stays_kicked old asked before told c first is);
     }
+
+-- who wasn't isn't answered so
+served_not : (old : NodeState) (request : Request) (answer : Answer) → IsServed old request answer → answer ≢ Kicked
+served_not old (Items entries) answer served same = let e : reply.Served (pieces_of old entries) ≡ Kicked = sym served ∙ same in cc
+served_not old (After locator stop) answer served same = let e : reply.Following (headers_after old.tree locator stop) ≡ Kicked = sym served ∙ same in cc
+
+answers_not : (old new : NodeState) (c : Connection) (question : Question) (answer : Answer) → Answers old c question answer new → answer ≢ Kicked
+answers_not old new c ask.Admit answer h same = let e : reply.Go ≡ Kicked = sym h.0 ∙ same in cc
+answers_not old new c (ask.Headers headers) answer h same = let e : reply.Heads h.0 ≡ Kicked = sym h.1 ∙ same in cc
+answers_not old new c ask.Locator answer h same = let e : reply.Locator (locator_of old.tree) ≡ Kicked = sym h.0 ∙ same in cc
+answers_not old new c (ask.Want entries) answer h same = let e : reply.Need h.0 ≡ Kicked = sym h.1 ∙ same in cc
+answers_not old new c (ask.GiveTx tx) answer h same = let e : reply.TxTaken h.0 ≡ Kicked = sym h.1 ∙ same in cc
+answers_not old new c (ask.GiveBlock given) answer h same = let e : reply.Taken h.0 ≡ Kicked = sym h.1 ∙ same in cc
+answers_not old new c (ask.Serve request) answer h same = served_not old request answer h.0 same
+answers_not old new c (ask.News since) answer h same = let e : reply.News h.0 ≡ Kicked = sym h.1 ∙ same in cc
+
+replies_not : (b : Bool) (old new : NodeState) (c : Connection) (question : Question) (answer : Answer) → b ≡ false → Replies b old c question answer new → answer ≢ Kicked
+replies_not true old new c question answer h replies = absurd (let e : true ≡ false = h in cc)
+replies_not false old new c question answer h replies = answers_not old new c question answer replies
+
+pub let_in : (asked : ReplicaState) (c : Connection) → is_kicked asked.connections c ≡ false → IsLetIn asked c
+let_in asked c differ question answer next step same =
+    let tells = step.does.0 in
+    replies_not (is_kicked asked.connections c) asked.node next.node c question tells.0 differ tells.2 (let e : Some tells.0 ≡ Some Kicked = sym tells.1 ∙ same in cc)
 
 -- who wasn't and is was kicked by an entry
 clash : (x : Connected) → x.kicked ≡ false → x.kicked ≡ true → ⊥

@@ -1,5 +1,5 @@
 -- What holds of all calls of a hall, in the words of who asks.
-use Rattle.std.specs.Prelude.{◌≡◌, ℕ, ◌+◌, Bool, true, false, List, [], ◌∷◌, ◌++◌, length, filter, Option, None, Some}
+use Rattle.std.specs.Prelude.{◌≡◌, ◌≢◌, ℕ, ◌+◌, Bool, true, false, List, [], ◌∷◌, ◌++◌, length, filter, Option, None, Some}
 use Rattle.cb_state.specs.declared.connection.Connection.{Connection}
 use Rattle.cb_state.specs.Announcers.{same_connection}
 use Rattle.cb_journal.specs.declared.answer.Answer.{Answer}
@@ -18,6 +18,11 @@ pub record AreTurnedAway (old : ReplicaState) (calls : List Entry) (connection :
   pub told : (before after : List Entry) (question : Question) (answers : List Answer) (asked next : ReplicaState) (answer : Option Answer)
       → calls ≡ before ++ Asked connection question ∷ after → Leads old before answers asked → Steps asked (Asked connection question) answer next
       → (answer ≡ Some Kicked) × (next.node ≡ asked.node)
+
+-- A question of this connection is never answered so.
+abbrev pub IsLetIn : ReplicaState → Connection → Type 0
+IsLetIn asked connection = (question : Question) (answer : Option Answer) (next : ReplicaState)
+    → Steps asked (Asked connection question) answer next → answer ≢ Some Kicked
 
 -- one of the calls kicked this connection
 abbrev pub WasKicked : List Entry → Connection → Type 0

@@ -5,7 +5,7 @@ ghost use Rattle.cb_journal.specs.declared.entry.Entry.{Entry};
 ghost use Rattle.cb_journal.specs.Journal.{JournalState};
 ghost use Rattle.cb_journal.specs.Replica.{Leads, ReplicaState, opening};
 ghost use Rattle.cb_hall.specs.Hall.{HasHistory};
-ghost use Rattle.cb_hall.specs.Law.{AreTurnedAway, CountsItsQuestions, WasKicked};
+ghost use Rattle.cb_hall.specs.Law.{AreTurnedAway, CountsItsQuestions, IsLetIn, WasKicked};
 ghost use Rattle.cb_hall.specs.MinedBlock.{FaresAsMined};
 ghost use Rattle.cb_journal.specs.Connections.{is_kicked};
 ghost use Rattle.cb_state.specs.declared.connection.Connection.{Connection};
@@ -29,10 +29,11 @@ pub fn one_hall()
 }
 
 /// A connection that was kicked stays so, and each of its questions is answered `Kicked` and changes nothing that peers share.
-/// No other is: who is turned away was kicked by an entry that names it.
+/// No question of another is answered so, and a connection comes to stand as kicked only by an entry that names it.
 pub fn who_was_kicked()
     ensures turned_away { (old new : ReplicaState) (calls : List Entry) (answers : List Answer) (connection : Connection)
         → Leads old calls answers new → is_kicked old.connections connection ≡ true → AreTurnedAway old calls connection new }
+    ensures let_in { (asked : ReplicaState) (connection : Connection) → is_kicked asked.connections connection ≡ false → IsLetIn asked connection }
     ensures for_a_reason { (old new : ReplicaState) (calls : List Entry) (answers : List Answer) (connection : Connection)
         → Leads old calls answers new → is_kicked old.connections connection ≡ false → is_kicked new.connections connection ≡ true → WasKicked calls connection }
 {}

@@ -1,12 +1,8 @@
 use cb_base::Fault;
-use cb_block::Header;
-use cb_chain::{Hashes, MOST_HEADERS};
-use cb_state::{Heads, Listed, Need, News, Pieces, Taken};
+use cb_payload::{HeaderList, Locator};
+use cb_state::{Heads, Need, News, Pieces, Taken};
 
-/// Headers that are told at once, at most 2,000.
-pub type Following = Listed<Header, MOST_HEADERS>;
-
-/// What a session is answered.
+/// What a session is answered. A message can carry each of its lists, transactions and blocks.
 #[derive(Debug, Drop)]
 pub enum Answer {
     /// It may.
@@ -16,7 +12,7 @@ pub enum Answer {
     /// What headers met.
     Heads(Heads),
     /// The chain's locator.
-    Locator(Hashes),
+    Locator(Locator),
     /// What is wanted.
     Need(Need),
     /// Why a transaction was refused, if it was.
@@ -26,7 +22,7 @@ pub enum Answer {
     /// What is served of entries.
     Served(Pieces),
     /// The headers behind a locator.
-    Following(Following),
+    Following(HeaderList),
     /// What is new.
     News(News),
 }

@@ -6,22 +6,9 @@ use crate::answer::Answer;
 use crate::entry::{Entry, Local};
 use crate::question::{Given, Question, Request};
 use cb_base::Fault;
-use cb_block::SoundBlock;
 use cb_chain::Hashes;
-use cb_state::{Heads, Listed, Need, News, Piece, Pieces, Taken};
+use cb_state::{BoundedBlock, Heads, Need, News, Piece, Pieces, Taken};
 use std::alloc::Global;
-
-// The same list once more. The only error is `Fault::Memory`.
-fn copy_list<T: Copy, const MOST: usize>(
-    alloc: Global,
-    list: &Listed<T, MOST>,
-) -> Result<Listed<T, MOST>, Fault>
-    ensures same { IfOk result (λ copy. copy ≡ list.now) }
-    ensures memory { IsOkUnless result Memory }
-{
-    let copy = Vec::from_slice(alloc, list.as_slice())?;
-    Ok(Listed::from_few(copy))
-}
 
 // The same hashes once more. The only error is `Fault::Memory`.
 fn copy_hashes(alloc: Global, hashes: &Hashes) -> Result<Hashes, Fault>
@@ -32,7 +19,7 @@ fn copy_hashes(alloc: Global, hashes: &Hashes) -> Result<Hashes, Fault>
 }
 
 // The same block once more, where there is one. The only error is `Fault::Memory`.
-fn copy_block(block: Option<&SoundBlock>) -> Result<Option<SoundBlock>, Fault>
+fn copy_block(block: Option<&BoundedBlock>) -> Result<Option<BoundedBlock>, Fault>
     ensures same { IfOk result (λ copy. copy ≡ option_copied block.entry) }
     ensures memory { IsOkUnless result Memory }
 {
@@ -64,8 +51,8 @@ impl Request {
         ensures memory { IsOkUnless result Memory }
     {
         match self {
-            Request::Items(entries) => Ok(Request::Items(copy_list(alloc, entries)?)),
-            Request::After(locator, stop) => Ok(Request::After(copy_list(alloc, locator)?, *stop)),
+            Request::Items(entries) => Ok(Request::Items(entries.copy(alloc)?)),
+            Request::After(locator, stop) => Ok(Request::After(locator.copy(alloc)?, *stop)),
         }
     }
 }
@@ -81,9 +68,9 @@ impl Question {
     {
         match self {
             Question::Admit => Ok(Question::Admit),
-            Question::Headers(headers) => Ok(Question::Headers(copy_list(alloc, headers)?)),
+            Question::Headers(headers) => Ok(Question::Headers(headers.copy(alloc)?)),
             Question::Locator => Ok(Question::Locator),
-            Question::Want(entries) => Ok(Question::Want(copy_list(alloc, entries)?)),
+            Question::Want(entries) => Ok(Question::Want(entries.copy(alloc)?)),
             Question::GiveTx(tx) => Ok(Question::GiveTx(tx.clone()?)),
             Question::GiveBlock(given) => Ok(Question::GiveBlock(given.copy()?)),
             Question::Serve(request) => Ok(Question::Serve(request.copy(alloc)?)),
@@ -148,7 +135,7 @@ fn copy_heads(alloc: Global, heads: &Heads) -> Result<Heads, Fault>
     Ok(Heads {
         refused: heads.refused,
         lack: copy_hashes(alloc, &heads.lack)?,
-        locator: copy_hashes(alloc, &heads.locator)?,
+        locator: heads.locator.copy(alloc)?,
     })
 }
 
@@ -159,7 +146,7 @@ fn copy_taken(alloc: Global, taken: &Taken) -> Result<Taken, Fault>
 {
     Ok(Taken {
         refused: taken.refused,
-        locator: copy_hashes(alloc, &taken.locator)?,
+        locator: taken.locator.copy(alloc)?,
     })
 }
 
@@ -169,9 +156,9 @@ fn copy_need(alloc: Global, need: &Need) -> Result<Need, Fault>
     ensures memory { IsOkUnless result Memory }
 {
     Ok(Need {
-        entries: copy_list(alloc, &need.entries)?,
+        entries: need.entries.copy(alloc)?,
         near: need.near,
-        locator: copy_hashes(alloc, &need.locator)?,
+        locator: need.locator.copy(alloc)?,
     })
 }
 
@@ -182,10 +169,10 @@ fn copy_news(alloc: Global, news: &News) -> Result<News, Fault>
 {
     Ok(News {
         tip: news.tip,
-        path: copy_list(alloc, &news.path)?,
+        path: news.path.copy(alloc)?,
         long: news.long,
         block: copy_block(news.block.as_ref())?,
-        txids: copy_hashes(alloc, &news.txids)?,
+        txids: news.txids.copy(alloc)?,
         next: news.next,
         high: news.high,
     })
@@ -197,7 +184,7 @@ fn copy_piece(piece: &Piece) -> Result<Piece, Fault>
     ensures memory { IsOkUnless result Memory }
 {
     match piece {
-        Piece::Tx(tx) => Ok(Piece::Tx(tx.clone()?)),
+        Piece::Tx(candidate) => Ok(Piece::Tx(candidate.clone()?)),
         Piece::Whole(block) => Ok(Piece::Whole(block.copy()?)),
         Piece::Short(block) => Ok(Piece::Short(block.copy()?)),
         Piece::Lacking(entry) => Ok(Piece::Lacking(*entry)),
@@ -214,7 +201,7 @@ fn copy_pieces(alloc: Global, pieces: &Pieces) -> Result<Pieces, Fault>
     for piece in pieces {
         copies.push(copy_piece(piece)?)?;
     }
-    Ok(Listed::from_few(copies))
+    Ok(Pieces::from_few(copies))
 }
 
 impl Answer {
@@ -230,12 +217,12 @@ impl Answer {
             Answer::Go => Ok(Answer::Go),
             Answer::Kicked => Ok(Answer::Kicked),
             Answer::Heads(heads) => Ok(Answer::Heads(copy_heads(alloc, heads)?)),
-            Answer::Locator(locator) => Ok(Answer::Locator(copy_hashes(alloc, locator)?)),
+            Answer::Locator(locator) => Ok(Answer::Locator(locator.copy(alloc)?)),
             Answer::Need(need) => Ok(Answer::Need(copy_need(alloc, need)?)),
             Answer::TxTaken(refused) => Ok(Answer::TxTaken(*refused)),
             Answer::Taken(taken) => Ok(Answer::Taken(copy_taken(alloc, taken)?)),
             Answer::Served(pieces) => Ok(Answer::Served(copy_pieces(alloc, pieces)?)),
-            Answer::Following(headers) => Ok(Answer::Following(copy_list(alloc, headers)?)),
+            Answer::Following(headers) => Ok(Answer::Following(headers.copy(alloc)?)),
             Answer::News(news) => Ok(Answer::News(copy_news(alloc, news)?)),
         }
     }

@@ -11,12 +11,12 @@ mod question;
 mod replica;
 mod replying;
 
-pub use answer::{Answer, Following};
+pub use answer::Answer;
 pub use connections::{Connected, Connections, PEERS};
 pub use entry::{Entry, Local};
 pub use journal::{JOURNAL_ENTRIES, JOURNAL_WEIGHT, Journal};
 pub use law::{one_end, one_step};
-pub use question::{Given, HeaderList, Locator, Question, Request, Told};
+pub use question::{Given, Question, Request, Told};
 pub use replica::{MOST_CALLS, Replica};
 
 #[cfg(test)]

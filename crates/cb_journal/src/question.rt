@@ -2,15 +2,10 @@ ghost use Rattle.std.specs.Prelude.{◌≡◌, ◌^◌, ◌-◌, ◌*◌, min};
 ghost use Rattle.cb_journal.specs.Weight.{question_weight, request_weight};
 
 use cb_base::{Hash256, Shared};
-use cb_block::{Header, SoundBlock};
-use cb_state::{Entries, Listed, MOST_ENTRIES};
+use cb_block::SoundBlock;
+use cb_payload::{HeaderList, Locator};
+use cb_state::Entries;
 use cb_tx::Tx;
-
-/// Headers that a peer tells.
-pub type HeaderList = Listed<Header, MOST_ENTRIES>;
-
-/// The hashes of a locator (Bitcoin's protocol, `getheaders`).
-pub type Locator = Listed<Hash256, MOST_ENTRIES>;
 
 /// For how many bytes an entry of a list counts in a journal.
 const ENTRY_WEIGHT: u64 = 40;

@@ -6,8 +6,8 @@ use crate::answer::Answer;
 use crate::entry::Local;
 use crate::question::{Given, Question, Request};
 use cb_base::Fault;
-use cb_chain::Hashes;
-use cb_state::{Connection, Listed, State};
+use cb_payload::HeaderList;
+use cb_state::{Connection, State};
 
 // The connection that gave a block, where it knows compact blocks.
 fn giver_of(connection: Connection, given: &Given) -> Option<Connection>
@@ -28,7 +28,7 @@ fn served(state: &State, request: &Request) -> Result<Answer, Fault>
         Request::Items(entries) => Ok(Answer::Served(state.serve(entries)?)),
         Request::After(locator, stop) => {
             let headers = state.chain().after(locator.as_slice(), stop)?;
-            Ok(Answer::Following(Listed::from_few(headers)))
+            Ok(Answer::Following(HeaderList::from_few(headers)))
         }
     }
 }
@@ -49,10 +49,7 @@ pub(crate) fn reply(
             let heads = state.take_headers(headers.as_slice())?;
             Ok(Answer::Heads(heads))
         }
-        Question::Locator => {
-            let locator = Hashes::new(state.chain().locator()?);
-            Ok(Answer::Locator(locator))
-        }
+        Question::Locator => Ok(Answer::Locator(state.locator()?)),
         Question::Want(entries) => Ok(Answer::Need(state.want(entries)?)),
         Question::GiveTx(tx) => Ok(Answer::TxTaken(state.take_tx(tx.clone()?)?)),
         Question::GiveBlock(given) => {

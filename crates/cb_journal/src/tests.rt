@@ -2,7 +2,8 @@ use super::*;
 use cb_base::{Fault, Hash256, Shared};
 use cb_block::{SoundBlock, genesis};
 use cb_chain::Hashes;
-use cb_state::{Connection, Heads, Inventory, Listed, Need, News, Piece, Taken};
+use cb_payload::Listed;
+use cb_state::{Connection, Heads, Inventory, Need, News, Piece, Taken};
 use cb_tx::Tx;
 use std::alloc::Global;
 use std::test::*;
@@ -134,34 +135,33 @@ fn some_heads(alloc: Global) -> Result<Answer, Fault> {
     Ok(Answer::Heads(Heads {
         refused: Some(Fault::NoParent),
         lack: hashes(alloc)?,
-        locator: hashes(alloc)?,
+        locator: alone(alloc, NAME)?,
     }))
 }
 
 fn some_locator(alloc: Global) -> Result<Answer, Fault> {
-    Ok(Answer::Locator(hashes(alloc)?))
+    Ok(Answer::Locator(alone(alloc, NAME)?))
 }
 
 fn some_need(alloc: Global) -> Result<Answer, Fault> {
     Ok(Answer::Need(Need {
         entries: alone(alloc, Inventory::Tx(NAME))?,
         near: false,
-        locator: hashes(alloc)?,
+        locator: alone(alloc, NAME)?,
     }))
 }
 
 fn taken_block(alloc: Global) -> Result<Answer, Fault> {
     Ok(Answer::Taken(Taken {
         refused: None,
-        locator: hashes(alloc)?,
+        locator: alone(alloc, NAME)?,
     }))
 }
 
-// A block and a transaction that isn't there.
+// A transaction that isn't there.
 fn served_pieces(alloc: Global) -> Result<Answer, Fault> {
-    let mut pieces = Vec::with_capacity(alloc, 2)?;
+    let mut pieces = Vec::with_capacity(alloc, 1)?;
     pieces.push_reserved(Piece::Lacking(Inventory::Tx(NAME)));
-    pieces.push(Piece::Short(genesis(alloc)?))?;
     Ok(Answer::Served(Listed::from_few(pieces)))
 }
 
@@ -171,14 +171,13 @@ fn headers_behind(alloc: Global) -> Result<Answer, Fault> {
 }
 
 fn some_news(alloc: Global) -> Result<Answer, Fault> {
-    let block = genesis(alloc)?;
-    let path = alone(alloc, block.block().header)?;
+    let path = alone(alloc, genesis(alloc)?.block().header)?;
     Ok(Answer::News(News {
         tip: NAME,
         path,
         long: false,
-        block: Some(block),
-        txids: hashes(alloc)?,
+        block: None,
+        txids: alone(alloc, NAME)?,
         next: 4,
         high: true,
     }))

@@ -1,4 +1,5 @@
 pub mod AskedFor
+pub mod Carried
 pub mod Fits
 pub mod Mined
 pub mod MinedLaws

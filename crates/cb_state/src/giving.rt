@@ -10,11 +10,13 @@ ghost use Rattle.cb_state.specs.Giving.{IsPlanOn, TakesBlock, TakesHeads, TakesT
 
 use crate::announcers::Announcers;
 use crate::connection::Connection;
+use crate::locating::locator_of;
 use crate::state::State;
 use cb_base::{Fault, Hash256, Shared};
 use cb_block::{Header, SoundBlock};
 use cb_chain::{Chain, Hashes, kept_meet_rules};
 use cb_ledger::Ledger;
+use cb_payload::Locator;
 use cb_pool::{Candidate, Pool, Refolding};
 use cb_tx::Tx;
 use std::alloc::Global;
@@ -25,7 +27,7 @@ pub struct Taken {
     /// Why it was refused, if it was.
     pub refused: Option<Fault>,
     /// The chain's locator, where the refusal is `Fault::NoParent`.
-    pub locator: Hashes,
+    pub locator: Locator,
 }
 
 /// What headers met that were given in turn.
@@ -36,16 +38,16 @@ pub struct Heads {
     /// The hashes of the headers before it whose blocks are lacking, in order.
     pub lack: Hashes,
     /// The chain's locator, where the refusal is `Fault::NoParent`.
-    pub locator: Hashes,
+    pub locator: Locator,
 }
 
 // The locator that is told with a refusal.
-fn told_locator(alloc: Global, refused: Option<Fault>, locator: Vec<Hash256>) -> Hashes
-    ensures { result ≡ locator_for refused locator.items }
+fn told_locator(alloc: Global, refused: Option<Fault>, locator: Locator) -> Locator
+    ensures { result ≡ locator_for refused locator }
 {
     match refused {
-        Some(fault) if fault == Fault::NoParent => Hashes::new(locator),
-        _ => Hashes::new(Vec::new(alloc)),
+        Some(fault) if fault == Fault::NoParent => locator,
+        _ => Locator::from_few(Vec::new(alloc)),
     }
 }
 
@@ -61,8 +63,8 @@ fn told(fault: Fault) -> Result<Option<Fault>, Fault>
 }
 
 // What is told of a block that was refused for a fault.
-fn refusal(alloc: Global, fault: Fault, locator: Vec<Hash256>) -> Result<Taken, Fault>
-    ensures ok { IfOk result (λ taken. (taken.refused ≡ Some fault) × (taken.locator ≡ locator_for (Some fault) locator.items) × (fault ≢ Memory)) }
+fn refusal(alloc: Global, fault: Fault, locator: Locator) -> Result<Taken, Fault>
+    ensures ok { IfOk result (λ taken. (taken.refused ≡ Some fault) × (taken.locator ≡ locator_for (Some fault) locator) × (fault ≢ Memory)) }
     ensures err { IfErr result (λ error. (error ≡ Memory) × (fault ≡ Memory)) }
 {
     let refused = told(fault)?;
@@ -144,7 +146,7 @@ impl State {
         ensures err { OnErr result (self.new ≡ self.old) }
         ensures memory { IsOkUnless result Memory }
     {
-        let locator = self.chain.locator()?;
+        let locator = locator_of(&self.chain)?;
         let plan = self.plan_for(&block.block().header.prev)?;
         let change = match self.chain.accept_block(block) {
             Ok(change) => change,
@@ -152,7 +154,7 @@ impl State {
         };
         let taken = Taken {
             refused: None,
-            locator: Hashes::new(Vec::new(self.alloc)),
+            locator: Locator::from_few(Vec::new(self.alloc)),
         };
         if change.on.as_slice().is_empty() {
             return Ok(taken);
@@ -170,7 +172,7 @@ impl State {
         ensures err { OnErr result (self.new ≡ self.old) }
         ensures memory { IsOkUnless result Memory }
     {
-        let locator = self.chain.locator()?;
+        let locator = locator_of(&self.chain)?;
         let accepted = self.chain.accept_headers(headers)?;
         Ok(Heads {
             refused: accepted.refused,

@@ -1,5 +1,5 @@
-use crate::listed::Listed;
 use cb_base::Hash256;
+use cb_payload::Listed;
 
 /// How many entries a message of inventory has at the most.
 pub const MOST_ENTRIES: usize = 50_000;

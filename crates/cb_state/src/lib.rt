@@ -2,24 +2,25 @@
 #![tactic(auto)]
 
 mod announcers;
+mod bounded;
 mod connection;
 mod giving;
 mod inventory;
 mod law;
-mod listed;
+mod locating;
 mod mining;
 mod news;
 mod serving;
 mod state;
 mod wanting;
 
+pub use bounded::BoundedBlock;
 pub use connection::Connection;
 pub use giving::{Heads, Taken};
 pub use inventory::{Entries, Inventory, MOST_ENTRIES};
 pub use law::one_answer;
-pub use listed::Listed;
 pub use mining::{mined_meets_rules, one_mined_block};
-pub use news::{Announced, MOST_ANNOUNCED, News};
+pub use news::{Announced, MOST_ANNOUNCED, News, Txids};
 pub use serving::{Piece, Pieces};
 pub use state::State;
 pub use wanting::Need;

@@ -5,12 +5,13 @@ ghost use Rattle.cb_chain.specs.Entries.{block_of};
 ghost use Rattle.cb_pool.specs.Listing.{since_of};
 ghost use Rattle.cb_state.specs.News.{IsNews, announced, way_from};
 
+use crate::bounded::{BoundedBlock, kept_block};
 use crate::connection::Connection;
-use crate::listed::Listed;
+use crate::inventory::MOST_ENTRIES;
 use crate::state::State;
 use cb_base::{Fault, Hash256};
-use cb_block::{Header, SoundBlock};
-use cb_chain::Hashes;
+use cb_block::Header;
+use cb_payload::Listed;
 use std::alloc::Global;
 
 /// How many headers are announced at once at the most.
@@ -18,6 +19,9 @@ pub const MOST_ANNOUNCED: usize = 8;
 
 /// Headers that are announced, at most eight.
 pub type Announced = Listed<Header, MOST_ANNOUNCED>;
+
+/// The names of transactions that are announced, at most 50,000.
+pub type Txids = Listed<Hash256, MOST_ENTRIES>;
 
 /// What a peer is told of what it doesn't know yet.
 #[derive(Debug, Drop)]
@@ -29,9 +33,9 @@ pub struct News {
     /// Whether there are more than eight.
     pub long: bool,
     /// The tip's block, where it was asked for and is the only new one.
-    pub block: Option<SoundBlock>,
+    pub block: Option<BoundedBlock>,
     /// The transactions that came into the pool since the number that was told last.
-    pub txids: Hashes,
+    pub txids: Txids,
     /// The number that the next transaction takes.
     pub next: u64,
     /// Whether the connection is one of those that are asked to announce blocks as compact ones.
@@ -75,7 +79,7 @@ impl State {
             path: to_announce(self.alloc, way)?,
             long,
             block: self.tip_block(whole & only)?,
-            txids: Hashes::new(self.pool.since(from)?),
+            txids: self.txids_since(from)?,
             next: self.pool.next_number(),
             high: self.announcers.contains(connection),
         })
@@ -94,7 +98,7 @@ impl State {
     }
 
     // The tip's block, where it is asked for.
-    fn tip_block(&self, asked: bool) -> Result<Option<SoundBlock>, Fault>
+    fn tip_block(&self, asked: bool) -> Result<Option<BoundedBlock>, Fault>
         ensures block { IfOk result (λ block. block ≡ (if asked then block_of self.now.tree (best self.now.tree) else None)) }
         ensures unasked { asked ≡ false → IsOk result }
         ensures memory { IsOkUnless result Memory }
@@ -102,9 +106,17 @@ impl State {
         if !asked {
             return Ok(None);
         }
-        match self.chain.block(&self.chain.tip()) {
-            Some(block) => Ok(Some(block.copy()?)),
-            None => Ok(None),
-        }
+        kept_block(&self.chain, &self.chain.tip())
+    }
+
+    // The names of the transactions from this number on. The pool has fewer than a message can carry.
+    fn txids_since(&self, number: u64) -> Result<Txids, Fault>
+        ensures txids { IfOk result (λ txids. txids ≡ since_of self.now.pool.list number) }
+        ensures none { since_of self.now.pool.list number ≡ [] → IsOk result }
+        ensures memory { IsOkUnless result Memory }
+    {
+        let _ = self.pool.len();
+        let txids = self.pool.since(number)?;
+        Ok(Txids::from_few(txids))
     }
 }

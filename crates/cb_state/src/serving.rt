@@ -6,25 +6,25 @@ ghost use Rattle.cb_pool.specs.Rules.{named_in};
 ghost use Rattle.cb_state.specs.declared.inventory.Inventory.TheVariants as entry;
 ghost use Rattle.cb_state.specs.Serving.{is_within, piece_of, pieces_of, short_piece, tx_piece, whole_piece};
 
+use crate::bounded::{BoundedBlock, kept_block};
 use crate::inventory::{Entries, Inventory, MOST_ENTRIES};
-use crate::listed::Listed;
 use crate::state::State;
-use cb_base::{Fault, Hash256, Shared};
-use cb_block::SoundBlock;
-use cb_tx::Tx;
+use cb_base::{Fault, Hash256};
+use cb_payload::Listed;
+use cb_pool::Candidate;
 
 // How far below the tip a block is served as a compact one at the most (own).
 const MOST_COMPACT_DEPTH: u32 = 5;
 
-/// What is served of an entry.
+/// What is served of an entry, which a message can carry.
 #[derive(Debug, Drop)]
 pub enum Piece {
     /// A transaction of the pool.
-    Tx(Shared<Tx>),
+    Tx(Candidate),
     /// A block.
-    Whole(SoundBlock),
+    Whole(BoundedBlock),
     /// A block near the tip, to be sent as a compact one.
-    Short(SoundBlock),
+    Short(BoundedBlock),
     /// What isn't there.
     Lacking(Inventory),
 }
@@ -70,7 +70,7 @@ impl State {
         ensures memory { IsOkUnless result Memory }
     {
         match self.pool.get(&txid) {
-            Some(candidate) => Ok(Piece::Tx(candidate.tx().clone()?)),
+            Some(candidate) => Ok(Piece::Tx(candidate.clone()?)),
             None => Ok(Piece::Lacking(Inventory::Tx(txid))),
         }
     }
@@ -80,8 +80,8 @@ impl State {
         ensures piece { IfOk result (λ piece. piece ≡ whole_piece (entry.Block hash) (block_of self.now.tree hash)) }
         ensures memory { IsOkUnless result Memory }
     {
-        match self.chain.block(&hash) {
-            Some(block) => Ok(Piece::Whole(block.copy()?)),
+        match kept_block(&self.chain, &hash)? {
+            Some(block) => Ok(Piece::Whole(block)),
             None => Ok(Piece::Lacking(Inventory::Block(hash))),
         }
     }
@@ -92,14 +92,9 @@ impl State {
             ≡ short_piece (is_within 5 self.now.tree hash) (entry.CompactBlock hash) (block_of self.now.tree hash)) }
         ensures memory { IsOkUnless result Memory }
     {
-        match self.chain.block(&hash) {
-            Some(block) => {
-                let block = block.copy()?;
-                if self.is_near_tip(&hash) {
-                    return Ok(Piece::Short(block));
-                }
-                Ok(Piece::Whole(block))
-            }
+        match kept_block(&self.chain, &hash)? {
+            Some(block) if self.is_near_tip(&hash) => Ok(Piece::Short(block)),
+            Some(block) => Ok(Piece::Whole(block)),
             None => Ok(Piece::Lacking(Inventory::CompactBlock(hash))),
         }
     }

@@ -8,9 +8,10 @@ ghost use Rattle.cb_state.specs.declared.inventory.Inventory.TheVariants as entr
 ghost use Rattle.cb_state.specs.Wanting.{AreNoted, IsNeed, blocks_of, is_block, is_near, only_block, stands_on_tip, wanted_of, with_entry, with_wanted};
 
 use crate::inventory::{Entries, Inventory};
+use crate::locating::locator_of;
 use crate::state::State;
 use cb_base::{Fault, Hash256};
-use cb_chain::Hashes;
+use cb_payload::Locator;
 use std::alloc::Global;
 use std::collections::HashSet;
 
@@ -22,7 +23,7 @@ pub struct Need {
     /// Whether one block alone is wanted, whose header is known and stands on the tip.
     pub near: bool,
     /// The chain's locator, where a block is wanted.
-    pub locator: Hashes,
+    pub locator: Locator,
 }
 
 // The wanted entries so far, each once, in order, and the hashes of the transactions and of the blocks among them.
@@ -159,14 +160,14 @@ impl State {
     }
 
     // The chain's locator, where a block is among the entries.
-    fn block_locator(&self, entries: &[Inventory]) -> Result<Hashes, Fault>
+    fn block_locator(&self, entries: &[Inventory]) -> Result<Locator, Fault>
         ensures locator { IfOk result (λ locator. locator ≡ (if list_any is_block entries.now then locator_of self.now.tree else [])) }
         ensures memory { IsOkUnless result Memory }
     {
         if !has_block(entries) {
-            return Ok(Hashes::new(Vec::new(self.alloc)));
+            return Ok(Locator::from_few(Vec::new(self.alloc)));
         }
-        Ok(Hashes::new(self.chain.locator()?))
+        locator_of(&self.chain)
     }
 }
 

@@ -8,7 +8,7 @@ use Rattle.cb_state.proofs.state.State.take_block.Goals as goal
 pub returns-in-Err-clause-taken : goal.returns-in-Err-clause-taken
 returns-in-Err-clause-taken c =
     let old : NodeState = record { tree = c.self.inside.chain; pool = c.self.inside.pool; announcers = c.self.inside.announcers } in
-    rw (← c.self.view_is) (block_refused old c.accept_block.new.self c.args.block c.args.from c.in-Err.fault c.in_ok-locator.locator.items c.refusal.result c.in-Err.ensures.err (c.in-Err.ensures.stays tt) c.in_ok-locator.ensures.exact c.refusal.ensures.ok)
+    rw (← c.self.view_is) (block_refused old c.accept_block.new.self c.args.block c.args.from c.in-Err.fault c.in_ok-locator.locator c.refusal.result c.in-Err.ensures.err (c.in-Err.ensures.stays tt) c.in_ok-locator.ensures.exact c.refusal.ensures.ok)
 
 pub invariant_of-self-then-is_empty : goal.invariant_of-self-then-is_empty
 invariant_of-self-then-is_empty c =
@@ -19,8 +19,8 @@ pub returns-then-is_empty-clause-taken : goal.returns-then-is_empty-clause-taken
 returns-then-is_empty-clause-taken c =
     let old : NodeState = record { tree = c.self.inside.chain; pool = c.self.inside.pool; announcers = c.self.inside.announcers } in
     let none : c.in-Ok.change.on ≡ [] = sym c.as_slice.ensures ∙ nothing_on c.as_slice.result.now (sym c.is_empty.ensures ∙ c.if-is_empty.true) in
-    let told : c.new-2.result ≡ [] = c.new-2.ensures ∙ c.new.ensures.items in
-    rw (← c.self.view_is) (block_aside old c.accept_block.new.self c.args.block c.args.from c.in-Ok.change c.new-2.result c.in-Ok.ensures.ok none told)
+    let told : c.from_few.result ≡ [] = c.from_few.ensures ∙ c.new.ensures.items in
+    rw (← c.self.view_is) (block_aside old c.accept_block.new.self c.args.block c.args.from c.in-Ok.change c.from_few.result c.in-Ok.ensures.ok none told)
 
 pub invariant_of-self-2 : goal.invariant_of-self-2
 invariant_of-self-2 c =
@@ -34,6 +34,6 @@ returns-clause-taken c =
     let old : NodeState = record { tree = c.self.inside.chain; pool = c.self.inside.pool; announcers = c.self.inside.announcers } in
     let some : c.in-Ok.change.on ≢ [] = subst (λ (hashes : List Hash256). hashes ≢ []) c.as_slice.ensures (something_on c.as_slice.result.now (sym c.is_empty.ensures ∙ c.if-is_empty.false)) in
     let planned = planned_for c.args.self.now old c.block-2.result.now c.args.block c.in_ok-plan.plan c.self.view_is c.block-2.ensures.same c.in_ok-plan.ensures.plan in
-    let told : c.new-2.result ≡ [] = c.new-2.ensures ∙ c.new.ensures.items in
+    let told : c.from_few.result ≡ [] = c.from_few.ensures ∙ c.new.ensures.items in
     rw (← c.self.view_is)
-    (block_leads old c.accept_block.new.self c.follow.new.pool c.thank.new.announcers c.args.block c.args.from c.in-Ok.change c.in_ok-plan.plan c.ledger.result.now.unspent c.new-2.result c.in-Ok.ensures.ok some c.in-Ok.ensures.leads planned c.ledger.ensures c.follow.ensures c.thank.ensures told)
+    (block_leads old c.accept_block.new.self c.follow.new.pool c.thank.new.announcers c.args.block c.args.from c.in-Ok.change c.in_ok-plan.plan c.ledger.result.now.unspent c.from_few.result c.in-Ok.ensures.ok some c.in-Ok.ensures.leads planned c.ledger.ensures c.follow.ensures c.thank.ensures told)

@@ -9,5 +9,5 @@ pub returns-clause-taken : goal.returns-clause-taken
 returns-clause-taken c =
     let old : NodeState = record { tree = c.self.inside.chain; pool = c.self.inside.pool; announcers = c.self.inside.announcers } in
     rw (← c.self.view_is)
-    (heads_taken old c.accept_headers.new.self c.args.headers.now (record { refused = c.in_ok-accepted.accepted.refused; lack = c.lacking.result; locator = c.told_locator.result }) c.in_ok-accepted.accepted.met c.in_ok-locator.locator.items
+    (heads_taken old c.accept_headers.new.self c.args.headers.now (record { refused = c.in_ok-accepted.accepted.refused; lack = c.lacking.result; locator = c.told_locator.result }) c.in_ok-accepted.accepted.met c.in_ok-locator.locator
     c.in_ok-accepted.ensures.ok c.accept_headers.ensures.stays c.in_ok-locator.ensures.exact c.lacking.ensures c.told_locator.ensures)

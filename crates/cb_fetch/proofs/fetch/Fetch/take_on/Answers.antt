@@ -1,0 +1,7 @@
+use Rattle.std.proofs.Common.{[]}
+use Rattle.cb_state.specs.declared.inventory.Inventory.TheVariants.{Tx}
+use Rattle.cb_fetch.proofs.Once.{takes_more}
+use Rattle.cb_fetch.proofs.fetch.Fetch.take_on.Goals as goal
+
+pub loop-entry-preserved : goal.loop-entry-preserved
+loop-entry-preserved c = takes_more c.args.needed.now c.loop-entry.entry-index (Tx (record { 0 = [] })) c.loop-entry.next c.take_entry.new.self c.loop-entry-test.true c.loop-entry.invariant c.in_ok-take_entry.ensures.taken

@@ -1,0 +1,110 @@
+-- The blocks that a session fetches from its peer (Bitcoin's peer-to-peer protocol, `getdata`): those that lack are wanted, and
+-- a few of them are in flight. The limits 16 and 2,000 are this node's own.
+use Rattle.std.specs.Prelude.{◌≡◌, ◌≤◌, ⊤, Bool, false, ◌&&◌, ◌||◌, not, nat_lt, ◌==◌, if◌then◌else◌, List, [], ◌∷◌, ◌++◌, length, map, filter, fold}
+use Rattle.std.specs.List.{list_any}
+use Rattle.cb_base.specs.declared.hash.Hash256.{Hash256}
+use Rattle.cb_chain.specs.Entries.{same}
+use Rattle.cb_payload.specs.declared.inventory.InvEntry.{InvEntry}
+use Rattle.cb_state.specs.declared.inventory.Inventory.{Inventory}
+use Rattle.cb_state.specs.declared.inventory.Inventory.TheVariants.{Block}
+
+-- What a session fetches, by the hashes of the blocks, each list in order.
+pub record FetchState : Type 0 where
+  -- asked for, and not come yet: at most 16
+  pub flight : List Hash256
+  -- to be asked for: at most 2,000
+  pub wanted : List Hash256
+
+-- the opening state
+abbrev pub idle : FetchState
+idle = record { flight = []; wanted = [] }
+
+abbrev pub has : List Hash256 → Hash256 → Bool
+has hashes hash = list_any (same hash) hashes
+
+-- it is in flight, or wanted
+abbrev pub is_fetched : FetchState → Hash256 → Bool
+is_fetched fetch hash = has fetch.flight hash || has fetch.wanted hash
+
+-- nothing is in flight and something is wanted: it is time to ask for more
+abbrev pub is_due : FetchState → Bool
+is_due fetch = (length fetch.flight == 0) && nat_lt 0 (length fetch.wanted)
+
+-- ---- what changes
+
+-- a block came: it is in flight no longer
+abbrev pub landed : Hash256 → FetchState → FetchState
+landed hash fetch = record { flight = filter (λ other. not (same hash other)) fetch.flight; wanted = fetch.wanted }
+
+-- it is the last of those in flight
+abbrev pub with_flight : FetchState → Hash256 → FetchState
+with_flight fetch hash = record { flight = fetch.flight ++ hash ∷ []; wanted = fetch.wanted }
+
+-- it is the last of those that are wanted, where there are fewer than 2,000
+abbrev pub with_wanted : FetchState → Hash256 → FetchState
+with_wanted fetch hash = if nat_lt (length fetch.wanted) 2000 then record { flight = fetch.flight; wanted = fetch.wanted ++ hash ∷ [] } else fetch
+
+-- a block lacks: it is wanted, unless it is in flight or wanted
+abbrev pub wanting : FetchState → Hash256 → FetchState
+wanting fetch hash = if is_fetched fetch hash then fetch else with_wanted fetch hash
+
+-- several, in order
+abbrev pub wanting_all : FetchState → List Hash256 → FetchState
+wanting_all fetch hashes = fold wanting fetch hashes
+
+-- a block is still needed: it goes in flight where fewer than 16 are, and else it stays wanted
+abbrev pub taking_on : FetchState → Hash256 → FetchState
+taking_on fetch hash = if is_fetched fetch hash then fetch else (if nat_lt (length fetch.flight) 16 then with_flight fetch hash else with_wanted fetch hash)
+
+-- what is fetched once it is known which of the wanted blocks are still needed: the first 16 different ones go in flight, and
+-- the next 2,000 stay wanted
+abbrev pub taken_on : List Hash256 → FetchState
+taken_on hashes = fold taking_on idle hashes
+
+-- ---- entries of inventory
+
+abbrev pub as_blocks : List Hash256 → List Inventory
+as_blocks hashes = map Block hashes
+
+abbrev pub block_in : Inventory → List Hash256
+block_in (Block hash) = hash ∷ []
+block_in other = []
+
+-- the hashes of the blocks among entries
+abbrev pub blocks_in : List Inventory → List Hash256
+blocks_in [] = []
+blocks_in (entry ∷ entries) = block_in entry ++ blocks_in entries
+
+-- the entries of `getdata` that ask for blocks: of type 2
+abbrev pub requests_of : List Hash256 → List InvEntry
+requests_of hashes = map (λ hash. record { kind = 2; hash = hash }) hashes
+
+-- ---- what always holds
+
+-- none of them stands twice
+abbrev pub AreDifferent : List Hash256 → Type 0
+AreDifferent [] = ⊤
+AreDifferent (hash ∷ hashes) = (has hashes hash ≡ false) × AreDifferent hashes
+
+-- at most 16 blocks are in flight and at most 2,000 are wanted, and no block is in flight or wanted twice
+pub record IsFetch (fetch : FetchState) : Type 0 where
+  pub flight : length fetch.flight ≤ 16
+  pub wanted : length fetch.wanted ≤ 2000
+  pub once : AreDifferent (fetch.flight ++ fetch.wanted)
+
+-- what calls lead to, from the opening state on
+pub data IsReached : FetchState → Type 0 where
+  opening : IsReached idle
+  wants : (fetch : FetchState) (hashes : List Hash256) → IsReached fetch → IsReached (wanting_all fetch hashes)
+  lands : (fetch : FetchState) (hash : Hash256) → IsReached fetch → IsReached (landed hash fetch)
+  takes_on : (fetch : FetchState) (hashes : List Hash256) → IsReached fetch → IsReached (taken_on hashes)
+
+-- ---- each once
+
+-- it comes last, unless it is there
+abbrev pub with_hash : List Hash256 → Hash256 → List Hash256
+with_hash hashes hash = if has hashes hash then hashes else hashes ++ hash ∷ []
+
+-- each different one once, where it stands first
+abbrev pub once : List Hash256 → List Hash256
+once hashes = fold with_hash [] hashes

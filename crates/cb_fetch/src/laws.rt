@@ -1,0 +1,37 @@
+//! What holds of all that a session fetches: laws of the definitions that the contracts cite.
+//!
+//! Each is a function that does nothing and whose contract is the law.
+ghost use Rattle.std.specs.Prelude.{◌≡◌, ◌≤◌, ◌++◌, List, [], true, drop, length, take};
+ghost use Rattle.cb_base.specs.declared.hash.Hash256.{Hash256};
+ghost use Rattle.cb_fetch.specs.Fetching.{AreDifferent, FetchState, IsFetch, IsReached, has, is_due, once, taken_on, wanting, wanting_all};
+
+use crate::fetch::Fetch;
+
+/// At most 16 blocks are in flight and at most 2,000 are wanted, and no block is in flight or wanted twice.
+pub fn each_is_fetched_once(fetch: &Fetch)
+    ensures flight { length fetch.now.flight ≤ 16 }
+    ensures wanted { length fetch.now.wanted ≤ 2000 }
+    ensures once { AreDifferent (fetch.now.flight ++ fetch.now.wanted) }
+{
+    let _ = &fetch.flight;
+}
+
+/// The same of every state that calls lead to, whatever a peer sends.
+pub fn limits_hold()
+    ensures { (fetch : FetchState) → IsReached fetch → IsFetch fetch }
+{}
+
+/// A block in flight isn't wanted once more, and what is wanted is asked for only when nothing is in flight.
+pub fn none_is_asked_for_twice()
+    ensures same { (fetch : FetchState) (hash : Hash256) → has fetch.flight hash ≡ true → wanting fetch hash ≡ fetch }
+    ensures flight { (fetch : FetchState) (hashes : List Hash256) → (wanting_all fetch hashes).flight ≡ fetch.flight }
+    ensures due { (fetch : FetchState) → is_due fetch ≡ true → fetch.flight ≡ [] }
+{}
+
+/// What is asked for is what was needed: the first 16 different blocks are in flight, and the next 2,000 stay wanted.
+pub fn what_is_needed_is_fetched()
+    ensures flight { (hashes : List Hash256) → (taken_on hashes).flight ≡ take 16 (once hashes) }
+    ensures wanted { (hashes : List Hash256) → (taken_on hashes).wanted ≡ take 2000 (drop 16 (once hashes)) }
+    ensures among { (hashes : List Hash256) (hash : Hash256) → has (taken_on hashes).flight hash ≡ true → has hashes hash ≡ true }
+    ensures different { (hashes : List Hash256) → AreDifferent (once hashes) }
+{}

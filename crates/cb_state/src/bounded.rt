@@ -1,0 +1,68 @@
+ghost use Rattle.std.specs.Prelude.{◌≡◌, ◌≤◌, length, IfOk, IsOkUnless};
+ghost use Rattle.cb_base.specs.declared.fault.Fault.TheVariants.{Memory};
+ghost use Rattle.cb_block.specs.Text.{block_text};
+ghost use Rattle.cb_chain.specs.Entries.{block_of};
+
+use cb_base::{Fault, Hash256};
+use cb_block::SoundBlock;
+use cb_chain::{Chain, kept_meet_rules};
+use std::marker::Model;
+
+/// A sound block that a message can carry: its text has at most 4,000,000 bytes (Bitcoin's protocol). It is seen as the block.
+#[derive(Debug, Drop)]
+pub struct BoundedBlock {
+    block: SoundBlock,
+}
+
+impl Model for BoundedBlock {
+    ghost use Rattle.std.specs.Prelude.{◌≤◌, length};
+    ghost use Rattle.cb_block.specs.Text.{block_text};
+    ghost use Rattle.cb_block.specs.declared.block.Block.{Block};
+
+    ghost Value = { Block };
+
+    ghost view = { λ bounded. bounded.block };
+
+    ghost invariant = { λ bounded. length (block_text bounded.block) ≤ 4000000 };
+}
+
+impl BoundedBlock {
+    /// Takes a block that a message can carry.
+    pub fn new(block: SoundBlock) -> BoundedBlock
+        requires { length (block_text block) ≤ 4000000 }
+        ensures { result ≡ block }
+    {
+        BoundedBlock { block }
+    }
+
+    /// The block.
+    pub fn block(&self) -> &SoundBlock
+        ensures same { result.now ≡ self.now }
+        ensures few { length (block_text self.now) ≤ 4000000 }
+    {
+        &self.block
+    }
+
+    /// The same block once more, which is shared. It takes no memory: the only error is `Fault::Memory`, where a count of owners
+    /// is full.
+    pub fn copy(&self) -> Result<BoundedBlock, Fault>
+        ensures same { IfOk result (λ copy. copy ≡ self.now) }
+        ensures memory { IsOkUnless result Memory }
+    {
+        Ok(BoundedBlock {
+            block: self.block.copy()?,
+        })
+    }
+}
+
+// The block of this hash, where it is kept and isn't marked bad. It is shared and not copied. The only error is `Fault::Memory`.
+pub(crate) fn kept_block(chain: &Chain, hash: &Hash256) -> Result<Option<BoundedBlock>, Fault>
+    ensures block { IfOk result (λ block. block ≡ block_of chain.now hash.now) }
+    ensures memory { IsOkUnless result Memory }
+{
+    kept_meet_rules(chain);
+    match chain.block(hash) {
+        Some(block) => Ok(Some(BoundedBlock::new(block.copy()?))),
+        None => Ok(None),
+    }
+}

@@ -1,0 +1,29 @@
+ghost use Rattle.std.specs.Prelude.{◌≡◌, IfOk, IsOkUnless};
+ghost use Rattle.cb_base.specs.declared.fault.Fault.TheVariants.{Memory};
+ghost use Rattle.cb_chain.specs.Locator.{locator_of};
+
+use crate::state::State;
+use cb_base::Fault;
+use cb_chain::{Chain, has_history};
+use cb_payload::Locator;
+
+// A chain's locator, which is short enough for a message. The only error is `Fault::Memory`.
+pub(crate) fn locator_of(chain: &Chain) -> Result<Locator, Fault>
+    ensures exact { IfOk result (λ locator. locator ≡ locator_of chain.now) }
+    ensures memory { IsOkUnless result Memory }
+{
+    has_history(chain);
+    let _ = chain.tip_height();
+    let hashes = chain.locator()?;
+    Ok(Locator::from_few(hashes))
+}
+
+impl State {
+    /// The chain's locator (Bitcoin's protocol, `getheaders`). The only error is `Fault::Memory`.
+    pub fn locator(&self) -> Result<Locator, Fault>
+        ensures exact { IfOk result (λ locator. locator ≡ locator_of self.now.tree) }
+        ensures memory { IsOkUnless result Memory }
+    {
+        locator_of(&self.chain)
+    }
+}
