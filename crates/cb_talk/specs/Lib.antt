@@ -1,0 +1,4 @@
+pub mod Announcing
+pub mod Greeting
+pub mod Inventory
+pub mod Serving

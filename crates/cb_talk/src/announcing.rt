@@ -1,0 +1,73 @@
+ghost use Rattle.std.specs.Prelude.{◌≡◌, ◌∷◌, ◌≤◌, [], length, map, IfOk, IsOk, IsOkUnless, MatchOption};
+ghost use Rattle.cb_base.specs.declared.fault.Fault.TheVariants.{Memory};
+ghost use Rattle.cb_talk.specs.Announcing.{announcing, telling, tx_entry};
+
+use cb_base::{Fault, Hash256};
+use cb_payload::{Entries, HeaderList, InvEntry};
+use cb_state::{Announced, Txids};
+use cb_wire::{BoundedMessage, Message};
+use std::alloc::Global;
+
+// The types of a transaction and of a block among entries of inventory.
+const TX: u32 = 1;
+
+const BLOCK: u32 = 2;
+
+/// How a new tip is told, if there is a way to it: by the way's headers (BIP 130), or by the tip's hash (`inv`).
+///
+/// The only error is `Fault::Memory`, and where nothing is told there is none.
+pub fn announce_tip(
+    alloc: Global,
+    by_headers: bool,
+    tip: Hash256,
+    path: &Announced,
+) -> Result<Option<BoundedMessage>, Fault>
+    ensures message { IfOk result (λ made. MatchOption made (announcing by_headers tip path.now ≡ []) (λ message. announcing by_headers tip path.now ≡ message ∷ [])) }
+    ensures memory { IsOkUnless result Memory }
+    ensures unpaid { announcing by_headers tip path.now ≡ [] → IsOk result }
+{
+    let headers = path.as_slice();
+    if headers.is_empty() {
+        return Ok(None);
+    }
+    if by_headers {
+        let headers = Vec::from_slice(alloc, headers)?;
+        return Ok(Some(BoundedMessage::new(Message::Headers(HeaderList::from_few(headers)))));
+    }
+    let mut entries = Vec::with_capacity(alloc, 1)?;
+    entries.push(InvEntry {
+        kind: BLOCK,
+        hash: tip,
+    })?;
+    Ok(Some(BoundedMessage::new(Message::Inv(Entries::from_few(entries)))))
+}
+
+/// How transactions are told, if there are any (`inv`).
+///
+/// The only error is `Fault::Memory`, and where there are none there is no error.
+pub fn announce_txs(alloc: Global, txids: &Txids) -> Result<Option<BoundedMessage>, Fault>
+    ensures message { IfOk result (λ made. MatchOption made (telling txids.now ≡ []) (λ message. telling txids.now ≡ message ∷ [])) }
+    ensures memory { IsOkUnless result Memory }
+    ensures unpaid { telling txids.now ≡ [] → IsOk result }
+{
+    if txids.as_slice().is_empty() {
+        return Ok(None);
+    }
+    let entries = tx_entries(alloc, txids.as_slice())?;
+    Ok(Some(BoundedMessage::new(Message::Inv(Entries::from_few(entries)))))
+}
+
+// The entries of transactions, in order. The only error is `Fault::Memory`.
+fn tx_entries(alloc: Global, txids: &[Hash256]) -> Result<Vec<InvEntry>, Fault>
+    ensures entries { IfOk result (λ entries. entries.items ≡ map tx_entry txids.now) }
+    ensures memory { IsOkUnless result Memory }
+{
+    let mut entries = Vec::with_capacity(alloc, txids.len())?;
+    for txid in txids {
+        entries.push(InvEntry {
+            kind: TX,
+            hash: *txid,
+        })?;
+    }
+    Ok(entries)
+}

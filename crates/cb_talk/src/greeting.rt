@@ -1,0 +1,72 @@
+ghost use Rattle.std.specs.Prelude.{◌≡◌, IfOk, IsOk, IsOkUnless, []};
+ghost use Rattle.cb_base.specs.declared.fault.Fault.TheVariants.{Memory};
+ghost use Rattle.cb_talk.specs.Greeting.{our_version, wishes};
+
+use cb_base::Fault;
+use cb_payload::{Agent, CompactRelay, NetAddress, Version};
+use cb_wire::{BoundedMessage, Message};
+use std::alloc::Global;
+
+/// The version of the protocol that this node speaks.
+pub const PROTOCOL_VERSION: i32 = 70_014;
+
+// The first version that knows `sendheaders` (BIP 130), and the first that knows compact blocks (BIP 152).
+const SENDHEADERS_VERSION: i32 = 70_012;
+
+const COMPACT_VERSION: i32 = 70_014;
+
+// No address is told.
+const NO_ADDRESS: NetAddress = NetAddress {
+    services: 0,
+    ip: [0; 16],
+    port: 0,
+};
+
+/// How this node introduces itself (Bitcoin's protocol, `version`): with a nonce by which it knows its own message, the time in
+/// seconds since the start of 1970, and the height of its best chain.
+///
+/// The only error is `Fault::Memory`.
+pub fn our_version(
+    alloc: Global,
+    nonce: u64,
+    time: i64,
+    height: i32,
+) -> Result<BoundedMessage, Fault>
+    ensures message { IfOk result (λ message. message ≡ our_version nonce time height) }
+    ensures memory { IsOkUnless result Memory }
+{
+    let agent = Vec::from_slice(alloc, b"/cbrelay:1/")?;
+    Ok(BoundedMessage::new(Message::Version(Version {
+        version: PROTOCOL_VERSION,
+        services: 1,
+        time,
+        receiver: NO_ADDRESS,
+        sender: NO_ADDRESS,
+        nonce,
+        agent: Agent::from_few(agent),
+        height,
+        relay: true,
+    })))
+}
+
+/// What a peer of this version is asked once the handshake is done: to tell of blocks by headers (BIP 130), and by compact
+/// blocks of version 1, not unasked (BIP 152), as far as its version knows these.
+///
+/// The only error is `Fault::Memory`, and where nothing is asked there is none.
+pub fn wishes(alloc: Global, version: i32) -> Result<Vec<BoundedMessage>, Fault>
+    ensures messages { IfOk result (λ messages. messages.items ≡ wishes version) }
+    ensures memory { IsOkUnless result Memory }
+    ensures unpaid { wishes version ≡ [] → IsOk result }
+{
+    let mut messages = Vec::new(alloc);
+    if version >= SENDHEADERS_VERSION {
+        messages.push(BoundedMessage::new(Message::SendHeaders))?;
+    }
+    if version >= COMPACT_VERSION {
+        messages.push(BoundedMessage::new(Message::SendCmpct(CompactRelay {
+            high_bandwidth: false,
+            version: 1,
+        })))?;
+    }
+    Ok(messages)
+}
