@@ -3,7 +3,7 @@ use cb_base::{Fault, Hash256, Shared};
 use cb_block::{SoundBlock, genesis};
 use cb_chain::Hashes;
 use cb_payload::Listed;
-use cb_state::{Connection, Heads, Inventory, Need, News, Piece, Taken};
+use cb_state::{BoundedBlock, Connection, Heads, Inventory, Need, News, Piece, State, Taken};
 use cb_tx::Tx;
 use std::alloc::Global;
 use std::test::*;
@@ -158,10 +158,23 @@ fn taken_block(alloc: Global) -> Result<Answer, Fault> {
     }))
 }
 
-// A transaction that isn't there.
+// The first block, as a new state serves it.
+fn first_block(alloc: Global) -> Result<BoundedBlock, Fault> {
+    let hash = genesis(alloc)?.block().header.hash();
+    let entries = alone(alloc, Inventory::CompactBlock(hash))?;
+    let state = State::new(alloc)?;
+    match state.serve(&entries)?.into_vec().pop() {
+        Some(Piece::Short(block)) => Ok(block),
+        _ => Err(Fault::Empty),
+    }
+}
+
+// A block and a transaction that isn't there.
 fn served_pieces(alloc: Global) -> Result<Answer, Fault> {
-    let mut pieces = Vec::with_capacity(alloc, 1)?;
+    let block = first_block(alloc)?;
+    let mut pieces = Vec::with_capacity(alloc, 2)?;
     pieces.push_reserved(Piece::Lacking(Inventory::Tx(NAME)));
+    pieces.push(Piece::Short(block))?;
     Ok(Answer::Served(Listed::from_few(pieces)))
 }
 
@@ -171,12 +184,13 @@ fn headers_behind(alloc: Global) -> Result<Answer, Fault> {
 }
 
 fn some_news(alloc: Global) -> Result<Answer, Fault> {
-    let path = alone(alloc, genesis(alloc)?.block().header)?;
+    let block = first_block(alloc)?;
+    let path = alone(alloc, block.block().block().header)?;
     Ok(Answer::News(News {
         tip: NAME,
         path,
         long: false,
-        block: None,
+        block: Some(block),
         txids: alone(alloc, NAME)?,
         next: 4,
         high: true,

@@ -3,20 +3,18 @@ use Rattle.std.specs.Prelude.{Bool, List, [], ◌∷◌, map, if◌then◌else�
 use Rattle.cb_base.specs.declared.hash.Hash256.{Hash256}
 use Rattle.cb_block.specs.declared.header.Header.{Header}
 use Rattle.cb_payload.specs.declared.inventory.InvEntry.{InvEntry}
+use Rattle.cb_state.specs.declared.inventory.Inventory.TheVariants as entry
+use Rattle.cb_talk.specs.Inventory.{written}
 use Rattle.cb_wire.specs.declared.message.Message.{Message}
 use Rattle.cb_wire.specs.declared.message.Message.TheVariants.{Inv, Headers}
 
--- the entry of a hash of this type
 abbrev pub tx_entry : Hash256 → InvEntry
-tx_entry txid = record { kind = 1; hash = txid }
-
-abbrev pub block_entry : Hash256 → InvEntry
-block_entry hash = record { kind = 2; hash = hash }
+tx_entry txid = written (entry.Tx txid)
 
 -- The way to a new tip, if there is one: by its headers to a peer that asked for them, where they aren't too many, and else by
 -- the tip's hash.
 abbrev pub announced_by : Bool → Hash256 → List Header → Message
-announced_by headers tip path = if headers then Headers path else Inv (block_entry tip ∷ [])
+announced_by headers tip path = if headers then Headers path else Inv (written (entry.Block tip) ∷ [])
 
 abbrev pub announcing : Bool → Hash256 → List Header → List Message
 announcing headers tip [] = []

@@ -2,16 +2,12 @@ ghost use Rattle.std.specs.Prelude.{◌≡◌, ◌∷◌, ◌≤◌, [], length,
 ghost use Rattle.cb_base.specs.declared.fault.Fault.TheVariants.{Memory};
 ghost use Rattle.cb_talk.specs.Announcing.{announcing, telling, tx_entry};
 
+use crate::inventory::written;
 use cb_base::{Fault, Hash256};
 use cb_payload::{Entries, HeaderList, InvEntry};
-use cb_state::{Announced, Txids};
+use cb_state::{Announced, Inventory, Txids};
 use cb_wire::{BoundedMessage, Message};
 use std::alloc::Global;
-
-// The types of a transaction and of a block among entries of inventory.
-const TX: u32 = 1;
-
-const BLOCK: u32 = 2;
 
 /// How a new tip is told, if there is a way to it: by the way's headers (BIP 130), or by the tip's hash (`inv`).
 ///
@@ -35,10 +31,7 @@ pub fn announce_tip(
         return Ok(Some(BoundedMessage::new(Message::Headers(HeaderList::from_few(headers)))));
     }
     let mut entries = Vec::with_capacity(alloc, 1)?;
-    entries.push(InvEntry {
-        kind: BLOCK,
-        hash: tip,
-    })?;
+    entries.push(written(Inventory::Block(tip)))?;
     Ok(Some(BoundedMessage::new(Message::Inv(Entries::from_few(entries)))))
 }
 
@@ -64,10 +57,7 @@ fn tx_entries(alloc: Global, txids: &[Hash256]) -> Result<Vec<InvEntry>, Fault>
 {
     let mut entries = Vec::with_capacity(alloc, txids.len())?;
     for txid in txids {
-        entries.push(InvEntry {
-            kind: TX,
-            hash: *txid,
-        })?;
+        entries.push(written(Inventory::Tx(*txid)))?;
     }
     Ok(entries)
 }

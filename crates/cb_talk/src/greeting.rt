@@ -7,8 +7,8 @@ use cb_payload::{Agent, CompactRelay, NetAddress, Version};
 use cb_wire::{BoundedMessage, Message};
 use std::alloc::Global;
 
-/// The version of the protocol that this node speaks.
-pub const PROTOCOL_VERSION: i32 = 70_014;
+// The version of the protocol that this node speaks.
+const PROTOCOL_VERSION: i32 = 70_014;
 
 // The first version that knows `sendheaders` (BIP 130), and the first that knows compact blocks (BIP 152).
 const SENDHEADERS_VERSION: i32 = 70_012;

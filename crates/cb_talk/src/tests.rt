@@ -1,7 +1,9 @@
 use super::*;
-use cb_base::Hash256;
-use cb_payload::{Entries, InvEntry};
-use cb_state::Inventory;
+use cb_base::{Fault, Hash256};
+use cb_block::Header;
+use cb_payload::{Entries, InvEntry, Listed};
+use cb_state::{Inventory, Piece};
+use cb_wire::{BoundedMessage, Message};
 use std::alloc::Global;
 use std::test::*;
 
@@ -29,6 +31,88 @@ fn a_handshake_is_spoken(rt: HostRuntime) -> Result<(), Fail> {
     assert!(rt; count_of_wishes(alloc, 70_011) == 0);
     assert!(rt; count_of_wishes(alloc, 70_013) == 1);
     assert!(rt; count_of_wishes(alloc, 70_014) == 2);
+    Ok(())
+}
+
+const NAME: Hash256 = Hash256([7; 32]);
+
+const HEADER: Header = Header {
+    version: 1,
+    prev: NAME,
+    root: NAME,
+    time: 0,
+    bits: 0,
+    nonce: 0,
+};
+
+// A list of one.
+fn alone<T: Drop, const MOST: usize>(alloc: Global, item: T) -> Result<Listed<T, MOST>, Fault> {
+    let mut list = Vec::with_capacity(alloc, 1)?;
+    list.push_reserved(item);
+    match Listed::new(list) {
+        Ok(list) => Ok(list),
+        Err(_) => Err(Fault::TooMany),
+    }
+}
+
+// Which message it is, and how many entries, headers or hashes it has.
+fn kind(message: &BoundedMessage) -> (char, usize) {
+    match message.message() {
+        Message::Inv(entries) => ('i', entries.as_slice().len()),
+        Message::NotFound(entries) => ('n', entries.as_slice().len()),
+        Message::Headers(headers) => ('h', headers.as_slice().len()),
+        Message::GetHeaders(request) => ('g', request.locator.as_slice().len()),
+        _ => ('?', 0),
+    }
+}
+
+fn kind_of(made: Option<&BoundedMessage>) -> (char, usize) {
+    match made {
+        Some(message) => kind(message),
+        None => ('-', 0),
+    }
+}
+
+// What is sent of a transaction that isn't there.
+fn kind_served(alloc: Global) -> Result<(char, usize), Fault> {
+    let pieces = alone(alloc, Piece::Lacking(Inventory::Tx(NAME)))?;
+    let messages = served(alloc, &pieces)?;
+    Ok(kind_of(messages.as_slice().first()))
+}
+
+// What a tip is told by that stands one header further on.
+fn kind_of_tip(alloc: Global, by_headers: bool) -> Result<(char, usize), Fault> {
+    let path = alone(alloc, HEADER)?;
+    let message = announce_tip(alloc, by_headers, NAME, &path)?;
+    Ok(kind_of(message.as_ref()))
+}
+
+// What a transaction is told by.
+fn kind_of_tx(alloc: Global) -> Result<(char, usize), Fault> {
+    let message = announce_txs(alloc, &alone(alloc, NAME)?)?;
+    Ok(kind_of(message.as_ref()))
+}
+
+// What the headers behind one hash are asked for by.
+fn kind_of_request(alloc: Global) -> Result<(char, usize), Fault> {
+    Ok(kind(&asking_headers(alone(alloc, NAME)?)))
+}
+
+fn is_kind(made: Result<(char, usize), Fault>, name: char) -> bool {
+    match made {
+        Ok((kind, count)) => kind == name && count == 1,
+        Err(_) => false,
+    }
+}
+
+#[test]
+fn what_is_there_and_what_is_new_is_told(rt: HostRuntime) -> Result<(), Fail> {
+    let alloc = rt.alloc();
+    assert!(rt; is_kind(kind_served(alloc), 'n'));
+    assert!(rt; is_kind(kind_of_tip(alloc, true), 'h'));
+    assert!(rt; is_kind(kind_of_tip(alloc, false), 'i'));
+    assert!(rt; is_kind(kind_of_tx(alloc), 'i'));
+    assert!(rt; is_kind(kind_of_request(alloc), 'g'));
     Ok(())
 }
 
