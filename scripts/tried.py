@@ -4,6 +4,7 @@ import hashlib
 import re
 import subprocess
 
+from reach import Library, Reach
 from wrong_bodies import FUNCTION
 
 FILE = "attacks.tried"
@@ -70,25 +71,43 @@ class Tried:
         self.logic = logic_of(subprocess.run(["rt", "--version"], capture_output=True, check=True).stdout)
         lines = self.path.read_text(encoding="utf-8").splitlines() if self.path.is_file() else []
         self.noted = {line.split()[0]: line for line in lines if line and not line.startswith("#")}
+        self.libraries = {}
+
+    def texts(self, crate, parts, is_own):
+        """Returns what a check reads of a crate that is its own, or stands below it, by the part and path of each file."""
+        found = {}
+        for part in parts:
+            for file in sorted(path for path in (crate.folder / part).rglob("*") if path.is_file()):
+                name = file.relative_to(crate.folder)
+                if is_test(name) or (not is_own and name.name in OF_GOALS):
+                    continue
+                text = file.read_text(encoding="utf-8")
+                if file.suffix == ".rt":
+                    text = without_tests(text) if is_own else without_bodies(without_tests(text))
+                found[part, file.relative_to(crate.folder / part).as_posix()] = text
+        return found
+
+    def library(self, crate):
+        if crate.name not in self.libraries:
+            self.libraries[crate.name] = Library(crate, self.texts(crate, BELOW, is_own=False))
+        return self.libraries[crate.name]
 
     def digest(self, crate):
         """Returns the SHA-256 of the logic's name and of all that a check of the crate's wrong bodies reads, with its path.
 
-        That is each of its own files but its tests. Of a crate below it is what that one's library tells: definitions,
-        lemmas, and each function with its contract, but neither its body nor how that was proved.
+        That is each of its own files but its tests. Of a crate below it is what that one's library tells and names lead to:
+        definitions, lemmas, and each function with its contract, but neither its body nor how that was proved.
         """
+        own, libraries = self.texts(crate, OWN, is_own=True), [self.library(it) for it in self.repository.below(crate)]
+        reach = Reach(own.values(), libraries)
+        told = [(crate.name, part, path, text) for (part, path), text in own.items()]
+        for it in libraries:
+            told += [(it.name, part, path, reach.told(it, part, path, text)) for (part, path), text in it.texts.items()]
         found = hashlib.sha256(self.logic)
-        for it in [crate, *self.repository.below(crate)]:
-            for part in OWN if it is crate else BELOW:
-                for file in sorted(path for path in (it.folder / part).rglob("*") if path.is_file()):
-                    name = file.relative_to(it.folder)
-                    if is_test(name) or (it is not crate and name.name in OF_GOALS):
-                        continue
-                    text = file.read_bytes()
-                    if file.suffix == ".rt":
-                        source = without_tests(text.decode())
-                        text = (source if it is crate else without_bodies(source)).encode()
-                    found.update(f"{it.name} {name.as_posix()} {len(text)}\n".encode() + text)
+        for name, part, path, text in told:
+            if text is not None:
+                data = text.encode()
+                found.update(f"{name} {part}/{path} {len(data)}\n".encode() + data)
         return found.hexdigest()
 
     def line(self, crate, count):
