@@ -67,6 +67,7 @@ RUNS = [
     ("serve mixed.bin", "cbrelay", ["serve"], example("mixed.bin")),
     ("decode blocks.hex", "cbrelay", ["decode"], example("blocks.hex")),
     ("serve blocks.bin", "cbrelay", ["serve"], example("blocks.bin")),
+    ("serve conversation.bin", "cbrelay", ["serve"], example("conversation.bin")),
     ("serve, a checkpoint between three large messages and a ping", "cbrelay", ["serve"], unknown(3) + pings(1)),
     ("sound, a block of 5 transactions", "bench_sound", [], block(5, 10)),
     ("chain, a block at the tip and three blocks for two", "bench_chain", [], careful_play()),

@@ -2,4 +2,5 @@ pub mod Compact
 pub mod CutTexts
 pub mod Fields
 pub mod Hashes
+pub mod SipWords
 pub mod Unpaid

@@ -2,3 +2,4 @@ pub mod CompactSize
 pub mod DoubleHash
 pub mod Fault
 pub mod Reading
+pub mod SipHash

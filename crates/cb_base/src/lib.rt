@@ -7,6 +7,7 @@ mod cursor;
 mod fault;
 mod hash;
 mod shared;
+mod sip_hash;
 
 pub use compact_size::{one_spelling, put_compact};
 pub use copying::copy_bytes;
@@ -14,6 +15,7 @@ pub use cursor::Cursor;
 pub use fault::{Fault, TxRule};
 pub use hash::{Hash256, dsha, sha};
 pub use shared::Shared;
+pub use sip_hash::sip24;
 
 #[cfg(test)]
 mod tests;

@@ -1,161 +1,271 @@
--- What a prompt trace that ended by the peer's end sent.
-use Rattle.std.proofs.Common.{◌≡◌, ℕ, ◌≢◌, true, false, List, [], ◌∷◌, ◌++◌, Option, Some, None, refl, sym, ap, ◌∙◌, append_assoc, inl, inr, ◌⊎◌}
-use Rattle.std.specs.List.{fold}
-use Rattle.std.proofs.lemmas.List.{append-nil}
+-- The laws of sessions.
+use Rattle.std.proofs.Common.{◌≡◌, ℕ, ◌<◌, ◌≤◌, Bool, true, false, cond, List, [], ◌∷◌, ◌++◌, Option, Some, None, length, refl, sym, ap, subst, ◌∙◌, inl, inr, arith}
+use Rattle.std.specs.Prelude.{◌==◌, ◌&&◌, ◌||◌, not, filter, filter_map, map, nat_lt}
+use Rattle.std.specs.List.{list_any}
+use Rattle.std.proofs.lemmas.Bool.{cases_Bool, eqb-true}
+use Rattle.cb_base.specs.declared.hash.Hash256.{Hash256}
+use Rattle.cb_block.specs.Blocks.{IsSoundBlock}
+use Rattle.cb_block.specs.declared.block.Block.{Block}
+use Rattle.cb_block.specs.declared.header.Header.{Header}
+use Rattle.cb_chain.specs.Entries.{same}
+use Rattle.cb_chain.proofs.Nodes.{same-refl}
+use Rattle.cb_fetch.specs.Fetching.{FetchState, IsFetch, blocks_in, has, is_due, requests_of, taken_on}
+use Rattle.cb_fetch.proofs.Limits.{within}
+use Rattle.cb_journal.specs.declared.answer.Answer.{Answer}
+use Rattle.cb_journal.specs.declared.answer.Answer.TheVariants as answers
+use Rattle.cb_journal.specs.declared.question.Given.{Given}
+use Rattle.cb_journal.specs.declared.question.Question.{Question}
+use Rattle.cb_journal.specs.declared.question.Question.TheVariants as questions
+use Rattle.cb_payload.specs.declared.inventory.InvEntry.{InvEntry}
+use Rattle.cb_payload.specs.declared.requests.CompactRelay.{CompactRelay}
+use Rattle.cb_state.specs.declared.inventory.Inventory.{Inventory}
+use Rattle.cb_state.specs.declared.inventory.Inventory.TheVariants as entry
+use Rattle.cb_state.specs.declared.news.News.{News}
+use Rattle.cb_state.specs.declared.serving.Piece.{Piece}
+use Rattle.cb_state.specs.declared.wanting.Need.{Need}
+use Rattle.cb_talk.specs.Announcing.{announcing, telling}
+use Rattle.cb_talk.specs.Inventory.{asking_for, written}
+use Rattle.cb_talk.specs.Serving.{lacking_in, not_found, served, served_as}
 use Rattle.cb_wire.specs.declared.item.Item.{Item}
 use Rattle.cb_wire.specs.declared.item.Item.TheVariants.{Good, Damaged, Bad}
 use Rattle.cb_wire.specs.declared.message.Message.{Message}
-use Rattle.cb_journal.specs.declared.answer.Answer.{Answer}
-use Rattle.cb_journal.specs.declared.answer.Answer.TheVariants as answers
+use Rattle.cb_wire.specs.declared.message.Message.TheVariants as messages
 use Rattle.cb_peer.specs.declared.ask.Ask.{Ask}
-use Rattle.cb_peer.specs.declared.ask.Ask.TheVariants.{Admit}
-use Rattle.cb_peer.specs.declared.settings.Settings.{Settings}
-use Rattle.cb_peer.specs.declared.state.State.{State}
-use Rattle.cb_peer.specs.declared.state.State.TheVariants.{Closed}
-use Rattle.cb_peer.specs.declared.state.CloseReason.TheVariants as reasons
+use Rattle.cb_peer.specs.declared.ask.Ask.TheVariants.{Admit, About, Wanted, Fresh}
 use Rattle.cb_peer.specs.declared.event.Event.{Event}
 use Rattle.cb_peer.specs.declared.event.Event.TheVariants as events
-use Rattle.cb_peer.specs.declared.session.Standing.{Standing}
-use Rattle.cb_peer.specs.declared.trace.TraceEntry.{TraceEntry}
-use Rattle.cb_peer.specs.Event.{begins, kind_of}
-use Rattle.cb_peer.specs.Session.{SessionState, Stepped, answered, arrives, freed, is_closed, open_step, processed, told}
-use Rattle.cb_peer.specs.Fold.{Account, EachOpen, account_of, account_step, entry_step, first_account}
-use Rattle.cb_peer.specs.Prompt.{EachPrompt}
-use Rattle.cb_peer.specs.Law.{AnswersEach, EndsPromptly, answer_to_event, answer_to_item, answers_to}
-use Rattle.cb_peer.proofs.Folds.{entry_cases}
+use Rattle.cb_peer.specs.declared.standing.Standing.{Standing}
+use Rattle.cb_peer.specs.declared.state.State.{State}
+use Rattle.cb_peer.specs.declared.state.State.TheVariants.{Start, Greeted, Ready, Closed}
+use Rattle.cb_peer.specs.Ask.{fits, question_at, question_of, questions_left, standing_question}
+use Rattle.cb_peer.specs.Law.{IsReached, asks_for_block, greets, is_following, is_headers, names_block, wishes_for}
+use Rattle.cb_peer.specs.Receiving.{Plan, by_compact, by_headers, by_phase, ends, in_greeted, in_start, received, sends}
+use Rattle.cb_peer.specs.Replying.{answered, is_heard, news_told, tip_told, tx_request, without_brought}
+use Rattle.cb_peer.specs.Session.{standing_item, step_of}
+use Rattle.cb_peer.specs.Soundness.{is_sound_block}
+use Rattle.cb_peer.specs.State.{SessionState, freed, is_closed, is_ready, with_peer}
+use Rattle.cb_peer.proofs.Apt.{IsApt, Suits, reached_apt, standing_ask}
+use Rattle.cb_peer.proofs.Cases.{ends_cases}
+use Rattle.cb_peer.proofs.Sound.{sound_from}
+use Rattle.cb_peer.proofs.Steps.{few_left, open_fewer}
+use Rattle.cb_peer.proofs.Sending.{IsCalm, IsMild, None_of, sent_at_end, step_none}
 
--- ---- what is owed
+-- ---- before the handshake is done
 
--- the answer to an item, and to a tick none
-abbrev pub owed_to : Option Item → List Message
-owed_to None = []
-owed_to (Some item) = answer_to_item item
+early_end : (s : SessionState) (sent : List Message) → is_ready s.state ≡ false → ends s sent ≡ sends s sent
+unfolding ends
+early_end s sent early = rw early refl
 
--- the answer to what stands
-abbrev pub owed : Option Standing → List Message
-owed None = []
-owed (Some standing) = owed_to standing.item
+pub early_ping : (s : SessionState) (nonce : ℕ) → is_ready s.state ≡ false → received s (messages.Ping nonce) ≡ sends s (messages.Pong nonce ∷ [])
+unfolding received
+early_ping s nonce early = early_end s (messages.Pong nonce ∷ []) early
 
--- the session goes on, or the peer ended it
-abbrev pub IsFine : State → Type 0
-IsFine state = (is_closed state ≡ false) ⊎ (state ≡ Closed reasons.Bye)
+start_nothing : (s : SessionState) (message : Message) → greets message ≡ false → in_start s message ≡ sends s []
+unfolding in_start
+start_nothing s (messages.Version version) e = absurd cc
+start_nothing s other e = refl
 
--- what a step sends, and what is owed after it, is what was owed before it and the answer to what came
-abbrev pub Settles : List Message → Stepped → Type 0
-Settles due made = IsFine made.session.state → due ≡ made.messages ++ owed made.session.standing
+greeted_nothing : (s : SessionState) (message : Message) → greets message ≡ false → wishes_for message ≡ false → in_greeted s message ≡ sends s []
+unfolding in_greeted
+greeted_nothing s messages.Verack e w = absurd cc
+greeted_nothing s messages.SendHeaders e w = absurd cc
+greeted_nothing s (messages.SendCmpct relay) e w = absurd cc
+greeted_nothing s other e w = refl
 
--- a session that ended for another reason isn't fine
-no_bye : {P : Type 0} (state : State) → is_closed state ≡ true → state ≢ Closed reasons.Bye → IsFine state → P
-no_bye state closed other (inl going) = absurd (let clash = sym closed ∙ going in cc)
-no_bye state closed other (inr bye) = absurd (other bye)
+phase_nothing : (state : State) (s : SessionState) (message : Message) → is_ready state ≡ false → greets message ≡ false → wishes_for message ≡ false → by_phase state s message ≡ sends s []
+phase_nothing Start s message early e w = start_nothing s message e
+phase_nothing Greeted s message early e w = greeted_nothing s message e w
+phase_nothing Ready s message early e w = absurd cc
+phase_nothing (Closed why) s message early e w = refl
 
--- ---- the step of a session that goes on
+pub early_nothing : (s : SessionState) (message : Message) → is_ready s.state ≡ false → greets message ≡ false → wishes_for message ≡ false → received s message ≡ sends s []
+unfolding received
+early_nothing s (messages.Ping nonce) early e w = absurd cc
+early_nothing s other early e w = phase_nothing s.state s other early e w
 
-arrives_settles : (standing : Option Standing) (s : SessionState) (item : Option Item) → standing ≡ None → Settles (owed standing ++ owed_to item) (arrives standing s item)
-arrives_settles None s item free fine = refl
-arrives_settles (Some other) s item free fine = absurd cc
+-- a plan that keeps all but what is known of the peer
+abbrev Notes : SessionState → Plan → Type 0
+Notes s plan = plan ≡ sends (with_peer plan.session.peer s) []
 
-processed_settles : (s : SessionState) (item : Option Item) → s.standing ≡ None → Settles (owed_to item) (processed s item)
-processed_settles s None free fine = sym (ap owed free)
-processed_settles s (Some (Good message)) free fine = sym (append-nil (answer_to_item (Good message))) ∙ ap (λ (standing : Option Standing). answer_to_item (Good message) ++ owed standing) (sym free)
-processed_settles s (Some Damaged) free fine = sym (ap owed free)
-processed_settles s (Some (Bad command fault)) free fine = no_bye (Closed reasons.BadMessage) refl (λ e. cc) fine
+compact_notes : (s : SessionState) (relay : CompactRelay) → Notes s (sends (by_compact relay s) [])
+compact_notes s relay = elim (cases_Bool (relay.version == 1)) [ inl one ↦ rw one refl | inr other ↦ rw other refl ]
 
-answered_settles : (s : SessionState) (item : Option Item) (question : Ask) (answer : Answer) → s.standing ≡ Some (record { item = item; question = question }) → Settles (owed_to item) (answered s item question answer)
-answered_settles s item question answers.Kicked stands fine = no_bye (Closed reasons.Kicked) refl (λ e. cc) fine
-answered_settles s item Admit answers.Go stands fine = processed_settles (freed s) item refl fine
-answered_settles s item question other stands fine = sym (ap owed stands)
+phase_notes : (state : State) (s : SessionState) (message : Message) → is_ready state ≡ false → wishes_for message ≡ true → Notes s (by_phase state s message)
+unfolding in_start in_greeted
+phase_notes Start s messages.SendHeaders early w = refl
+phase_notes Start s (messages.SendCmpct relay) early w = refl
+phase_notes Greeted s messages.SendHeaders early w = refl
+phase_notes Greeted s (messages.SendCmpct relay) early w = compact_notes s relay
+phase_notes (Closed why) s messages.SendHeaders early w = refl
+phase_notes (Closed why) s (messages.SendCmpct relay) early w = refl
+phase_notes state s message early w = absurd cc
 
-told_settles : (standing : Option Standing) (s : SessionState) (answer : Answer) → s.standing ≡ standing → Settles (owed standing) (told standing s answer)
-told_settles None s answer same fine = sym (ap owed same)
-told_settles (Some standing) s answer same fine = answered_settles s standing.item standing.question answer same fine
+pub early_notes : (s : SessionState) (message : Message) → is_ready s.state ≡ false → wishes_for message ≡ true → Notes s (received s message)
+unfolding received
+early_notes s messages.SendHeaders early w = phase_notes s.state s messages.SendHeaders early w
+early_notes s (messages.SendCmpct relay) early w = phase_notes s.state s (messages.SendCmpct relay) early w
+early_notes s other early w = absurd cc
 
--- what is owed before an event and by it
-abbrev pub due_at : SessionState → Event → List Message
-due_at s event = owed s.standing ++ answer_to_event event
+-- ---- tips
 
-open_settles : (s : SessionState) (event : Event) → (begins (kind_of event) ≡ true → s.standing ≡ None) → Settles (due_at s event) (open_step s event)
-open_settles s (events.Said item) prompt fine = arrives_settles s.standing s (Some item) (prompt refl) fine
-open_settles s (events.Broken fault) prompt fine = no_bye (Closed reasons.BadStream) refl (λ e. cc) fine
-open_settles s events.Tick prompt fine = arrives_settles s.standing s None (prompt refl) fine
-open_settles s (events.Told answer) prompt fine = append-nil (owed s.standing) ∙ told_settles s.standing s answer refl fine
-open_settles s events.ReaderEnd prompt fine = append-nil (owed s.standing) ∙ ap owed (prompt refl)
-open_settles s events.NoMemory prompt fine = no_bye (Closed reasons.Memory) refl (λ e. cc) fine
-open_settles s events.HallFull prompt fine = no_bye (Closed reasons.HallFull) refl (λ e. cc) fine
-open_settles s events.WriteFault prompt fine = no_bye (Closed reasons.WriteFault) refl (λ e. cc) fine
+pub source_not_told : (s : SessionState) (item : Option Item) (news : News) → s.marks.heard ≡ Some news.tip → (news_told s item news).messages ≡ telling (without_brought item news.txids)
+unfolding news_told
+source_not_told s item news heard =
+    let is : is_heard s.marks.heard news.tip ≡ true = ap (λ (h : Option Hash256). is_heard h news.tip) heard ∙ same-refl news.tip in
+    rw is refl
 
-entry_settles : (count : ℕ) (s : SessionState) (entry : TraceEntry) → is_closed s.state ≡ false → (begins (kind_of entry.event) ≡ true → s.standing ≡ None) → Settles (due_at s entry.event) (entry_step count s entry)
-entry_settles count s entry going prompt =
-    entry_cases (Settles (due_at s entry.event)) count s entry going (λ full fine. no_bye (Closed reasons.TraceFull) refl (λ e. cc) fine) (λ more starved fine. no_bye (Closed reasons.Memory) refl (λ e. cc) fine)
-    (λ more fed. open_settles s entry.event prompt)
+-- ---- headers
 
--- ---- nothing stands at a session that is over
+headers_mild : IsMild is_headers
+headers_mild =
+    record {
+      version = λ _. refl;
+      verack = refl;
+      pong = λ _. refl;
+      send_headers = refl;
+      send_compact = λ _. refl;
+      inv = λ _. refl;
+      not_found = λ _. refl;
+      get_headers = λ _. refl;
+      tx = λ _. refl;
+      block = λ _. refl;
+    }
 
--- a step that ends the session leaves nothing to stand
-abbrev pub Clears : Stepped → Type 0
-Clears made = is_closed made.session.state ≡ true → made.session.standing ≡ None
+no_headers_asked : (entries : List InvEntry) → None_of is_headers (asking_for entries)
+no_headers_asked [] = refl
+no_headers_asked (first ∷ others) = refl
 
-going_clears : (s : SessionState) (standing : Option Standing) → is_closed s.state ≡ false → is_closed s.state ≡ true → standing ≡ None
-going_clears s standing going closed = absurd (let clash = sym going ∙ closed in cc)
+tip_by_hash : (tip : Hash256) (path : List Header) → None_of is_headers (announcing false tip path)
+tip_by_hash tip [] = refl
+tip_by_hash tip (first ∷ others) = refl
 
-arrives_clears : (standing : Option Standing) (s : SessionState) (item : Option Item) → is_closed s.state ≡ false → Clears (arrives standing s item)
-arrives_clears None s item going closed = going_clears s _ going closed
-arrives_clears (Some other) s item going closed = going_clears s _ going closed
+no_headers_of_tip : (s : SessionState) (news : News) → s.peer.by_headers ≡ false → None_of is_headers (tip_told s news)
+no_headers_of_tip s news plain =
+    elim (cases_Bool (is_heard s.marks.heard news.tip)) [
+      | inl heard ↦ rw heard refl
+      | inr unheard ↦ rw (unheard, plain) (tip_by_hash news.tip news.path)
+    ]
 
-processed_clears : (s : SessionState) (item : Option Item) → is_closed s.state ≡ false → Clears (processed s item)
-processed_clears s None going closed = going_clears s _ going closed
-processed_clears s (Some (Good message)) going closed = going_clears s _ going closed
-processed_clears s (Some Damaged) going closed = going_clears s _ going closed
-processed_clears s (Some (Bad command fault)) going closed = refl
+not_following : (answer : Answer) (headers : List Header) → is_following (events.Told answer) ≡ false → answer ≡ answers.Following headers → is_headers (messages.Headers headers) ≡ false
+not_following answer headers e same = absurd (let f : is_following (events.Told (answers.Following headers)) ≡ false = subst (λ a. is_following (events.Told a) ≡ false) same e in cc)
 
-answered_clears : (s : SessionState) (item : Option Item) (question : Ask) (answer : Answer) → is_closed s.state ≡ false → Clears (answered s item question answer)
-answered_clears s item question answers.Kicked going closed = refl
-answered_clears s item Admit answers.Go going closed = processed_clears (freed s) item going closed
-answered_clears s item question other going closed = going_clears s _ going closed
+pub no_headers_unasked : (s : SessionState) (event : Event) → s.peer.by_headers ≡ false → is_following event ≡ false → None_of is_headers (step_of s event).messages
+no_headers_unasked s event plain e =
+    step_none is_headers s event headers_mild
+    (λ stood answer _ is.
+    record {
+      need = λ need. no_headers_asked (filter_map tx_request need.entries);
+      wanted = λ need _. no_headers_asked (requests_of (taken_on (blocks_in need.entries)).flight);
+      tip = λ news. no_headers_of_tip (freed s) news plain;
+      following = λ headers same. not_following answer headers (subst (λ ev. is_following ev ≡ false) is e) same;
+    })
 
-told_clears : (standing : Option Standing) (s : SessionState) (answer : Answer) → is_closed s.state ≡ false → Clears (told standing s answer)
-told_clears None s answer going closed = going_clears s _ going closed
-told_clears (Some standing) s answer going closed = answered_clears s standing.item standing.question answer going closed
+-- ---- blocks that are asked for
 
-open_clears : (s : SessionState) (event : Event) → is_closed s.state ≡ false → Clears (open_step s event)
-open_clears s (events.Said item) going closed = arrives_clears s.standing s (Some item) going closed
-open_clears s (events.Broken fault) going closed = refl
-open_clears s events.Tick going closed = arrives_clears s.standing s None going closed
-open_clears s (events.Told answer) going closed = told_clears s.standing s answer going closed
-open_clears s events.ReaderEnd going closed = refl
-open_clears s events.NoMemory going closed = refl
-open_clears s events.HallFull going closed = refl
-open_clears s events.WriteFault going closed = refl
+blocks_mild : (hash : Hash256) → IsMild (asks_for_block hash)
+blocks_mild hash =
+    record {
+      version = λ _. refl;
+      verack = refl;
+      pong = λ _. refl;
+      send_headers = refl;
+      send_compact = λ _. refl;
+      inv = λ _. refl;
+      not_found = λ _. refl;
+      get_headers = λ _. refl;
+      tx = λ _. refl;
+      block = λ _. refl;
+    }
 
-entry_clears : (count : ℕ) (s : SessionState) (entry : TraceEntry) → is_closed s.state ≡ false → Clears (entry_step count s entry)
-entry_clears count s entry going = entry_cases Clears count s entry going (λ _ _. refl) (λ _ _ _. refl) (λ _ _. open_clears s entry.event going)
+no_block_among_txs : (hash : Hash256) (entries : List Inventory) → list_any (names_block hash) (filter_map tx_request entries) ≡ false
+no_block_among_txs hash [] = refl
+no_block_among_txs hash (entry.Tx txid ∷ others) = no_block_among_txs hash others
+no_block_among_txs hash (entry.Block other ∷ others) = no_block_among_txs hash others
+no_block_among_txs hash (entry.CompactBlock other ∷ others) = no_block_among_txs hash others
+no_block_among_txs hash (entry.Other kind other ∷ others) = no_block_among_txs hash others
 
--- ---- over all entries
+asked_by_entries : (hash : Hash256) (entries : List InvEntry) → list_any (names_block hash) entries ≡ false → None_of (asks_for_block hash) (asking_for entries)
+asked_by_entries hash [] none = refl
+asked_by_entries hash (first ∷ others) none = rw none refl
 
-abbrev pub EndsBye : Account → List TraceEntry → Type 0
-EndsBye account entries = (fold account_step account entries).session.state ≡ Closed reasons.Bye
+no_block_of_tip : (hash tip : Hash256) (by_them : Bool) (path : List Header) → None_of (asks_for_block hash) (announcing by_them tip path)
+no_block_of_tip hash tip by_them [] = refl
+no_block_of_tip hash tip true (first ∷ others) = refl
+no_block_of_tip hash tip false (first ∷ others) = refl
 
--- no entry comes behind the end, so a session is fine before the rest of them
-fine_before : (account : Account) (entries : List TraceEntry) → EachOpen account entries → EndsBye account entries → IsFine account.session.state
-fine_before account [] each bye = inr bye
-fine_before account (entry ∷ entries) each bye = inl each.0
+no_block_told : (hash : Hash256) (s : SessionState) (news : News) → None_of (asks_for_block hash) (tip_told s news)
+no_block_told hash s news =
+    elim (cases_Bool (is_heard s.marks.heard news.tip)) [
+      | inl heard ↦ rw heard refl
+      | inr unheard ↦ rw unheard (no_block_of_tip hash news.tip (s.peer.by_headers && not news.long) news.path)
+    ]
 
--- one entry moves what is owed to what was sent
-one_sent : (sent messages due after rest : List Message) (event : Event) → due ++ answer_to_event event ≡ messages ++ after → (sent ++ messages) ++ (after ++ rest) ≡ sent ++ (due ++ (answer_to_event event ++ rest))
-one_sent sent messages due after rest event settled =
-    append_assoc sent messages (after ++ rest)
-    ∙ ap (λ (l : List Message). sent ++ l) (sym (append_assoc messages after rest) ∙ ap (λ (l : List Message). l ++ rest) (sym settled) ∙ append_assoc due (answer_to_event event) rest)
+and_first : (a b : Bool) → (a && b) ≡ true → a ≡ true
+and_first true b e = refl
+and_first false b e = absurd cc
 
-sent_from : (account : Account) (entries : List TraceEntry) → EachOpen account entries → EachPrompt account entries → EndsBye account entries → (is_closed account.session.state ≡ true → account.session.standing ≡ None)
-    → (fold account_step account entries).sent ≡ account.sent ++ (owed account.session.standing ++ answers_to entries)
-sent_from account [] each prompt bye clear =
-    sym (append-nil account.sent) ∙ ap (λ (standing : Option Standing). account.sent ++ (owed standing ++ [])) (sym (clear (ap is_closed bye)))
-sent_from account (entry ∷ entries) each prompt bye clear =
-    let made = entry_step account.count account.session entry in
-    let fine = fine_before (account_step account entry) entries each.1 bye in
-    sent_from (account_step account entry) entries each.1 prompt.1 bye (entry_clears account.count account.session entry each.0)
-    ∙ one_sent account.sent made.messages (owed account.session.standing) (owed made.session.standing) (answers_to entries) entry.event (entry_settles account.count account.session entry each.0 prompt.0 fine)
+due_is_idle : (flight wanted : List Hash256) (hash : Hash256) → is_due (record { flight = flight; wanted = wanted }) ≡ true → has flight hash ≡ false
+due_is_idle [] wanted hash due = refl
+due_is_idle (first ∷ others) wanted hash due =
+    let none : length (first ∷ others) ≡ 0 = eqb-true (length (first ∷ others)) 0 (and_first (length (first ∷ others) == 0) (nat_lt 0 (length wanted)) due) in
+    absurd (omega (arith, none))
 
-pub answers_each : (settings : Settings) (entries : List TraceEntry) → EndsPromptly settings entries → AnswersEach settings entries
-unfolding account_of
-answers_each settings entries ends = sent_from (first_account settings) entries ends.each_open ends.each_prompt ends.bye (λ closed. refl)
+-- where questions about wanted blocks stand, none is in flight
+none_flies : (s : SessionState) (stood : Standing) (hash : Hash256) → IsApt s → s.standing ≡ Some stood → stood.ask ≡ Wanted → has s.fetch.flight hash ≡ false
+none_flies s stood hash apt same ask =
+    due_is_idle s.fetch.flight s.fetch.wanted hash (apt.suits.idles (rw same (ap (λ (a : Ask). Some a) ask)))
+
+pub not_asked_twice : (s : SessionState) (event : Event) (hash : Hash256) → IsReached s → list_any (asks_for_block hash) (step_of s event).messages ≡ true → has s.fetch.flight hash ≡ false
+not_asked_twice s event hash reached asked =
+    elim (cases_Bool (has s.fetch.flight hash)) [
+      | inr free ↦ free
+      | inl flies ↦
+          absurd
+          (let none : None_of (asks_for_block hash) (step_of s event).messages =
+          step_none (asks_for_block hash) s event (blocks_mild hash)
+          (λ stood answer same _.
+          record {
+            need = λ need. asked_by_entries hash (filter_map tx_request need.entries) (no_block_among_txs hash need.entries);
+            wanted = λ need ask. absurd (let idle : has s.fetch.flight hash ≡ false = none_flies s stood hash (reached_apt s reached) same ask in let clash : true ≡ false = sym flies ∙ idle in cc);
+            tip = λ news. no_block_told hash (freed s) news;
+            following = λ headers _. refl;
+          }) in
+          let clash : true ≡ false = sym asked ∙ none in
+          cc)
+    ]
+
+-- ---- limits, and sound blocks
+
+pub limits_of : (s : SessionState) → IsReached s → IsFetch s.fetch
+limits_of s reached = within s.fetch (reached_apt s reached).suits.fetched
+
+item_sound : (s : SessionState) (item : Option Item) (ask : Ask) (given : Given) → Suits s.fetch item (Some ask) → question_of s item ask ≡ questions.GiveBlock given → is_sound_block given.block ≡ true
+item_sound s item Admit given suits e = absurd cc
+item_sound s item Wanted given suits e = absurd cc
+item_sound s item Fresh given suits e = absurd cc
+item_sound s (Some (Good (messages.Block block))) About given suits e =
+    let is : block ≡ given.block = cc in
+    subst (λ (b : Block). is_sound_block b ≡ true) is (suits.sound block refl refl)
+item_sound s item About given suits e = absurd cc
+
+stood_sound : (s : SessionState) (standing : Option Standing) (given : Given) → Suits s.fetch (standing_item standing) (standing_ask standing) → question_at s standing ≡ Some (questions.GiveBlock given) → is_sound_block given.block ≡ true
+stood_sound s None given suits e = absurd cc
+stood_sound s (Some standing) given suits e =
+    let is : question_of s standing.item standing.ask ≡ questions.GiveBlock given = cc in
+    item_sound s standing.item standing.ask given suits is
+
+pub given_sound : (s : SessionState) (given : Given) → IsReached s → standing_question s ≡ Some (questions.GiveBlock given) → IsSoundBlock given.block
+given_sound s given reached e = sound_from given.block (stood_sound s s.standing given (reached_apt s reached).suits e)
+
+-- ---- what is served
+
+pub served_is : (s : SessionState) (item : Option Item) (pieces : List Piece) → (answered s item About (answers.Served pieces)).messages ≡ filter_map served_as pieces ++ not_found (filter_map lacking_in pieces)
+unfolding answered
+served_is s item pieces = sent_at_end s (served pieces)
+
+-- ---- questions run out
+
+pub fewer_left : (s : SessionState) (question : Question) (answer : Answer) → is_closed s.state ≡ false → standing_question s ≡ Some question → fits question answer ≡ true
+    → is_closed (step_of s (events.Told answer)).session.state ≡ false → questions_left (step_of s (events.Told answer)).session.standing < questions_left s.standing
+unfolding step_of
+fewer_left s question answer going asked fit = rw going (open_fewer s question answer going asked fit)

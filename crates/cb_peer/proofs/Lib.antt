@@ -1,6 +1,7 @@
-pub mod Fitting
-pub mod Folds
+pub mod Apt
+pub mod Cases
 pub mod Laws
-pub mod Questions
+pub mod Lights
+pub mod Sending
+pub mod Sound
 pub mod Steps
-pub mod Traces

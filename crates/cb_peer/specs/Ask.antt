@@ -1,16 +1,81 @@
--- What a session asks a hall for, and which answers fit a question.
-use Rattle.std.specs.Prelude.{Bool, true, false}
+-- What a session asks its hall, by the item that it processes and how far it is with it, and which answers fit a question.
+use Rattle.std.specs.Prelude.{ℕ, Bool, true, false, List, [], ◌∷◌, map, filter_map, if◌then◌else◌, Option, Some, None}
+use Rattle.cb_fetch.specs.Fetching.{as_blocks}
 use Rattle.cb_journal.specs.declared.answer.Answer.{Answer}
 use Rattle.cb_journal.specs.declared.answer.Answer.TheVariants as answers
 use Rattle.cb_journal.specs.declared.question.Question.{Question}
 use Rattle.cb_journal.specs.declared.question.Question.TheVariants as questions
 use Rattle.cb_journal.specs.declared.question.Request.TheVariants.{Items, After}
+use Rattle.cb_payload.specs.declared.inventory.InvEntry.{InvEntry}
+use Rattle.cb_state.specs.declared.inventory.Inventory.{Inventory}
+use Rattle.cb_state.specs.declared.inventory.Inventory.TheVariants as entry
+use Rattle.cb_talk.specs.Inventory.{understood}
+use Rattle.cb_wire.specs.declared.item.Item.{Item}
+use Rattle.cb_wire.specs.declared.item.Item.TheVariants.{Good}
+use Rattle.cb_wire.specs.declared.message.Message.{Message}
+use Rattle.cb_wire.specs.declared.message.Message.TheVariants as messages
 use Rattle.cb_peer.specs.declared.ask.Ask.{Ask}
-use Rattle.cb_peer.specs.declared.ask.Ask.TheVariants.{Admit}
+use Rattle.cb_peer.specs.declared.ask.Ask.TheVariants as asks
+use Rattle.cb_peer.specs.declared.standing.Standing.{Standing}
+use Rattle.cb_peer.specs.State.{SessionState}
 
--- what the hall is asked
-abbrev pub question_of : Ask → Question
-question_of Admit = questions.Admit
+abbrev pub is_nil : {A : Type 0} → List A → Bool
+is_nil [] = true
+is_nil (first ∷ others) = false
+
+-- an entry as it is read, where it is of a transaction or a block: types 1 and 2
+abbrev pub is_known_type : Inventory → Bool
+is_known_type (entry.Tx txid) = true
+is_known_type (entry.Block hash) = true
+is_known_type other = false
+
+abbrev pub known : InvEntry → Option Inventory
+known e = if is_known_type (understood e) then Some (understood e) else None
+
+-- the entries of these types
+abbrev pub told_of : List InvEntry → List Inventory
+told_of entries = filter_map known entries
+
+-- what a message of the peer asks of the hall; the end of the handshake asks for the chain's locator
+abbrev pub about : SessionState → Message → Question
+about s (messages.Headers headers) = questions.Headers headers
+about s (messages.Inv entries) = questions.Want (told_of entries)
+about s (messages.GetData entries) = questions.Serve (Items (map understood entries))
+about s (messages.GetHeaders request) = questions.Serve (After request.locator request.stop)
+about s (messages.Tx tx) = questions.GiveTx tx
+about s (messages.Block block) = questions.GiveBlock (record { block = block; capable = s.peer.capable })
+about s message = questions.Locator
+
+abbrev pub about_item : SessionState → Option Item → Question
+about_item s (Some (Good message)) = about s message
+about_item s item = questions.Locator
+
+-- What the hall is asked: leave for an item or a tick; what the item is about; which of the wanted blocks are still needed;
+-- and what is new. The tip's block isn't asked for with the news.
+abbrev pub question_of : SessionState → Option Item → Ask → Question
+question_of s item asks.Admit = questions.Admit
+question_of s item asks.About = about_item s item
+question_of s item asks.Wanted = questions.Want (as_blocks s.fetch.wanted)
+question_of s item asks.Fresh = questions.News (record { tip = s.marks.tip; from = s.marks.next; whole = false })
+
+-- the question that stands
+abbrev pub question_at : SessionState → Option Standing → Option Question
+question_at s None = None
+question_at s (Some standing) = Some (question_of s standing.item standing.ask)
+
+abbrev pub standing_question : SessionState → Option Question
+standing_question s = question_at s s.standing
+
+-- how many answers a question still leads to, its own among them: each answer that fits leaves fewer
+abbrev pub question_left : Ask → ℕ
+question_left asks.Admit = 4
+question_left asks.About = 3
+question_left asks.Wanted = 2
+question_left asks.Fresh = 1
+
+abbrev pub questions_left : Option Standing → ℕ
+questions_left None = 0
+questions_left (Some standing) = question_left standing.ask
 
 -- An answer is of the kind that a question asks for. That the connection was kicked fits each question.
 abbrev pub fits : Question → Answer → Bool

@@ -1,5 +1,10 @@
--- The kinds of events.
-use Rattle.std.specs.Prelude.{Bool, true, false}
+-- The kinds of events, and for how many bytes each counts.
+use Rattle.std.specs.Prelude.{ℕ, ◌+◌, ◌*◌, Bool, true, false, length}
+use Rattle.cb_journal.specs.declared.answer.Answer.{Answer}
+use Rattle.cb_journal.specs.declared.answer.Answer.TheVariants as answers
+use Rattle.cb_wire.specs.declared.item.Item.{Item}
+use Rattle.cb_wire.specs.declared.item.Item.TheVariants.{Good}
+use Rattle.cb_wire.specs.Grammar.{payload_text}
 use Rattle.cb_peer.specs.declared.event.Event.{Event}
 use Rattle.cb_peer.specs.declared.event.Event.TheVariants as events
 
@@ -74,3 +79,29 @@ ends_at_once other = true
 abbrev pub is_reader_end : Event → Bool
 is_reader_end events.ReaderEnd = true
 is_reader_end other = false
+
+-- ---- what an entry of a trace counts for
+
+-- the payload bytes of an item
+abbrev pub payload_of : Item → ℕ
+payload_of (Good message) = length (payload_text message)
+payload_of other = 0
+
+-- the entries of an answer's lists
+abbrev pub answer_entries : Answer → ℕ
+answer_entries answers.Go = 0
+answer_entries answers.Kicked = 0
+answer_entries (answers.Heads heads) = length heads.lack + length heads.locator
+answer_entries (answers.Locator locator) = length locator
+answer_entries (answers.Need need) = length need.entries + length need.locator
+answer_entries (answers.TxTaken refused) = 0
+answer_entries (answers.Taken taken) = length taken.locator
+answer_entries (answers.Served pieces) = length pieces
+answer_entries (answers.Following headers) = length headers
+answer_entries (answers.News news) = length news.path + length news.txids
+
+-- 64 bytes, and the payload of an item, or 40 for each entry of an answer's lists
+abbrev pub held_by : Event → ℕ
+held_by (events.Said item) = 64 + payload_of item
+held_by (events.Told answer) = 64 + 40 * answer_entries answer
+held_by other = 64

@@ -1,37 +1,51 @@
--- What a prompt trace that ended by the peer's end sent: the answer to each item by itself, in order.
-use Rattle.std.specs.Prelude.{◌≡◌, ◌++◌, List, [], flat_map}
-use Rattle.cb_wire.specs.declared.item.Item.{Item}
-use Rattle.cb_wire.specs.declared.item.Item.TheVariants.{Good}
+-- What holds of every session, whatever comes to it, in the words of the protocol.
+use Rattle.std.specs.Prelude.{◌&&◌, ◌||◌, ◌==◌, Bool, true, false}
+use Rattle.std.specs.List.{list_any}
+use Rattle.cb_base.specs.declared.hash.Hash256.{Hash256}
+use Rattle.cb_chain.specs.Entries.{same}
+use Rattle.cb_journal.specs.declared.answer.Answer.TheVariants.{Following}
+use Rattle.cb_payload.specs.declared.inventory.InvEntry.{InvEntry}
 use Rattle.cb_wire.specs.declared.message.Message.{Message}
-use Rattle.cb_peer.specs.declared.settings.Settings.{Settings}
-use Rattle.cb_peer.specs.declared.state.State.TheVariants.{Closed}
-use Rattle.cb_peer.specs.declared.state.CloseReason.TheVariants.{Bye}
-use Rattle.cb_peer.specs.declared.event.Event.TheVariants as events
+use Rattle.cb_wire.specs.declared.message.Message.TheVariants as messages
 use Rattle.cb_peer.specs.declared.event.Event.{Event}
-use Rattle.cb_peer.specs.declared.trace.TraceEntry.{TraceEntry}
-use Rattle.cb_peer.specs.Session.{openings, reply_to}
-use Rattle.cb_peer.specs.Fold.{EachOpen, first_account, sends, session_of}
-use Rattle.cb_peer.specs.Prompt.{EachPrompt}
+use Rattle.cb_peer.specs.declared.event.Event.TheVariants as events
+use Rattle.cb_peer.specs.declared.settings.Settings.{Settings}
+use Rattle.cb_peer.specs.declared.state.CloseReason.{CloseReason}
+use Rattle.cb_peer.specs.Session.{step_of}
+use Rattle.cb_peer.specs.State.{SessionState, opening, over}
 
--- the answer to an item by itself
-abbrev pub answer_to_item : Item → List Message
-answer_to_item (Good message) = reply_to message
-answer_to_item other = []
+-- A session that events lead to, from one at its beginning. It may be ended at any time.
+pub data IsReached : SessionState → Type 0 where
+  opens : (settings : Settings) → IsReached (opening settings)
+  steps : (s : SessionState) (event : Event) → IsReached s → IsReached (step_of s event).session
+  stops : (s : SessionState) (why : CloseReason) → IsReached s → IsReached (over why s)
 
--- the answer to what came
-abbrev pub answer_to_event : Event → List Message
-answer_to_event (events.Said item) = answer_to_item item
-answer_to_event other = []
+-- messages of the handshake, and pings
+abbrev pub greets : Message → Bool
+greets (messages.Version version) = true
+greets messages.Verack = true
+greets (messages.Ping nonce) = true
+greets other = false
 
--- the answers to all that came, each by itself, in order
-abbrev pub answers_to : List TraceEntry → List Message
-answers_to entries = flat_map (λ entry. answer_to_event entry.event) entries
+-- how the peer wants to be told of blocks
+abbrev pub wishes_for : Message → Bool
+wishes_for messages.SendHeaders = true
+wishes_for (messages.SendCmpct relay) = true
+wishes_for other = false
 
--- after a session's end no entry, each item answered before the next, and the peer's own end closed it
-pub record EndsPromptly (settings : Settings) (entries : List TraceEntry) : Type 0 where
-  pub each_open : EachOpen (first_account settings) entries
-  pub each_prompt : EachPrompt (first_account settings) entries
-  pub bye : (session_of settings entries).state ≡ Closed Bye
+-- headers that the peer asked for
+abbrev pub is_following : Event → Bool
+is_following (events.Told (Following headers)) = true
+is_following other = false
 
-abbrev pub AnswersEach : Settings → List TraceEntry → Type 0
-AnswersEach settings entries = sends settings entries ≡ openings settings ++ answers_to entries
+abbrev pub is_headers : Message → Bool
+is_headers (messages.Headers headers) = true
+is_headers other = false
+
+-- an entry that asks for the block of this hash, as it is or as a compact one
+abbrev pub names_block : Hash256 → InvEntry → Bool
+names_block hash e = (e.kind == 2 || e.kind == 4) && same hash e.hash
+
+abbrev pub asks_for_block : Hash256 → Message → Bool
+asks_for_block hash (messages.GetData entries) = list_any (names_block hash) entries
+asks_for_block hash other = false

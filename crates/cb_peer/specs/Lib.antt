@@ -1,7 +1,10 @@
 pub mod Ask
 pub mod Event
-pub mod Fold
 pub mod Law
-pub mod Prompt
+pub mod Pings
+pub mod Plan
+pub mod Receiving
+pub mod Replying
 pub mod Session
-pub mod Trace
+pub mod Soundness
+pub mod State

@@ -1,121 +1,72 @@
--- A session, one step at a time: what an event makes of it, what it sends, and what it asks the hall.
-use Rattle.std.specs.Prelude.{ℕ, Bool, true, false, List, [], ◌∷◌, codes, Option, Some, None, if◌then◌else◌}
+-- A session, one step at a time: what an event makes of it, what it sends, and what it asks the hall (Bitcoin's peer-to-peer
+-- protocol). What becomes of messages stands in Receiving, what becomes of answers in Replying.
+use Rattle.std.specs.Prelude.{Bool, true, false, not, ◌&&◌, List, [], ◌∷◌, Option, Some, None, option_map, if◌then◌else◌}
 use Rattle.cb_wire.specs.declared.item.Item.{Item}
-use Rattle.cb_wire.specs.declared.item.Item.TheVariants.{Good, Damaged, Bad}
 use Rattle.cb_wire.specs.declared.message.Message.{Message}
+use Rattle.cb_wire.specs.declared.item.Item.TheVariants.{Good}
 use Rattle.cb_wire.specs.declared.message.Message.TheVariants as messages
 use Rattle.cb_journal.specs.declared.answer.Answer.{Answer}
 use Rattle.cb_journal.specs.declared.answer.Answer.TheVariants as answers
+use Rattle.cb_journal.specs.declared.question.Question.{Question}
+use Rattle.cb_journal.specs.declared.question.Question.TheVariants as questions
+use Rattle.cb_talk.specs.Greeting.{our_version}
 use Rattle.cb_peer.specs.declared.ask.Ask.{Ask}
 use Rattle.cb_peer.specs.declared.ask.Ask.TheVariants.{Admit}
-use Rattle.cb_peer.specs.declared.settings.Settings.{Settings}
-use Rattle.cb_peer.specs.declared.state.State.{State}
-use Rattle.cb_peer.specs.declared.state.State.TheVariants.{Start, Closed}
-use Rattle.cb_peer.specs.declared.state.CloseReason.{CloseReason}
-use Rattle.cb_peer.specs.declared.state.CloseReason.TheVariants as reasons
 use Rattle.cb_peer.specs.declared.event.Event.{Event}
 use Rattle.cb_peer.specs.declared.event.Event.TheVariants as events
-use Rattle.cb_peer.specs.declared.session.Standing.{Standing}
-
-abbrev pub is_closed : State → Bool
-is_closed (Closed why) = true
-is_closed other = false
-
-abbrev pub reason_name : CloseReason → List ℕ
-reason_name reasons.Bye = codes "Bye"
-reason_name reasons.BadStream = codes "BadStream"
-reason_name reasons.BadMessage = codes "BadMessage"
-reason_name reasons.BadBlock = codes "BadBlock"
-reason_name reasons.BadRequest = codes "BadRequest"
-reason_name reasons.OldPeer = codes "OldPeer"
-reason_name reasons.SelfPeer = codes "SelfPeer"
-reason_name reasons.Kicked = codes "Kicked"
-reason_name reasons.Memory = codes "Memory"
-reason_name reasons.TraceFull = codes "TraceFull"
-reason_name reasons.HallFull = codes "HallFull"
-reason_name reasons.WriteFault = codes "WriteFault"
-
--- a session: what it was given, how far it is, and the item and the question that stand
-pub record SessionState : Type 0 where
-  pub settings : Settings
-  pub state : State
-  pub standing : Option Standing
-
--- a session at its beginning, and the messages that it opens with: none yet
-abbrev pub opening : Settings → SessionState
-opening settings = record { settings = settings; state = Start; standing = None }
-
-abbrev pub openings : Settings → List Message
-openings settings = []
+use Rattle.cb_peer.specs.declared.settings.Settings.{Settings}
+use Rattle.cb_peer.specs.declared.standing.Standing.{Standing}
+use Rattle.cb_peer.specs.declared.state.CloseReason.{CloseReason}
+use Rattle.cb_peer.specs.declared.state.CloseReason.TheVariants as reasons
+use Rattle.cb_peer.specs.Ask.{fits, is_nil, question_of}
+use Rattle.cb_peer.specs.Replying.{answered}
+use Rattle.cb_peer.specs.Receiving.{Plan, asks}
+use Rattle.cb_peer.specs.State.{SessionState, freed, is_closed, over, with_standing}
 
 -- what a step makes: the session after it, the messages that it sends, and the question that it asks
 pub record Stepped : Type 0 where
   pub session : SessionState
   pub messages : List Message
-  pub question : Option Ask
+  pub question : Option Question
 
--- nothing changes, nothing is sent
+-- the messages that a session opens with: who made the connection introduces itself first
+abbrev pub openings : Settings → List Message
+openings settings = if settings.inbound then [] else our_version settings.nonce settings.time settings.height ∷ []
+
+-- nothing changes, nothing is sent and nothing asked
 abbrev pub stays : SessionState → Stepped
 stays s = record { session = s; messages = []; question = None }
 
--- the session is over, nothing is sent
+-- the session is over, nothing is sent and nothing asked
 abbrev pub closes : CloseReason → SessionState → Stepped
-closes why s = record { session = record { settings = s.settings; state = Closed why; standing = None }; messages = []; question = None }
+closes why s = stays (over why s)
 
--- a question is asked for an item, or for a tick where there is none, and both stand until the answer
-abbrev pub asks : SessionState → Option Item → Ask → Stepped
-asks s item question =
+-- what is asked stands, with the item for which it is asked, until the answer
+abbrev pub stands : Option Item → Option Ask → Option Standing
+stands item next = option_map (λ ask. record { item = item; ask = ask }) next
+
+-- what a session makes of an item, or of a tick where there is none
+abbrev pub for_item : Option Item → Plan → Stepped
+for_item item plan =
     record {
-      session = record { settings = s.settings; state = s.state; standing = Some (record { item = item; question = question }) };
-      messages = [];
-      question = Some question;
+      session = with_standing (stands item plan.next) plan.session;
+      messages = plan.messages;
+      question = option_map (question_of plan.session item) plan.next;
     }
 
 -- An item or a tick asks for leave to be processed. While a question stands it doesn't fit.
 abbrev pub arrives : Option Standing → SessionState → Option Item → Stepped
-arrives None s item = asks s item Admit
+arrives None s item = for_item item (asks s [] Admit)
 arrives (Some other) s item = stays s
 
--- the question that stands
-abbrev pub standing_question : Option Standing → Option Ask
-standing_question None = None
-standing_question (Some standing) = Some standing.question
-
--- the item for which it stands, if there is one
-abbrev pub standing_item : Option Standing → Option Item
-standing_item None = None
-standing_item (Some standing) = standing.item
-
--- the answer to a message by itself: to a ping its pong (BIP 31), to all else nothing
-abbrev pub reply_to : Message → List Message
-reply_to (messages.Ping nonce) = messages.Pong nonce ∷ []
-reply_to other = []
-
--- an item, or a tick, is processed: a message gets its answer, a known command's payload that can't be read ends the
--- session, and all else is passed over
-abbrev pub processed : SessionState → Option Item → Stepped
-processed s None = stays s
-processed s (Some (Good message)) = record { session = s; messages = reply_to message; question = None }
-processed s (Some Damaged) = stays s
-processed s (Some (Bad command fault)) = closes reasons.BadMessage s
-
--- nothing stands any more
-abbrev pub freed : SessionState → SessionState
-freed s = record { settings = s.settings; state = s.state; standing = None }
-
--- An answer to what was asked for an item. Where leave is given, the item is processed; where the connection was kicked, the
--- session is over. An answer of another kind doesn't fit, and what stands goes on standing.
-abbrev pub answered : SessionState → Option Item → Ask → Answer → Stepped
-answered s item question answers.Kicked = closes reasons.Kicked s
-answered s item Admit answers.Go = processed (freed s) item
-answered s item question other = stays s
-
--- An answer comes. One that nobody asked for doesn't fit.
+-- An answer comes. One that nobody asked for, or of another kind than what stands asks for, doesn't fit.
 abbrev pub told : Option Standing → SessionState → Answer → Stepped
 told None s answer = stays s
-told (Some standing) s answer = answered s standing.item standing.question answer
+told (Some standing) s answer =
+    if fits (question_of s standing.item standing.ask) answer then for_item standing.item (answered (freed s) standing.item standing.ask answer)
+    else stays s
 
-abbrev pub open_step : SessionState → Event → Stepped
+unfoldable pub open_step : SessionState → Event → Stepped
 open_step s (events.Said item) = arrives s.standing s (Some item)
 open_step s (events.Broken fault) = closes reasons.BadStream s
 open_step s events.Tick = arrives s.standing s None
@@ -136,10 +87,32 @@ takes_no_memory (events.Told answers.Kicked) = true
 takes_no_memory (events.Told other) = false
 takes_no_memory other = true
 
--- how many answers a question still leads to, its own among them: each answer that fits leaves fewer
-abbrev pub question_left : Ask → ℕ
-question_left Admit = 1
+-- ---- answers that take no memory
 
-abbrev pub questions_left : Option Standing → ℕ
-questions_left None = 0
-questions_left (Some standing) = question_left standing.question
+-- an item in which something is hashed whose text has no limit here: a transaction, or a block
+abbrev pub weighs_item : Option Item → Bool
+weighs_item (Some (Good (messages.Tx tx))) = true
+weighs_item (Some (Good (messages.Block block))) = true
+weighs_item item = false
+
+-- an answer that tells of blocks that lack, or of what is needed
+abbrev pub weighs_answer : Answer → Bool
+weighs_answer (answers.Heads heads) = not (is_nil heads.lack)
+weighs_answer (answers.Need need) = not (is_nil need.entries)
+weighs_answer answer = false
+
+-- the item for which a question stands, if there is one
+abbrev pub standing_item : Option Standing → Option Item
+standing_item None = None
+standing_item (Some standing) = standing.item
+
+-- An answer by which little comes. Where nothing is sent to it either, and nothing is asked but what is new (`is_light`), it takes
+-- no memory.
+abbrev pub spares : SessionState → Event → Bool
+spares s (events.Told answer) = not (weighs_item (standing_item s.standing)) && not (weighs_answer answer)
+spares s other = false
+
+abbrev pub is_light : Option Question → Bool
+is_light None = true
+is_light (Some (questions.News since)) = true
+is_light (Some other) = false

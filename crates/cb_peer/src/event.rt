@@ -1,9 +1,12 @@
-ghost use Rattle.std.specs.Prelude.{◌≡◌, ◌≤◌};
-ghost use Rattle.cb_peer.specs.Trace.{payload_of};
+ghost use Rattle.std.specs.Prelude.{◌≡◌, ◌≤◌, ◌^◌, ◌-◌, ◌*◌, min};
+ghost use Rattle.cb_peer.specs.Event.{answer_entries, held_by, payload_of};
 
 use cb_base::{Fault, Shared};
 use cb_journal::Answer;
 use cb_wire::Item;
+
+/// For how many bytes an entry of an answer's list counts.
+const ENTRY_WEIGHT: u64 = 40;
 
 /// What comes to a session.
 #[derive(Debug, Drop)]
@@ -28,7 +31,6 @@ pub enum Event {
 
 impl Event {
     ghost use Rattle.cb_peer.specs.Event.{is_input, is_told, kind_of};
-    ghost use Rattle.cb_peer.specs.Trace.{held_by};
 
     /// Whether it comes of the peer: an item, a fault of its stream, or its end.
     pub fn is_input(&self) -> bool
@@ -57,15 +59,16 @@ impl Event {
         }
     }
 
-    /// How many bytes an entry of it holds: 64, and the payload of its item.
+    /// How many bytes an entry of it counts for: 64, and the payload of its item, or 40 for each entry of its answer's lists;
+    /// 18,446,744,073,709,551,615 where they are more.
     pub fn held(&self) -> u64
-        ensures { result ≡ held_by self.now }
+        ensures { result ≡ min (held_by self.now) (2 ^ 64 - 1) }
     {
         match self {
             Event::Said(item) => 64 + payload_of(item),
+            Event::Told(answer) => list_weight(entries_of(answer)).saturating_add(64),
             Event::Broken(_)
             | Event::Tick
-            | Event::Told(_)
             | Event::ReaderEnd
             | Event::NoMemory
             | Event::HallFull
@@ -74,7 +77,7 @@ impl Event {
     }
 }
 
-/// How many payload bytes an item holds.
+// How many payload bytes an item holds.
 fn payload_of(item: &Item) -> u64
     ensures payload { result ≡ payload_of item.now }
     ensures limit { result ≤ 4000000 }
@@ -83,4 +86,34 @@ fn payload_of(item: &Item) -> u64
         Item::Good(message) => message.payload_len(),
         Item::Damaged | Item::Bad(_, _) => 0,
     }
+}
+
+// How many entries the lists of an answer have; 18,446,744,073,709,551,615 where they are more.
+fn entries_of(answer: &Answer) -> u64
+    ensures { result ≡ min (answer_entries answer.now) (2 ^ 64 - 1) }
+{
+    match answer {
+        Answer::Go | Answer::Kicked | Answer::TxTaken(_) => 0,
+        Answer::Heads(heads) => {
+            (heads.lack.as_slice().len() as u64).saturating_add(
+                heads.locator.as_slice().len() as u64,
+            )
+        }
+        Answer::Locator(locator) => locator.as_slice().len() as u64,
+        Answer::Need(need) => {
+            need.entries.as_slice().len() as u64 + need.locator.as_slice().len() as u64
+        }
+        Answer::Taken(taken) => taken.locator.as_slice().len() as u64,
+        Answer::Served(pieces) => pieces.as_slice().len() as u64,
+        Answer::Following(headers) => headers.as_slice().len() as u64,
+        Answer::News(news) => news.path.as_slice().len() as u64
+            + news.txids.as_slice().len() as u64,
+    }
+}
+
+// For how many bytes so many entries of a list count.
+fn list_weight(count: u64) -> u64
+    ensures { result ≡ min (40 * count) (2 ^ 64 - 1) }
+{
+    ENTRY_WEIGHT.saturating_mul(count)
 }

@@ -1,24 +1,30 @@
-//! The machine of one peer: what its session answers to the events of a connection, and the trace of these events. It
-//! reads nothing, writes nothing and asks nobody: all that comes to it is an event.
+//! The machine of one peer: what its session answers to the events of a connection. It reads nothing, writes nothing and asks
+//! nobody: all that comes to it is an event.
 #![tactic(auto)]
 
 mod ask;
-mod asking;
 mod event;
 mod law;
-mod oracle;
+mod plan;
+mod receiving;
+mod replying;
 mod session;
 mod settings;
+mod soundness;
+mod standing;
 mod state;
 #[cfg(test)]
 mod tests;
-mod trace;
 
 pub use ask::Ask;
 pub use event::Event;
-pub use law::{each_item_is_answered, few_questions_stand};
-pub use oracle::Oracle;
-pub use session::{Session, Standing};
+pub use law::{
+    a_tip_is_not_told_to_its_source, few_blocks_are_fetched, headers_are_sent_where_asked_for,
+    no_block_in_flight_is_asked_for, only_the_handshake_counts, questions_run_out,
+    sound_blocks_are_given, what_the_hall_has_is_served,
+};
+pub use session::Session;
 pub use settings::Settings;
-pub use state::{CloseReason, State};
-pub use trace::{Counts, Trace, TraceEntry};
+pub use soundness::sound_is_decided;
+pub use standing::Standing;
+pub use state::{CloseReason, Marks, Peer, State};

@@ -1,86 +1,101 @@
-ghost use Rattle.std.specs.Prelude.{◌≡◌, ◌∷◌, [], true, IsOk, IfOk, OnErr, IsOkUnless};
+ghost use Rattle.std.specs.Prelude.{◌≡◌, ◌∷◌, [], true, false, List, IfOk, IsOk, OnErr, OnOk, IsOkUnless};
 ghost use Rattle.cb_base.specs.declared.fault.Fault.TheVariants.{Memory};
-ghost use Rattle.cb_wire.specs.Grammar.{IsWithinLimits};
-ghost use Rattle.cb_peer.specs.Session.{reply_to};
+ghost use Rattle.cb_wire.specs.declared.item.Item.{Item};
+ghost use Rattle.cb_fetch.specs.Fetching.{idle};
+ghost use Rattle.cb_peer.specs.declared.ask.Ask.TheVariants as asks;
+ghost use Rattle.cb_journal.specs.declared.question.Question.TheVariants as questions;
+ghost use Rattle.cb_peer.specs.Plan.{Answers, IsLightPlan, Makes, is_light_ask};
+ghost use Rattle.cb_peer.specs.Receiving.{Plan, ends};
+ghost use Rattle.cb_peer.specs.Replying.{answered};
 
 use crate::ask::Ask;
 use crate::event::Event;
+use crate::plan::{Made, Next, one_message};
 use crate::settings::Settings;
-use crate::state::{CloseReason, State};
+use crate::standing::Standing;
+use crate::state::{CloseReason, Marks, Peer, State};
 use cb_base::{Fault, Shared};
-use cb_journal::Answer;
-use cb_wire::{BoundedMessage, Item, Message};
+use cb_fetch::Fetch;
+use cb_journal::{Answer, Question, Told};
+use cb_talk::our_version;
+use cb_wire::{BoundedMessage, Item};
 use std::alloc::Global;
 use std::marker::Model;
 
-/// What waits for the hall's answer.
-#[derive(Debug, Drop)]
-pub struct Standing {
-    /// The item that came; None where it was a tick.
-    pub item: Option<Shared<Item>>,
-    /// The question that was asked for it.
-    pub question: Ask,
-}
+/// What is known of a peer that has said nothing.
+const STRANGER: Peer = Peer {
+    version: 0,
+    by_headers: false,
+    capable: false,
+    wants_high: false,
+};
 
-impl Standing {
-    /// An equal one, which shares its item with this one.
-    ///
-    /// The only error is `Fault::Memory`, where an item has all the owners that can be counted.
-    pub fn copy(&self) -> Result<Standing, Fault>
-        ensures equal { IfOk result (λ copy. copy ≡ self.now) }
-        ensures memory { IsOkUnless result Memory }
-    {
-        let item = match &self.item {
-            None => None,
-            Some(item) => Some(item.clone()?),
-        };
-        Ok(Standing {
-            item,
-            question: self.question,
-        })
-    }
-}
+/// Where nothing was told.
+const UNMARKED: Marks = Marks {
+    heard: None,
+    tip: None,
+    next: 0,
+};
 
-/// One peer's session: a machine that is given events and answers with messages, and with a question to the hall.
-#[derive(Debug, Drop)]
+/// One peer's session: a machine that is given events and answers with messages, and with a question to the hall. It is seen
+/// as what it was given, how far it is, what its peer said of itself, what the two told each other, the blocks that it fetches,
+/// and the item and the question that stand.
+#[derive(Drop)]
 pub struct Session {
-    settings: Settings,
-    state: State,
-    standing: Option<Standing>,
+    pub(crate) settings: Settings,
+    pub(crate) state: State,
+    pub(crate) peer: Peer,
+    pub(crate) marks: Marks,
+    pub(crate) fetch: Fetch,
+    pub(crate) standing: Option<Standing>,
 }
 
 impl Model for Session {
-    ghost use Rattle.cb_peer.specs.Session.{SessionState};
+    ghost use Rattle.cb_peer.specs.State.{SessionState};
 
     ghost Value = { SessionState };
 
-    ghost view = { λ session. record { settings = session.settings; state = session.state; standing = session.standing } };
+    ghost view = { λ session. record { settings = session.settings; state = session.state; peer = session.peer; marks = session.marks; fetch = session.fetch; standing = session.standing } };
 }
 
 impl Session {
-    ghost use Rattle.std.specs.Prelude.{None};
-    ghost use Rattle.cb_peer.specs.Session.{SessionState, arrives, closes, freed, open_step, opening, openings, processed, standing_item, standing_question, step_of, takes_no_memory, told};
+    ghost use Rattle.std.specs.Prelude.{None, Some, Option, is_some};
+    ghost use Rattle.cb_peer.specs.Session.{arrives, closes, for_item, is_light, open_step, openings, spares, stands, step_of, takes_no_memory, told, weighs_answer, weighs_item};
+    ghost use Rattle.cb_peer.specs.State.{bare, freed, opening, over, with_standing};
+    ghost use Rattle.cb_journal.specs.declared.answer.Answer.TheVariants as answers;
     ghost use Rattle.cb_peer.specs.declared.event.Event.TheVariants as events;
-    ghost use Rattle.cb_peer.specs.Event.{is_told, kind_of};
     ghost use Rattle.cb_peer.specs.declared.state.CloseReason.TheVariants as reasons;
-    ghost use Rattle.cb_peer.specs.Trace.{Answers};
 
-    /// A session at its beginning, and the messages that it opens with: none yet, for either kind.
+    /// A session at its beginning, and the messages that it opens with: where this node made the connection, its `version`.
     ///
-    /// The only error is `Fault::Memory`.
+    /// The only error is `Fault::Memory`, and an inbound session takes none.
     pub fn new(alloc: Global, settings: Settings) -> Result<(Session, Vec<BoundedMessage>), Fault>
         ensures session { IfOk result (λ made. made.0 ≡ opening settings) }
         ensures messages { IfOk result (λ made. made.1.items ≡ openings settings) }
         ensures memory { IsOkUnless result Memory }
-        // It opens with no message, so it takes no memory.
-        ensures calm { openings settings ≡ [] → IsOk result }
+        ensures unpaid { openings settings ≡ [] → IsOk result }
     {
-        let session = Session {
-            settings,
-            state: State::Start,
-            standing: None,
+        let messages = if settings.inbound {
+            Vec::new(alloc)
+        } else {
+            let version = our_version(alloc, settings.nonce, settings.time, settings.height)?;
+            one_message(alloc, version)?
         };
-        Ok((session, Vec::new(alloc)))
+        Ok((Session::bare(alloc, settings, State::Start), messages))
+    }
+
+    // A session of which only this is known: how far it is.
+    fn bare(alloc: Global, settings: Settings, state: State) -> Session
+        ensures { result ≡ bare settings state }
+    {
+        Session {
+            settings,
+            state,
+            peer: STRANGER,
+            marks: UNMARKED,
+            fetch: Fetch::new(alloc),
+            standing: None,
+        }
     }
 
     /// How far the session is.
@@ -90,23 +105,27 @@ impl Session {
         self.state
     }
 
-    /// The question that stands.
-    pub fn question(&self) -> Option<Ask>
-        ensures { result ≡ standing_question self.now.standing }
+    /// What the peer said of itself.
+    pub fn peer(&self) -> Peer
+        ensures { result ≡ self.now.peer }
     {
-        match &self.standing {
-            None => None,
-            Some(standing) => Some(standing.question),
-        }
+        self.peer
+    }
+
+    /// Whether a question stands.
+    pub fn is_waiting(&self) -> bool
+        ensures { result ≡ is_some self.now.standing }
+    {
+        self.standing.is_some()
     }
 
     /// An equal session, which shares the item that stands with this one.
     ///
-    /// The only error is `Fault::Memory`; where nothing stands there is none.
-    pub fn copy(&self) -> Result<Session, Fault>
+    /// The only error is `Fault::Memory`; where nothing stands and no block is fetched there is none.
+    pub fn copy(&self, alloc: Global) -> Result<Session, Fault>
         ensures equal { IfOk result (λ copy. copy ≡ self.now) }
         ensures memory { IsOkUnless result Memory }
-        ensures unpaid { self.now.standing ≡ None → IsOk result }
+        ensures unpaid { self.now.standing ≡ None → self.now.fetch ≡ idle → IsOk result }
     {
         let standing = match &self.standing {
             None => None,
@@ -115,6 +134,9 @@ impl Session {
         Ok(Session {
             settings: self.settings,
             state: self.state,
+            peer: self.peer,
+            marks: self.marks,
+            fetch: self.fetch.copy(alloc)?,
             standing,
         })
     }
@@ -128,37 +150,42 @@ impl Session {
         &mut self,
         alloc: Global,
         event: &Event,
-    ) -> Result<(Vec<BoundedMessage>, Option<Ask>), Fault>
+    ) -> Result<(Vec<BoundedMessage>, Option<Question>), Fault>
         ensures ok { IfOk result (λ made. Answers (step_of self.old event.now) self.new made.0.items made.1) }
-        ensures err { OnErr result (self.new ≡ (closes reasons.Memory self.old).session) }
+        ensures err { OnErr result (self.new ≡ over reasons.Memory self.old) }
         ensures memory { IsOkUnless result Memory }
         ensures calm { takes_no_memory event.now ≡ true → IsOk result }
-        // An answer to which nothing is sent takes no memory: of a session that is over, and one that nobody waits for.
-        ensures silent { is_told (kind_of event.now) ≡ true → (step_of self.old event.now).messages ≡ [] → IsOk result }
+        // An answer by which little comes, to which nothing is sent and by which nothing is asked but what is new, takes no memory.
+        ensures silent { spares self.old event.now ≡ true → (step_of self.old event.now).messages ≡ [] → is_light (step_of self.old event.now).question ≡ true → IsOk result }
     {
         if self.state.is_closed() {
             return Ok((Vec::new(alloc), None));
         }
-        self.open_step(alloc, event)
+        let settings = self.settings;
+        let answer = self.open_step(alloc, event);
+        if answer.is_err() {
+            *self = Session::bare(alloc, settings, State::Closed(CloseReason::Memory));
+        }
+        answer
     }
 
-    /// The step of a session that isn't closed: one arm for each kind of event.
+    // The step of a session that isn't closed: one arm for each kind of event.
+    #[tactic(auto, unfolding(crate::specs::Session::open_step))]
     fn open_step(
         &mut self,
         alloc: Global,
         event: &Event,
-    ) -> Result<(Vec<BoundedMessage>, Option<Ask>), Fault>
+    ) -> Result<(Vec<BoundedMessage>, Option<Question>), Fault>
         ensures ok { IfOk result (λ made. Answers (open_step self.old event.now) self.new made.0.items made.1) }
-        ensures err { OnErr result (self.new ≡ (closes reasons.Memory self.old).session) }
         ensures memory { IsOkUnless result Memory }
         ensures calm { takes_no_memory event.now ≡ true → IsOk result }
-        ensures silent { is_told (kind_of event.now) ≡ true → (open_step self.old event.now).messages ≡ [] → IsOk result }
+        ensures silent { spares self.old event.now ≡ true → (open_step self.old event.now).messages ≡ [] → is_light (open_step self.old event.now).question ≡ true → IsOk result }
     {
         match event {
-            Event::Said(item) => match item.clone() {
-                Ok(shared) => Ok(self.arrive(alloc, Some(shared))),
-                Err(_) => Err(self.starve()),
-            },
+            Event::Said(item) => {
+                let shared = item.clone()?;
+                Ok(self.arrive(alloc, Some(shared)))
+            }
             Event::Tick => Ok(self.arrive(alloc, None)),
             Event::Told(answer) => self.hear_answer(alloc, answer),
             Event::Broken(_) => Ok(self.close(alloc, CloseReason::BadStream)),
@@ -169,31 +196,34 @@ impl Session {
         }
     }
 
-    /// Ends the session.
-    pub fn close(&mut self, alloc: Global, why: CloseReason) -> (Vec<BoundedMessage>, Option<Ask>)
+    /// Ends the session. It takes no memory.
+    pub fn close(
+        &mut self,
+        alloc: Global,
+        why: CloseReason,
+    ) -> (Vec<BoundedMessage>, Option<Question>)
         ensures { Answers (closes why self.old) self.new result.0.items result.1 }
     {
-        self.state = State::Closed(why);
-        self.standing = None;
+        *self = Session::bare(alloc, self.settings, State::Closed(why));
         (Vec::new(alloc), None)
     }
 
-    /// Ends the session for want of memory.
-    fn starve(&mut self) -> Fault
-        ensures closes { self.new ≡ (closes reasons.Memory self.old).session }
-        ensures memory { result ≡ Memory }
+    // Ends the session on a message or an answer.
+    pub(crate) fn end_by(&mut self, alloc: Global, why: CloseReason) -> Made
+        ensures over { self.new ≡ over why self.old }
+        ensures messages { result.messages.items ≡ [] }
+        ensures next { result.next ≡ None }
     {
-        self.state = State::Closed(CloseReason::Memory);
-        self.standing = None;
-        Fault::Memory
+        *self = Session::bare(alloc, self.settings, State::Closed(why));
+        Made::nothing(alloc)
     }
 
-    /// An item or a tick comes: the hall is asked for leave, unless a question stands.
+    // An item or a tick comes: the hall is asked for leave, unless a question stands.
     fn arrive(
         &mut self,
         alloc: Global,
         item: Option<Shared<Item>>,
-    ) -> (Vec<BoundedMessage>, Option<Ask>)
+    ) -> (Vec<BoundedMessage>, Option<Question>)
         ensures { Answers (arrives self.old.standing self.old item) self.new result.0.items result.1 }
     {
         if self.standing.is_some() {
@@ -201,105 +231,103 @@ impl Session {
         }
         self.standing = Some(Standing {
             item,
-            question: Ask::Admit,
+            ask: Ask::Admit,
         });
-        (Vec::new(alloc), Some(Ask::Admit))
+        (Vec::new(alloc), Some(Question::Admit))
     }
 
-    /// The hall's answer comes. Where it doesn't fit what stands, nothing changes and nothing is sent: that goes on standing.
+    // The hall's answer comes. Where it doesn't fit what stands, nothing changes and nothing is sent: that goes on standing.
     fn hear_answer(
         &mut self,
         alloc: Global,
         answer: &Answer,
-    ) -> Result<(Vec<BoundedMessage>, Option<Ask>), Fault>
+    ) -> Result<(Vec<BoundedMessage>, Option<Question>), Fault>
         ensures ok { IfOk result (λ made. Answers (told self.old.standing self.old answer.now) self.new made.0.items made.1) }
-        ensures err { OnErr result (self.new ≡ (closes reasons.Memory self.old).session) }
         ensures memory { IsOkUnless result Memory }
-        ensures calm { takes_no_memory (events.Told answer.now) ≡ true → IsOk result }
-        ensures silent { (told self.old.standing self.old answer.now).messages ≡ [] → IsOk result }
+        ensures calm { answer.now ≡ answers.Kicked → IsOk result }
+        ensures silent { spares self.old (events.Told answer.now) ≡ true → (told self.old.standing self.old answer.now).messages ≡ [] → is_light (told self.old.standing self.old answer.now).question ≡ true → IsOk result }
     {
-        let Some(standing) = &self.standing else {
+        let Some(standing) = self.standing.take() else {
             return Ok((Vec::new(alloc), None));
         };
-        match (standing.question, answer) {
-            (_, Answer::Kicked) => Ok(self.close(alloc, CloseReason::Kicked)),
-            (Ask::Admit, Answer::Go) => {
-                let item = self.free();
-                self.process(alloc, item)
-            }
-            (Ask::Admit, _) => Ok((Vec::new(alloc), None)),
+        if !standing.is_met_by(answer) {
+            self.standing = Some(standing);
+            return Ok((Vec::new(alloc), None));
         }
+        self.follow(alloc, standing, answer)
     }
 
-    /// Nothing stands any more. The answer is the item for which it stood; None where that was a tick.
-    fn free(&mut self) -> Option<Shared<Item>>
-        ensures freed { self.new ≡ freed self.old }
-        ensures item { result ≡ standing_item self.old.standing }
-    {
-        match self.standing.take() {
-            None => None,
-            Some(standing) => standing.item,
-        }
-    }
-
-    /// Processes an item, or a tick, that was let in.
-    fn process(
+    // An answer that is of the kind that was waited for. Nothing stands any more.
+    fn follow(
         &mut self,
         alloc: Global,
-        item: Option<Shared<Item>>,
-    ) -> Result<(Vec<BoundedMessage>, Option<Ask>), Fault>
-        requires free { self.old.standing ≡ None }
-        ensures ok { IfOk result (λ made. Answers (processed self.old item) self.new made.0.items made.1) }
-        ensures err { OnErr result (self.new ≡ (closes reasons.Memory self.old).session) }
+        standing: Standing,
+        answer: &Answer,
+    ) -> Result<(Vec<BoundedMessage>, Option<Question>), Fault>
+        ensures ok { IfOk result (λ made. Answers (for_item standing.item (answered self.old standing.item standing.ask answer.now)) self.new made.0.items made.1) }
         ensures memory { IsOkUnless result Memory }
-        ensures silent { (processed self.old item).messages ≡ [] → IsOk result }
+        ensures calm { answer.now ≡ answers.Kicked → IsOk result }
+        ensures silent { weighs_item standing.item ≡ false → weighs_answer answer.now ≡ false → IsLightPlan (answered self.old standing.item standing.ask answer.now) → IsOk result }
     {
-        let Some(item) = item else {
-            return Ok((Vec::new(alloc), None));
+        let Standing { item, ask } = standing;
+        let made = self.answered(alloc, &item, ask, answer)?;
+        Ok(self.stand(item, made))
+    }
+
+    // What is asked stands with the item. The answer is what the step sends and asks.
+    fn stand(
+        &mut self,
+        item: Option<Shared<Item>>,
+        made: Made,
+    ) -> (Vec<BoundedMessage>, Option<Question>)
+        ensures { (plan : Plan) → Makes plan item self.old made.messages.items made.next → Answers (for_item item plan) self.new result.0.items result.1 }
+    {
+        let Made { messages, next } = made;
+        let Some(Next { ask, question }) = next else {
+            self.standing = None;
+            return (messages, None);
         };
-        match &*item {
-            Item::Good(message) => match replies(alloc, message.message()) {
-                Ok(messages) => Ok((messages, None)),
-                Err(_) => Err(self.starve()),
-            },
-            Item::Damaged => Ok((Vec::new(alloc), None)),
-            Item::Bad(_, _) => Ok(self.close(alloc, CloseReason::BadMessage)),
+        self.standing = Some(Standing { item, ask });
+        (messages, Some(question))
+    }
+
+    // The end of an item or a tick: once the session is ready, wanted blocks are asked for, or news.
+    #[tactic(auto, unfolding(crate::specs::Receiving::ends))]
+    pub(crate) fn end(&self, alloc: Global, messages: Vec<BoundedMessage>) -> Result<Made, Fault>
+        ensures ok { (item : Option Item) → IfOk result (λ made. Makes (ends self.now messages.items) item self.now made.messages.items made.next) }
+        ensures memory { IsOkUnless result Memory }
+        ensures silent { is_light_ask (ends self.now messages.items).next ≡ true → IsOk result }
+    {
+        if !self.state.is_ready() {
+            return Ok(Made::sends(messages));
+        }
+        if !self.fetch.is_due() {
+            return Ok(Made {
+                messages,
+                next: Some(self.look()),
+            });
+        }
+        let question = Question::Want(self.fetch.wanted(alloc)?);
+        Ok(Made {
+            messages,
+            next: Some(Next {
+                ask: Ask::Wanted,
+                question,
+            }),
+        })
+    }
+
+    // The question what is new. The tip's block isn't asked for with it.
+    pub(crate) fn look(&self) -> Next
+        ensures { result ≡ record { ask = asks.Fresh; question = questions.News (record { tip = self.now.marks.tip; from = self.now.marks.next; whole = false }) } }
+    {
+        Next {
+            ask: Ask::Fresh,
+            question: Question::News(Told {
+                tip: self.marks.tip,
+                from: self.marks.next,
+                whole: false,
+            }),
         }
     }
-}
-
-/// The answer to a message by itself: to a ping its pong (BIP 31). The only error is `Fault::Memory`, and where nothing is
-/// answered there is none.
-fn replies(alloc: Global, message: &Message) -> Result<Vec<BoundedMessage>, Fault>
-    ensures messages { IfOk result (λ made. made.items ≡ reply_to message.now) }
-    ensures memory { IsOkUnless result Memory }
-    ensures silent { reply_to message.now ≡ [] → IsOk result }
-{
-    match message {
-        Message::Ping(nonce) => one_message(alloc, Message::Pong(*nonce)),
-        Message::Version(_)
-        | Message::Verack
-        | Message::Pong(_)
-        | Message::SendHeaders
-        | Message::SendCmpct(_)
-        | Message::Inv(_)
-        | Message::GetData(_)
-        | Message::NotFound(_)
-        | Message::Headers(_)
-        | Message::GetHeaders(_)
-        | Message::Tx(_)
-        | Message::Block(_)
-        | Message::Unknown(_, _) => Ok(Vec::new(alloc)),
-    }
-}
-
-/// A list of one message. The only error is `Fault::Memory`.
-fn one_message(alloc: Global, message: Message) -> Result<Vec<BoundedMessage>, Fault>
-    requires limits { IsWithinLimits message }
-    ensures messages { IfOk result (λ made. made.items ≡ message ∷ []) }
-    ensures memory { IsOkUnless result Memory }
-{
-    let mut made = Vec::with_capacity(alloc, 1)?;
-    made.push(BoundedMessage::new(message))?;
-    Ok(made)
 }

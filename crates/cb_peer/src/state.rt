@@ -1,5 +1,6 @@
 ghost use Rattle.std.specs.Prelude.{◌≡◌, Some};
 
+use cb_base::Hash256;
 use std::fmt;
 
 /// How far the handshake of a session is, and whether it goes on.
@@ -16,7 +17,7 @@ pub enum State {
 }
 
 impl State {
-    ghost use Rattle.cb_peer.specs.Session.{is_closed};
+    ghost use Rattle.cb_peer.specs.State.{is_closed, is_ready};
 
     /// Whether the session is over.
     pub fn is_closed(&self) -> bool
@@ -25,6 +26,16 @@ impl State {
         match self {
             State::Closed(_) => true,
             State::Start | State::Greeted | State::Ready => false,
+        }
+    }
+
+    /// Whether the handshake is done, and the session goes on.
+    pub fn is_ready(&self) -> bool
+        ensures { result ≡ is_ready self.now }
+    {
+        match self {
+            State::Ready => true,
+            State::Start | State::Greeted | State::Closed(_) => false,
         }
     }
 }
@@ -59,7 +70,7 @@ pub enum CloseReason {
 }
 
 impl CloseReason {
-    ghost use Rattle.cb_peer.specs.Session.{reason_name};
+    ghost use Rattle.cb_peer.specs.State.{reason_name};
 
     /// The reason's name, as it is printed.
     pub fn name(&self) -> &'static str
@@ -83,7 +94,7 @@ impl CloseReason {
 }
 
 impl fmt::Display for CloseReason {
-    ghost use Rattle.cb_peer.specs.Session.{reason_name};
+    ghost use Rattle.cb_peer.specs.State.{reason_name};
 
     ghost output = { λ reason. Some (reason_name reason) };
 
@@ -91,4 +102,28 @@ impl fmt::Display for CloseReason {
         let name = self.name();
         write!(f, "{name}")
     }
+}
+
+/// What a peer said of itself.
+#[derive(Clone, Copy, Debug, PartialEq, Eq)]
+pub struct Peer {
+    /// The version of the protocol that it speaks.
+    pub version: i32,
+    /// Whether it wants to be told of blocks by their headers (BIP 130).
+    pub by_headers: bool,
+    /// Whether it knows compact blocks of version 1 (BIP 152).
+    pub capable: bool,
+    /// Whether it wants to be sent compact blocks unasked (BIP 152).
+    pub wants_high: bool,
+}
+
+/// What a session and its peer told each other.
+#[derive(Clone, Copy, Debug, PartialEq, Eq)]
+pub struct Marks {
+    /// The last block that was heard of from the peer.
+    pub heard: Option<Hash256>,
+    /// The tip that the peer was told last.
+    pub tip: Option<Hash256>,
+    /// The number of arrival of the first transaction that the peer wasn't told.
+    pub next: u64,
 }

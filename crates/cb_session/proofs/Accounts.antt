@@ -16,22 +16,22 @@ use Rattle.cb_journal.specs.declared.answer.Answer.{Answer}
 use Rattle.cb_journal.specs.declared.question.Question.{Question}
 use Rattle.cb_hall.specs.Badge.{BadgeState}
 use Rattle.cb_hall.specs.Histories.{Reply}
-use Rattle.cb_peer.specs.declared.ask.Ask.{Ask}
-use Rattle.cb_peer.specs.declared.ask.Ask.TheVariants.{Admit}
 use Rattle.cb_peer.specs.declared.settings.Settings.{Settings}
 use Rattle.cb_peer.specs.declared.event.Event.{Event}
 use Rattle.cb_peer.specs.declared.event.Event.TheVariants as events
-use Rattle.cb_peer.specs.declared.session.Standing.{Standing}
-use Rattle.cb_peer.specs.declared.trace.TraceEntry.{TraceEntry}
-use Rattle.cb_peer.specs.Ask.{fits, question_of}
+use Rattle.cb_peer.specs.declared.standing.Standing.{Standing}
+use Rattle.cb_trace.specs.declared.trace.TraceEntry.{TraceEntry}
+use Rattle.cb_peer.specs.Ask.{fits, questions_left, standing_question}
 use Rattle.cb_peer.specs.Event.{Kind, begins, ends_at_once, is_hall_full, is_input, is_no_memory, is_tick, is_write_fault, kind_of, loses}
-use Rattle.cb_peer.specs.Session.{SessionState, Stepped, is_closed, question_left, questions_left, standing_question, told as told_step}
-use Rattle.cb_peer.specs.Fold.{Account, EachOpen, account_of, account_step, entry_step, first_account, has_kind, inputs_of, replies, replies_to, sends, session_of}
-use Rattle.cb_peer.specs.Trace.{Grows, IsOpen, RanOut, Rests, TraceSteps, TraceView, next_step}
-use Rattle.cb_peer.proofs.Folds.{EachPrompt_more, account_of_more, entry_cases}
-use Rattle.cb_peer.proofs.Steps.{entry_ends, entry_silent, told_fewer}
-use Rattle.cb_peer.proofs.Traces.{next_is}
-use Rattle.cb_session.specs.Conversation.{Accounts, AnswerOf, Gave, IsLoss, Lacked, Origin, Progress, Sent, Settled, Underway, left_of, open_question, progress}
+use Rattle.cb_peer.specs.Session.{Stepped}
+use Rattle.cb_peer.specs.State.{SessionState, is_closed}
+use Rattle.cb_peer.proofs.Steps.{no_question, none_stands, some_left}
+use Rattle.cb_trace.specs.Fold.{Account, EachOpen, account_of, account_step, entry_step, first_account, has_kind, inputs_of, replies, replies_to, sends, session_of}
+use Rattle.cb_trace.specs.Trace.{AsksWhatStands, Grows, IsAsBefore, IsOpen, Readied, TraceSteps, TraceView, next_step}
+use Rattle.cb_trace.proofs.Entries.{entry_ends, entry_fewer, entry_over}
+use Rattle.cb_trace.proofs.Folds.{EachPrompt_more, account_of_more}
+use Rattle.cb_trace.proofs.Traces.{next_is}
+use Rattle.cb_session.specs.Conversation.{Accounts, AnswerOf, Gave, IsLoss, Lacked, Origin, Progress, IsAnswered, IsWhatStands, MayAsk, Sent, Settled, Underway, left_of, open_question, progress}
 
 -- what the hall told, call by call
 pub record IsOracle {H : Type 0} (told : H → BadgeState → List Reply → H → BadgeState → Type 0) (refused : H → BadgeState → Fault → Type 0) : Type 0 where
@@ -189,7 +189,7 @@ open_told told refused from now inputs s going failed =
 pub record Changes {H : Type 0} (told : H → BadgeState → List Reply → H → BadgeState → Type 0) (refused : H → BadgeState → Fault → Type 0) (trace : TraceView) (failed : Bool) (hall hall' : H) (badge badge' : BadgeState) (event : Event) : Type 0 where
   pub failed_told : is_write_fault (kind_of event) ≡ true → failed ≡ true
   pub full_told : is_hall_full (kind_of event) ≡ true → refused hall' badge' JournalFull
-  pub told_next : told hall badge (replies_to (standing_question trace.session.standing) event) hall' badge'
+  pub told_next : told hall badge (replies_to (standing_question trace.session) event) hall' badge'
   pub no_tick : is_tick (kind_of event) ≡ false
   pub free : begins (kind_of event) ≡ true → trace.session.standing ≡ None
 
@@ -207,9 +207,9 @@ accounts_grow told refused oracle from trace trace' hall hall' badge badge' held
     let more : account_of s (h ++ entry ∷ []) ≡ account_step (account_of s h) entry = account_of_more s h entry in
     let sent : List Message = (next_step trace entry).messages in
     let sends_more : sends s (h ++ entry ∷ []) ≡ sends s h ++ sent = ap (λ (x : Account). x.sent) more ∙ ap (λ (m : Stepped). sends s h ++ m.messages) (sym step_is) in
-    let standing_is : trace.session.standing ≡ (session_of s h).standing = ap (λ (x : SessionState). x.standing) (a.stands.session ∙ ap (λ (x : Settings). session_of x h) a.settings) in
-    let replies_more : replies s (h ++ entry ∷ []) ≡ replies s h ++ replies_to (standing_question trace.session.standing) entry.event =
-    ap (λ (x : Account). x.replies) more ∙ ap (λ (o : Option Standing). replies s h ++ replies_to (standing_question o) entry.event) (sym standing_is) in
+    let session_is : trace.session ≡ session_of s h = a.stands.session ∙ ap (λ (x : Settings). session_of x h) a.settings in
+    let replies_more : replies s (h ++ entry ∷ []) ≡ replies s h ++ replies_to (standing_question trace.session) entry.event =
+    ap (λ (x : Account). x.replies) more ∙ ap (λ (x : SessionState). replies s h ++ replies_to (standing_question x) entry.event) (sym session_is) in
     record {
       settings = g.settings ∙ a.settings;
       history = h ++ entry ∷ [];
@@ -223,14 +223,14 @@ accounts_grow told refused oracle from trace trace' hall hall' badge badge' held
         count = a.wrote.count;
       };
       inputs_are = inputs_more h entry ∙ ap (λ (x : List Event). x ++ inputs_in entry.event) a.inputs_are;
-      prompt = EachPrompt_more s h entry a.prompt (λ b. sym standing_is ∙ c.free b);
+      prompt = EachPrompt_more s h entry a.prompt (λ b. ap (λ (x : SessionState). x.standing) (sym session_is) ∙ c.free b);
       replies_are =
           subst (λ (rs : List Reply). told from.hall from.badge rs hall' badge') (sym replies_more)
-          (oracle.next from.hall hall hall' from.badge badge badge' (replies s h) (replies_to (standing_question trace.session.standing) entry.event) a.replies_are c.told_next);
+          (oracle.next from.hall hall hall' from.badge badge badge' (replies s h) (replies_to (standing_question trace.session) entry.event) a.replies_are c.told_next);
       write_fault = λ x. elim (or_true _ _ (sym (has_more is_write_fault h entry) ∙ x)) [ inl y ↦ a.write_fault y | inr y ↦ c.failed_told y ];
       hall_full =
           λ x. elim (or_true _ _ (sym (has_more is_hall_full h entry) ∙ x)) [
-            | inl y ↦ oracle.stays hall hall' badge badge' (replies_to (standing_question trace.session.standing) entry.event) c.told_next (a.hall_full y)
+            | inl y ↦ oracle.stays hall hall' badge badge' (replies_to (standing_question trace.session) entry.event) c.told_next (a.hall_full y)
             | inr y ↦ c.full_told y
           ];
       no_memory =
@@ -244,7 +244,7 @@ accounts_grow told refused oracle from trace trace' hall hall' badge badge' held
 
 -- the trace rested, and stands for the same history
 pub accounts_rest : {H : Type 0} (told : H → BadgeState → List Reply → H → BadgeState → Type 0) (refused : H → BadgeState → Fault → Type 0) (from : Origin H) (trace trace' : TraceView) (hall : H) (badge : BadgeState)
-    (held : Option (List ℕ)) (failed : Bool) (written : ℕ) (inputs : List Event) (missing : List ℕ) (lost : Bool) → IsOpen trace → Rests trace trace'
+    (held : Option (List ℕ)) (failed : Bool) (written : ℕ) (inputs : List Event) (missing : List ℕ) (lost : Bool) → IsOpen trace → IsAsBefore trace trace'
     → Accounts told refused from (progress trace hall badge held failed written) inputs missing lost false → Accounts told refused from (progress trace' hall badge held failed written) inputs missing lost false
 accounts_rest told refused from trace trace' hall badge held failed written inputs missing lost going r a =
     record {
@@ -262,14 +262,17 @@ accounts_rest told refused from trace trace' hall badge held failed written inpu
       losses = a.losses;
     }
 
+as_it_is : (trace : TraceView) → IsAsBefore trace trace
+as_it_is trace = record { settings = refl; session = refl; total = refl; history = λ history h. h }
+
 -- a trace that is open after a rest
-pub rest_open : (trace trace' : TraceView) → Rests trace trace' → IsOpen trace → IsOpen trace'
+pub rest_open : (trace trace' : TraceView) → IsAsBefore trace trace' → IsOpen trace → IsOpen trace'
 rest_open trace trace' r going = ap (λ (s : SessionState). is_closed s.state) r.session ∙ going
 
 -- a step that ends the session is silent
 pub silent_more : (trace trace' : TraceView) (entry : TraceEntry) → IsOpen trace → Grows trace trace' entry → is_closed trace'.session.state ≡ true → (next_step trace entry).messages ≡ []
 silent_more trace trace' entry going g closed =
-    entry_silent trace.total.entries trace.session entry going (ap (λ (s : SessionState). is_closed s.state) (sym g.session) ∙ closed)
+    (entry_over trace.total.entries trace.session entry going (ap (λ (s : SessionState). is_closed s.state) (sym g.session) ∙ closed)).silent
 
 -- an event that ends a session at once has ended it
 pub ended_more : (trace trace' : TraceView) (entry : TraceEntry) → IsOpen trace → Grows trace trace' entry → ends_at_once entry.event ≡ true → is_closed trace'.session.state ≡ true
@@ -287,7 +290,7 @@ loss_plain events.NoMemory e = (refl, refl, refl, refl)
 loss_plain events.HallFull e = absurd cc
 loss_plain events.WriteFault e = (refl, refl, refl, refl)
 
-loss_replies : (standing : Option Ask) (event : Event) → loses (kind_of event) ≡ true → replies_to standing event ≡ []
+loss_replies : (standing : Option Question) (event : Event) → loses (kind_of event) ≡ true → replies_to standing event ≡ []
 loss_replies standing (events.Said item) e = absurd cc
 loss_replies standing (events.Broken fault) e = absurd cc
 loss_replies standing events.Tick e = absurd cc
@@ -302,7 +305,7 @@ loss_replies (Some question) events.WriteFault e = refl
 -- a trace grew by an event by which messages are lost
 pub accounts_lost : {H : Type 0} (told : H → BadgeState → List Reply → H → BadgeState → Type 0) (refused : H → BadgeState → Fault → Type 0) (oracle : IsOracle told refused) (from : Origin H) (trace mid trace' : TraceView) (hall : H) (badge : BadgeState)
     (held : Option (List ℕ)) (failed : Bool) (written : ℕ) (inputs : List Event) (missing : List ℕ) (lost unkept : Bool) (entry : TraceEntry)
-    → IsOpen trace → Rests trace mid → Grows mid trace' entry → IsLoss entry.event → (is_write_fault (kind_of entry.event) ≡ true → failed ≡ true)
+    → IsOpen trace → IsAsBefore trace mid → Grows mid trace' entry → IsLoss entry.event → (is_write_fault (kind_of entry.event) ≡ true → failed ≡ true)
     → (is_no_memory (kind_of entry.event) ≡ true → Lacked refused (progress trace' hall badge held failed written) missing ⊎ (unkept ≡ true))
     → Accounts told refused from (progress trace hall badge held failed written) inputs missing lost false → Accounts told refused from (progress trace' hall badge held failed written) inputs missing true unkept
 accounts_lost told refused oracle from trace mid trace' hall badge held failed written inputs missing lost unkept entry going r g l write lacked a =
@@ -314,7 +317,7 @@ accounts_lost told refused oracle from trace mid trace' hall badge held failed w
     record {
       failed_told = write;
       full_told = λ e. not_both (is_hall_full (kind_of entry.event)) plain.3 e;
-      told_next = subst (λ (rs : List Reply). told hall badge rs hall badge) (sym (loss_replies (standing_question mid.session.standing) entry.event l.loses_messages)) (oracle.none hall badge);
+      told_next = subst (λ (rs : List Reply). told hall badge rs hall badge) (sym (loss_replies (standing_question mid.session) entry.event l.loses_messages)) (oracle.none hall badge);
       no_tick = plain.1;
       free = λ e. not_both (begins (kind_of entry.event)) plain.2 e;
     } in
@@ -331,27 +334,35 @@ no_memory_loss = record { loses_messages = refl; ends = refl }
 -- a trace that ended for want of memory
 pub accounts_ran : {H : Type 0} (told : H → BadgeState → List Reply → H → BadgeState → Type 0) (refused : H → BadgeState → Fault → Type 0) (oracle : IsOracle told refused) (from : Origin H) (trace trace' : TraceView) (hall : H) (badge : BadgeState)
     (held : Option (List ℕ)) (failed : Bool) (written : ℕ) (inputs : List Event) (missing : List ℕ) (lost unkept : Bool)
-    → IsOpen trace → RanOut trace trace' → Accounts told refused from (progress trace hall badge held failed written) inputs missing lost false → Accounts told refused from (progress trace' hall badge held failed written) inputs missing true unkept
-accounts_ran told refused oracle from trace trace' hall badge held failed written inputs missing lost unkept going r a =
-    accounts_lost told refused oracle from trace r.between trace' hall badge held failed written inputs missing lost unkept (record { event = events.NoMemory; starved = false }) going r.rests r.grows no_memory_loss (λ e. absurd cc) (λ _. inl (inl r.room)) a
+    → IsOpen trace → Readied trace trace' false → Accounts told refused from (progress trace hall badge held failed written) inputs missing lost false → Accounts told refused from (progress trace' hall badge held failed written) inputs missing true unkept
+accounts_ran told refused oracle from trace trace' hall badge held failed written inputs missing lost unkept going (inl r) a =
+    accounts_lost told refused oracle from trace r.between trace' hall badge held failed written inputs missing lost unkept (record { event = events.NoMemory; starved = false }) going r.rests.same r.grows no_memory_loss (λ e. absurd cc) (λ _. inl (inl (inl r.room))) a
+accounts_ran told refused oracle from trace trace' hall badge held failed written inputs missing lost unkept going (inr l) a =
+    accounts_lost told refused oracle from trace trace trace' hall badge held failed written inputs missing lost unkept (record { event = events.NoMemory; starved = false }) going (as_it_is trace) l.grows no_memory_loss (λ e. absurd cc)
+    (λ _. inl (inl (inr record { before = trace; lacks = l }))) a
+
+-- it is over
+pub ran_closed : (trace trace' : TraceView) → Readied trace trace' false → is_closed trace'.session.state ≡ true
+ran_closed trace trace' (inl r) = r.closed
+ran_closed trace trace' (inr l) = l.closed
 
 -- ---- asking
 
-reply_is : (standing : Option Ask) (question : Ask) (answer : Answer) → standing ≡ Some question → replies_to standing (events.Told answer) ≡ record { question = question_of question; answer = answer } ∷ []
+reply_is : (standing : Option Question) (question : Question) (answer : Answer) → standing ≡ Some question → replies_to standing (events.Told answer) ≡ record { question = question; answer = answer } ∷ []
 reply_is standing question answer e = ap (λ o. replies_to o (events.Told answer)) e
 
-no_reply : (standing : Option Ask) → (replies_to standing events.HallFull ≡ []) × (replies_to standing events.NoMemory ≡ [])
+no_reply : (standing : Option Question) → (replies_to standing events.HallFull ≡ []) × (replies_to standing events.NoMemory ≡ [])
 no_reply None = (refl, refl)
 no_reply (Some question) = (refl, refl)
 
 -- what the hall made of a question, as a change of the account
-pub answer_changes : {H : Type 0} (told : H → BadgeState → List Reply → H → BadgeState → Type 0) (refused : H → BadgeState → Fault → Type 0) (trace : TraceView) (failed : Bool) (hall hall' : H) (badge badge' : BadgeState) (question : Ask) (event : Event)
-    → standing_question trace.session.standing ≡ Some question → AnswerOf told refused hall badge hall' badge' (question_of question) event → Changes told refused trace failed hall hall' badge badge' event
+pub answer_changes : {H : Type 0} (told : H → BadgeState → List Reply → H → BadgeState → Type 0) (refused : H → BadgeState → Fault → Type 0) (trace : TraceView) (failed : Bool) (hall hall' : H) (badge badge' : BadgeState) (question : Question) (event : Event)
+    → standing_question trace.session ≡ Some question → AnswerOf told refused hall badge hall' badge' question event → Changes told refused trace failed hall hall' badge badge' event
 answer_changes told refused trace failed hall hall' badge badge' question (events.Told answer) stands a =
     record {
       failed_told = λ e. absurd cc;
       full_told = λ e. absurd cc;
-      told_next = subst (λ (rs : List Reply). told hall badge rs hall' badge') (sym (reply_is (standing_question trace.session.standing) question answer stands)) a.0;
+      told_next = subst (λ (rs : List Reply). told hall badge rs hall' badge') (sym (reply_is (standing_question trace.session) question answer stands)) a.0;
       no_tick = refl;
       free = λ e. absurd cc;
     }
@@ -359,7 +370,7 @@ answer_changes told refused trace failed hall hall' badge badge' question events
     record {
       failed_told = λ e. absurd cc;
       full_told = λ e. a.1;
-      told_next = subst (λ (rs : List Reply). told hall badge rs hall' badge') (sym (no_reply (standing_question trace.session.standing)).0) a.0;
+      told_next = subst (λ (rs : List Reply). told hall badge rs hall' badge') (sym (no_reply (standing_question trace.session)).0) a.0;
       no_tick = refl;
       free = λ e. absurd cc;
     }
@@ -367,7 +378,7 @@ answer_changes told refused trace failed hall hall' badge badge' question events
     record {
       failed_told = λ e. absurd cc;
       full_told = λ e. absurd cc;
-      told_next = subst (λ (rs : List Reply). told hall badge rs hall' badge') (sym (no_reply (standing_question trace.session.standing)).1) a.0;
+      told_next = subst (λ (rs : List Reply). told hall badge rs hall' badge') (sym (no_reply (standing_question trace.session)).1) a.0;
       no_tick = refl;
       free = λ e. absurd cc;
     }
@@ -402,34 +413,37 @@ answer_lacked told refused hall hall' badge badge' question events.WriteFault a 
 
 -- the session was told what the hall made of its question
 pub accounts_asked : {H : Type 0} (told : H → BadgeState → List Reply → H → BadgeState → Type 0) (refused : H → BadgeState → Fault → Type 0) (oracle : IsOracle told refused) (from : Origin H) (trace mid trace' : TraceView) (hall hall' : H) (badge badge' : BadgeState)
-    (held : Option (List ℕ)) (failed : Bool) (written : ℕ) (inputs : List Event) (question : Ask) (event : Event) (sent : List Message) (asked : Option Ask)
-    → IsOpen trace → Rests trace mid → standing_question trace.session.standing ≡ Some question → AnswerOf told refused hall badge hall' badge' (question_of question) event → TraceSteps mid trace' event sent asked
+    (held : Option (List ℕ)) (failed : Bool) (written : ℕ) (inputs : List Event) (question : Question) (event : Event) (sent : List Message) (asked : Option Question)
+    → IsOpen trace → IsAsBefore trace mid → standing_question trace.session ≡ Some question → AnswerOf told refused hall badge hall' badge' question event → TraceSteps mid trace' event sent asked
     → Accounts told refused from (progress trace hall badge held failed written) inputs [] false false → Underway told refused from (progress trace' hall' badge' held failed written) inputs (texts sent) false
 accounts_asked told refused oracle from trace mid trace' hall hall' badge badge' held failed written inputs question event sent asked going r stands answer t a =
     let b = accounts_rest told refused from trace mid hall badge held failed written inputs [] false going r a in
-    let stands' : standing_question mid.session.standing ≡ Some question = ap (λ (s : SessionState). standing_question s.standing) r.session ∙ stands in
+    let stands' : standing_question mid.session ≡ Some question = ap standing_question r.session ∙ stands in
     let grown = accounts_grow told refused oracle from mid trace' hall hall' badge badge' held failed written inputs [] false false (record { event = event; starved = t.starved }) (rest_open trace mid r going) b t.grows
-    (answer_changes told refused mid failed hall hall' badge badge' question event stands' answer) (λ e. inl (inr (inl (answer_lacked told refused hall hall' badge badge' (question_of question) event answer e)))) in
+    (answer_changes told refused mid failed hall hall' badge badge' question event stands' answer) (λ e. inl (inr (inl (answer_lacked told refused hall hall' badge badge' question event answer e)))) in
     record {
       lost = loses (kind_of event) || false;
       accounts =
           subst (λ (ms : List Message). Accounts told refused from (progress trace' hall' badge' held failed written) inputs (texts ms) (loses (kind_of event) || false) false) (sym t.messages)
           (subst (λ (is : List Event). Accounts told refused from (progress trace' hall' badge' held failed written) is (texts (next_step mid (record { event = event; starved = t.starved })).messages) (loses (kind_of event) || false) false)
-          (ap (λ (is : List Event). inputs ++ is) (no_input event (answer_no_input told refused hall hall' badge badge' (question_of question) event answer)) ∙ append-nil inputs) grown);
+          (ap (λ (is : List Event). inputs ++ is) (no_input event (answer_no_input told refused hall hall' badge badge' question event answer)) ∙ append-nil inputs) grown);
     }
 
 -- ---- what is left to be answered
 
 -- the question that stands in an open session
-pub question_open : (trace : TraceView) (question : Ask) → open_question trace ≡ Some question → (is_closed trace.session.state ≡ false) × (standing_question trace.session.standing ≡ Some question)
+pub question_open : (trace : TraceView) (question : Question) → open_question trace ≡ Some question → (is_closed trace.session.state ≡ false) × (standing_question trace.session ≡ Some question)
 question_open trace question e =
-    let by_state : (b : Bool) → is_closed trace.session.state ≡ b → cond b None (standing_question trace.session.standing) ≡ Some question → (is_closed trace.session.state ≡ false) × (standing_question trace.session.standing ≡ Some question) =
+    let by_state : (b : Bool) → is_closed trace.session.state ≡ b → cond b None (standing_question trace.session) ≡ Some question → (is_closed trace.session.state ≡ false) × (standing_question trace.session ≡ Some question) =
     elim [ true ↦ λ s x. absurd (let z : None ≡ Some question = x in cc) | false ↦ λ s x. (s, x) ] in
     by_state (is_closed trace.session.state) refl e
 
-none_stands : (standing : Option Standing) → standing_question standing ≡ None → standing ≡ None
-none_stands None e = refl
-none_stands (Some standing) e = absurd cc
+pub open_question_is : (trace : TraceView) (question : Question) → is_closed trace.session.state ≡ false → standing_question trace.session ≡ Some question → open_question trace ≡ Some question
+open_question_is trace question going stands = ap (λ b. cond b None (standing_question trace.session)) going ∙ stands
+
+-- where nothing is to be asked, nothing stands
+pub all_answered : (trace : TraceView) (next : Option Question) → IsWhatStands trace next → next ≡ None → IsAnswered trace
+all_answered trace next what none going = none_stands trace.session (sym (what going) ∙ none)
 
 left_open : (trace : TraceView) → is_closed trace.session.state ≡ false → left_of trace ≡ questions_left trace.session.standing
 left_open trace e = ap (λ b. cond b 0 (questions_left trace.session.standing)) e
@@ -437,49 +451,32 @@ left_open trace e = ap (λ b. cond b 0 (questions_left trace.session.standing)) 
 left_closed : (trace : TraceView) → is_closed trace.session.state ≡ true → left_of trace ≡ 0
 left_closed trace e = ap (λ b. cond b 0 (questions_left trace.session.standing)) e
 
-question_some : (question : Ask) → 1 ≤ question_left question
-question_some Admit = omega arith
-
-standing_some : (standing : Option Standing) (question : Ask) → standing_question standing ≡ Some question → 1 ≤ questions_left standing
-standing_some None question e = absurd cc
-standing_some (Some standing) question e = question_some standing.question
-
 -- a session that is over waits for nothing
-pub left_over : (trace trace' : TraceView) (question : Ask) → open_question trace ≡ Some question → is_closed trace'.session.state ≡ true → left_of trace' < left_of trace
+pub left_over : (trace trace' : TraceView) (question : Question) → open_question trace ≡ Some question → is_closed trace'.session.state ≡ true → left_of trace' < left_of trace
 left_over trace trace' question stands closed =
     let q = question_open trace question stands in
     let zero = left_closed trace' closed in
     let same = left_open trace q.0 in
-    let some = standing_some trace.session.standing question q.1 in
+    let some = some_left trace.session question q.1 in
     omega (arith, zero, same, some)
 
-told_fewer_of : (standing : Option Standing) (s : SessionState) (question : Ask) (answer : Answer) → standing_question standing ≡ Some question → fits (question_of question) answer ≡ true
-    → is_closed (told_step standing s answer).session.state ≡ false → questions_left (told_step standing s answer).session.standing < questions_left standing
-told_fewer_of None s question answer stands fit going = absurd cc
-told_fewer_of (Some standing) s question answer stands fit going =
-    let same : standing.question ≡ question = (let e : Some standing.question ≡ Some question = stands in cc) in
-    told_fewer s standing answer (ap (λ (q : Ask). fits (question_of q) answer) same ∙ fit) going
-
 -- an answer that fits leaves fewer
-left_told : (mid trace' : TraceView) (question : Ask) (answer : Answer) (starved : Bool) → is_closed mid.session.state ≡ false → standing_question mid.session.standing ≡ Some question
-    → fits (question_of question) answer ≡ true → Grows mid trace' (record { event = events.Told answer; starved = starved }) → is_closed trace'.session.state ≡ false → questions_left trace'.session.standing < questions_left mid.session.standing
+left_told : (mid trace' : TraceView) (question : Question) (answer : Answer) (starved : Bool) → is_closed mid.session.state ≡ false → standing_question mid.session ≡ Some question
+    → fits question answer ≡ true → Grows mid trace' (record { event = events.Told answer; starved = starved }) → is_closed trace'.session.state ≡ false → questions_left trace'.session.standing < questions_left mid.session.standing
 left_told mid trace' question answer starved going stands fit g after =
-    let fewer : is_closed (next_step mid (record { event = events.Told answer; starved = starved })).session.state ≡ false
-    → questions_left (next_step mid (record { event = events.Told answer; starved = starved })).session.standing < questions_left mid.session.standing =
-    entry_cases (λ made. is_closed made.session.state ≡ false → questions_left made.session.standing < questions_left mid.session.standing) mid.total.entries mid.session (record { event = events.Told answer; starved = starved }) going
-    (λ _ x. absurd cc) (λ _ _ x. absurd cc) (λ _ _ x. told_fewer_of mid.session.standing mid.session question answer stands fit x) in
-    subst (λ (s : SessionState). questions_left s.standing < questions_left mid.session.standing) (sym g.session) (fewer (ap (λ (s : SessionState). is_closed s.state) (sym g.session) ∙ after))
+    subst (λ (s : SessionState). questions_left s.standing < questions_left mid.session.standing) (sym g.session)
+    (entry_fewer mid.total.entries mid.session question answer starved going stands fit (ap (λ (s : SessionState). is_closed s.state) (sym g.session) ∙ after))
 
 -- what the hall made of the question leaves fewer
-pub left_asked : {H : Type 0} (told : H → BadgeState → List Reply → H → BadgeState → Type 0) (refused : H → BadgeState → Fault → Type 0) (hall hall' : H) (badge badge' : BadgeState) (trace mid trace' : TraceView) (question : Ask) (event : Event) (starved : Bool)
-    → open_question trace ≡ Some question → Rests trace mid → AnswerOf told refused hall badge hall' badge' (question_of question) event → Grows mid trace' (record { event = event; starved = starved }) → left_of trace' < left_of trace
+pub left_asked : {H : Type 0} (told : H → BadgeState → List Reply → H → BadgeState → Type 0) (refused : H → BadgeState → Fault → Type 0) (hall hall' : H) (badge badge' : BadgeState) (trace mid trace' : TraceView) (question : Question) (event : Event) (starved : Bool)
+    → open_question trace ≡ Some question → IsAsBefore trace mid → AnswerOf told refused hall badge hall' badge' question event → Grows mid trace' (record { event = event; starved = starved }) → left_of trace' < left_of trace
 left_asked told refused hall hall' badge badge' trace mid trace' question (events.Told answer) starved stands r a g =
     let q = question_open trace question stands in
     let by_state : (b : Bool) → is_closed trace'.session.state ≡ b → left_of trace' < left_of trace =
     elim [
       | true ↦ λ s. left_over trace trace' question stands s
       | false ↦ λ s.
-          let fewer = left_told mid trace' question answer starved (rest_open trace mid r q.0) (ap (λ (x : SessionState). standing_question x.standing) r.session ∙ q.1) a.1 g s in
+          let fewer = left_told mid trace' question answer starved (rest_open trace mid r q.0) (ap standing_question r.session ∙ q.1) a.1 g s in
           let after = left_open trace' s in
           let before = left_open trace q.0 in
           let same = ap (λ (x : SessionState). questions_left x.standing) r.session in
@@ -496,8 +493,34 @@ left_asked told refused hall hall' badge badge' trace mid trace' question events
 left_asked told refused hall hall' badge badge' trace mid trace' question events.ReaderEnd starved stands r a g = absurd a
 left_asked told refused hall hall' badge badge' trace mid trace' question events.WriteFault starved stands r a g = absurd a
 
+-- after an answer that left fewer, what is asked is what stands
+pub asks_next : (trace mid trace' : TraceView) (question : Question) (asked : Option Question) → open_question trace ≡ Some question → IsAsBefore trace mid → AsksWhatStands mid.session trace'.session asked → left_of trace' < left_of trace → IsWhatStands trace' asked
+asks_next trace mid trace' question asked stands r (inl is) fewer going = is
+asks_next trace mid trace' question asked stands r (inr same) fewer going =
+    let e : trace'.session ≡ trace.session = same.1 ∙ r.session in
+    absurd (omega (arith, fewer, left_open trace' going, left_open trace (question_open trace question stands).0, ap (λ (s : SessionState). questions_left s.standing) e))
+
+-- what an input makes a session ask stands, where nothing stood before it
+pub asks_first : (mid trace' : TraceView) (asked : Option Question) → mid.session.standing ≡ None → AsksWhatStands mid.session trace'.session asked → IsWhatStands trace' asked
+asks_first mid trace' asked free (inl is) going = is
+asks_first mid trace' asked free (inr same) going = same.0 ∙ sym (no_question trace'.session (ap (λ (s : SessionState). s.standing) same.1 ∙ free))
+
+-- whatever is asked may be asked on
+pub may_ask : (before after : SessionState) (trace : TraceView) (asked : Option Question) → AsksWhatStands before after asked → (is_closed trace.session.state ≡ false → trace.session ≡ after) → MayAsk trace asked
+may_ask before after trace asked (inl is) kept question some going = ap standing_question (kept going) ∙ sym is ∙ some
+may_ask before after trace asked (inr same) kept question some going = absurd (let clash : None ≡ Some question = sym same.0 ∙ some in cc)
+
+pub may_ask_on : (trace : TraceView) (asked : Option Question) → IsWhatStands trace asked → MayAsk trace asked
+may_ask_on trace asked is question some going = sym (is going) ∙ some
+
+-- what stands goes on to where the trace is as it was, if it goes on
+pub stands_on : (trace trace' : TraceView) (asked : Option Question) → (is_closed trace'.session.state ≡ false → trace' ≡ trace) → IsWhatStands trace asked → IsWhatStands trace' asked
+stands_on trace trace' asked kept is going =
+    let same : trace' ≡ trace = kept going in
+    is (ap (λ (t : TraceView). is_closed t.session.state) (sym same) ∙ going) ∙ ap (λ (t : TraceView). standing_question t.session) (sym same)
+
 -- a step that ends the session has nothing to send
-pub silent_step : (trace trace' : TraceView) (event : Event) (sent : List Message) (asked : Option Ask) → IsOpen trace → TraceSteps trace trace' event sent asked → is_closed trace'.session.state ≡ true → sent ≡ []
+pub silent_step : (trace trace' : TraceView) (event : Event) (sent : List Message) (asked : Option Question) → IsOpen trace → TraceSteps trace trace' event sent asked → is_closed trace'.session.state ≡ true → sent ≡ []
 silent_step trace trace' event sent asked going t closed = t.messages ∙ silent_more trace trace' (record { event = event; starved = t.starved }) going t.grows closed
 
 -- ---- sending
@@ -596,7 +619,7 @@ record IsPlain (event : Event) : Type 0 where
   no_write : is_write_fault (kind_of event) ≡ false
   no_hall : is_hall_full (kind_of event) ≡ false
   no_shortage : is_no_memory (kind_of event) ≡ false
-  replies_none : (standing : Option Ask) → replies_to standing event ≡ []
+  replies_none : (standing : Option Question) → replies_to standing event ≡ []
 
 input_plain : (event : Event) → is_input (kind_of event) ≡ true → IsPlain event
 input_plain (events.Said item) e = record { no_tick = refl; no_write = refl; no_hall = refl; no_shortage = refl; replies_none = elim [ None ↦ refl | Some q ↦ refl ] }
@@ -610,8 +633,8 @@ input_plain events.WriteFault e = absurd cc
 
 -- an input was given, and its messages are on their way
 pub accounts_input : {H : Type 0} (told : H → BadgeState → List Reply → H → BadgeState → Type 0) (refused : H → BadgeState → Fault → Type 0) (oracle : IsOracle told refused) (from : Origin H) (trace mid trace' : TraceView) (hall : H) (badge : BadgeState)
-    (held : Option (List ℕ)) (failed : Bool) (written : ℕ) (inputs : List Event) (event : Event) (sent : List Message) (asked : Option Ask)
-    → IsOpen trace → Rests trace mid → is_input (kind_of event) ≡ true → TraceSteps mid trace' event sent asked
+    (held : Option (List ℕ)) (failed : Bool) (written : ℕ) (inputs : List Event) (event : Event) (sent : List Message) (asked : Option Question)
+    → IsOpen trace → IsAsBefore trace mid → is_input (kind_of event) ≡ true → TraceSteps mid trace' event sent asked
     → Settled told refused from (progress trace hall badge held failed written) inputs false → Underway told refused from (progress trace' hall badge held failed written) (inputs ++ event ∷ []) (texts sent) false
 accounts_input told refused oracle from trace mid trace' hall badge held failed written inputs event sent asked going r input t s =
     let p = input_plain event input in
@@ -622,7 +645,7 @@ accounts_input told refused oracle from trace mid trace' hall badge held failed 
     record {
       failed_told = λ h. not_both (is_write_fault (kind_of event)) p.no_write h;
       full_told = λ h. not_both (is_hall_full (kind_of event)) p.no_hall h;
-      told_next = subst (λ (rs : List Reply). told hall badge rs hall badge) (sym (p.replies_none (standing_question mid.session.standing))) (oracle.none hall badge);
+      told_next = subst (λ (rs : List Reply). told hall badge rs hall badge) (sym (p.replies_none (standing_question mid.session))) (oracle.none hall badge);
       no_tick = p.no_tick;
       free = λ h. free;
     } in

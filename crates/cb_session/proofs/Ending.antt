@@ -11,10 +11,11 @@ use Rattle.cb_hall.specs.Histories.{Reply}
 use Rattle.cb_peer.specs.declared.settings.Settings.{Settings}
 use Rattle.cb_peer.specs.declared.event.Event.{Event}
 use Rattle.cb_peer.specs.declared.event.Event.TheVariants as events
-use Rattle.cb_peer.specs.Session.{SessionState, is_closed, openings}
-use Rattle.cb_peer.specs.Fold.{account_of, session_of}
-use Rattle.cb_peer.specs.Prompt.{NoneStands}
-use Rattle.cb_peer.specs.Trace.{StandsFor, TraceView}
+use Rattle.cb_peer.specs.Session.{openings}
+use Rattle.cb_peer.specs.State.{SessionState, is_closed}
+use Rattle.cb_trace.specs.Fold.{account_of, session_of}
+use Rattle.cb_trace.specs.Prompt.{NoneStands}
+use Rattle.cb_trace.specs.Trace.{StandsFor, TraceView}
 use Rattle.cb_session.specs.declared.reading.ReadEnd.{ReadEnd}
 use Rattle.cb_session.specs.declared.reading.ReadEnd.TheVariants as ends
 use Rattle.cb_session.specs.Conversation.{Gave, IsAnswered, Origin, Progress, Settled, Underway, origin_of, progress}
@@ -132,6 +133,11 @@ underway_first told refused oracle settings trace hall badge held failed message
 pub first_free : (old new : TraceView) → StandsFor old [] → (is_closed new.session.state ≡ false → new ≡ old) → IsAnswered new
 unfolding account_of
 first_free old new stands kept going = ap (λ (t : TraceView). t.session.standing) (kept going) ∙ ap (λ (s : SessionState). s.standing) stands.session
+
+-- and it goes on
+pub first_open : (trace : TraceView) → StandsFor trace [] → is_closed trace.session.state ≡ false
+unfolding account_of
+first_open trace stands = ap (λ (s : SessionState). is_closed s.state) stands.session
 
 -- nothing was heard yet
 pub heard_first : {H : Type 0} (told : H → BadgeState → List Reply → H → BadgeState → Type 0) (refused : H → BadgeState → Fault → Type 0) (from : Origin H) (input : Option (List ℕ)) (now : Progress H) (assembled : Assembled) → assembled ≡ record { rest = []; fault = None } → Settled told refused from now [] false → HeardBy told refused from input input now assembled 0

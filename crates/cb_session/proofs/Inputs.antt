@@ -15,26 +15,19 @@ use Rattle.cb_wire.specs.Envelope.{front_at}
 use Rattle.cb_wire.specs.Stream.{Assembled, Ends, Stream}
 use Rattle.cb_wire.proofs.Streams.{Stream-grows, reading_of}
 use Rattle.cb_io.proofs.Known.{Consumes-nothing, Consumes-then}
-use Rattle.cb_journal.specs.declared.answer.Answer.{Answer}
-use Rattle.cb_journal.specs.declared.answer.Answer.TheVariants as answers
 use Rattle.cb_hall.specs.Badge.{BadgeState}
 use Rattle.cb_hall.specs.Histories.{Reply}
-use Rattle.cb_peer.specs.declared.ask.Ask.{Ask}
-use Rattle.cb_peer.specs.declared.ask.Ask.TheVariants.{Admit}
 use Rattle.cb_peer.specs.declared.settings.Settings.{Settings}
 use Rattle.cb_peer.specs.declared.event.Event.{Event}
 use Rattle.cb_peer.specs.declared.event.Event.TheVariants as events
 use Rattle.cb_peer.specs.declared.state.State.{State}
 use Rattle.cb_peer.specs.declared.state.State.TheVariants.{Start, Closed}
-use Rattle.cb_peer.specs.declared.state.CloseReason.{CloseReason}
-use Rattle.cb_peer.specs.declared.state.CloseReason.TheVariants as reasons
 use Rattle.cb_peer.specs.declared.state.CloseReason.TheVariants.{Bye}
-use Rattle.cb_peer.specs.declared.session.Standing.{Standing}
-use Rattle.cb_peer.specs.declared.trace.TraceEntry.{TraceEntry}
+use Rattle.cb_trace.specs.declared.trace.TraceEntry.{TraceEntry}
 use Rattle.cb_peer.specs.Event.{is_input, is_reader_end, kind_of}
-use Rattle.cb_peer.specs.Session.{SessionState, answered, arrives, closes, freed, is_closed, open_step, processed, stays, told as told_step}
-use Rattle.cb_peer.specs.Fold.{Account, EachOpen, account_of, account_step, entry_step, first_account, inputs_of, session_of}
-use Rattle.cb_peer.proofs.Folds.{entry_cases}
+use Rattle.cb_peer.specs.State.{SessionState, is_closed}
+use Rattle.cb_trace.specs.Fold.{Account, EachOpen, account_of, account_step, entry_step, first_account, inputs_of, session_of}
+use Rattle.cb_trace.proofs.Entries.{entry_bye}
 use Rattle.cb_session.specs.declared.reading.ReadEnd.{ReadEnd}
 use Rattle.cb_session.specs.declared.reading.ReadEnd.TheVariants as ends
 use Rattle.cb_session.specs.Conversation.{Accounts, Gave, GaveItem, Origin, Progress, Settled}
@@ -61,9 +54,6 @@ some_later inputs later whole parts some same = some (append_self inputs later (
 said_some : (items : List Item) → items ≢ [] → said items ≢ []
 said_some [] some e = some refl
 said_some (item ∷ items) some e = cc
-
-reason_is : (a b : CloseReason) → Closed a ≡ Closed b → a ≡ b
-reason_is a b e = cc
 
 said_more : (xs ys : List Item) → said (xs ++ ys) ≡ said xs ++ said ys
 said_more xs ys = map-append (λ item. events.Said item) xs ys
@@ -322,55 +312,9 @@ or_left : (a b : Bool) → (a || b) ≡ false → a ≡ false
 or_left true b e = e
 or_left false b e = refl
 
-clash_reason : (why : CloseReason) → Closed why ≡ Closed Bye → (why ≡ Bye → ⊥) → ⊥
-clash_reason why e h = h (reason_is why Bye e)
-
 -- the session was closed by the peer's end before, or P holds
 abbrev pub WasBye : State → Type 0 → Type 0
 WasBye state P = (state ≡ Closed Bye) ⊎ P
-
-arrives_bye : (standing : Option Standing) (s : SessionState) (item : Option Item) {P : Type 0} → (arrives standing s item).session.state ≡ Closed Bye → WasBye s.state P
-arrives_bye None s item e = inl e
-arrives_bye (Some other) s item e = inl e
-
-processed_bye : (s : SessionState) (item : Option Item) {P : Type 0} → (processed s item).session.state ≡ Closed Bye → WasBye s.state P
-processed_bye s None e = inl e
-processed_bye s (Some (Good message)) e = inl e
-processed_bye s (Some Damaged) e = inl e
-processed_bye s (Some (Bad command fault)) e = absurd (clash_reason reasons.BadMessage e (λ r. let x : reasons.BadMessage ≡ Bye = r in cc))
-
-answered_bye : (s : SessionState) (item : Option Item) (question : Ask) (answer : Answer) {P : Type 0} → (answered s item question answer).session.state ≡ Closed Bye → WasBye s.state P
-answered_bye s item question answers.Kicked e = absurd (clash_reason reasons.Kicked e (λ r. let x : reasons.Kicked ≡ Bye = r in cc))
-answered_bye s item Admit answers.Go e = processed_bye (freed s) item e
-answered_bye s item question other e = inl e
-
-told_bye : (standing : Option Standing) (s : SessionState) (answer : Answer) {P : Type 0} → (told_step standing s answer).session.state ≡ Closed Bye → WasBye s.state P
-told_bye None s answer e = inl e
-told_bye (Some standing) s answer e = answered_bye s standing.item standing.question answer e
-
--- the session was closed by the peer's end, before the step or by it
-step_bye : (s : SessionState) (event : Event) → (open_step s event).session.state ≡ Closed Bye → WasBye s.state (is_reader_end event ≡ true)
-step_bye s (events.Said item) e = arrives_bye s.standing s (Some item) e
-step_bye s (events.Broken fault) e = absurd (clash_reason reasons.BadStream e (λ r. let x : reasons.BadStream ≡ Bye = r in cc))
-step_bye s events.Tick e = arrives_bye s.standing s None e
-step_bye s (events.Told answer) e = told_bye s.standing s answer e
-step_bye s events.ReaderEnd e = inr refl
-step_bye s events.NoMemory e = absurd (clash_reason reasons.Memory e (λ r. let x : reasons.Memory ≡ Bye = r in cc))
-step_bye s events.HallFull e = absurd (clash_reason reasons.HallFull e (λ r. let x : reasons.HallFull ≡ Bye = r in cc))
-step_bye s events.WriteFault e = absurd (clash_reason reasons.WriteFault e (λ r. let x : reasons.WriteFault ≡ Bye = r in cc))
-
-entry_bye_by : (count : ℕ) (s : SessionState) (entry : TraceEntry) (b : Bool) → is_closed s.state ≡ b → (entry_step count s entry).session.state ≡ Closed Bye → WasBye s.state (is_reader_end entry.event ≡ true)
-entry_bye_by count s entry true closed e =
-    inl (sym (ap (λ b. (cond b (stays s) (cond (eqb (count + 1) (2 ^ 62)) (closes reasons.TraceFull s) (cond entry.starved (closes reasons.Memory s) (open_step s entry.event)))).session.state) closed) ∙ e)
-entry_bye_by count s entry false going e =
-    entry_cases (λ made. made.session.state ≡ Closed Bye → WasBye s.state (is_reader_end entry.event ≡ true)) count s entry going
-    (λ _ x. absurd (clash_reason reasons.TraceFull x (λ r. let y : reasons.TraceFull ≡ Bye = r in cc)))
-    (λ _ _ x. absurd (clash_reason reasons.Memory x (λ r. let y : reasons.Memory ≡ Bye = r in cc)))
-    (λ _ _ x. step_bye s entry.event x)
-    e
-
-entry_bye : (count : ℕ) (s : SessionState) (entry : TraceEntry) → (entry_step count s entry).session.state ≡ Closed Bye → WasBye s.state (is_reader_end entry.event ≡ true)
-entry_bye count s entry e = entry_bye_by count s entry (is_closed s.state) refl e
 
 bye_fold : (account : Account) (entries : List TraceEntry) → (fold account_step account entries).session.state ≡ Closed Bye → WasBye account.session.state (has_end entries ≡ true)
 bye_fold account [] e = inl e

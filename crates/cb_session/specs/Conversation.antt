@@ -1,5 +1,5 @@
 -- A conversation: what has come in, what went out, and what was asked and told, at any moment.
-use Rattle.std.specs.Prelude.{◌≡◌, ◌≢◌, ℕ, ◌⊎◌, Bool, true, false, List, [], ◌∷◌, ◌++◌, Option, None, if◌then◌else◌}
+use Rattle.std.specs.Prelude.{◌≡◌, ◌≢◌, ℕ, ◌⊎◌, Bool, true, false, List, [], ◌∷◌, ◌++◌, Option, None, Some, if◌then◌else◌}
 use Rattle.cb_base.specs.declared.fault.Fault.{Fault}
 use Rattle.cb_base.specs.declared.fault.Fault.TheVariants.{JournalFull, Memory}
 use Rattle.cb_wire.specs.declared.item.Item.{Item}
@@ -8,17 +8,16 @@ use Rattle.cb_io.specs.Writing.{Wrote}
 use Rattle.cb_hall.specs.Badge.{BadgeState}
 use Rattle.cb_hall.specs.Histories.{Reply}
 use Rattle.cb_journal.specs.declared.question.Question.{Question}
-use Rattle.cb_peer.specs.declared.ask.Ask.{Ask}
 use Rattle.cb_peer.specs.declared.settings.Settings.{Settings}
 use Rattle.cb_peer.specs.declared.event.Event.{Event}
 use Rattle.cb_peer.specs.declared.event.Event.TheVariants as events
-use Rattle.cb_peer.specs.declared.trace.TraceEntry.{TraceEntry}
-use Rattle.cb_peer.specs.Ask.{fits}
+use Rattle.cb_trace.specs.declared.trace.TraceEntry.{TraceEntry}
+use Rattle.cb_peer.specs.Ask.{fits, questions_left, standing_question}
 use Rattle.cb_peer.specs.Event.{ends_at_once, is_hall_full, is_no_memory, is_tick, is_write_fault, kind_of, loses}
-use Rattle.cb_peer.specs.Session.{is_closed, questions_left, standing_question}
-use Rattle.cb_peer.specs.Fold.{first_account, has_kind, inputs_of, replies, sends}
-use Rattle.cb_peer.specs.Prompt.{EachPrompt}
-use Rattle.cb_peer.specs.Trace.{StandsFor, TraceView}
+use Rattle.cb_peer.specs.State.{is_closed}
+use Rattle.cb_trace.specs.Fold.{first_account, has_kind, inputs_of, replies, sends}
+use Rattle.cb_trace.specs.Prompt.{EachPrompt}
+use Rattle.cb_trace.specs.Trace.{LacksBase, StandsFor, TraceView}
 
 -- where a conversation began: the settings, the hall and the badge, what the sink held and whether it had failed
 pub record Origin (H : Type 0) : Type 0 where
@@ -43,10 +42,19 @@ pub record Progress (H : Type 0) : Type 0 where
 abbrev pub progress : {H : Type 0} → TraceView → H → BadgeState → Option (List ℕ) → Bool → ℕ → Progress H
 progress trace hall badge held failed written = record { trace = trace; hall = hall; badge = badge; held = held; failed = failed; written = written }
 
+-- before its last entry, NoMemory, a checkpoint of the trace was due for which memory is taken
+pub record HadNoBase (trace : TraceView) : Type 0 where
+  pub before : TraceView
+  pub lacks : LacksBase before trace
+
+-- a trace has no place for another entry, or had none for a checkpoint
+abbrev pub HasNoPlace : TraceView → Type 0
+HasNoPlace trace = (trace.room ≡ 0) ⊎ HadNoBase trace
+
 -- Memory lacked in a conversation: its trace has no place for another entry, the hall refused a question for want of it, or
 -- what was to be written wasn't.
 abbrev pub Lacked : {H : Type 0} → (H → BadgeState → Fault → Type 0) → Progress H → List ℕ → Type 0
-Lacked refused now missing = (now.trace.room ≡ 0) ⊎ (refused now.hall now.badge Memory ⊎ (missing ≢ []))
+Lacked refused now missing = HasNoPlace now.trace ⊎ (refused now.hall now.badge Memory ⊎ (missing ≢ []))
 
 -- The account of a conversation: these inputs were given, these bytes of what was sent are missing, whether something came
 -- by which bytes may be, and whether something that came of the peer may not have been kept, for want of memory. What the
@@ -116,8 +124,16 @@ abbrev pub left_of : TraceView → ℕ
 left_of trace = if is_closed trace.session.state then 0 else questions_left trace.session.standing
 
 -- the question that stands, while the session goes on
-abbrev pub open_question : TraceView → Option Ask
-open_question trace = if is_closed trace.session.state then None else standing_question trace.session.standing
+abbrev pub open_question : TraceView → Option Question
+open_question trace = if is_closed trace.session.state then None else standing_question trace.session
+
+-- this is the question that stands, or there is none to be asked, while the session goes on
+abbrev pub MayAsk : TraceView → Option Question → Type 0
+MayAsk trace next = (question : Question) → next ≡ Some question → is_closed trace.session.state ≡ false → standing_question trace.session ≡ Some question
+
+-- this is what stands, while the session goes on: a question, or none
+abbrev pub IsWhatStands : TraceView → Option Question → Type 0
+IsWhatStands trace next = is_closed trace.session.state ≡ false → next ≡ standing_question trace.session
 
 -- an event that ends the session at once and by which messages may be lost: no memory, or a write that failed
 pub record IsLoss (event : Event) : Type 0 where

@@ -12,11 +12,11 @@ use Rattle.cb_peer.specs.declared.state.State.TheVariants.{Closed}
 use Rattle.cb_peer.specs.declared.state.CloseReason.TheVariants.{Bye}
 use Rattle.cb_peer.specs.declared.event.Event.{Event}
 use Rattle.cb_peer.specs.declared.event.Event.TheVariants as events
-use Rattle.cb_peer.specs.declared.trace.TraceEntry.{TraceEntry}
+use Rattle.cb_trace.specs.declared.trace.TraceEntry.{TraceEntry}
 use Rattle.cb_peer.specs.Event.{is_reader_end}
-use Rattle.cb_peer.specs.Session.{is_closed}
-use Rattle.cb_peer.specs.Fold.{EachOpen, first_account, inputs_of, session_of}
-use Rattle.cb_peer.specs.Prompt.{IsPrompt}
+use Rattle.cb_peer.specs.State.{is_closed}
+use Rattle.cb_trace.specs.Fold.{EachOpen, first_account, inputs_of, session_of}
+use Rattle.cb_trace.specs.Prompt.{IsPrompt}
 use Rattle.cb_session.specs.declared.reading.ReadEnd.{ReadEnd}
 use Rattle.cb_session.specs.declared.reading.ReadEnd.TheVariants as ends
 use Rattle.cb_session.specs.Conversation.{Origin, Progress, Settled}

@@ -3,18 +3,19 @@ ghost use Rattle.std.specs.Prelude.{◌≡◌, ◌≢◌, ◌⊎◌, ◌<◌, �
 ghost use Rattle.cb_wire.specs.Stream.{texts};
 ghost use Rattle.cb_wire.specs.declared.item.Item.{Item};
 ghost use Rattle.cb_io.specs.Writing.{IsOfSink};
-ghost use Rattle.cb_peer.specs.Ask.{question_of};
 ghost use Rattle.cb_peer.specs.declared.event.Event.{Event};
 ghost use Rattle.cb_peer.specs.declared.event.Event.TheVariants as events;
 ghost use Rattle.cb_peer.specs.Event.{ends_at_once, is_input, is_no_memory, is_write_fault, kind_of, loses};
-ghost use Rattle.cb_peer.specs.Session.{is_closed, standing_question};
-ghost use Rattle.cb_peer.specs.Trace.{IsOpen};
-ghost use Rattle.cb_session.specs.Conversation.{Accounts, AnswerOf, Gave, GaveItem, IsLoss, Origin, Sent, Settled, Underway, WritesOn, left_of, open_question, progress};
+ghost use Rattle.cb_peer.specs.State.{is_closed};
+ghost use Rattle.cb_trace.specs.Trace.{IsOpen};
+ghost use Rattle.cb_session.specs.Conversation.{Accounts, AnswerOf, Gave, GaveItem, IsLoss, IsWhatStands, MayAsk, Origin, Sent, Settled, Underway, WritesOn, left_of, open_question, progress};
 
 use cb_base::{Fault, Shared};
 use cb_hall::Badge;
 use cb_io::{Sink, WriteFault, write_out};
-use cb_peer::{Ask, Event, Oracle, State, Trace};
+use cb_journal::Question;
+use cb_peer::{Event, State};
+use cb_trace::{Oracle, Trace};
 use cb_wire::{BoundedMessage, Item};
 use std::alloc::Global;
 
@@ -98,55 +99,53 @@ impl<'a, W: Sink, H: Oracle> Conversation<'a, W, H> {
         if !self.trace.ready() {
             return;
         }
-        let (sent, _question) = self.trace.step(event);
+        let (sent, question) = self.trace.step(event);
         self.send(alloc, sent.as_slice());
-        self.converse(alloc);
+        self.converse(alloc, question);
     }
 
-    /// Asks the hall what the session asks, and writes what it sends to the answers, until no question stands.
-    pub fn converse(&mut self, alloc: Global)
+    /// Asks the hall the question that stands, if there is one, writes what the session sends to the answer, and goes on with
+    /// what it asks then, until no question stands.
+    pub fn converse(&mut self, alloc: Global, question: Option<Question>)
+        requires stands { MayAsk self.old.trace.now question }
         ensures ends { (self.new.trace.ghost_name ≡ self.old.trace.ghost_name) × (self.new.writer.ghost_name ≡ self.old.writer.ghost_name) × (self.new.hall.ghost_name ≡ self.old.hall.ghost_name) × (self.new.badge.ghost_name ≡ self.old.badge.ghost_name) }
         ensures heeds { WritesOn self.old.trace.now (W.has_failed self.old.writer.now) → W.heeds_failure self.old.writer.now self.new.writer.now × WritesOn self.new.trace.now (W.has_failed self.new.writer.now) }
         ensures stays { is_closed self.old.trace.now.session.state ≡ true → is_closed self.new.trace.now.session.state ≡ true }
         ensures settled { (from : Origin _) (inputs : List Event) →
+            IsWhatStands self.old.trace.now question →
             Sent H.told H.refused from (progress self.old.trace.now self.old.hall.now self.old.badge.now (W.contents self.old.writer.now) (W.has_failed self.old.writer.now) self.old.written) inputs false →
             Settled H.told H.refused from (progress self.new.trace.now self.new.hall.now self.new.badge.now (W.contents self.new.writer.now) (W.has_failed self.new.writer.now) self.new.written) inputs false }
     {
-        while let Some(question) = self.question() {
-            let messages = self.ask(alloc, question);
+        let mut next = question;
+        while let Some(question) = next {
+            if self.trace.state().is_closed() {
+                return;
+            }
+            let (messages, asked) = self.ask(alloc, question);
             self.send(alloc, messages.as_slice());
+            next = asked;
         }
     }
 
-    /// The question that stands, while the session goes on.
-    fn question(&self) -> Option<Ask>
-        ensures { result ≡ open_question self.now.trace.now }
-    {
-        if self.trace.state().is_closed() {
-            return None;
-        }
-        self.trace.question()
-    }
-
-    /// Asks the hall the question that stands, and gives the session the answer: what it sends then. The place of the
-    /// answer is made before the hall is asked. Nothing is on its way while the hall is asked.
-    fn ask(&mut self, alloc: Global, question: Ask) -> Vec<BoundedMessage>
+    /// Asks the hall the question that stands, and gives the session the answer: what it sends then, and what it asks. The
+    /// place of the answer is made before the hall is asked. Nothing is on its way while the hall is asked.
+    fn ask(&mut self, alloc: Global, question: Question) -> (Vec<BoundedMessage>, Option<Question>)
         requires stands { open_question self.old.trace.now ≡ Some question }
         ensures ends { (self.new.trace.ghost_name ≡ self.old.trace.ghost_name) × (self.new.writer.ghost_name ≡ self.old.writer.ghost_name) × (self.new.hall.ghost_name ≡ self.old.hall.ghost_name) × (self.new.badge.ghost_name ≡ self.old.badge.ghost_name) }
         ensures sink { self.new.writer.now ≡ self.old.writer.now }
         ensures written { self.new.written ≡ self.old.written }
         ensures accounts { (from : Origin _) (inputs : List Event) (held : Option (List ℕ)) (failed : Bool) (written : ℕ) →
             Accounts H.told H.refused from (progress self.old.trace.now self.old.hall.now self.old.badge.now held failed written) inputs [] false false →
-            Underway H.told H.refused from (progress self.new.trace.now self.new.hall.now self.new.badge.now held failed written) inputs (texts result.items) false }
+            Underway H.told H.refused from (progress self.new.trace.now self.new.hall.now self.new.badge.now held failed written) inputs (texts result.0.items) false }
+        ensures asks { IsWhatStands self.new.trace.now result.1 }
         ensures fewer { left_of self.new.trace.now < left_of self.old.trace.now }
-        ensures silent { is_closed self.new.trace.now.session.state ≡ true → result.items ≡ [] }
+        ensures silent { is_closed self.new.trace.now.session.state ≡ true → result.0.items ≡ [] }
     {
         if !self.trace.ready() {
-            return Vec::new(alloc);
+            return (Vec::new(alloc), None);
         }
         let event = ask_hall(self.hall, self.badge, question);
-        let (messages, _question) = self.trace.step(event);
-        messages
+        self.trace.step(event)
     }
 
     /// Writes the messages of a step, all in one write. Where that ends early the trace is told, which ends it.
@@ -206,10 +205,10 @@ fn share(alloc: Global, item: Item) -> Option<Shared<Item>>
 }
 
 /// Asks the hall what a session asks. What it makes of it is an event.
-fn ask_hall<H: Oracle>(hall: &mut H, badge: &mut Badge, asked: Ask) -> Event
-    ensures { AnswerOf H.told H.refused hall.old badge.old hall.new badge.new (question_of asked) result }
+fn ask_hall<H: Oracle>(hall: &mut H, badge: &mut Badge, question: Question) -> Event
+    ensures { AnswerOf H.told H.refused hall.old badge.old hall.new badge.new question result }
 {
-    match hall.ask(badge, asked.question()) {
+    match hall.ask(badge, question) {
         Ok(answer) => Event::Told(answer),
         Err(fault) if fault == Fault::JournalFull => Event::HallFull,
         Err(_) => Event::NoMemory,

@@ -3,14 +3,15 @@ ghost use Rattle.std.specs.Prelude.{◌≡◌, ◌++◌, false, List, ℕ};
 ghost use Rattle.cb_wire.specs.declared.item.Item.{Item};
 ghost use Rattle.cb_wire.specs.Stream.{Stream};
 ghost use Rattle.cb_peer.specs.declared.event.Event.{Event};
-ghost use Rattle.cb_peer.specs.Session.{is_closed};
-ghost use Rattle.cb_peer.specs.Trace.{IsOpen};
+ghost use Rattle.cb_peer.specs.State.{is_closed};
+ghost use Rattle.cb_trace.specs.Trace.{IsOpen};
 ghost use Rattle.cb_session.specs.Conversation.{Origin, Settled, WritesOn, progress};
 ghost use Rattle.cb_session.specs.Serving.{Pieced, Took, said};
 
 use crate::conversation::Conversation;
 use cb_io::Sink;
-use cb_peer::{Event, Oracle};
+use cb_peer::Event;
+use cb_trace::Oracle;
 use cb_wire::{Assembler, Fed, Item};
 use std::alloc::Global;
 

@@ -11,9 +11,8 @@ mod tests;
 pub use cb_hall::{Badge, Hall};
 pub use cb_io::{In, Out, Sink, SinkFailure, Source, WriteEnd, WriteFault, write_out};
 pub use cb_journal::{Answer, Entry, Question};
-pub use cb_peer::{
-    Ask, CloseReason, Counts, Event, Oracle, Session, Settings, Standing, State, Trace, TraceEntry,
-};
+pub use cb_peer::{Ask, CloseReason, Event, Session, Settings, Standing, State};
+pub use cb_trace::{Counts, Oracle, Trace, TraceEntry};
 pub use conversation::Conversation;
 pub use reading::{ReadEnd, Reading};
 pub use serving::{Served, serve, serve_by};

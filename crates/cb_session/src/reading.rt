@@ -1,13 +1,13 @@
 //! Reading a peer's stream, to its end or to that of its session.
 ghost use Rattle.std.specs.Prelude.{◌≡◌, ◌≢◌, ◌≤◌, ◌↔◌, true, false, IsTrue, List, [], ℕ, Option, None, length};
-ghost use Rattle.cb_peer.specs.Session.{is_closed};
+ghost use Rattle.cb_peer.specs.State.{is_closed};
 ghost use Rattle.cb_session.specs.Conversation.{Origin, WritesOn, progress};
 ghost use Rattle.cb_session.specs.Serving.{Heard, HeardBy};
 
 use crate::conversation::Conversation;
 use crate::hearing::hear_piece;
 use cb_io::{Sink, Source};
-use cb_peer::Oracle;
+use cb_trace::Oracle;
 use cb_wire::Assembler;
 use std::alloc::Global;
 

@@ -1,7 +1,7 @@
 ghost use Rattle.std.specs.Prelude.{◌≡◌, ◌≢◌, ◌≤◌, true, false, Bool, List, [], ℕ, Option, None, IfOk, IsOkUnless, OnErr, length};
 ghost use Rattle.cb_base.specs.declared.fault.Fault.TheVariants.{Memory};
 ghost use Rattle.cb_hall.specs.Histories.{Asks, IsRefused};
-ghost use Rattle.cb_peer.specs.Session.{is_closed};
+ghost use Rattle.cb_peer.specs.State.{is_closed};
 ghost use Rattle.cb_session.specs.Conversation.{Origin, Settled, WritesOn, origin_of, progress};
 ghost use Rattle.cb_session.specs.Serving.{Heard, Serves};
 
@@ -10,7 +10,8 @@ use crate::reading::{ReadEnd, Reading};
 use cb_base::Fault;
 use cb_hall::{Badge, Hall};
 use cb_io::{Sink, Source};
-use cb_peer::{Event, Oracle, Settings, Trace};
+use cb_peer::{Event, Settings};
+use cb_trace::{Oracle, Trace};
 use cb_wire::Assembler;
 use std::alloc::Global;
 
@@ -18,7 +19,7 @@ use std::alloc::Global;
 const READ_SIZE: usize = 65_536;
 
 /// What serving a connection came to.
-#[derive(Debug, Drop)]
+#[derive(Drop)]
 pub struct Served {
     /// The session, and its events since the last checkpoint.
     pub trace: Trace,

@@ -212,9 +212,21 @@ fn serve_with(
     hall: &mut Hall,
     badge: &mut Badge,
 ) -> Result<Outcome, Fail> {
+    serve_as(alloc, SETTINGS, pieces, room, hall, badge)
+}
+
+/// The same with other settings.
+fn serve_as(
+    alloc: Global,
+    settings: Settings,
+    pieces: Pieces,
+    room: Room,
+    hall: &mut Hall,
+    badge: &mut Badge,
+) -> Result<Outcome, Fail> {
     let mut reader = In::new(pieces);
     let mut writer = Out::new(room);
-    let served = serve(alloc, &mut reader, &mut writer, hall, badge, SETTINGS)?;
+    let served = serve(alloc, &mut reader, &mut writer, hall, badge, settings)?;
     Ok(Outcome {
         state: served.trace.state(),
         read: served.read,
@@ -588,10 +600,9 @@ fn a_ping_is_answered_when_the_hall_lets_it(rt: HostRuntime) -> Result<(), Fail>
     assert_eq!(rt; session.state(), State::Start);
     let ping = Event::Said(Shared::new(alloc, Item::Good(BoundedMessage::new(Message::Ping(0))))?);
     let (messages, question) = session.step(alloc, &ping)?;
-    assert_eq!(rt; messages.len(), 0);
-    assert_eq!(rt; question, Some(Ask::Admit));
+    assert!(rt; messages.is_empty() && matches!(question, Some(Question::Admit)));
     let (messages, question) = session.step(alloc, &Event::Told(Answer::Go))?;
-    assert_eq!(rt; question, None);
+    assert!(rt; question.is_none());
     let mut writer = Out::new(writer_for(alloc, 32));
     let written = write_out(alloc, &mut writer, messages.as_slice());
     assert_eq!(rt; written, Ok(32));
@@ -629,5 +640,70 @@ fn a_transaction_or_a_block_that_cannot_be_read_is_a_bad_message(
         assert_eq!(rt; outcome.taken.len(), 0);
         assert_eq!(rt; outcome.state, State::Closed(CloseReason::BadMessage));
     }
+    Ok(())
+}
+
+/// What a node that made the connection writes before it reads: its `version`, with this nonce.
+fn introduction(alloc: Global, nonce: u64) -> Result<Vec<u8>, Fail> {
+    let outbound = Settings {
+        inbound: false,
+        nonce,
+        ..SETTINGS
+    };
+    let nothing = reader_of(alloc, &[])?;
+    let outcome = serve_alone(alloc, outbound, nothing)?;
+    Ok(outcome.taken)
+}
+
+/// Serves a connection by these settings, with a hall of its own.
+fn serve_alone(alloc: Global, settings: Settings, pieces: Pieces) -> Result<Outcome, Fail> {
+    let room = writer_for(alloc, usize::MAX);
+    match hall_of_one(alloc) {
+        Ok((mut hall, mut badge)) => {
+            serve_as(alloc, settings, pieces, room, &mut hall, &mut badge)
+        }
+        Err(fail) => Err(fail),
+    }
+}
+
+/// Whether an envelope has this command.
+fn has_command(bytes: &[u8], command: &[u8]) -> bool {
+    match bytes.get(4..) {
+        Some(rest) => rest.starts_with(command),
+        None => false,
+    }
+}
+
+#[test]
+fn who_made_the_connection_introduces_itself_first(rt: HostRuntime) -> Result<(), Fail> {
+    let written = introduction(rt.alloc(), 9)?;
+    assert!(rt; has_command(written.as_slice(), b"version\0"));
+    Ok(())
+}
+
+/// A peer's `version`, its `verack` and a `ping` ask the hall six times: for leave three times, for a locator once, and twice
+/// what is new.
+#[test]
+fn a_handshake_and_a_ping_ask_six_questions(rt: HostRuntime) -> Result<(), Fail> {
+    let alloc = rt.alloc();
+    let version = introduction(alloc, 9)?;
+    let parts = [version.as_slice(), &THREE_MESSAGES[..24], PING.as_slice()];
+    let given = reader_of(alloc, parts.as_slice())?;
+    let outcome = serve_alone(alloc, SETTINGS, given)?;
+    assert!(rt; has_command(outcome.taken.as_slice(), b"version\0"));
+    assert!(rt; outcome.calls == 6 && outcome.entries == 10);
+    assert!(rt; outcome.state == State::Closed(CloseReason::Bye));
+    Ok(())
+}
+
+/// One that comes with this node's own nonce is this node itself.
+#[test]
+fn a_connection_to_itself_ends(rt: HostRuntime) -> Result<(), Fail> {
+    let alloc = rt.alloc();
+    let version = introduction(alloc, SETTINGS.nonce)?;
+    let given = reader_of(alloc, &[version.as_slice()])?;
+    let outcome = serve_alone(alloc, SETTINGS, given)?;
+    assert!(rt; outcome.taken.is_empty());
+    assert!(rt; outcome.state == State::Closed(CloseReason::SelfPeer));
     Ok(())
 }

@@ -6,8 +6,8 @@ use Rattle.cb_hall.specs.Badge.{BadgeState, first_of, fresh_badge}
 use Rattle.cb_hall.specs.Histories.{Asks, IsRefused}
 use Rattle.cb_peer.specs.declared.state.State.TheVariants.{Closed}
 use Rattle.cb_peer.specs.declared.state.CloseReason.{CloseReason}
-use Rattle.cb_peer.specs.Session.{reason_name}
-use Rattle.cb_peer.specs.Trace.{TraceView}
+use Rattle.cb_peer.specs.State.{reason_name}
+use Rattle.cb_trace.specs.Trace.{TraceView}
 use Rattle.cb_session.specs.declared.reading.ReadEnd.{ReadEnd}
 use Rattle.cb_session.specs.Conversation.{Origin, origin_of, progress}
 use Rattle.cb_session.specs.Serving.{Serves}

@@ -2,7 +2,7 @@
 
 ghost use Rattle.std.specs.Prelude.{◌≡◌, ◌⊎◌, true, OnOk, OnErr, IsOkUnless};
 ghost use Rattle.std.specs.Io.KnownBytes.{Appends};
-ghost use Rattle.cb_peer.specs.Session.{is_closed};
+ghost use Rattle.cb_peer.specs.State.{is_closed};
 ghost use Rattle.cb_peer.specs.declared.state.CloseReason.{CloseReason};
 ghost use Rattle.cb_peer.specs.declared.state.CloseReason.TheVariants as reasons;
 ghost use Rattle.cb_peer.specs.declared.state.State.TheVariants.{Closed};

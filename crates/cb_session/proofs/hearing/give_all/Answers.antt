@@ -2,7 +2,7 @@ use Rattle.std.proofs.Common.{List, [], ◌∷◌, ◌++◌, refl, sym, ap, ◌�
 use Rattle.std.specs.Prelude.{reverse}
 use Rattle.std.proofs.lemmas.List.{reverse-reverse}
 use Rattle.cb_wire.specs.declared.item.Item.{Item}
-use Rattle.cb_peer.specs.Session.{is_closed}
+use Rattle.cb_peer.specs.State.{is_closed}
 use Rattle.cb_session.proofs.Accounts.{open_kept}
 use Rattle.cb_session.proofs.Inputs.{next_waiting, took_more, took_none, took_stopped}
 use Rattle.cb_session.proofs.hearing.give_all.Goals as goal

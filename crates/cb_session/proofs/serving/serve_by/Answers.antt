@@ -1,7 +1,15 @@
 use Rattle.std.proofs.Common.{[], ap, sym, ◌∙◌}
 use Rattle.cb_session.specs.Conversation.{origin_of}
-use Rattle.cb_session.proofs.Ending.{first_free, serves_at, underway_first}
+use Rattle.cb_trace.specs.Trace.{TraceView}
+use Rattle.cb_peer.specs.State.{is_closed}
+use Rattle.cb_session.proofs.Accounts.{not_both}
+use Rattle.cb_session.proofs.Ending.{first_free, first_open, serves_at, underway_first}
 use Rattle.cb_session.proofs.serving.serve_by.Goals as goal
+
+-- a session begins open
+pub send-requires : goal.send-requires
+send-requires g c =
+    record { silent = λ closed. not_both _ (first_open c.in_ok-trace.trace c.in_ok-trace.ensures.history) (ap (λ (t : TraceView). is_closed t.session.state) (sym c.new-conversation.ensures.trace) ∙ closed) }
 
 pub returns-clause-served : goal.returns-clause-served
 returns-clause-served g c =

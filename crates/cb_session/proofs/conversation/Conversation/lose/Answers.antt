@@ -10,9 +10,9 @@ returns-then-not-ready-clause-accounts g c =
 pub returns-clause-accounts : goal.returns-clause-accounts
 returns-clause-accounts g c =
     λ from inputs missing lost unkept hall badge held failed written write lacked a.
-    accounts_lost g.H.Oracle.told g.H.Oracle.refused (record { none = g.met.H.Oracle.told_none; next = g.met.H.Oracle.told_then; stays = g.met.H.Oracle.full_stays }) from c.args.self.now.trace.now c.ready.new.self c.step-silent.new.self hall badge held failed written inputs missing lost unkept _ c.requires.going c.if-not-ready.ensures.readied.rests c.step-silent.ensures.grows c.requires.loss write
+    accounts_lost g.H.Oracle.told g.H.Oracle.refused (record { none = g.met.H.Oracle.told_none; next = g.met.H.Oracle.told_then; stays = g.met.H.Oracle.full_stays }) from c.args.self.now.trace.now c.ready.new.self c.step-silent.new.self hall badge held failed written inputs missing lost unkept _ c.requires.going c.if-not-ready.ensures.readied.rests.same c.step-silent.ensures.grows c.requires.loss write
     (λ e. elim (lacked e) [ inl some ↦ inl (inr (inr some)) | inr came ↦ inr came ]) a
 
 pub returns-clause-closed : goal.returns-clause-closed
 returns-clause-closed g c =
-    ended_more c.ready.new.self c.step-silent.new.self _ (rest_open c.args.self.now.trace.now c.ready.new.self c.if-not-ready.ensures.readied.rests c.requires.going) c.step-silent.ensures.grows c.requires.loss.ends
+    ended_more c.ready.new.self c.step-silent.new.self _ (rest_open c.args.self.now.trace.now c.ready.new.self c.if-not-ready.ensures.readied.rests.same c.requires.going) c.step-silent.ensures.grows c.requires.loss.ends

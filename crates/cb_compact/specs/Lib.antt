@@ -1,0 +1,6 @@
+pub mod Differences
+pub mod Forms
+pub mod Placing
+pub mod ShortIds
+pub mod Slots
+pub mod Tables

@@ -1,0 +1,24 @@
+//! Compact blocks (BIP 152, version 1): short ids, indexes as differences, and blocks rebuilt from what is there.
+#![tactic(auto)]
+
+mod compacting;
+mod difference;
+mod form;
+mod law;
+mod named;
+mod partial;
+mod placing;
+mod short_ids;
+mod table;
+
+pub use compacting::compact;
+pub use difference::{differ, undiffer};
+pub use form::{Compact, Prefilled};
+pub use law::differences_lead_back;
+pub use named::{NamedTx, Pair};
+pub use partial::{Filled, Partial, Placed};
+pub use placing::place;
+pub use short_ids::{key, short_id};
+
+#[cfg(test)]
+mod tests;

@@ -1,0 +1,99 @@
+ghost use Rattle.std.specs.Prelude.{◌≡◌, IfOk, IsOkUnless};
+ghost use Rattle.cb_base.specs.DoubleHash.{double_hash};
+ghost use Rattle.cb_base.specs.declared.fault.Fault.TheVariants.{Memory};
+ghost use Rattle.cb_tx.specs.Text.{tx_text};
+
+use cb_base::{Fault, Hash256, Shared, dsha};
+use cb_tx::{Tx, write_tx};
+use std::alloc::{AllocError, Global};
+use std::marker::Model;
+
+/// A shared transaction with its txid, which was found once. It is seen as the transaction.
+#[derive(Debug, Drop)]
+pub struct NamedTx {
+    txid: Hash256,
+    tx: Shared<Tx>,
+}
+
+impl Model for NamedTx {
+    ghost use Rattle.std.specs.Prelude.{◌≡◌};
+    ghost use Rattle.cb_tx.specs.declared.tx.Tx.{Tx};
+
+    ghost Value = { Tx };
+
+    ghost use Rattle.cb_base.specs.DoubleHash.{double_hash};
+    ghost use Rattle.cb_tx.specs.Text.{tx_text};
+
+    ghost view = { λ named. named.tx };
+
+    ghost invariant = { λ named. named.txid ≡ double_hash (tx_text named.tx) };
+}
+
+impl NamedTx {
+    /// A transaction, which is hashed here. The text that is hashed is written into one piece of memory, whatever its length.
+    /// The only error is `Fault::Memory`.
+    pub fn new(alloc: Global, tx: Shared<Tx>) -> Result<NamedTx, Fault>
+        ensures same { IfOk result (λ named. named ≡ tx) }
+        ensures memory { IsOkUnless result Memory }
+    {
+        let txid = txid_of(alloc, &tx)?;
+        Ok(NamedTx { txid, tx })
+    }
+
+    /// A transaction whose txid is known. It isn't hashed, and no memory is taken.
+    pub fn known(txid: Hash256, tx: Shared<Tx>) -> NamedTx
+        requires { txid ≡ double_hash (tx_text tx) }
+        ensures { result ≡ tx }
+    {
+        NamedTx { txid, tx }
+    }
+
+    /// The transaction.
+    pub fn tx(&self) -> &Shared<Tx>
+        ensures { result.now ≡ self.now }
+    {
+        &self.tx
+    }
+
+    /// Its txid.
+    pub fn txid(&self) -> Hash256
+        ensures { result ≡ double_hash (tx_text self.now) }
+    {
+        self.txid
+    }
+}
+
+impl Clone for NamedTx {
+    ghost is_clone = { λ named clone. clone ≡ named };
+
+    /// The same transaction once more, which takes no memory. It is refused only where a count of owners is full.
+    fn clone(&self) -> Result<NamedTx, AllocError>
+        ensures { IfOk result (λ clone. clone ≡ self.now) }
+    {
+        let tx = self.tx.clone()?;
+        Ok(NamedTx {
+            txid: self.txid,
+            tx,
+        })
+    }
+}
+
+// The txid. One piece of memory is taken for the text.
+fn txid_of(alloc: Global, tx: &Tx) -> Result<Hash256, Fault>
+    ensures same { IfOk result (λ txid. txid ≡ double_hash (tx_text tx.now)) }
+    ensures memory { IsOkUnless result Memory }
+{
+    let mut text = Vec::new(alloc);
+    if let Ok(size) = usize::try_from(tx.size()) {
+        text.reserve(size)?;
+    }
+    write_tx(&mut text, tx)?;
+    Ok(dsha(text.as_slice()))
+}
+
+/// A transaction that may stand in a compact block, with its short id under that block's key.
+#[derive(Debug, Drop)]
+pub struct Pair {
+    pub id: u64,
+    pub tx: NamedTx,
+}

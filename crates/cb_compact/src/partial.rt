@@ -1,0 +1,168 @@
+ghost use Rattle.std.specs.Prelude.{◌≡◌, ◌≢◌, ◌⊎◌, ◌++◌, ◌∷◌, [], length, IfErr, IfOk, IsOkUnless, OnOk};
+ghost use Rattle.cb_base.specs.declared.fault.Fault.TheVariants.{Memory, WrongCount};
+ghost use Rattle.cb_base.specs.DoubleHash.{double_hash};
+ghost use Rattle.cb_tx.specs.Text.{tx_text};
+ghost use Rattle.cb_block.specs.Blocks.{texts};
+ghost use Rattle.cb_block.specs.Soundness.{names};
+ghost use Rattle.cb_compact.specs.Placing.{IsFilled};
+ghost use Rattle.cb_compact.specs.Slots.{filled, missing};
+
+use crate::named::NamedTx;
+use cb_base::{Fault, Hash256, Shared};
+use cb_block::{Block, Header, SoundBlock, Txs, sound_by};
+use cb_tx::Tx;
+use std::alloc::Global;
+use std::marker::Model;
+
+/// What comes of a block all of whose transactions are there.
+#[derive(Debug, Drop)]
+pub enum Filled {
+    /// The block, which is sound.
+    Sound(SoundBlock),
+    /// The list isn't sound under the header: a transaction was taken for another with its short id, or the sender was wrong.
+    Wrong,
+}
+
+/// What comes of a compact block whose transactions are looked for.
+#[derive(Drop)]
+pub enum Placed {
+    Whole(Filled),
+    /// The places at which no transaction stands, or several could, and what stands at the others.
+    Missing(Vec<u64>, Partial),
+    /// Two places have one short id.
+    Repeat,
+}
+
+/// A block of which some transactions are missing. It is seen as its header and what stands at its places.
+#[derive(Drop)]
+pub struct Partial {
+    alloc: Global,
+    header: Header,
+    slots: Vec<Option<NamedTx>>,
+    lacking: usize,
+}
+
+impl Model for Partial {
+    ghost use Rattle.std.specs.Prelude.{◌≡◌, length};
+    ghost use Rattle.cb_compact.specs.Slots as slotting;
+
+    ghost Value = { slotting.Unfilled };
+
+    ghost view = { λ partial. record { header = partial.header; slots = partial.slots.items } };
+
+    ghost invariant = { λ partial. partial.lacking ≡ length (slotting.missing 0 partial.slots.items) };
+}
+
+// The transactions of a block in order, and their txids.
+#[derive(Drop)]
+struct Listed {
+    txs: Vec<Shared<Tx>>,
+    txids: Vec<Hash256>,
+}
+
+impl Listed {
+    fn push(&mut self, named: &NamedTx) -> Result<(), Fault>
+        ensures txs { OnOk result (self.new.txs.items ≡ self.old.txs.items ++ named.now ∷ []) }
+        ensures txids { OnOk result (self.new.txids.items ≡ self.old.txids.items ++ double_hash (tx_text named.now) ∷ []) }
+        ensures memory { IsOkUnless result Memory }
+    {
+        self.txs.push(named.tx().clone()?)?;
+        self.txids.push(named.txid())?;
+        Ok(())
+    }
+}
+
+// The whole list, with these transactions at the places at which nothing stands. Those alone are hashed.
+fn fill_in(alloc: Global, slots: &[Option<NamedTx>], given: &[Shared<Tx>]) -> Result<Listed, Fault>
+    requires { length given.now ≡ length (missing 0 slots.now) }
+    ensures txs { IfOk result (λ listed. listed.txs.items ≡ filled slots.now given.now) }
+    ensures names { IfOk result (λ listed. listed.txids.items ≡ names (texts listed.txs.items)) }
+    ensures memory { IsOkUnless result Memory }
+{
+    let mut listed = Listed {
+        txs: Vec::with_capacity(alloc, slots.len())?,
+        txids: Vec::with_capacity(alloc, slots.len())?,
+    };
+    let mut used = 0;
+    for slot in slots {
+        if let Some(named) = slot {
+            listed.push(named)?;
+            continue;
+        }
+        let tx = given[used].clone()?;
+        let named = NamedTx::new(alloc, tx)?;
+        listed.push(&named)?;
+        used += 1;
+    }
+    Ok(listed)
+}
+
+// What comes of a list at which nothing is missing.
+pub(crate) fn whole(
+    alloc: Global,
+    header: Header,
+    slots: &[Option<NamedTx>],
+) -> Result<Filled, Fault>
+    requires { missing 0 slots.now ≡ [] }
+    ensures filled { IfOk result (IsFilled header (filled slots.now [])) }
+    ensures memory { IsOkUnless result Memory }
+{
+    let listed = fill_in(alloc, slots, &[])?;
+    judge(alloc, header, listed)
+}
+
+// What comes of the whole list under the header.
+fn judge(alloc: Global, header: Header, listed: Listed) -> Result<Filled, Fault>
+    requires { listed.txids.items ≡ names (texts listed.txs.items) }
+    ensures filled { IfOk result (IsFilled header listed.txs.items) }
+    ensures memory { IsOkUnless result Memory }
+{
+    let Listed { txs, txids } = listed;
+    let txs = Txs::new(txs);
+    let block = Shared::new(alloc, Block { header, txs })?;
+    match sound_by(alloc, block, txids) {
+        Ok(sound) => Ok(Filled::Sound(sound)),
+        Err((back, fault)) => {
+            drop(back);
+            if fault == Fault::Memory {
+                return Err(Fault::Memory);
+            }
+            Ok(Filled::Wrong)
+        }
+    }
+}
+
+impl Partial {
+    pub(crate) fn new(
+        alloc: Global,
+        header: Header,
+        slots: Vec<Option<NamedTx>>,
+        lacking: usize,
+    ) -> Partial
+        requires { lacking ≡ length (missing 0 slots.items) }
+        ensures { result ≡ record { header = header; slots = slots.items } }
+    {
+        Partial {
+            alloc,
+            header,
+            slots,
+            lacking,
+        }
+    }
+
+    /// The block with these transactions, in order, at the places that are missing. Each of them is hashed once.
+    ///
+    /// `Fault::WrongCount` just where they aren't as many as are missing. Else the only error is `Fault::Memory`.
+    pub fn fill(self, txs: Vec<Shared<Tx>>) -> Result<Filled, Fault>
+        ensures filled { IfOk result (IsFilled self.header (filled self.slots txs.items)) }
+        ensures counted { IfOk result (λ _. length txs.items ≡ length (missing 0 self.slots)) }
+        ensures refused { IfErr result (λ fault. ((fault ≡ WrongCount) × (length txs.items ≢ length (missing 0 self.slots)))
+            ⊎ ((fault ≡ Memory) × (length txs.items ≡ length (missing 0 self.slots)))) }
+    {
+        if txs.len() != self.lacking {
+            return Err(Fault::WrongCount);
+        }
+        let listed = fill_in(self.alloc, self.slots.as_slice(), txs.as_slice())?;
+        judge(self.alloc, self.header, listed)
+    }
+}

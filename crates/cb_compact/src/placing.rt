@@ -1,0 +1,119 @@
+ghost use Rattle.std.specs.Prelude.{◌≡◌, ◌+◌, ◌<◌, ◌≢◌, [], length, map, slice_index, IfOk, IsOkUnless, MatchBool};
+ghost use Rattle.cb_base.specs.declared.fault.Fault.TheVariants.{Memory};
+ghost use Rattle.cb_compact.specs.Differences.{Rise};
+ghost use Rattle.cb_compact.specs.Forms.{places_of};
+ghost use Rattle.cb_compact.specs.Placing.{IsPlaced};
+ghost use Rattle.cb_compact.specs.Slots.{AreDifferent, choice, laid_out, missing, slots};
+ghost use Rattle.cb_compact.specs.Tables.{IsTable, tx_in};
+
+use crate::form::Prefilled;
+use crate::named::{NamedTx, Pair};
+use crate::partial::{Partial, Placed, whole};
+use crate::table::{Table, table_of};
+use cb_base::Fault;
+use cb_block::Header;
+use std::alloc::Global;
+
+// Whether the first of the prefilled transactions that wasn't passed stands at this place.
+fn is_given(prefilled: &[Prefilled], passed: usize, place: u64) -> bool
+    ensures { MatchBool result ((passed < length prefilled.now) × (slice_index (places_of prefilled.now) passed ≡ place))
+        (passed < length prefilled.now → slice_index (places_of prefilled.now) passed ≢ place) }
+{
+    passed < prefilled.len() && prefilled[passed].place == place
+}
+
+// What the table found for each id, in order.
+fn found_of(alloc: Global, table: &Table, ids: &[u64]) -> Result<Vec<Option<NamedTx>>, Fault>
+    ensures same { IfOk result (λ found. found.items ≡ map (tx_in table.now.found.entries) ids.now) }
+    ensures memory { IsOkUnless result Memory }
+{
+    let mut found = Vec::with_capacity(alloc, ids.len())?;
+    for id in ids {
+        found.push(table.tx(*id)?)?;
+    }
+    Ok(found)
+}
+
+// What stands at a place, once more. No memory is taken.
+fn copied(slot: &Option<NamedTx>) -> Result<Option<NamedTx>, Fault>
+    ensures same { IfOk result (λ copy. copy ≡ slot.now) }
+    ensures memory { IsOkUnless result Memory }
+{
+    match slot {
+        Some(named) => Ok(Some(named.clone()?)),
+        None => Ok(None),
+    }
+}
+
+// All places in order: the prefilled transactions at theirs, each hashed here, and between them the others.
+fn lay_out(
+    alloc: Global,
+    prefilled: &[Prefilled],
+    others: &[Option<NamedTx>],
+) -> Result<Vec<Option<NamedTx>>, Fault>
+    requires { Rise 0 (length others.now + length prefilled.now) (places_of prefilled.now) }
+    ensures same { IfOk result (λ list. list.items ≡ laid_out 0 prefilled.now others.now) }
+    ensures memory { IsOkUnless result Memory }
+{
+    let total = others.len() + prefilled.len();
+    let mut list = Vec::with_capacity(alloc, total)?;
+    let mut passed = 0;
+    for place in 0..total {
+        if is_given(prefilled, passed, place as u64) {
+            let tx = prefilled[passed].tx.clone()?;
+            list.push(Some(NamedTx::new(alloc, tx)?))?;
+            passed += 1;
+            continue;
+        }
+        let other = copied(&others[place - passed])?;
+        list.push(other)?;
+    }
+    Ok(list)
+}
+
+// The places at which nothing stands.
+fn missing_of(alloc: Global, list: &[Option<NamedTx>]) -> Result<Vec<u64>, Fault>
+    ensures same { IfOk result (λ places. places.items ≡ missing 0 list.now) }
+    ensures memory { IsOkUnless result Memory }
+{
+    let mut places = Vec::new(alloc);
+    for (place, slot) in list.iter().enumerate() {
+        if slot.is_none() {
+            places.push(place as u64)?;
+        }
+    }
+    Ok(places)
+}
+
+/// Finds the transactions of a compact block (BIP 152): `prefilled` stand at their places, and the ids, in order, are those of
+/// all other places. Each pair is looked up once.
+///
+/// `Placed::Repeat` where two ids are equal. A place whose id no pair has, or several have, is missing. Where none is, the whole
+/// list is judged: `Filled::Sound` just where it is sound under the header. The transactions of pairs are neither hashed nor
+/// copied. The only error is `Fault::Memory`.
+pub fn place(
+    alloc: Global,
+    header: Header,
+    ids: &[u64],
+    prefilled: Vec<Prefilled>,
+    pairs: Vec<Pair>,
+) -> Result<Placed, Fault>
+    requires rise { Rise 0 (length ids.now + length prefilled.items) (places_of prefilled.items) }
+    requires some { 0 < length ids.now + length prefilled.items }
+    ensures placed { IfOk result (IsPlaced header ids.now prefilled.items pairs.items) }
+    ensures memory { IsOkUnless result Memory }
+{
+    let Some(mut table) = table_of(alloc, ids)? else {
+        return Ok(Placed::Repeat);
+    };
+    table.look_up(pairs.as_slice())?;
+    let others = found_of(alloc, &table, ids)?;
+    let list = lay_out(alloc, prefilled.as_slice(), others.as_slice())?;
+    let places = missing_of(alloc, list.as_slice())?;
+    let lacking = places.as_slice().len();
+    if lacking == 0 {
+        return Ok(Placed::Whole(whole(alloc, header, list.as_slice())?));
+    }
+    let partial = Partial::new(alloc, header, list, lacking);
+    Ok(Placed::Missing(places, partial))
+}

@@ -1,0 +1,377 @@
+//! What a session makes of the hall's answers: one arm for each kind of answer.
+ghost use Rattle.std.specs.Prelude.{◌≡◌, [], ◌∷◌, ◌≤◌, Option, filter, filter_map, false, length, not, IfOk, IsOk, IsOkUnless};
+ghost use Rattle.std.specs.List.{list_any};
+ghost use Rattle.cb_base.specs.DoubleHash.{double_hash};
+ghost use Rattle.cb_chain.specs.Entries.{same};
+ghost use Rattle.cb_tx.specs.Text.{tx_text};
+ghost use Rattle.cb_base.specs.declared.fault.Fault.TheVariants.{Memory};
+ghost use Rattle.cb_talk.specs.Announcing.{telling};
+ghost use Rattle.cb_talk.specs.Inventory.{asking_for, asking_headers};
+ghost use Rattle.cb_talk.specs.Serving.{served};
+ghost use Rattle.cb_wire.specs.declared.message.Message.TheVariants as messages;
+ghost use Rattle.cb_wire.specs.declared.item.Item.{Item};
+ghost use Rattle.cb_peer.specs.declared.ask.Ask.TheVariants as asks;
+ghost use Rattle.cb_journal.specs.declared.answer.Answer.TheVariants as answers;
+ghost use Rattle.cb_peer.specs.Plan.{IsLightPlan, Makes, as_list};
+ghost use Rattle.cb_peer.specs.Session.{weighs_answer, weighs_item};
+ghost use Rattle.cb_peer.specs.Receiving.{ends};
+ghost use Rattle.cb_peer.specs.Replying.{answered, heads_told, is_block, more_headers, need_told, news_told, taken_told, tip_told, tx_request, wanted_told, without_brought};
+
+use crate::ask::Ask;
+use crate::plan::{Made, one_message, push_some};
+use crate::receiving::hash_of_last;
+use crate::session::Session;
+use crate::state::CloseReason;
+use cb_base::{Fault, Hash256, Shared};
+use cb_journal::Answer;
+use cb_payload::{HeaderList, InvEntry, Listed, Locator};
+use cb_state::{Heads, Inventory, Need, News, Pieces, Taken, Txids};
+use cb_talk::{announce_tip, announce_txs, asking_for, asking_headers, served, written};
+use cb_tx::Tx;
+use cb_wire::{BoundedMessage, Item, Message};
+use std::alloc::Global;
+
+/// How many headers a message has at the most: behind so many there may be more.
+const MOST_HEADERS: usize = 2_000;
+
+impl Session {
+    /// An answer to what was asked for an item, of the kind that was asked for.
+    #[tactic(auto, unfolding(crate::specs::Replying::answered))]
+    pub(crate) fn answered(
+        &mut self,
+        alloc: Global,
+        item: &Option<Shared<Item>>,
+        ask: Ask,
+        answer: &Answer,
+    ) -> Result<Made, Fault>
+        ensures ok { IfOk result (λ made. Makes (answered self.old item.now ask answer.now) item.now self.new made.messages.items made.next) }
+        ensures memory { IsOkUnless result Memory }
+        ensures calm { answer.now ≡ answers.Kicked → IsOk result }
+        ensures silent { weighs_item item.now ≡ false → weighs_answer answer.now ≡ false → IsLightPlan (answered self.old item.now ask answer.now) → IsOk result }
+    {
+        if let Answer::Kicked = answer {
+            return Ok(self.end_by(alloc, CloseReason::Kicked));
+        }
+        match ask {
+            Ask::Admit => match answer {
+                Answer::Go => self.process(alloc, item),
+                _ => Ok(Made::nothing(alloc)),
+            },
+            Ask::About => self.hear_about(alloc, item, answer),
+            Ask::Wanted => match answer {
+                Answer::Need(need) => self.hear_wanted(alloc, need),
+                _ => Ok(Made::nothing(alloc)),
+            },
+            Ask::Fresh => match answer {
+                Answer::News(news) => self.hear_news(alloc, item, news),
+                _ => Ok(Made::nothing(alloc)),
+            },
+        }
+    }
+
+    // What the hall answers about an item.
+    #[tactic(auto, unfolding(crate::specs::Replying::answered))]
+    fn hear_about(
+        &mut self,
+        alloc: Global,
+        item: &Option<Shared<Item>>,
+        answer: &Answer,
+    ) -> Result<Made, Fault>
+        ensures ok { IfOk result (λ made. Makes (answered self.old item.now asks.About answer.now) item.now self.new made.messages.items made.next) }
+        ensures memory { IsOkUnless result Memory }
+        ensures silent { weighs_item item.now ≡ false → weighs_answer answer.now ≡ false → IsLightPlan (answered self.old item.now asks.About answer.now) → IsOk result }
+    {
+        match answer {
+            Answer::Heads(heads) => self.hear_heads(alloc, item, heads),
+            Answer::Locator(locator) => self.ask_headers(alloc, locator),
+            Answer::Need(need) => self.hear_need(alloc, need),
+            Answer::TxTaken(_) => self.end(alloc, Vec::new(alloc)),
+            Answer::Taken(taken) => self.hear_taken(alloc, taken),
+            Answer::Served(pieces) => self.send_served(alloc, pieces),
+            Answer::Following(headers) => self.send_headers(alloc, headers),
+            Answer::Kicked => Ok(self.end_by(alloc, CloseReason::Kicked)),
+            Answer::Go | Answer::News(_) => Ok(Made::nothing(alloc)),
+        }
+    }
+
+    // What the hall has of what was asked for is sent.
+    fn send_served(&self, alloc: Global, pieces: &Pieces) -> Result<Made, Fault>
+        ensures ok { (item : Option Item) → IfOk result (λ made. Makes (ends self.now (served pieces.now)) item self.now made.messages.items made.next) }
+        ensures memory { IsOkUnless result Memory }
+        ensures silent { IsLightPlan (ends self.now (served pieces.now)) → IsOk result }
+    {
+        if pieces.as_slice().is_empty() {
+            return self.end(alloc, Vec::new(alloc));
+        }
+        let messages = served(alloc, pieces)?;
+        self.end(alloc, messages)
+    }
+
+    // The headers that were asked for are sent.
+    fn send_headers(&self, alloc: Global, headers: &HeaderList) -> Result<Made, Fault>
+        ensures ok { (item : Option Item) → IfOk result (λ made. Makes (ends self.now (messages.Headers headers.now ∷ [])) item self.now made.messages.items made.next) }
+        ensures memory { IsOkUnless result Memory }
+    {
+        let message = BoundedMessage::new(Message::Headers(headers.copy(alloc)?));
+        let messages = one_message(alloc, message)?;
+        self.end(alloc, messages)
+    }
+
+    // The headers behind a locator are asked for, at the end of an item.
+    fn ask_headers(&self, alloc: Global, locator: &Locator) -> Result<Made, Fault>
+        ensures ok { (item : Option Item) → IfOk result (λ made. Makes (ends self.now (asking_headers locator.now ∷ [])) item self.now made.messages.items made.next) }
+        ensures memory { IsOkUnless result Memory }
+    {
+        let messages = one_message(alloc, asking_headers(locator.copy(alloc)?))?;
+        self.end(alloc, messages)
+    }
+
+    // Headers were accepted up to the first that was refused, and what they lack is wanted.
+    #[tactic(auto, unfolding(crate::specs::Replying::heads_told))]
+    fn hear_heads(
+        &mut self,
+        alloc: Global,
+        item: &Option<Shared<Item>>,
+        heads: &Heads,
+    ) -> Result<Made, Fault>
+        ensures ok { IfOk result (λ made. Makes (heads_told self.old item.now heads.now) item.now self.new made.messages.items made.next) }
+        ensures memory { IsOkUnless result Memory }
+        ensures silent { weighs_answer (answers.Heads heads.now) ≡ false → IsLightPlan (heads_told self.old item.now heads.now) → IsOk result }
+    {
+        if heads.refused == Some(Fault::BadWork) {
+            return Ok(self.end_by(alloc, CloseReason::BadBlock));
+        }
+        self.fetch.want(heads.lack.as_slice())?;
+        match heads.refused {
+            None => {
+                let messages = request_behind(alloc, item)?;
+                self.end(alloc, messages)
+            }
+            Some(fault) if fault == Fault::NoParent => self.ask_headers(alloc, &heads.locator),
+            Some(_) => self.end(alloc, Vec::new(alloc)),
+        }
+    }
+
+    // What became of a block that the hall was given.
+    #[tactic(auto, unfolding(crate::specs::Replying::taken_told))]
+    fn hear_taken(&mut self, alloc: Global, taken: &Taken) -> Result<Made, Fault>
+        ensures ok { (item : Option Item) → IfOk result (λ made. Makes (taken_told self.old taken.now.refused taken.now.locator) item self.new made.messages.items made.next) }
+        ensures memory { IsOkUnless result Memory }
+        ensures silent { IsLightPlan (taken_told self.old taken.now.refused taken.now.locator) → IsOk result }
+    {
+        match taken.refused {
+            None => self.end(alloc, Vec::new(alloc)),
+            Some(fault) if fault == Fault::Known => self.end(alloc, Vec::new(alloc)),
+            Some(fault) if fault == Fault::NoParent => self.ask_headers(alloc, &taken.locator),
+            Some(_) => Ok(self.end_by(alloc, CloseReason::BadBlock)),
+        }
+    }
+
+    // What is wanted of what the peer told of.
+    #[tactic(auto, unfolding(crate::specs::Replying::need_told))]
+    fn hear_need(&mut self, alloc: Global, need: &Need) -> Result<Made, Fault>
+        ensures ok { (item : Option Item) → IfOk result (λ made. Makes (need_told self.old need.now) item self.new made.messages.items made.next) }
+        ensures memory { IsOkUnless result Memory }
+        ensures silent { weighs_answer (answers.Need need.now) ≡ false → IsLightPlan (need_told self.old need.now) → IsOk result }
+    {
+        let mut messages = Vec::new(alloc);
+        push_some(&mut messages, requests_of_txs(alloc, &need.entries)?)?;
+        if names_block(need.entries.as_slice()) {
+            messages.push(asking_headers(need.locator.copy(alloc)?))?;
+        }
+        self.end(alloc, messages)
+    }
+
+    // The wanted blocks that are still needed are asked for, by type 2.
+    #[tactic(auto, unfolding(crate::specs::Replying::wanted_told))]
+    fn hear_wanted(&mut self, alloc: Global, need: &Need) -> Result<Made, Fault>
+        ensures ok { (item : Option Item) → IfOk result (λ made. Makes (wanted_told self.old need.now) item self.new made.messages.items made.next) }
+        ensures memory { IsOkUnless result Memory }
+        ensures silent { weighs_answer (answers.Need need.now) ≡ false → IsLightPlan (wanted_told self.old need.now) → IsOk result }
+    {
+        self.fetch.take_on(need.entries.as_slice())?;
+        let mut messages = Vec::new(alloc);
+        push_some(&mut messages, asking_for(self.fetch.flight_entries(alloc)?))?;
+        Ok(Made {
+            messages,
+            next: Some(self.look()),
+        })
+    }
+
+    // What is new: the tip, and transactions.
+    #[tactic(auto, unfolding(crate::specs::Replying::news_told))]
+    fn hear_news(
+        &mut self,
+        alloc: Global,
+        item: &Option<Shared<Item>>,
+        news: &News,
+    ) -> Result<Made, Fault>
+        ensures ok { IfOk result (λ made. Makes (news_told self.old item.now news.now) item.now self.new made.messages.items made.next) }
+        ensures memory { IsOkUnless result Memory }
+        ensures silent { weighs_item item.now ≡ false → IsLightPlan (news_told self.old item.now news.now) → IsOk result }
+    {
+        let mut messages = Vec::new(alloc);
+        push_some(&mut messages, self.told_tip(alloc, news)?)?;
+        push_some(&mut messages, told_txs(alloc, item, &news.txids)?)?;
+        self.marks.tip = Some(news.tip);
+        self.marks.next = news.next;
+        Ok(Made::sends(messages))
+    }
+
+    // A new tip is told, but to the peer that it was heard from.
+    fn told_tip(&self, alloc: Global, news: &News) -> Result<Option<BoundedMessage>, Fault>
+        ensures message { IfOk result (λ made. as_list made ≡ tip_told self.now news.now) }
+        ensures memory { IsOkUnless result Memory }
+        ensures silent { tip_told self.now news.now ≡ [] → IsOk result }
+    {
+        if self.marks.heard == Some(news.tip) {
+            return Ok(None);
+        }
+        announce_tip(
+            alloc,
+            self.peer.by_headers && !news.long,
+            news.tip,
+            &news.path,
+        )
+    }
+}
+
+// After as many headers as a message has, those behind them are asked for. The only error is `Fault::Memory`.
+fn request_behind(alloc: Global, item: &Option<Shared<Item>>) -> Result<Vec<BoundedMessage>, Fault>
+    ensures messages { IfOk result (λ made. made.items ≡ more_headers item.now) }
+    ensures memory { IsOkUnless result Memory }
+    ensures silent { more_headers item.now ≡ [] → IsOk result }
+{
+    let Some(shared) = item else {
+        return Ok(Vec::new(alloc));
+    };
+    let Item::Good(bounded) = &**shared else {
+        return Ok(Vec::new(alloc));
+    };
+    let Message::Headers(headers) = bounded.message() else {
+        return Ok(Vec::new(alloc));
+    };
+    let list = headers.as_slice();
+    if list.len() != MOST_HEADERS {
+        return Ok(Vec::new(alloc));
+    }
+    let Some(hash) = hash_of_last(list) else {
+        return Ok(Vec::new(alloc));
+    };
+    one_message(alloc, asking_headers(locator_of(alloc, hash)?))
+}
+
+// A locator of one hash. The only error is `Fault::Memory`.
+fn locator_of(alloc: Global, hash: Hash256) -> Result<Locator, Fault>
+    ensures locator { IfOk result (λ locator. locator ≡ hash ∷ []) }
+    ensures memory { IsOkUnless result Memory }
+{
+    let mut list = Vec::with_capacity(alloc, 1)?;
+    list.push_reserved(hash);
+    Ok(Locator::from_few(list))
+}
+
+// The request for the transactions among entries, if there are any. The only error is `Fault::Memory`.
+fn requests_of_txs(
+    alloc: Global,
+    entries: &cb_state::Entries,
+) -> Result<Option<BoundedMessage>, Fault>
+    ensures message { IfOk result (λ made. as_list made ≡ asking_for (filter_map tx_request entries.now)) }
+    ensures memory { IsOkUnless result Memory }
+    ensures unpaid { entries.now ≡ [] → IsOk result }
+{
+    let wanted = tx_requests(alloc, entries.as_slice())?;
+    Ok(asking_for(cb_payload::Entries::from_few(wanted)))
+}
+
+// The entries that ask for the transactions among entries. The only error is `Fault::Memory`.
+fn tx_requests(alloc: Global, entries: &[Inventory]) -> Result<Vec<InvEntry>, Fault>
+    ensures wanted { IfOk result (λ made. made.items ≡ filter_map tx_request entries.now) }
+    ensures few { IfOk result (λ made. length made.items ≤ length entries.now) }
+    ensures memory { IsOkUnless result Memory }
+    ensures unpaid { entries.now ≡ [] → IsOk result }
+{
+    let mut wanted = Vec::new(alloc);
+    for entry in entries {
+        if let Inventory::Tx(_) = entry {
+            wanted.push(written(*entry))?;
+        }
+    }
+    Ok(wanted)
+}
+
+// Whether a block is among entries.
+fn names_block(entries: &[Inventory]) -> bool
+    ensures { result ≡ list_any is_block entries.now }
+{
+    entries
+        .iter()
+        .any(|entry| matches!(entry, Inventory::Block(_)))
+}
+
+// How transactions are told, if there are any beside the one that the item brought. The only error is `Fault::Memory`.
+fn told_txs(
+    alloc: Global,
+    item: &Option<Shared<Item>>,
+    txids: &Txids,
+) -> Result<Option<BoundedMessage>, Fault>
+    ensures message { IfOk result (λ made. as_list made ≡ telling (without_brought item.now txids.now)) }
+    ensures memory { IsOkUnless result Memory }
+    ensures silent { weighs_item item.now ≡ false → telling (without_brought item.now txids.now) ≡ [] → IsOk result }
+{
+    if txids.as_slice().is_empty() {
+        return Ok(None);
+    }
+    let Some(shared) = item else {
+        return announce_txs(alloc, txids);
+    };
+    let Item::Good(bounded) = &**shared else {
+        return announce_txs(alloc, txids);
+    };
+    let Message::Tx(tx) = bounded.message() else {
+        return announce_txs(alloc, txids);
+    };
+    told_beside(alloc, tx, txids)
+}
+
+// How transactions are told, if there are any beside this one. The only error is `Fault::Memory`.
+fn told_beside(alloc: Global, tx: &Tx, txids: &Txids) -> Result<Option<BoundedMessage>, Fault>
+    ensures message { IfOk result (λ made. as_list made ≡ telling (filter (λ txid. not (same (double_hash (tx_text tx.now)) txid)) txids.now)) }
+    ensures memory { IsOkUnless result Memory }
+{
+    let brought = tx.txid(alloc)?;
+    let others = without(alloc, txids, &brought)?;
+    announce_all(alloc, &others)
+}
+
+// How transactions are told, if there are any. The only error is `Fault::Memory`.
+fn announce_all(alloc: Global, txids: &Txids) -> Result<Option<BoundedMessage>, Fault>
+    ensures message { IfOk result (λ made. as_list made ≡ telling txids.now) }
+    ensures memory { IsOkUnless result Memory }
+{
+    announce_txs(alloc, txids)
+}
+
+// The txids but this one. The only error is `Fault::Memory`.
+fn without(alloc: Global, txids: &Txids, brought: &Hash256) -> Result<Txids, Fault>
+    ensures others { IfOk result (λ others. others ≡ filter (λ txid. not (same brought.now txid)) txids.now) }
+    ensures memory { IsOkUnless result Memory }
+{
+    let others = all_without(alloc, txids.as_slice(), brought)?;
+    Ok(Listed::from_few(others))
+}
+
+// The same of a slice.
+fn all_without(alloc: Global, txids: &[Hash256], brought: &Hash256) -> Result<Vec<Hash256>, Fault>
+    ensures others { IfOk result (λ others. others.items ≡ filter (λ txid. not (same brought.now txid)) txids.now) }
+    ensures few { IfOk result (λ others. length others.items ≤ length txids.now) }
+    ensures memory { IsOkUnless result Memory }
+{
+    let mut others = Vec::new(alloc);
+    for txid in txids {
+        if *brought != *txid {
+            others.push(*txid)?;
+        }
+    }
+    Ok(others)
+}

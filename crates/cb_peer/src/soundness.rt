@@ -1,0 +1,36 @@
+ghost use Rattle.std.specs.Prelude.{◌≡◌, true, false, IfOk, IsOkUnless, MatchOption};
+ghost use Rattle.cb_base.specs.declared.fault.Fault.{Fault};
+ghost use Rattle.cb_base.specs.declared.fault.Fault.TheVariants.{Memory};
+ghost use Rattle.cb_block.specs.Blocks.{IsSoundBlock, IsUnsound};
+ghost use Rattle.cb_block.specs.declared.block.Block.{Block};
+ghost use Rattle.cb_peer.specs.Soundness.{is_sound_block};
+
+use cb_base::{Fault, Shared};
+use cb_block::{Block, SoundBlock, sound};
+use std::alloc::Global;
+
+/// The block as a sound one, or that it isn't sound: `is_sound_block` decides. The block has one owner more while it is
+/// judged, and after where it is sound. The only error is `Fault::Memory`.
+pub(crate) fn sound_of(alloc: Global, block: &Shared<Block>) -> Result<Option<SoundBlock>, Fault>
+    ensures decided { IfOk result (λ told. MatchOption told (is_sound_block block.now ≡ false)
+        (λ sound. (sound ≡ block.now) × (is_sound_block block.now ≡ true))) }
+    ensures memory { IsOkUnless result Memory }
+{
+    match sound(alloc, block.clone()?) {
+        Ok(sound) => Ok(Some(sound)),
+        Err((_refused, fault)) => {
+            if fault == Fault::Memory {
+                return Err(fault);
+            }
+            Ok(None)
+        }
+    }
+}
+
+/// A block is sound where the decision by the levels of its tree says so, and there alone; with a reason why it isn't sound
+/// the decision is against it.
+pub fn sound_is_decided()
+    ensures from { (b : Block) → is_sound_block b ≡ true → IsSoundBlock b }
+    ensures to { (b : Block) → IsSoundBlock b → is_sound_block b ≡ true }
+    ensures unsound { (b : Block) (fault : Fault) → IsUnsound b fault → is_sound_block b ≡ false }
+{}

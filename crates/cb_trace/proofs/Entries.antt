@@ -1,0 +1,86 @@
+-- What an entry makes of a session that goes on.
+use Rattle.std.proofs.Common.{◌≡◌, ℕ, ◌+◌, ◌≢◌, ◌<◌, Bool, true, false, cond, eqb, Option, Some, None, refl, sym, ap, subst, ◌∙◌, arith, inl, inr, ◌⊎◌}
+use Rattle.std.specs.Prelude.{◌^◌}
+use Rattle.cb_journal.specs.declared.answer.Answer.{Answer}
+use Rattle.cb_journal.specs.declared.question.Question.{Question}
+use Rattle.cb_peer.specs.declared.event.Event.{Event}
+use Rattle.cb_peer.specs.declared.event.Event.TheVariants as events
+use Rattle.cb_peer.specs.declared.state.State.TheVariants.{Closed}
+use Rattle.cb_peer.specs.declared.state.CloseReason.{CloseReason}
+use Rattle.cb_peer.specs.declared.state.CloseReason.TheVariants as reasons
+use Rattle.cb_peer.specs.Ask.{fits, questions_left, standing_question}
+use Rattle.cb_peer.specs.Event.{ends_at_once, is_reader_end}
+use Rattle.cb_peer.specs.Session.{Stepped, closes, open_step, stays, step_of}
+use Rattle.cb_peer.specs.State.{SessionState, is_closed}
+use Rattle.cb_peer.proofs.Steps.{AsksIt, IsOver, closes_over, open_asks, open_bye, open_ends, open_fewer, open_over, open_settings}
+use Rattle.cb_trace.specs.declared.trace.TraceEntry.{TraceEntry}
+use Rattle.cb_trace.specs.Fold.{entry_step}
+use Rattle.cb_trace.proofs.Folds.{entry_cases}
+
+-- one that ends the session is silent, and leaves nothing to stand
+pub entry_over : (count : ℕ) (s : SessionState) (entry : TraceEntry) → is_closed s.state ≡ false → is_closed (entry_step count s entry).session.state ≡ true → IsOver (entry_step count s entry)
+entry_over count s entry going =
+    entry_cases (λ made. is_closed made.session.state ≡ true → IsOver made) count s entry going (λ _ _. closes_over s reasons.TraceFull) (λ _ _ _. closes_over s reasons.Memory) (λ _ _. open_over s entry.event going)
+
+-- an event that ends the session at once ends it
+pub entry_ends : (count : ℕ) (s : SessionState) (entry : TraceEntry) → is_closed s.state ≡ false → ends_at_once entry.event ≡ true → is_closed (entry_step count s entry).session.state ≡ true
+entry_ends count s entry going e =
+    entry_cases (λ made. is_closed made.session.state ≡ true) count s entry going (λ _. refl) (λ _ _. refl) (λ _ _. open_ends s entry.event e)
+
+-- the entry number 2^62 ends the session
+pub entry_full : (count : ℕ) (s : SessionState) (entry : TraceEntry) → is_closed s.state ≡ false → is_closed (entry_step count s entry).session.state ≡ false → count + 1 ≢ 2 ^ 62
+entry_full count s entry going =
+    entry_cases (λ made. is_closed made.session.state ≡ false → count + 1 ≢ 2 ^ 62) count s entry going (λ _ closed. absurd cc) (λ more _ _. more) (λ more _ _. more)
+
+-- a step that was fed is the session's own
+pub fed_is : (before : ℕ) (s : SessionState) (event : Event) → is_closed s.state ≡ false → before + 1 ≢ 2 ^ 62 → entry_step before s (record { event = event; starved = false }) ≡ step_of s event
+unfolding step_of
+fed_is before s event going other =
+    let same : step_of s event ≡ open_step s event = ap (λ b. cond b (stays s) (open_step s event)) going in
+    entry_cases (λ made. made ≡ step_of s event) before s (record { event = event; starved = false }) going
+    (λ full. absurd (other full)) (λ _ starved. absurd (let e : false ≡ true = starved in cc)) (λ _ _. sym same)
+
+-- the question that it asks stands, or nothing changed
+pub entry_asks : (count : ℕ) (s : SessionState) (entry : TraceEntry) → is_closed s.state ≡ false → AsksIt s (entry_step count s entry)
+entry_asks count s entry going = entry_cases (AsksIt s) count s entry going (λ _. inl refl) (λ _ _. inl refl) (λ _ _. open_asks s entry.event)
+
+-- an answer that fits what stands leaves fewer to be waited for
+pub entry_fewer : (count : ℕ) (s : SessionState) (question : Question) (answer : Answer) (starved : Bool) → is_closed s.state ≡ false → standing_question s ≡ Some question → fits question answer ≡ true
+    → is_closed (entry_step count s (record { event = events.Told answer; starved = starved })).session.state ≡ false
+    → questions_left (entry_step count s (record { event = events.Told answer; starved = starved })).session.standing < questions_left s.standing
+entry_fewer count s question answer starved going asked fit =
+    entry_cases (λ made. is_closed made.session.state ≡ false → questions_left made.session.standing < questions_left s.standing) count s (record { event = events.Told answer; starved = starved }) going
+    (λ _ x. absurd cc) (λ _ _ x. absurd cc) (λ _ _ x. open_fewer s question answer going asked fit x)
+
+-- ---- of any session
+
+-- an entry at a session that is over changes nothing
+over_stays : (count : ℕ) (s : SessionState) (entry : TraceEntry) → is_closed s.state ≡ true → entry_step count s entry ≡ stays s
+over_stays count s entry closed = ap (λ b. cond b (stays s) (cond (eqb (count + 1) (2 ^ 62)) (closes reasons.TraceFull s) (cond entry.starved (closes reasons.Memory s) (open_step s entry.event)))) closed
+
+-- by cases on whether the session is over
+entry_either : (P : Stepped → Type 0) (count : ℕ) (s : SessionState) (entry : TraceEntry) → (is_closed s.state ≡ true → P (stays s)) → (is_closed s.state ≡ false → P (entry_step count s entry)) → P (entry_step count s entry)
+entry_either P count s entry over goes_on =
+    let by_state : (b : Bool) → is_closed s.state ≡ b → P (entry_step count s entry) =
+    elim [ true ↦ λ closed. subst P (sym (over_stays count s entry closed)) (over closed) | false ↦ λ going. goes_on going ] in
+    by_state (is_closed s.state) refl
+
+-- what a session was given stays
+pub entry_settings : (count : ℕ) (s : SessionState) (entry : TraceEntry) → (entry_step count s entry).session.settings ≡ s.settings
+entry_settings count s entry =
+    entry_either (λ made. made.session.settings ≡ s.settings) count s entry (λ _. refl)
+    (λ going. entry_cases (λ made. made.session.settings ≡ s.settings) count s entry going (λ _. refl) (λ _ _. refl) (λ _ _. open_settings s entry.event going))
+
+clash_bye : {P : Type 0} (why : CloseReason) → why ≢ reasons.Bye → Closed why ≡ Closed reasons.Bye → P
+clash_bye why other e = absurd (other (let same : why ≡ reasons.Bye = cc in same))
+
+-- a session that the peer's end closed was closed by it before, or was given it
+pub entry_bye : (count : ℕ) (s : SessionState) (entry : TraceEntry) → (entry_step count s entry).session.state ≡ Closed reasons.Bye → (s.state ≡ Closed reasons.Bye) ⊎ (is_reader_end entry.event ≡ true)
+entry_bye count s entry =
+    entry_either (λ made. made.session.state ≡ Closed reasons.Bye → (s.state ≡ Closed reasons.Bye) ⊎ (is_reader_end entry.event ≡ true)) count s entry (λ closed e. inl e)
+    (λ going. entry_cases (λ made. made.session.state ≡ Closed reasons.Bye → (s.state ≡ Closed reasons.Bye) ⊎ (is_reader_end entry.event ≡ true)) count s entry going
+    (λ _ e. clash_bye reasons.TraceFull (λ x. cc) e) (λ _ _ e. clash_bye reasons.Memory (λ x. cc) e) (λ _ _ e. inr (open_bye s entry.event going e)))
+
+-- the question that an entry asks stands, or nothing changed
+pub entry_asks_any : (count : ℕ) (s : SessionState) (entry : TraceEntry) → AsksIt s (entry_step count s entry)
+entry_asks_any count s entry = entry_either (AsksIt s) count s entry (λ _. inr refl) (λ going. entry_asks count s entry going)

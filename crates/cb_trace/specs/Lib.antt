@@ -1,0 +1,4 @@
+pub mod Fold
+pub mod Law
+pub mod Prompt
+pub mod Trace
