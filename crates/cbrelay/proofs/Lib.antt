@@ -1,11 +1,3 @@
-pub mod Counting
-pub mod Cutting
 pub mod Entering
 pub mod Peers
-pub mod Reporting
-pub mod Requests
-pub mod SimRead
-pub mod SimReportLemmas
-pub mod SimRunLemmas
-pub mod Simulating
 pub mod Telling

@@ -4,11 +4,11 @@ use Rattle.std.proofs.lemmas.List.{append-nil}
 use Rattle.std.specs.Io.KnownBytes.{Appends}
 use Rattle.cb_io.proofs.Known.{Appends-then}
 use Rattle.cb_peer.specs.declared.state.CloseReason.{CloseReason}
-use Rattle.cbrelay.specs.declared.ending.Status.{Status}
-use Rattle.cbrelay.specs.declared.ending.Status.TheVariants.{BadInput}
-use Rattle.cbrelay.specs.declared.ending.Halt.{Halt}
-use Rattle.cbrelay.specs.declared.ending.Halt.TheVariants.{ReadFailed, WriteFailed}
-use Rattle.cbrelay.specs.Ending.{status_code, halt_line}
+use Rattle.cb_run.specs.declared.ending.Status.{Status}
+use Rattle.cb_run.specs.declared.ending.Status.TheVariants.{BadInput}
+use Rattle.cb_run.specs.declared.ending.Halt.{Halt}
+use Rattle.cb_run.specs.declared.ending.Halt.TheVariants.{ReadFailed, WriteFailed}
+use Rattle.cb_run.specs.Ending.{status_code, halt_line}
 use Rattle.cbrelay.specs.Command.{EndsEarly, TellsPeer, code_of}
 use Rattle.cbrelay.specs.Peer.{PeerEnds, closed_text, peer_end}
 

@@ -2,13 +2,13 @@
 use Rattle.std.specs.Prelude.{◌≡◌, ℕ, Bool, true, false, ◌⊎◌, List, [], ◌++◌, Option, Result, Ok, Err}
 use Rattle.std.specs.Io.KnownBytes.{Appends}
 use Rattle.cb_peer.specs.declared.state.CloseReason.{CloseReason}
-use Rattle.cbrelay.specs.declared.ending.Status.{Status}
-use Rattle.cbrelay.specs.declared.ending.Status.TheVariants.{Usage, BadInput}
-use Rattle.cbrelay.specs.declared.ending.Halt.{Halt}
-use Rattle.cbrelay.specs.declared.ending.Halt.TheVariants.{ReadFailed, WriteFailed}
-use Rattle.cbrelay.specs.Ending.{HasCause, status_code, halt_status, halt_line, reason_status}
-use Rattle.cbrelay.specs.Report.{ReportsKnown}
-use Rattle.cbrelay.specs.Peer.{closed_text}
+use Rattle.cb_run.specs.declared.ending.Status.{Status}
+use Rattle.cb_run.specs.declared.ending.Status.TheVariants.{Usage, BadInput}
+use Rattle.cb_run.specs.declared.ending.Halt.{Halt}
+use Rattle.cb_run.specs.declared.ending.Halt.TheVariants.{ReadFailed, WriteFailed}
+use Rattle.cb_run.specs.Ending.{HasCause, status_code, halt_status, halt_line}
+use Rattle.cb_decode.specs.Report.{ReportsKnown}
+use Rattle.cbrelay.specs.Peer.{closed_text, reason_status}
 
 -- the number of the status that a run came to
 abbrev pub code_of : Result Status Halt → Result ℕ Halt

@@ -1,11 +1,3 @@
 pub mod Command
-pub mod Ending
-pub mod Lines
 pub mod Peer
-pub mod Printed
-pub mod Report
-pub mod SimInput
-pub mod SimLine
-pub mod SimReport
-pub mod SimRun
 pub mod Words

@@ -6,15 +6,16 @@ use Rattle.cb_hall.specs.Badge.{BadgeState, first_of, fresh_badge}
 use Rattle.cb_hall.specs.Histories.{Asks, IsRefused}
 use Rattle.cb_peer.specs.declared.state.State.TheVariants.{Closed}
 use Rattle.cb_peer.specs.declared.state.CloseReason.{CloseReason}
+use Rattle.cb_peer.specs.declared.state.CloseReason.TheVariants as reasons
 use Rattle.cb_peer.specs.State.{reason_name}
 use Rattle.cb_trace.specs.Trace.{TraceView}
 use Rattle.cb_session.specs.declared.reading.ReadEnd.{ReadEnd}
 use Rattle.cb_session.specs.Conversation.{Origin, origin_of, progress}
 use Rattle.cb_session.specs.Serving.{Serves}
-use Rattle.cbrelay.specs.declared.ending.Status.{Status}
-use Rattle.cbrelay.specs.declared.ending.Halt.{Halt}
-use Rattle.cbrelay.specs.declared.ending.Halt.TheVariants.{ReadFailed, WriteFailed}
-use Rattle.cbrelay.specs.Ending.{reason_status}
+use Rattle.cb_run.specs.declared.ending.Status.{Status}
+use Rattle.cb_run.specs.declared.ending.Status.TheVariants.{Success, BadInput, NoMemory}
+use Rattle.cb_run.specs.declared.ending.Halt.{Halt}
+use Rattle.cb_run.specs.declared.ending.Halt.TheVariants.{ReadFailed, WriteFailed}
 
 -- where serving begins: the peer's settings, a hall that nobody has asked anything, and the badge of the first connection of
 -- peer 0
@@ -35,6 +36,21 @@ pub record WasServed (input remaining : Option (List ℕ)) (read_failed : Bool) 
 -- the line on standard error
 abbrev pub closed_text : CloseReason → List ℕ
 closed_text reason = codes "closed " ++ reason_name reason ++ 10 ∷ []
+
+-- the status of a run of `serve` whose session was closed for this reason
+abbrev pub reason_status : CloseReason → Status
+reason_status reasons.Bye = Success
+reason_status reasons.Memory = NoMemory
+reason_status reasons.BadStream = BadInput
+reason_status reasons.BadMessage = BadInput
+reason_status reasons.BadBlock = BadInput
+reason_status reasons.BadRequest = BadInput
+reason_status reasons.OldPeer = BadInput
+reason_status reasons.SelfPeer = BadInput
+reason_status reasons.Kicked = BadInput
+reason_status reasons.TraceFull = BadInput
+reason_status reasons.HallFull = BadInput
+reason_status reasons.WriteFault = BadInput
 
 -- the end of a run whose session was closed for this reason, by whether a read and a write failed
 abbrev pub peer_end : Bool → Bool → CloseReason → Result Status Halt

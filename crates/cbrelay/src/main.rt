@@ -2,18 +2,12 @@
 #![tactic(auto)]
 
 mod command;
-mod decode;
-mod ending;
-mod lines;
-mod output;
-mod printed;
 mod serve;
-mod sim;
-mod simulate;
 #[cfg(test)]
 mod tests;
 
 use cb_io::{In, Out};
+use cb_run::Status;
 use std::io::ErrorKind;
 use std::process::ExitCode;
 
@@ -26,10 +20,10 @@ fn main(rt: HostRuntime) -> ExitCode {
         Err(error) if error.kind() == ErrorKind::InvalidData => {
             return ExitCode::from(command::refuse_foreign(&mut errors));
         }
-        Err(_) => return ExitCode::from(ending::Status::NoMemory.code()),
+        Err(_) => return ExitCode::from(Status::NoMemory.code()),
     };
     let Ok(words) = words else {
-        return ExitCode::from(ending::Status::NoMemory.code());
+        return ExitCode::from(Status::NoMemory.code());
     };
     let mut reader = In::new(rt.reader());
     let mut writer = Out::new(std::io::writer(&rt));

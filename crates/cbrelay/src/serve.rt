@@ -6,13 +6,11 @@ ghost use Rattle.cb_peer.specs.State.{is_closed};
 ghost use Rattle.cb_peer.specs.declared.state.CloseReason.{CloseReason};
 ghost use Rattle.cb_peer.specs.declared.state.CloseReason.TheVariants as reasons;
 ghost use Rattle.cb_peer.specs.declared.state.State.TheVariants.{Closed};
-ghost use Rattle.cbrelay.specs.declared.ending.Halt.TheVariants.{WriteFailed};
-ghost use Rattle.cbrelay.specs.Ending.{reason_status};
-ghost use Rattle.cbrelay.specs.Peer.{WasServed, PeerEnds, closed_text, peer_end};
+ghost use Rattle.cb_run.specs.declared.ending.Halt.TheVariants.{WriteFailed};
+ghost use Rattle.cbrelay.specs.Peer.{WasServed, PeerEnds, closed_text, peer_end, reason_status};
 
-use crate::ending::{Halt, Status};
-use crate::output::write_all;
 use cb_io::{Sink, Source};
+use cb_run::{Halt, Status, write_all};
 use cb_session::{CloseReason, Hall, Settings, State, serve};
 use std::alloc::Global;
 

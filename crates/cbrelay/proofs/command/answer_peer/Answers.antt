@@ -1,5 +1,5 @@
 use Rattle.std.proofs.Common.{◌≡◌, ℕ, Result, ap, subst}
-use Rattle.cbrelay.specs.declared.ending.Halt.{Halt}
+use Rattle.cb_run.specs.declared.ending.Halt.{Halt}
 use Rattle.cbrelay.proofs.Telling.{Settles, tells_peer}
 use Rattle.cbrelay.proofs.command.answer_peer.Goals as goal
 

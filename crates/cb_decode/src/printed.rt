@@ -1,0 +1,226 @@
+//! What `decode` prints of an item: one arm for each message, and for each entry of a list a line of its own.
+
+ghost use Rattle.std.specs.Prelude.{◌≡◌, [], ◌++◌, length, None, IfOk, IsOk, OnOk, IsOkUnless, string_bytes};
+ghost use Rattle.hex.specs.Hex.{encode_lower};
+ghost use Rattle.cb_run.specs.declared.ending.Halt.TheVariants.{Memory};
+ghost use Rattle.cb_decode.specs.Printed.{block_line, broken_text, compact_relay_line, counted_line, entries_text, entry_line, header_line, headers_text, item_text, items_text, message_text, request_line, tx_line, version_line};
+
+use cb_base::{Fault, Hash256, dsha};
+use cb_block::{Block, Header};
+use cb_run::Halt;
+use cb_tx::{Tx, write_tx};
+use cb_wire::{Agent, CompactRelay, HeadersRequest, InvEntry, Item, Locator, Message, Version};
+use std::alloc::Global;
+
+/// Appends what is printed of items, one after another. The only error is want of memory.
+pub fn push_items(alloc: Global, text: &mut String, items: &[Item]) -> Result<(), Halt>
+    ensures text { OnOk result (string_bytes text.new ≡ string_bytes text.old ++ items_text items.now) }
+    ensures memory { IsOkUnless result Memory }
+    ensures nothing { items.now ≡ [] → IsOk result }
+{
+    for item in items {
+        push_item(alloc, text, item)?;
+    }
+    Ok(())
+}
+
+/// Appends the line of an item. The only error is want of memory.
+pub fn push_item(alloc: Global, text: &mut String, item: &Item) -> Result<(), Halt>
+    ensures text { OnOk result (string_bytes text.new ≡ string_bytes text.old ++ item_text item.now) }
+    ensures memory { IsOkUnless result Memory }
+{
+    match item {
+        Item::Good(message) => push_message(alloc, text, message.message())?,
+        Item::Damaged => text.push_str("damaged\n")?,
+        Item::Bad(command, fault) => {
+            let name = command.name();
+            writeln!(text, "bad {name} {fault}")?;
+        }
+    }
+    Ok(())
+}
+
+/// Appends the line of a message: one arm for each command. The only error is want of memory.
+fn push_message(alloc: Global, text: &mut String, message: &Message) -> Result<(), Halt>
+    ensures text { OnOk result (string_bytes text.new ≡ string_bytes text.old ++ message_text message.now) }
+    ensures memory { IsOkUnless result Memory }
+{
+    match message {
+        Message::Version(version) => push_version(alloc, text, version)?,
+        Message::Verack => text.push_str("verack\n")?,
+        Message::Ping(nonce) => writeln!(text, "ping {nonce}")?,
+        Message::Pong(nonce) => writeln!(text, "pong {nonce}")?,
+        Message::SendHeaders => text.push_str("sendheaders\n")?,
+        Message::SendCmpct(relay) => push_compact_relay(text, relay)?,
+        Message::Inv(entries) => push_entries(alloc, text, "inv", entries.as_slice())?,
+        Message::GetData(entries) => push_entries(alloc, text, "getdata", entries.as_slice())?,
+        Message::NotFound(entries) => push_entries(alloc, text, "notfound", entries.as_slice())?,
+        Message::Headers(headers) => push_headers(alloc, text, headers.as_slice())?,
+        Message::GetHeaders(request) => push_request(alloc, text, request)?,
+        Message::Tx(tx) => push_tx(alloc, text, tx)?,
+        Message::Block(block) => push_block(alloc, text, block)?,
+        Message::Unknown(name, payload) => {
+            let name = name.as_str();
+            let length = payload.len();
+            writeln!(text, "unknown {name} {length}")?;
+        }
+    }
+    Ok(())
+}
+
+/// Appends the line of a version: its number, the services, the height, and the agent in hex. The only error is want of
+/// memory.
+fn push_version(alloc: Global, text: &mut String, version: &Version) -> Result<(), Halt>
+    ensures text { OnOk result (string_bytes text.new ≡ string_bytes text.old ++ version_line version.now) }
+    ensures memory { IsOkUnless result Memory }
+{
+    let number = version.version;
+    let services = version.services;
+    let height = version.height;
+    let agent = hex_of(alloc, &version.agent)?;
+    write!(text, "version {number} services {services}")?;
+    writeln!(text, " height {height} agent {agent}")?;
+    Ok(())
+}
+
+/// The name of a node's software in hex. The only error is want of memory.
+fn hex_of(alloc: Global, agent: &Agent) -> Result<String, Halt>
+    ensures text { IfOk result (λ text. string_bytes text ≡ encode_lower agent.now) }
+    ensures memory { IsOkUnless result Memory }
+{
+    match hex::encode(alloc, agent.as_slice()) {
+        Ok(text) => Ok(text),
+        Err(_) => Err(Halt::Memory),
+    }
+}
+
+/// Appends the line of how a peer wants to be told of blocks. The only error is want of memory.
+fn push_compact_relay(text: &mut String, relay: &CompactRelay) -> Result<(), Halt>
+    ensures text { OnOk result (string_bytes text.new ≡ string_bytes text.old ++ compact_relay_line relay.now) }
+    ensures memory { IsOkUnless result Memory }
+{
+    let flag = if relay.high_bandwidth { "1 " } else { "0 " };
+    let version = relay.version;
+    writeln!(text, "sendcmpct {flag}{version}")?;
+    Ok(())
+}
+
+/// Appends the line of a request for headers: how many hashes its locator has, and where to stop. The only error is want of
+/// memory.
+fn push_request(alloc: Global, text: &mut String, request: &HeadersRequest) -> Result<(), Halt>
+    ensures text { OnOk result (string_bytes text.new ≡ string_bytes text.old ++ request_line request.now) }
+    ensures memory { IsOkUnless result Memory }
+{
+    push_count_and_stop(alloc, text, locator_len(&request.locator), &request.stop)
+}
+
+/// Appends the line of a request with so many hashes, and this one to stop at. The only error is want of memory.
+fn push_count_and_stop(
+    alloc: Global,
+    text: &mut String,
+    count: usize,
+    stop: &Hash256,
+) -> Result<(), Halt>
+    ensures text { OnOk result (string_bytes text.new ≡ string_bytes text.old ++ counted_line count stop.now) }
+    ensures memory { IsOkUnless result Memory }
+{
+    let stop = stop.show(alloc).map_err(Halt::of_memory)?;
+    writeln!(text, "getheaders {count} {stop}")?;
+    Ok(())
+}
+
+/// How many hashes a locator has.
+fn locator_len(locator: &Locator) -> usize
+    ensures { result ≡ length locator.now }
+{
+    locator.as_slice().len()
+}
+
+/// Appends the lines of entries: a name and their number, and one line for each. The only error is want of memory.
+fn push_entries(
+    alloc: Global,
+    text: &mut String,
+    name: &str,
+    entries: &[InvEntry],
+) -> Result<(), Halt>
+    ensures text { OnOk result (string_bytes text.new ≡ string_bytes text.old ++ entries_text name.now entries.now) }
+    ensures memory { IsOkUnless result Memory }
+{
+    let count = entries.len();
+    writeln!(text, "{name} {count}")?;
+    for entry in entries {
+        push_entry(alloc, text, entry)?;
+    }
+    Ok(())
+}
+
+/// Appends the line of an entry of inventory. The only error is want of memory.
+fn push_entry(alloc: Global, text: &mut String, entry: &InvEntry) -> Result<(), Halt>
+    ensures text { OnOk result (string_bytes text.new ≡ string_bytes text.old ++ entry_line entry.now) }
+    ensures memory { IsOkUnless result Memory }
+{
+    let kind = entry.kind;
+    let hash = entry.hash.show(alloc).map_err(Halt::of_memory)?;
+    writeln!(text, "  {kind} {hash}")?;
+    Ok(())
+}
+
+/// Appends the lines of headers: their number, and the hash of each. The only error is want of memory.
+fn push_headers(alloc: Global, text: &mut String, headers: &[Header]) -> Result<(), Halt>
+    ensures text { OnOk result (string_bytes text.new ≡ string_bytes text.old ++ headers_text headers.now) }
+    ensures memory { IsOkUnless result Memory }
+{
+    let count = headers.len();
+    writeln!(text, "headers {count}")?;
+    for header in headers {
+        push_header(alloc, text, header)?;
+    }
+    Ok(())
+}
+
+/// Appends the line of a header: its hash. The only error is want of memory.
+fn push_header(alloc: Global, text: &mut String, header: &Header) -> Result<(), Halt>
+    ensures text { OnOk result (string_bytes text.new ≡ string_bytes text.old ++ header_line header.now) }
+    ensures memory { IsOkUnless result Memory }
+{
+    let hash = header.hash().show(alloc).map_err(Halt::of_memory)?;
+    writeln!(text, "  {hash}")?;
+    Ok(())
+}
+
+/// Appends the line of a transaction: its txid, and how many bytes its text has. The text is written once, and hashed
+/// once. The only error is want of memory.
+fn push_tx(alloc: Global, text: &mut String, tx: &Tx) -> Result<(), Halt>
+    ensures text { OnOk result (string_bytes text.new ≡ string_bytes text.old ++ tx_line tx.now) }
+    ensures memory { IsOkUnless result Memory }
+{
+    let mut bytes = Vec::new(alloc);
+    write_tx(&mut bytes, tx).map_err(Halt::of_memory)?;
+    let txid = dsha(bytes.as_slice()).show(alloc).map_err(Halt::of_memory)?;
+    let size = bytes.len();
+    writeln!(text, "tx {txid} {size}")?;
+    Ok(())
+}
+
+/// Appends the line of a block: its hash, and how many transactions it has. The only error is want of memory.
+fn push_block(alloc: Global, text: &mut String, block: &Block) -> Result<(), Halt>
+    ensures text { OnOk result (string_bytes text.new ≡ string_bytes text.old ++ block_line block.now) }
+    ensures memory { IsOkUnless result Memory }
+{
+    let hash = block.header.hash().show(alloc).map_err(Halt::of_memory)?;
+    let count = block.txs.as_slice().len();
+    writeln!(text, "block {hash} {count}")?;
+    Ok(())
+}
+
+/// Appends the line of a stream's fault, if it has one. The only error is want of memory.
+pub fn push_fault(text: &mut String, fault: Option<Fault>) -> Result<(), Halt>
+    ensures text { OnOk result (string_bytes text.new ≡ string_bytes text.old ++ broken_text fault) }
+    ensures memory { IsOkUnless result Memory }
+    ensures nothing { fault ≡ None → IsOk result }
+{
+    if let Some(fault) = fault {
+        writeln!(text, "broken {fault}")?;
+    }
+    Ok(())
+}

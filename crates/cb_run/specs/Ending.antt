@@ -1,0 +1,35 @@
+-- How a run ends: the exit status, and what standard error gets.
+use Rattle.std.specs.Prelude.{◌≡◌, ℕ, Bool, true, List, [], codes, ⊤, Option}
+use Rattle.cb_run.specs.declared.ending.Status.{Status}
+use Rattle.cb_run.specs.declared.ending.Status.TheVariants.{Success, Usage, Refused, BadInput, NoMemory}
+use Rattle.cb_run.specs.declared.ending.Halt.{Halt}
+use Rattle.cb_run.specs.declared.ending.Halt.TheVariants.{Memory, TooManyLines, ReadFailed, WriteFailed}
+use Rattle.cb_run.specs.Lines.{HasManyLines}
+
+-- the number that the process ends with
+abbrev pub status_code : Status → ℕ
+status_code Success = 0
+status_code Usage = 1
+status_code Refused = 2
+status_code BadInput = 3
+status_code NoMemory = 4
+
+abbrev pub halt_status : Halt → Status
+halt_status Memory = NoMemory
+halt_status TooManyLines = BadInput
+halt_status ReadFailed = BadInput
+halt_status WriteFailed = BadInput
+
+-- the line on standard error; none for want of memory, which the status tells
+abbrev pub halt_line : Halt → List ℕ
+halt_line Memory = []
+halt_line TooManyLines = codes "too many lines\n"
+halt_line ReadFailed = codes "read failed\n"
+halt_line WriteFailed = codes "write failed\n"
+
+-- What stands behind a halt: of the input as it was, and of whether a read and a write failed.
+abbrev pub HasCause : Option (List ℕ) → Bool → Bool → Halt → Type 0
+HasCause input read_failed write_failed Memory = ⊤
+HasCause input read_failed write_failed TooManyLines = HasManyLines input
+HasCause input read_failed write_failed ReadFailed = read_failed ≡ true
+HasCause input read_failed write_failed WriteFailed = write_failed ≡ true

@@ -1,0 +1,18 @@
+//! Writing a whole piece to a sink.
+
+ghost use Rattle.std.specs.Prelude.{◌≡◌, true, OnOk, OnErr, IsOkUnless};
+ghost use Rattle.std.specs.Io.KnownBytes.{Appends};
+ghost use Rattle.cb_run.specs.declared.ending.Halt.TheVariants.{WriteFailed};
+
+use crate::ending::Halt;
+use cb_io::Sink;
+
+/// Writes all of a piece. The only error is that a write failed, or took nothing.
+pub fn write_all<W: Sink>(writer: &mut W, piece: &[u8]) -> Result<(), Halt>
+    ensures written { OnOk result (Appends (W.contents writer.old) (W.contents writer.new) piece.now) }
+    ensures failed { IsOkUnless result WriteFailed }
+    ensures marked { OnErr result (W.has_failed writer.new ≡ true) }
+    ensures stays { W.has_failed writer.old ≡ true → W.has_failed writer.new ≡ true }
+{
+    cb_io::write_all(writer, piece).map_err(|_| Halt::WriteFailed)
+}

@@ -1,0 +1,4 @@
+pub mod SimLines
+pub mod SimRead
+pub mod SimReportLemmas
+pub mod SimRunLemmas

@@ -1,0 +1,4 @@
+pub mod SimInput
+pub mod SimLine
+pub mod SimReport
+pub mod SimRun

@@ -1,0 +1,156 @@
+//! The crew's core, run by hand: a line for the sizes of the crew, and then a line for each act.
+
+ghost use Rattle.std.specs.Prelude.{◌≡◌, ℕ, List, ◌++◌, false, IsOk, IfOk, OnOk, IsOkUnless, string_bytes};
+ghost use Rattle.cb_base.specs.declared.fault.Fault.TheVariants.{Memory};
+ghost use Rattle.cb_sched.specs.declared.act.Act.{Act};
+ghost use Rattle.cb_sched.specs.Crew.{IsEnabled, Machine, TakesMemory};
+ghost use Rattle.cb_sim.specs.SimLine.{TellsAct};
+ghost use Rattle.cb_sim.specs.SimRun.{DoesLine, final_text, refusal_text, status_of, unreadable_text};
+
+mod read;
+mod report;
+#[cfg(test)]
+mod tests;
+
+use cb_base::Fault;
+use cb_sched::System;
+use std::alloc::Global;
+use std::marker::Model;
+
+/// Whether a run goes on after a line.
+#[derive(Clone, Copy, Debug, PartialEq, Eq)]
+pub enum Flow {
+    /// The next line may come.
+    Next,
+    /// The line can't be read, and the run is over.
+    Stop,
+}
+
+/// Where a run stands.
+#[derive(Drop)]
+enum Stage {
+    /// The sizes of the crew haven't come yet.
+    Opening,
+    /// Acts may come.
+    Running(System),
+    /// A line couldn't be read.
+    Unreadable,
+}
+
+/// A run of the crew's core over lines of text, which are counted from 1 on.
+#[derive(Drop)]
+pub struct Simulation {
+    alloc: Global,
+    stage: Stage,
+    lines: u64,
+    refused: bool,
+}
+
+impl Model for Simulation {
+    ghost use Rattle.cb_sim.specs.SimRun.{SimState};
+
+    ghost Value = { SimState };
+
+    ghost view = { λ a. record { lines = a.lines; stage = a.stage; refused = a.refused } };
+}
+
+impl Simulation {
+    /// Before the first line.
+    pub fn new(alloc: Global) -> Simulation
+        ensures { result ≡ record { lines = 0; stage = Stage.Opening; refused = false } }
+    {
+        Simulation {
+            alloc,
+            stage: Stage::Opening,
+            lines: 0,
+            refused: false,
+        }
+    }
+
+    /// Takes the next line, without its end, and adds to `out` what is printed for it: nothing, that its act is refused, or
+    /// that it can't be read.
+    ///
+    /// The only error is `Fault::Memory`.
+    pub fn line(&mut self, text: &[u8], out: &mut String) -> Result<Flow, Fault>
+        ensures does { IfOk result (λ flow. (printed : List ℕ) × (string_bytes out.new ≡ string_bytes out.old ++ printed) × DoesLine text.now self.old flow printed self.new) }
+        ensures memory { IsOkUnless result Memory }
+        // A line of a run that is over takes no memory, and neither does an act that can come and takes none of its own.
+        ensures over { self.old.stage ≡ Stage.Unreadable → IsOk result }
+        ensures calm { (m : Machine) (act : Act) → self.old.stage ≡ Stage.Running m → TellsAct text.now act → IsEnabled m.capacity m.crew act → (TakesMemory act → ⊥) → IsOk result }
+    {
+        self.lines = self.lines.saturating_add(1);
+        let line = self.lines;
+        match &mut self.stage {
+            Stage::Opening => match read::read_sizes(text) {
+                Some(sizes) => {
+                    let system = System::new(
+                        self.alloc,
+                        sizes.peers,
+                        sizes.handlers,
+                        sizes.capacity,
+                    )?;
+                    self.stage = Stage::Running(system);
+                    Ok(Flow::Next)
+                }
+                None => self.unreadable(out),
+            },
+            Stage::Running(system) => match read::read_act(text) {
+                Some(act) => match system.apply(act) {
+                    Ok(()) => Ok(Flow::Next),
+                    Err(Fault::NotEnabled) => {
+                        self.refused = true;
+                        print_refusal(line, out)?;
+                        Ok(Flow::Next)
+                    }
+                    Err(fault) => Err(fault),
+                },
+                None => self.unreadable(out),
+            },
+            Stage::Unreadable => Ok(Flow::Stop),
+        }
+    }
+
+    /// The line that came last can't be read.
+    fn unreadable(&mut self, out: &mut String) -> Result<Flow, Fault>
+        ensures stop { IfOk result (λ flow. (flow ≡ Flow.Stop) × (string_bytes out.new ≡ string_bytes out.old ++ unreadable_text self.old.lines)) }
+        ensures stage { self.new ≡ record { lines = self.old.lines; stage = Stage.Unreadable; refused = self.old.refused } }
+        ensures memory { IsOkUnless result Memory }
+    {
+        let line = self.lines;
+        self.stage = Stage::Unreadable;
+        writeln!(out, "{line} unreadable")?;
+        Ok(Flow::Stop)
+    }
+
+    /// Ends the run: adds the report to `out` and gives the exit status, 0, or 2 where an act was refused. Where a line
+    /// couldn't be read, or none came, there is no report, and the status is 3.
+    ///
+    /// The only error is `Fault::Memory`.
+    pub fn finish(self, out: &mut String) -> Result<u8, Fault>
+        ensures text { OnOk result (string_bytes out.new ≡ string_bytes out.old ++ final_text self.stage) }
+        ensures status { IfOk result (λ status. status ≡ status_of self.stage self.refused) }
+        ensures memory { IsOkUnless result Memory }
+        ensures over { self.stage ≡ Stage.Unreadable → IsOk result }
+    {
+        match &self.stage {
+            Stage::Opening => {
+                writeln!(out, "1 unreadable")?;
+                Ok(3)
+            }
+            Stage::Running(system) => {
+                report::write(system, out)?;
+                Ok(if self.refused { 2 } else { 0 })
+            }
+            Stage::Unreadable => Ok(3),
+        }
+    }
+}
+
+/// Prints that the act of a line can't come.
+fn print_refusal(line: u64, out: &mut String) -> Result<(), Fault>
+    ensures text { OnOk result (string_bytes out.new ≡ string_bytes out.old ++ refusal_text line) }
+    ensures memory { IsOkUnless result Memory }
+{
+    writeln!(out, "{line} {}", Fault::NotEnabled)?;
+    Ok(())
+}
