@@ -1,3 +1,4 @@
+pub mod Honest
 pub mod Indexes
 pub mod Slotting
 pub mod Tabling

@@ -23,12 +23,12 @@ pub rise_room : (first total : ℕ) (places : List ℕ) → Rise first total pla
 rise_room first total [] rises room = omega (arith, room)
 rise_room first total (place ∷ places) (low, below, rest) room = let more = rise_room (place + 1) total places rest (omega (arith, below)) in omega (arith, low, more)
 
-laid_at : (first : ℕ) (given : Prefilled) (more : List Prefilled) (others : List (Option Tx)) → given.place ≡ first → laid_out first (given ∷ more) others ≡ Some given.tx ∷ laid_out (first + 1) more others
+pub laid_at : (first : ℕ) (given : Prefilled) (more : List Prefilled) (others : List (Option Tx)) → given.place ≡ first → laid_out first (given ∷ more) others ≡ Some given.tx ∷ laid_out (first + 1) more others
 laid_at first given more others is =
     let none : given.place - first ≡ 0 = omega (arith, is) in
     ap (λ n. take n others ++ Some given.tx ∷ laid_out (given.place + 1) more (drop n others)) none ∙ ap (λ n. Some given.tx ∷ laid_out (n + 1) more others) is
 
-laid_kept : (first total : ℕ) (more : List Prefilled) (x : Option Tx) (xs : List (Option Tx)) → Rise (first + 1) total (places_of more) → laid_out first more (x ∷ xs) ≡ x ∷ laid_out (first + 1) more xs
+pub laid_kept : (first total : ℕ) (more : List Prefilled) (x : Option Tx) (xs : List (Option Tx)) → Rise (first + 1) total (places_of more) → laid_out first more (x ∷ xs) ≡ x ∷ laid_out (first + 1) more xs
 laid_kept first total [] x xs rises = refl
 laid_kept first total (given ∷ more) x xs (low, below, rest) =
     let next : given.place - first ≡ suc (given.place - (first + 1)) = omega (arith, low) in

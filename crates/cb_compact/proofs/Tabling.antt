@@ -13,7 +13,7 @@ use Rattle.cb_compact.specs.declared.table.Found.{Found}
 use Rattle.cb_compact.specs.declared.table.Found.TheVariants.{Nobody}
 
 -- Numbers that are told equal are so.
-eqb_is : (x y : ℕ) → (x == y) ≡ true → x ≡ y
+pub eqb_is : (x y : ℕ) → (x == y) ≡ true → x ≡ y
 eqb_is x y e = eqb_yes (subst T (sym e) tt)
 
 -- What was found is there as what is chosen.

@@ -1,5 +1,6 @@
 pub mod Differences
 pub mod Forms
+pub mod Honest
 pub mod Placing
 pub mod ShortIds
 pub mod Slots

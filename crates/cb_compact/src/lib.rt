@@ -14,7 +14,7 @@ mod table;
 pub use compacting::compact;
 pub use difference::{differ, undiffer};
 pub use form::{Compact, Prefilled};
-pub use law::differences_lead_back;
+pub use law::{an_honest_form_is_rebuilt, differences_lead_back};
 pub use named::{NamedTx, Pair};
 pub use partial::{Filled, Partial, Placed};
 pub use placing::place;
