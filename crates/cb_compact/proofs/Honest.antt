@@ -1,11 +1,11 @@
 -- A form of an honest sender is rebuilt: what stands at each place is the block's transaction there.
-use Rattle.std.proofs.Common.{◌≡◌, ◌≢◌, ℕ, zero, suc, ◌+◌, ◌-◌, ◌<◌, ◌≤◌, ◌⊎◌, ◌↔◌, ◌==◌, ◌||◌, inl, inr, Bool, true, false, if◌then◌else◌, cond, List, [], ◌∷◌, ◌++◌, length, take, drop, map, filter, All, Contains, Option, Some, None, slice_get, refl, sym, ap, ◌∙◌, subst, arith, length-append, length-drop, length-take}
-use Rattle.std.proofs.lemmas.Bool.{cases_lt, eq-eqb, false≢true}
-use Rattle.std.proofs.lemmas.List.{drop-map, length-map, map-append, take-map}
+use Rattle.std.proofs.Common.{◌≡◌, ◌≢◌, ℕ, zero, suc, ◌+◌, ◌-◌, ◌<◌, ◌≤◌, ◌⊎◌, ◌==◌, inl, inr, Bool, true, false, if◌then◌else◌, cond, List, [], ◌∷◌, length, take, drop, map, All, Contains, Option, Some, None, slice_get, refl, sym, ap, ◌∙◌, subst, arith, length-append, length-drop, length-take}
+use Rattle.std.proofs.lemmas.Bool.{false≢true}
+use Rattle.std.proofs.lemmas.List.{length-map}
 use Rattle.std.proofs.lemmas.List.Elements.{All-cons, All-head, All-nil, All-tail, All-weaker}
-use Rattle.std.proofs.lemmas.Option.{slice_get_within}
 use Rattle.std.proofs.lemmas.Simd.{map-map}
 use Rattle.cb_base.specs.DoubleHash.{double_hash}
+use Rattle.cb_base.specs.declared.hash.Hash256.{Hash256}
 use Rattle.cb_tx.specs.declared.tx.Tx.{Tx}
 use Rattle.cb_tx.specs.Text.{tx_text}
 use Rattle.cb_block.specs.declared.block.Block.{Block}
@@ -14,174 +14,41 @@ use Rattle.cb_block.specs.Blocks.{texts, IsSoundBlock}
 use Rattle.cb_block.specs.Soundness.{names, IsSound}
 use Rattle.cb_compact.specs.Differences.{Rise}
 use Rattle.cb_compact.specs.Forms.{IsCompact, left_out, places_of}
-use Rattle.cb_compact.specs.Honest.{AreOwn, AreUnserved, IsById, IsHonest, IsRebuilt, id_of}
+use Rattle.cb_compact.specs.Honest.{AreOwn, AreUnserved, IsHonest, IsRebuilt, id_of}
 use Rattle.cb_compact.specs.Placing.{IsFilled, IsPlaced}
 use Rattle.cb_compact.specs.ShortIds.{key_of, short_id_of}
-use Rattle.cb_compact.specs.Slots.{AreDifferent, choice, filled, is_among, laid_out, missing, only_tx, slots, with_id}
+use Rattle.cb_compact.specs.Slots.{choice, filled, is_among, laid_out, missing, only_tx, slots, with_id}
 use Rattle.cb_compact.specs.declared.form.Compact.{Compact}
-use Rattle.cb_compact.specs.declared.form.Prefilled.{Prefilled}
 use Rattle.cb_compact.specs.declared.named.Pair.{Pair}
 use Rattle.cb_compact.specs.declared.partial.Filled.{Filled}
 use Rattle.cb_compact.specs.declared.partial.Filled.TheVariants.{Sound, Wrong}
 use Rattle.cb_compact.specs.declared.partial.Placed.{Placed}
 use Rattle.cb_compact.specs.declared.partial.Placed.TheVariants.{Missing, Repeat, Whole}
-use Rattle.cb_compact.proofs.Indexes.{left_at, left_kept}
-use Rattle.cb_compact.proofs.Slotting.{laid_at, laid_kept}
 use Rattle.cb_compact.proofs.Tabling.{eqb_is}
-
--- ---- what a number is among
-
-not_equal : (x y : ℕ) → x ≢ y → (x == y) ≡ false
-not_equal x y other = go (x == y) refl where
-  go : (b : Bool) → (x == y) ≡ b → b ≡ false
-  go false e = refl
-  go true e = absurd (other (eqb_is x y e))
-
-unequal_from : (x y : ℕ) → (x == y) ≡ false → x ≢ y
-unequal_from x y e same = false≢true (sym e ∙ eq-eqb x y same)
-
-contains_first : (x : ℕ) (xs : List ℕ) → Contains (x ∷ xs) x
-contains_first x xs = (0, omega arith, refl)
-
-contains_later : (x y : ℕ) (xs : List ℕ) → Contains xs y → Contains (x ∷ xs) y
-contains_later x y xs (k, within, is) = (suc k, omega (arith, within), is)
-
-contains_cases : (x y : ℕ) (xs : List ℕ) → Contains (x ∷ xs) y → (x ≡ y) ⊎ Contains xs y
-contains_cases x y xs (zero, within, is) = inl is
-contains_cases x y xs (suc k, within, is) = inr (k, omega (arith, within), is)
-
-contains_none : (x : ℕ) → ¬ Contains [] x
-contains_none x (k, within, is) = absurd (omega (arith, within))
-
-is_contained : (x : ℕ) (xs : List ℕ) → is_among x xs ≡ true → Contains xs x
-is_contained x [] e = absurd (false≢true e)
-is_contained x (y ∷ ys) e = go (y == x) refl e (is_contained x ys) where
-  go : (b : Bool) → (y == x) ≡ b → (b || is_among x ys) ≡ true → (is_among x ys ≡ true → Contains ys x) → Contains (y ∷ ys) x
-  go true is f later = subst (Contains (y ∷ ys)) (eqb_is y x is) (contains_first y ys)
-  go false is f later = contains_later y x ys (later f)
-
-not_among : (x : ℕ) (xs : List ℕ) → ¬ Contains xs x → is_among x xs ≡ false
-not_among x xs none = go (is_among x xs) refl where
-  go : (b : Bool) → is_among x xs ≡ b → b ≡ false
-  go false e = refl
-  go true e = absurd (none (is_contained x xs e))
-
-not_contained : (x : ℕ) (xs : List ℕ) → is_among x xs ≡ false → ¬ Contains xs x
-not_contained x [] e here = contains_none x here
-not_contained x (y ∷ ys) e here = go (y == x) refl e (not_contained x ys) where
-  go : (b : Bool) → (y == x) ≡ b → (b || is_among x ys) ≡ false → (is_among x ys ≡ false → ¬ Contains ys x) → ⊥
-  go true is f later = absurd (false≢true (sym f))
-  go false is f later = elim (contains_cases y x ys here) [
-    | inl same ↦ unequal_from y x is same
-    | inr there ↦ later f there
-  ]
-
--- ---- places that rise
-
-rise_lower : (low least total : ℕ) (places : List ℕ) → low ≤ least → Rise least total places → Rise low total places
-rise_lower low least total [] less rises = tt
-rise_lower low least total (place ∷ places) less (from, below, rest) = (omega (arith, less, from), below, rest)
-
-below_rise : (i least total : ℕ) (places : List ℕ) → i < least → Rise least total places → is_among i places ≡ false
-below_rise i least total [] less rises = refl
-below_rise i least total (place ∷ places) less (from, below, rest) =
-    ap (λ it. it || is_among i places) (not_equal place i (omega (arith, less, from))) ∙ below_rise i (place + 1) total places (omega (arith, less, from)) rest
-
-missing_rise : (first total : ℕ) (list : List (Option Tx)) → total ≡ first + length list → Rise first total (missing first list)
-missing_rise first total [] all = tt
-missing_rise first total (None ∷ list) all = (omega arith, omega (arith, all), missing_rise (first + 1) total list (omega (arith, all)))
-missing_rise first total (Some tx ∷ list) all = rise_lower first (first + 1) total (missing (first + 1) list) (omega arith) (missing_rise (first + 1) total list (omega (arith, all)))
-
--- ---- what stands at each place
-
-left_map : {A B : Type 0} (f : A → B) (first : ℕ) (places : List ℕ) (xs : List A) → left_out first places (map f xs) ≡ map f (left_out first places xs)
-left_map f first [] xs = refl
-left_map f first (place ∷ places) xs =
-    let rest = left_out (place + 1) places (drop (place - first + 1) xs) in
-    ap (λ list. list ++ left_out (place + 1) places (drop (place - first + 1) (map f xs))) (take-map f (place - first) xs)
-    ∙ ap (λ list. map f (take (place - first) xs) ++ left_out (place + 1) places list) (drop-map f (place - first + 1) xs)
-    ∙ ap (λ list. map f (take (place - first) xs) ++ list) (left_map f (place + 1) places (drop (place - first + 1) xs))
-    ∙ sym (map-append f (take (place - first) xs) rest)
-
--- at each of the places the transaction there, and at all others what is known of it
-abbrev pub seen : (Tx → Option Tx) → ℕ → List ℕ → List Tx → List (Option Tx)
-seen known first places [] = []
-seen known first places (tx ∷ txs) = (if is_among first places then Some tx else known tx) ∷ seen known (first + 1) places txs
-
-seen_past : (known : Tx → Option Tx) (first place : ℕ) (places : List ℕ) (txs : List Tx) → place < first → seen known first (place ∷ places) txs ≡ seen known first places txs
-seen_past known first place places [] past = refl
-seen_past known first place places (tx ∷ txs) past =
-    ap (λ it. (if (it || is_among first places) then Some tx else known tx) ∷ seen known (first + 1) (place ∷ places) txs) (not_equal place first (omega (arith, past)))
-    ∙ ap (λ list. (if is_among first places then Some tx else known tx) ∷ list) (seen_past known (first + 1) place places txs (omega (arith, past)))
-
-length_seen : (known : Tx → Option Tx) (first : ℕ) (places : List ℕ) (txs : List Tx) → length (seen known first places txs) ≡ length txs
-length_seen known first places [] = refl
-length_seen known first places (tx ∷ txs) = ap (λ n. suc n) (length_seen known (first + 1) places txs)
-
--- The whole transactions are those of a list whose first place is `first`.
-abbrev AreAt : ℕ → List Tx → List Prefilled → Type 0
-AreAt first txs prefilled = All (λ given. slice_get txs (given.place - first) ≡ Some given.tx) prefilled
-
-at_next : (first least total : ℕ) (prefilled : List Prefilled) (tx : Tx) (txs : List Tx) → first < least → Rise least total (places_of prefilled) → AreAt first (tx ∷ txs) prefilled → AreAt (first + 1) txs prefilled
-at_next first least total [] tx txs less rises are = All-nil (λ given. slice_get txs (given.place - (first + 1)) ≡ Some given.tx)
-at_next first least total (given ∷ more) tx txs less (low, below, rest) are =
-    let here = All-head (λ given. slice_get (tx ∷ txs) (given.place - first) ≡ Some given.tx) given more are in
-    let others = All-tail (λ given. slice_get (tx ∷ txs) (given.place - first) ≡ Some given.tx) given more are in
-    let next : given.place - first ≡ suc (given.place - (first + 1)) = omega (arith, less, low) in
-    All-cons (λ given. slice_get txs (given.place - (first + 1)) ≡ Some given.tx) given more
-    (sym (ap (slice_get (tx ∷ txs)) next) ∙ here)
-    (at_next first (given.place + 1) total more tx txs (omega (arith, less, low)) rest others)
-
-some_is : (x y : Tx) → Some x ≡ Some y → x ≡ y
-some_is x y e = cc
-
-laid_seen : (known : Tx → Option Tx) (first total : ℕ) (prefilled : List Prefilled) (txs : List Tx) → total ≡ first + length txs → Rise first total (places_of prefilled) → AreAt first txs prefilled
-    → laid_out first prefilled (map known (left_out first (places_of prefilled) txs)) ≡ seen known first (places_of prefilled) txs
-laid_seen known first total [] [] all rises are = refl
-laid_seen known first total (given ∷ more) [] all (low, below, rest) are = absurd (omega (arith, all, low, below))
-laid_seen known first total [] (tx ∷ txs) all rises are =
-    ap (λ list. known tx ∷ list) (laid_seen known (first + 1) total [] txs (omega (arith, all)) tt (All-nil (λ given. slice_get txs (given.place - (first + 1)) ≡ Some given.tx)))
-laid_seen known first total (given ∷ more) (tx ∷ txs) all (low, below, rest) are =
-    elim (cases_lt first given.place) [
-      | inl less ↦ let here : Rise (first + 1) total (places_of (given ∷ more)) = (omega (arith, less), below, rest) in
-          let others = map known (left_out (first + 1) (places_of (given ∷ more)) txs) in
-          ap (λ list. laid_out first (given ∷ more) (map known list)) (left_kept first total (places_of (given ∷ more)) tx txs here)
-          ∙ laid_kept first total (given ∷ more) (known tx) others here
-          ∙ ap (λ list. known tx ∷ list) (laid_seen known (first + 1) total (given ∷ more) txs (omega (arith, all)) here (at_next first (first + 1) total (given ∷ more) tx txs (omega arith) here are))
-          ∙ ap (λ it. (if it then Some tx else known tx) ∷ seen known (first + 1) (places_of (given ∷ more)) txs) (sym (below_rise first (first + 1) total (places_of (given ∷ more)) (omega arith) here))
-      | inr most ↦ let is : given.place ≡ first = omega (arith, low, most) in
-          let none : given.place - first ≡ 0 = omega (arith, is) in
-          let later : Rise (first + 1) total (places_of more) = subst (λ n. Rise (n + 1) total (places_of more)) is rest in
-          let head = All-head (λ given. slice_get (tx ∷ txs) (given.place - first) ≡ Some given.tx) given more are in
-          let tail = All-tail (λ given. slice_get (tx ∷ txs) (given.place - first) ≡ Some given.tx) given more are in
-          let same : Some given.tx ≡ Some tx = sym head ∙ ap (slice_get (tx ∷ txs)) none in
-          let others = map known (left_out (first + 1) (places_of more) txs) in
-          ap (λ list. laid_out first (given ∷ more) (map known list)) (left_at first given.place (places_of more) tx txs is)
-          ∙ laid_at first given more others is
-          ∙ ap (λ slot. slot ∷ laid_out (first + 1) more others) same
-          ∙ ap (λ list. Some tx ∷ list) (laid_seen known (first + 1) total more txs (omega (arith, all)) later (at_next first (first + 1) total more tx txs (omega arith) later tail))
-          ∙ ap (λ list. Some tx ∷ list) (sym (seen_past known (first + 1) given.place (places_of more) txs (omega (arith, is))))
-          ∙ ap (λ it. (if (it || is_among first (places_of more)) then Some tx else known tx) ∷ seen known (first + 1) (places_of (given ∷ more)) txs) (sym (eq-eqb given.place first is))
-    ]
+use Rattle.cb_compact.proofs.Seen.{AreAt, contains_cases, contains_first, contains_later, contains_none, laid_seen, left_map, length_seen, missing_rise, not_among, not_contained, seen, some_is, unequal_from}
 
 -- What stands at the places of a form is its whole transactions, and of all others what the pairs choose for their ids.
 abbrev pub chosen_for : Header → ℕ → List Pair → Tx → Option Tx
 chosen_for header nonce pairs tx = choice pairs (id_of header nonce tx)
 
+-- The form's ids are those of the transactions at all other places.
+pub ids_are : (block : Block) (nonce : ℕ) (places : List ℕ) (form : Compact) → IsCompact block nonce places form → form.ids.items ≡ map (id_of block.header nonce) (left_out 0 places block.txs)
+ids_are block nonce places form compact =
+    let key = key_of block.header nonce in
+    let name : Tx → Hash256 = λ tx. double_hash (tx_text tx) in
+    compact.ids
+    ∙ ap (λ list. map (short_id_of key) (left_out 0 places list)) (map-map double_hash tx_text block.txs)
+    ∙ ap (map (short_id_of key)) (left_map name 0 places block.txs)
+    ∙ map-map (short_id_of key) name (left_out 0 places block.txs)
+
 pub form_seen : (block : Block) (nonce : ℕ) (places : List ℕ) (form : Compact) (pairs : List Pair) → Rise 0 (length block.txs) places → IsCompact block nonce places form
     → slots form.ids.items form.prefilled.items pairs ≡ seen (chosen_for block.header nonce pairs) 0 places block.txs
 form_seen block nonce places form pairs rises compact =
-    let key = key_of block.header nonce in
     let txs = block.txs in
     let known = chosen_for block.header nonce pairs in
     let given = form.prefilled.items in
     let left = left_out 0 places txs in
-    let named : form.ids.items ≡ map (id_of block.header nonce) left =
-    compact.ids
-    ∙ ap (λ list. map (short_id_of key) (left_out 0 places list)) (map-map double_hash tx_text txs)
-    ∙ ap (map (short_id_of key)) (left_map (λ tx. double_hash (tx_text tx)) 0 places txs)
-    ∙ map-map (short_id_of key) (λ tx. double_hash (tx_text tx)) left in
-    let others : map (choice pairs) form.ids.items ≡ map known left = ap (map (choice pairs)) named ∙ map-map (choice pairs) (id_of block.header nonce) left in
+    let others : map (choice pairs) form.ids.items ≡ map known left = ap (map (choice pairs)) (ids_are block nonce places form compact) ∙ map-map (choice pairs) (id_of block.header nonce) left in
     let rise : Rise 0 (length txs) (places_of given) = subst (Rise 0 (length txs)) (sym compact.places_are) rises in
     let at : AreAt 0 txs given = All-weaker (λ it. slice_get txs it.place ≡ Some it.tx) (λ it. slice_get txs (it.place - 0) ≡ Some it.tx) (λ it there. let same : it.place - 0 ≡ it.place = omega arith in ap (slice_get txs) same ∙ there) given compact.whole in
     ap (laid_out 0 given) others
@@ -199,7 +66,7 @@ NoneHas id pairs = All (λ pair. pair.id ≢ id) pairs
 abbrev pub IsChosen : Option Tx → Tx → Type 0 → Type 0
 IsChosen slot tx Free = ((slot ≡ Some tx) × ¬ Free) ⊎ ((slot ≡ None) × Free)
 
-no_more : (list : List Pair) → suc (length list) ≤ 1 → list ≡ []
+pub no_more : (list : List Pair) → suc (length list) ≤ 1 → list ≡ []
 no_more [] few = refl
 no_more (pair ∷ pairs) few = absurd (omega (arith, few))
 
@@ -229,27 +96,27 @@ is_chosen id tx (pair ∷ pairs) once own =
 -- ---- what is missing, and what comes of the list once it is filled
 
 -- Each transaction at none of the places is known, or is free.
-abbrev AreKnown : (Tx → Option Tx) → (Tx → Type 0) → ℕ → List ℕ → List Tx → Type 0
+abbrev pub AreKnown : (Tx → Option Tx) → (Tx → Type 0) → ℕ → List ℕ → List Tx → Type 0
 AreKnown known Free first places txs = (k : ℕ) (tx : Tx) → slice_get txs k ≡ Some tx → is_among (first + k) places ≡ false → IsChosen (known tx) tx (Free tx)
 
-known_next : (known : Tx → Option Tx) (Free : Tx → Type 0) (first : ℕ) (places : List ℕ) (tx : Tx) (txs : List Tx) → AreKnown known Free first places (tx ∷ txs) → AreKnown known Free (first + 1) places txs
+pub known_next : (known : Tx → Option Tx) (Free : Tx → Type 0) (first : ℕ) (places : List ℕ) (tx : Tx) (txs : List Tx) → AreKnown known Free first places (tx ∷ txs) → AreKnown known Free (first + 1) places txs
 known_next known Free first places tx txs all k other is outside =
     let next : first + 1 + k ≡ first + suc k = omega arith in
     all (suc k) other is (sym (ap (λ n. is_among n places) next) ∙ outside)
 
 -- What stands at the first place: its transaction, where the place is one of those or the transaction isn't free, and else
 -- nothing.
-abbrev IsHead : Option Tx → Tx → Bool → Type 0 → Type 0
+abbrev pub IsHead : Option Tx → Tx → Bool → Type 0 → Type 0
 IsHead slot tx among Free = ((slot ≡ Some tx) × (among ≡ false → ¬ Free)) ⊎ ((slot ≡ None) × (among ≡ false) × Free)
 
-head_by : (among : Bool) (slot : Option Tx) (tx : Tx) (Free : Type 0) → (among ≡ false → IsChosen slot tx Free) → IsHead (if among then Some tx else slot) tx among Free
+pub head_by : (among : Bool) (slot : Option Tx) (tx : Tx) (Free : Type 0) → (among ≡ false → IsChosen slot tx Free) → IsHead (if among then Some tx else slot) tx among Free
 head_by true slot tx Free told = inl (refl, λ e. absurd (false≢true (sym e)))
 head_by false slot tx Free told = elim (told refl) [
   | inl one ↦ inl (one.0, λ e. one.1)
   | inr nothing ↦ inr (nothing.0, refl, nothing.1)
 ]
 
-head_known : (known : Tx → Option Tx) (Free : Tx → Type 0) (first : ℕ) (places : List ℕ) (tx : Tx) (txs : List Tx) → AreKnown known Free first places (tx ∷ txs) → IsHead (if is_among first places then Some tx else known tx) tx (is_among first places) (Free tx)
+pub head_known : (known : Tx → Option Tx) (Free : Tx → Type 0) (first : ℕ) (places : List ℕ) (tx : Tx) (txs : List Tx) → AreKnown known Free first places (tx ∷ txs) → IsHead (if is_among first places then Some tx else known tx) tx (is_among first places) (Free tx)
 head_known known Free first places tx txs all =
     let here : first + 0 ≡ first = omega arith in
     head_by (is_among first places) (known tx) tx (Free tx) (λ outside. all 0 tx refl (ap (λ n. is_among n places) here ∙ outside))
@@ -330,7 +197,9 @@ free_missing known Free first (suc k) places (tx ∷ txs) it all is outside free
 
 -- ---- the law
 
-zero_more : (k : ℕ) → 0 + k ≡ k
+-- ---- the law
+
+pub zero_more : (k : ℕ) → 0 + k ≡ k
 zero_more k = omega arith
 
 -- What the pairs choose is the block's own.

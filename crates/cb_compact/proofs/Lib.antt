@@ -1,4 +1,7 @@
 pub mod Honest
 pub mod Indexes
+pub mod OnlyTold
+pub mod OwnPairs
+pub mod Seen
 pub mod Slotting
 pub mod Tabling

@@ -14,7 +14,10 @@ mod table;
 pub use compacting::compact;
 pub use difference::{differ, undiffer};
 pub use form::{Compact, Prefilled};
-pub use law::{an_honest_form_is_rebuilt, differences_lead_back};
+pub use law::{
+    a_form_is_rebuilt_from_its_own_pairs, an_honest_form_is_rebuilt, differences_lead_back,
+    what_is_told_as_sound_is_the_block,
+};
 pub use named::{NamedTx, Pair};
 pub use partial::{Filled, Partial, Placed};
 pub use placing::place;
