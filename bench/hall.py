@@ -3,7 +3,8 @@
 
 It needs the built program crates/bench_hall/out/bench_hall (as ./build bench_hall leaves it) and python3, and takes some five minutes.
 Times are of the processor. What a call takes is the least time of some runs with it, less that of as many that only read it; calls whose
-times are compared take turns. Memory is what a run has at its greatest, less that of a run of no input.
+times are compared take turns. How much `openssl dgst -sha256` hashes in that time tells what the machine does. Memory is what a run has
+at its greatest, less that of a run of no input.
 """
 
 import os
@@ -12,7 +13,7 @@ import subprocess
 import sys
 import tempfile
 
-from bench import RUNS, adopt, built, ended, in_turns, usage
+from bench import HASHED, OPENSSL, RUNS, adopt, built, ended, in_turns, usage
 from calls import NOBODY, Block, Tx
 from chain import GENESIS, Play, record, seconds_of
 from chain import Runs as ChainRuns
@@ -31,7 +32,13 @@ TURNS = 3 * RUNS
 
 
 class Runs(ChainRuns):
-    """Runs of the program."""
+    """Runs of the program, and what openssl hashes in a second."""
+
+    def hashed_a_second(self):
+        empty, zeros = self.write("empty", b""), self.write("zeros", b"")
+        os.truncate(zeros, HASHED)
+        start, took = in_turns((OPENSSL, empty), (OPENSSL, zeros))
+        return HASHED / (took.seconds - start.seconds)
 
     def once(self, path, _):
         with open(path, "rb") as source:
@@ -102,9 +109,11 @@ def blocks(runs, pools):
     give = asked("block", pools.block, True)
     names = [f"a block of {GIVEN:,} transactions over {name}" for name, _ in kinds]
     plays = [at_lengths(lambda length, pool=pool: pools.ground(pool, length), give, 1) for _, pool in kinds]
-    bare, *more = tell_times(runs, names, plays, [1] * len(kinds))
-    for (name, _), took in zip(kinds[1:], more):
-        print(f"  over {name} {(took - bare) * 1e3:,.3f} ms more than over an empty one")
+    bare, *others = tell_times(runs, names, plays, [1] * len(kinds))
+    rate = runs.hashed_a_second()
+    for (name, _), took in zip(kinds[1:], others):
+        more = took - bare
+        print(f"  over {name} {more * 1e3:,.3f} ms more than over an empty one, in which openssl hashes {more * rate / 1e6:,.2f} MB")
 
 
 def mined(runs, pools):

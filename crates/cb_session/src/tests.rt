@@ -27,41 +27,6 @@ const PONG: [u8; 32] = [
     0xca, 0x62, 0, 0, 0, 0, 0, 0, 0, 0,
 ];
 
-/// A `ping` with no payload.
-const SHORT_PING: [u8; 24] = [
-    0xfa, 0xbf, 0xb5, 0xda, 0x70, 0x69, 0x6e, 0x67, 0, 0, 0, 0, 0, 0, 0, 0, 0, 0, 0, 0, 0x5d, 0xf6,
-    0xe0, 0xe2,
-];
-
-/// A `tx` of 10 bytes, without inputs and outputs. Its checksum was computed by another implementation of SHA-256.
-const TX: [u8; 34] = [
-    0xfa, 0xbf, 0xb5, 0xda, 0x74, 0x78, 0, 0, 0, 0, 0, 0, 0, 0, 0, 0, 0x0a, 0, 0, 0, 0x43, 0xec,
-    0x7a, 0x57, 0x01, 0, 0, 0, 0, 0, 0, 0, 0, 0,
-];
-
-/// The 24 bytes before a `block` of 81 zeros, a header and no transaction. Its checksum was computed by another
-/// implementation of SHA-256.
-const BLOCK_FRONT: [u8; 24] = [
-    0xfa, 0xbf, 0xb5, 0xda, 0x62, 0x6c, 0x6f, 0x63, 0x6b, 0, 0, 0, 0, 0, 0, 0, 0x51, 0, 0, 0, 0x23,
-    0xdb, 0x0e, 0x43,
-];
-
-/// A `tx` and a `block` with no payload.
-const SHORT_TX: [u8; 24] = [
-    0xfa, 0xbf, 0xb5, 0xda, 0x74, 0x78, 0, 0, 0, 0, 0, 0, 0, 0, 0, 0, 0, 0, 0, 0, 0x5d, 0xf6, 0xe0,
-    0xe2,
-];
-
-const SHORT_BLOCK: [u8; 24] = [
-    0xfa, 0xbf, 0xb5, 0xda, 0x62, 0x6c, 0x6f, 0x63, 0x6b, 0, 0, 0, 0, 0, 0, 0, 0, 0, 0, 0, 0x5d,
-    0xf6, 0xe0, 0xe2,
-];
-
-/// An envelope's 24 bytes with the magic of another network.
-const OTHER_MAGIC: [u8; 24] = [
-    0xf9, 0xbe, 0xb4, 0xd9, 0, 0, 0, 0, 0, 0, 0, 0, 0, 0, 0, 0, 0, 0, 0, 0, 0, 0, 0, 0,
-];
-
 const SETTINGS: Settings = Settings {
     inbound: true,
     nonce: 7,
@@ -70,7 +35,7 @@ const SETTINGS: Settings = Settings {
     salt: 0,
 };
 
-/// What a reader or a writer does after its last byte.
+/// What a writer does after its last byte.
 #[derive(Clone, Copy, PartialEq, Eq)]
 enum AtEnd {
     Nothing,
@@ -83,7 +48,6 @@ struct Pieces {
     bytes: Vec<u8>,
     given: usize,
     most: usize,
-    at_end: AtEnd,
     interrupts: bool,
 }
 
@@ -97,9 +61,6 @@ impl Read for Pieces {
             return Ok(0);
         };
         let count = rest.len().min(self.most).min(buffer.len());
-        if count == 0 && self.at_end == AtEnd::Fails {
-            return Err(Error::from(ErrorKind::ConnectionReset));
-        }
         buffer[..count].copy_from_slice(&rest[..count]);
         self.given = self.given.saturating_add(count);
         Ok(count)
@@ -151,7 +112,6 @@ fn reader_of(alloc: Global, parts: &[&[u8]]) -> Result<Pieces, Fail> {
         bytes,
         given: 0,
         most: usize::MAX,
-        at_end: AtEnd::Nothing,
         interrupts: false,
     })
 }
@@ -439,32 +399,6 @@ fn serve_pings(alloc: Global, count: usize) -> Result<Outcome, Fail> {
 }
 
 #[test]
-fn row_21(rt: HostRuntime) -> Result<(), Fail> {
-    let alloc = rt.alloc();
-    let ping = reader_of(alloc, &[PING.as_slice()])?;
-    let outcome = serve_once(alloc, ping, writer_for(alloc, usize::MAX))?;
-    assert_eq!(rt; outcome.taken.as_slice(), PONG.as_slice());
-    assert_eq!(rt; outcome.state, State::Closed(CloseReason::Bye));
-    let verack = reader_of(alloc, &[&THREE_MESSAGES[..24]])?;
-    let outcome = serve_once(alloc, verack, writer_for(alloc, usize::MAX))?;
-    assert_eq!(rt; outcome.taken.len(), 0);
-    assert_eq!(rt; outcome.state, State::Closed(CloseReason::Bye));
-    Ok(())
-}
-
-#[test]
-fn row_a_a_ping_without_payload_is_a_bad_message(rt: HostRuntime) -> Result<(), Fail> {
-    let alloc = rt.alloc();
-    let ping = reader_of(alloc, &[SHORT_PING.as_slice()])?;
-    let outcome = serve_once(alloc, ping, writer_for(alloc, usize::MAX))?;
-    assert_eq!(rt; outcome.taken.len(), 0);
-    assert_eq!(rt; outcome.written, 0);
-    assert_eq!(rt; outcome.state, State::Closed(CloseReason::BadMessage));
-    assert_eq!(rt; outcome.read, ReadEnd::Stopped);
-    Ok(())
-}
-
-#[test]
 fn row_b_all_but_the_ping_is_passed_over(rt: HostRuntime) -> Result<(), Fail> {
     let alloc = rt.alloc();
     for most in [1usize, 7, 1_000] {
@@ -511,44 +445,6 @@ fn large_payloads_bring_a_checkpoint(rt: HostRuntime) -> Result<(), Fail> {
 }
 
 #[test]
-fn other_magic_is_a_bad_stream(rt: HostRuntime) -> Result<(), Fail> {
-    let alloc = rt.alloc();
-    let given = reader_of(
-        alloc,
-        &[PING.as_slice(), OTHER_MAGIC.as_slice(), PING.as_slice()],
-    )?;
-    let outcome = serve_once(alloc, given, writer_for(alloc, usize::MAX))?;
-    assert_eq!(rt; outcome.taken.as_slice(), PONG.as_slice());
-    assert_eq!(rt; outcome.state, State::Closed(CloseReason::BadStream));
-    assert_eq!(rt; outcome.read, ReadEnd::Stopped);
-    Ok(())
-}
-
-#[test]
-fn a_reader_that_fails_ends_the_stream(rt: HostRuntime) -> Result<(), Fail> {
-    let alloc = rt.alloc();
-    let mut given = reader_of(alloc, &[PING.as_slice()])?;
-    given.at_end = AtEnd::Fails;
-    let outcome = serve_once(alloc, given, writer_for(alloc, usize::MAX))?;
-    assert_eq!(rt; outcome.taken.as_slice(), PONG.as_slice());
-    assert_eq!(rt; outcome.state, State::Closed(CloseReason::Bye));
-    assert_eq!(rt; outcome.read, ReadEnd::Fault);
-    Ok(())
-}
-
-#[test]
-fn a_writer_of_single_bytes_gets_the_whole_pong(rt: HostRuntime) -> Result<(), Fail> {
-    let alloc = rt.alloc();
-    let mut taking = writer_for(alloc, 32);
-    taking.most = 1;
-    let outcome = serve_once(alloc, reader_of(alloc, &[PING.as_slice()])?, taking)?;
-    assert_eq!(rt; outcome.taken.as_slice(), PONG.as_slice());
-    assert_eq!(rt; outcome.written, 32);
-    assert_eq!(rt; outcome.state, State::Closed(CloseReason::Bye));
-    Ok(())
-}
-
-#[test]
 fn a_writer_that_fails_or_takes_nothing_ends_the_session(rt: HostRuntime) -> Result<(), Fail> {
     let alloc = rt.alloc();
     for at_end in [AtEnd::Fails, AtEnd::Nothing] {
@@ -589,57 +485,6 @@ fn what_was_interrupted_is_made_again(rt: HostRuntime) -> Result<(), Fail> {
     assert_eq!(rt; outcome.taken.as_slice(), PONG.as_slice());
     assert_eq!(rt; outcome.state, State::Closed(CloseReason::Bye));
     assert_eq!(rt; outcome.read, ReadEnd::Eof);
-    Ok(())
-}
-
-#[test]
-fn a_ping_is_answered_when_the_hall_lets_it(rt: HostRuntime) -> Result<(), Fail> {
-    let alloc = rt.alloc();
-    let (mut session, opening) = Session::new(alloc, SETTINGS)?;
-    assert_eq!(rt; opening.len(), 0);
-    assert_eq!(rt; session.state(), State::Start);
-    let ping = Event::Said(Shared::new(alloc, Item::Good(BoundedMessage::new(Message::Ping(0))))?);
-    let (messages, question) = session.step(alloc, &ping)?;
-    assert!(rt; messages.is_empty() && matches!(question, Some(Question::Admit)));
-    let (messages, question) = session.step(alloc, &Event::Told(Answer::Go))?;
-    assert!(rt; question.is_none());
-    let mut writer = Out::new(writer_for(alloc, 32));
-    let written = write_out(alloc, &mut writer, messages.as_slice());
-    assert_eq!(rt; written, Ok(32));
-    assert!(rt; !writer.failed());
-    assert_eq!(rt; writer.into_inner().taken.as_slice(), PONG.as_slice());
-    Ok(())
-}
-
-/// Before the handshake they are passed over, as a `verack` is.
-#[test]
-fn transactions_and_blocks_are_passed_over(rt: HostRuntime) -> Result<(), Fail> {
-    let alloc = rt.alloc();
-    let parts = [
-        TX.as_slice(),
-        BLOCK_FRONT.as_slice(),
-        &[0; 81],
-        PING.as_slice(),
-    ];
-    let given = reader_of(alloc, parts.as_slice())?;
-    let outcome = serve_once(alloc, given, writer_for(alloc, usize::MAX))?;
-    assert_eq!(rt; outcome.taken.as_slice(), PONG.as_slice());
-    assert_eq!(rt; outcome.calls, 3);
-    assert_eq!(rt; outcome.state, State::Closed(CloseReason::Bye));
-    Ok(())
-}
-
-#[test]
-fn a_transaction_or_a_block_that_cannot_be_read_is_a_bad_message(
-    rt: HostRuntime,
-) -> Result<(), Fail> {
-    let alloc = rt.alloc();
-    for short in [SHORT_TX, SHORT_BLOCK] {
-        let given = reader_of(alloc, &[short.as_slice(), PING.as_slice()])?;
-        let outcome = serve_once(alloc, given, writer_for(alloc, usize::MAX))?;
-        assert_eq!(rt; outcome.taken.len(), 0);
-        assert_eq!(rt; outcome.state, State::Closed(CloseReason::BadMessage));
-    }
     Ok(())
 }
 
@@ -693,17 +538,5 @@ fn a_handshake_and_a_ping_ask_six_questions(rt: HostRuntime) -> Result<(), Fail>
     assert!(rt; has_command(outcome.taken.as_slice(), b"version\0"));
     assert!(rt; outcome.calls == 6 && outcome.entries == 10);
     assert!(rt; outcome.state == State::Closed(CloseReason::Bye));
-    Ok(())
-}
-
-/// One that comes with this node's own nonce is this node itself.
-#[test]
-fn a_connection_to_itself_ends(rt: HostRuntime) -> Result<(), Fail> {
-    let alloc = rt.alloc();
-    let version = introduction(alloc, SETTINGS.nonce)?;
-    let given = reader_of(alloc, &[version.as_slice()])?;
-    let outcome = serve_alone(alloc, SETTINGS, given)?;
-    assert!(rt; outcome.taken.is_empty());
-    assert!(rt; outcome.state == State::Closed(CloseReason::SelfPeer));
     Ok(())
 }
