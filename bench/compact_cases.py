@@ -1,0 +1,409 @@
+#!/usr/bin/env python3
+"""Rebuilds generated compact blocks by the proved program, and compares what it tells with a plain reader in Python.
+
+Without words 2,000 compact blocks from seed 1, in some seconds. It needs the built program crates/bench_compact/out/bench_compact (as
+./build bench_compact leaves it) and python3. The plain reader (bench/plain_compact.py) was written apart from the program, from BIP 152
+and the paper on SipHash; it looks through all pairs for each id. Worked cases come first, and then compact blocks of a few transactions
+with pairs in any order, doubled, tripled, of other ids and of other transactions, repeated ids, and transactions handed in for what is
+missing. With `--store` nothing is rebuilt: the worked cases and some compact blocks are written to crates/bench_compact/stdin, and what
+the plain reader tells of them to crates/bench_compact/stdout.
+"""
+
+import os
+import random
+import struct
+import subprocess
+import sys
+from collections import Counter
+
+from bench import ROOT, block_of, built, hash_twice, some_name, transaction, usage
+from chain import record
+from plain_compact import differences, indexes, judged, key_of, missing, short_id, slots
+
+WORD = (1 << 64) - 1
+# The network's first block, which has one transaction.
+with open(os.path.join(ROOT, "crates", "bench_sound", "stdin"), "rb") as FILE:
+    FIRST_BLOCK = FILE.read()
+# So many numbers are told one by one.
+FEW = 16
+# How many compact blocks are stored, from which seed, and how many places a block has at the most where it has as many as fit.
+STORED, STORED_SEED, MOST_PLACES = 60, 3, 16_666
+# What a run has to meet.
+MET = {"sound", "wrong", "repeat", "missing", "filled: sound", "filled: wrong", "filled: F17", "indexes", "indexes: F16", "a doubled pair",
+       "a tripled pair", "a pair of another id", "a pair of another transaction", "a whole block", "all prefilled", "prefilled: F16"}
+
+
+# ---- transactions, and lines
+
+
+def bare(mark):
+    """A transaction of 10 bytes, which has no inputs and no outputs."""
+    return struct.pack("<i", 1) + bytes(2) + struct.pack("<I", mark)
+
+
+def numbers_line(word, numbers):
+    if len(numbers) <= FEW:
+        return " ".join([word, *map(str, numbers)])
+    total = 0
+    for number in numbers:
+        total = (total * 31 + number) & WORD
+    return f"{word} {len(numbers)} sum {total}"
+
+
+class Play:
+    """Records, the lines that are wanted of them, and what was met."""
+
+    def __init__(self):
+        self.records, self.wanted, self.met = [], [], Counter()
+        self.block(FIRST_BLOCK, [FIRST_BLOCK[81:]])
+
+    def put(self, kind, payload=b""):
+        self.records.append(record(kind, payload))
+
+    def order(self, kind, payload, line):
+        self.put(kind, payload)
+        self.wanted.append(line)
+        return line
+
+    def block(self, text, txs):
+        """A block, whose transactions are numbered."""
+        self.put(b"b", text)
+        self.header, self.txs, self.in_block = text[:80], list(txs), len(txs)
+        self.ids, self.whole, self.pairs, self.found, self.nonce = [], [], [], None, 0
+        self.use_nonce(0)
+        self.use_pairs([])
+
+    def of(self, txs):
+        self.block(block_of(txs), txs)
+
+    def more(self, text):
+        """A transaction that isn't the block's: its number."""
+        self.put(b"x", text)
+        self.txs.append(text)
+        return len(self.txs) - 1
+
+    def use_nonce(self, nonce):
+        self.put(b"n", struct.pack("<Q", nonce))
+        self.nonce = nonce
+
+    def use_ids(self, ids):
+        self.put(b"i", struct.pack(f"<{len(ids)}Q", *ids))
+        self.ids = ids
+
+    def use_whole(self, steps, numbers):
+        """Transactions that are there whole, behind their places as differences."""
+        self.put(b"f", b"".join(struct.pack("<QI", *entry) for entry in zip(steps, numbers)))
+        self.whole = list(zip(steps, (self.txs[number] for number in numbers)))
+
+    def use_pairs(self, pairs):
+        """Pairs of an id and a transaction's number."""
+        self.put(b"q", b"".join(struct.pack("<QI", *pair) for pair in pairs))
+        self.pairs = [(wanted, self.txs[number]) for wanted, number in pairs]
+
+    def names(self):
+        """The short ids of all transactions."""
+        key = key_of(self.header, self.nonce)
+        return [short_id(key, hash_twice(text)) for text in self.txs]
+
+    def tell_short_ids(self):
+        total = 0
+        for number in self.names():
+            total = (total * 31 + number) & WORD
+        return self.order(b"s", struct.pack("<I", 1), numbers_line("short ids", [total]))
+
+    def compact(self, places):
+        """The compact form of the block, in which these places are whole."""
+        steps = differences(places)
+        ids = [name for place, name in enumerate(self.names()[: self.in_block]) if place not in set(places)]
+        self.ids, self.whole = ids, [(step, self.txs[place]) for step, place in zip(steps, places)]
+        return self.order(b"c", struct.pack(f"<{len(steps)}Q", *steps), numbers_line("ids", ids))
+
+    def undiffer(self, steps, total):
+        found = indexes(steps, total)
+        self.met["indexes: F16" if found is None else "indexes"] += 1
+        return self.order(b"u", struct.pack(f"<{len(steps) + 1}Q", total, *steps), "F16 BadIndex" if found is None else numbers_line("indexes", found))
+
+    def placed(self):
+        """What comes of the compact block: a line."""
+        places = indexes([step for step, _ in self.whole], len(self.ids) + len(self.whole))
+        if places is None:
+            self.met["prefilled: F16"] += 1
+            return "F16 BadIndex"
+        self.found = None
+        if len(set(self.ids)) < len(self.ids):
+            return "repeat"
+        found = slots(self.ids, list(zip(places, (text for _, text in self.whole))), self.pairs)
+        if missing(found):
+            self.found = found
+            return numbers_line("missing", missing(found))
+        return judged(self.header, found)
+
+    def place(self, wanted=None):
+        line = self.order(b"p", struct.pack("<I", 1), wanted or self.placed())
+        self.met[line.split()[0]] += 1
+        return line
+
+    def fill(self, numbers):
+        """Hands in transactions for the places that are missing."""
+        line = "F26 NotEnabled"
+        if self.found:
+            given, found = [self.txs[number] for number in numbers], self.found
+            line = "F17 WrongCount" if len(given) != len(missing(found)) else judged(self.header, filled(found, given))
+            self.met["filled: " + line.split()[0]] += 1
+        self.found = None
+        return self.order(b"l", b"".join(struct.pack("<QI", 0, number) for number in numbers), line)
+
+    def differences(self, program):
+        """Where the program tells something else."""
+        ran = subprocess.run([program], input=b"".join(self.records), capture_output=True, timeout=600)
+        told = ran.stdout.decode("ascii").splitlines()
+        if ran.returncode != 0:
+            return [f"the program ended with status {ran.returncode} and told {told[-1:]}"]
+        if len(told) != len(self.wanted):
+            return [f"{len(told)} lines in place of {len(self.wanted)}"]
+        return [f"line {place}: {line}, wanted {wanted}" for place, (line, wanted) in enumerate(zip(told, self.wanted)) if line != wanted]
+
+
+def filled(found, given):
+    rest = iter(given)
+    return [next(rest) if text is None else text for text in found]
+
+
+def expect(line, wanted):
+    """A worked case has to end as it says here."""
+    assert line == wanted, f"{line}, and not {wanted}"
+
+
+# ---- worked cases
+
+
+def short_id_of_the_first_coinbase(play):
+    play.block(FIRST_BLOCK, [FIRST_BLOCK[81:]])
+    for nonce in (0, 7, 1 << 40, WORD):
+        play.use_nonce(nonce)
+        play.tell_short_ids()
+        play.compact([])
+    expect(play.compact([0]), "ids")
+    play.use_nonce(7)
+    expect(play.compact([]), f"ids {0x71CD_8620_B0D5}")
+
+
+def row_9_indexes_as_differences(play):
+    expect(play.undiffer([0, 4, 0], 7), "indexes 0 5 6")
+    expect(play.undiffer([0, 4, 0], 6), "F16 BadIndex")
+    expect(play.undiffer([], 3), "indexes")
+    expect(play.undiffer([0, WORD], 9), "F16 BadIndex")
+    expect(play.undiffer([WORD], WORD), "F16 BadIndex")
+    expect(play.undiffer([WORD - 1], WORD), f"indexes {WORD - 1}")
+
+
+def some_block(play, count, nonce, places):
+    """The compact form of a block of so many transactions in which these places are whole, and the ids of all of them."""
+    play.of([transaction(some_name(number), 0) for number in range(count)])
+    play.use_nonce(nonce)
+    play.compact(places)
+    return play.names()
+
+
+def row_10_repeated_ids(play):
+    play.of([transaction(some_name(number), 0) for number in range(2)])
+    play.use_ids([5, 5])
+    expect(play.place(), "repeat")
+
+
+def row_11_another_transaction_with_the_id(play):
+    ids = some_block(play, 2, 7, [0])
+    other = play.more(bare(7))
+    play.use_pairs([(ids[1], other)])
+    expect(play.place(), "wrong")
+    play.use_pairs([(ids[1], 1)])
+    expect(play.place(), "sound")
+
+
+def row_12_two_are_missing(play):
+    ids = some_block(play, 9, 7, [0])
+    play.use_pairs([(ids[number], number) for number in (8, 1, 6, 5, 3, 4)])
+    for given, wanted in (([2], "F17 WrongCount"), ([2, 7], "sound"), ([7, 2], "wrong"), ([2, 7, 2], "F17 WrongCount"), ([], "F17 WrongCount")):
+        expect(play.place(), "missing 2 7")
+        expect(play.fill(given), wanted)
+
+
+def three_pairs_of_one_id(play):
+    ids = some_block(play, 3, 9, [0])
+    others = [play.more(bare(mark)) for mark in range(2)]
+    three = [(ids[1], 1), (ids[1], others[0]), (ids[1], others[1])]
+    for first in range(3):
+        for order in (three[first:] + three[:first], (three[first:] + three[:first])[::-1]):
+            for place in range(4):
+                play.use_pairs(order[:place] + [(ids[2], 2)] + order[place:])
+                expect(play.place(), "missing 1")
+    play.use_pairs([(ids[1], 1)] * 3 + [(ids[2], 2)])
+    expect(play.place(), "missing 1")
+    expect(play.fill([1]), "sound")
+
+
+def lists_that_are_not_sound(play):
+    """A transaction of 64 bytes, a list that repeats its end under the same root, and one that lacks it."""
+    txs = [transaction(some_name(number), 0) for number in range(3)]
+    play.of(txs)
+    size_64 = play.more(transaction(some_name(9), 4))
+    assert len(play.txs[size_64]) == 64
+    play.use_ids([1, 2])
+    play.use_whole([0], [size_64])
+    play.use_pairs([(1, 1), (2, 2)])
+    expect(play.place(), "wrong")
+    play.use_ids([1, 2, 3])
+    play.use_whole([0], [0])
+    play.use_pairs([(1, 1), (2, 2), (3, 2)])
+    expect(play.place(), "wrong")
+    play.use_ids([1])
+    expect(play.place(), "wrong")
+    play.use_ids([1, 2])
+    expect(play.place(), "sound")
+
+
+def prefilled_past_the_total(play):
+    some_block(play, 3, 1, [0])
+    play.use_whole([0, 2], [0, 1])
+    expect(play.place(), "missing 1 2")
+    play.use_whole([0, 3], [0, 1])
+    expect(play.place(), "F16 BadIndex")
+    play.use_whole([3], [0])
+    expect(play.place(), "F16 BadIndex")
+
+
+def a_block_of_all_that_fit(play, text_of=bare):
+    """Row b: 16,666 places, of which the first is there whole: without pairs, and with all pairs in reverse order."""
+    txs = [text_of(number) for number in range(MOST_PLACES)]
+    play.of(txs)
+    play.use_nonce(1)
+    play.compact([0])
+    ids = play.names()
+    play.use_pairs([])
+    expect(play.place(), numbers_line("missing", list(range(1, MOST_PLACES))))
+    play.use_pairs([(ids[number], number) for number in range(MOST_PLACES - 1, 0, -1)])
+    # The slow form would look through 16,665 pairs for each id.
+    play.place(judged(play.header, txs))
+    expect(play.wanted[-1], "sound")
+
+
+CASES = [short_id_of_the_first_coinbase, row_9_indexes_as_differences, row_10_repeated_ids, row_11_another_transaction_with_the_id,
+         row_12_two_are_missing, three_pairs_of_one_id, lists_that_are_not_sound, prefilled_past_the_total]
+
+
+# ---- generated compact blocks
+
+
+class Drawing:
+    """A compact block of a few transactions, drawn from a seed."""
+
+    def __init__(self, play, seed):
+        self.play, self.rng = play, random.Random(seed)
+
+    def draw(self):
+        rng, play = self.rng, self.play
+        count = rng.choice((1, 2, 3, rng.randrange(1, 14)))
+        play.of([bare(rng.randrange(1 << 32)) if rng.random() < 0.5 else transaction(some_name(rng.randrange(1 << 64)), 0) for _ in range(count)])
+        play.use_nonce(rng.choice((0, WORD, rng.randrange(1 << 64))))
+        places = sorted(rng.sample(range(count), rng.choice((0, 1, rng.randrange(count + 1))) if count > 1 else rng.randrange(2)))
+        play.compact(places)
+        play.met["all prefilled" if len(places) == count else "a whole block" if not places else "some prefilled"] += 1
+        self.others = [play.more(bare(rng.randrange(1 << 32))) for _ in range(2)]
+        if rng.random() < 0.1 and len(play.ids) > 1:
+            ids = list(play.ids)
+            ids[rng.randrange(len(ids))] = rng.choice(ids)
+            play.use_ids(ids)
+        if rng.random() < 0.1:
+            play.use_whole([rng.randrange(count + 2) for _ in places], places)
+        play.use_pairs(self.pairs(count))
+        play.place()
+        self.hand_in()
+        self.undiffer()
+
+    def pairs(self, count):
+        """Pairs of the right transactions, but for a few that lack or that are there several times, in any order."""
+        rng, ids, met = self.rng, self.play.names(), self.play.met
+        pairs = [(ids[number], number) for number in range(count) if rng.random() < 0.9]
+        for _ in range(rng.choice((0, 0, 1, 2))):
+            word, more = rng.choice((("a doubled pair", 1), ("a tripled pair", 2), ("a pair of another id", 0), ("a pair of another transaction", 0)))
+            number = rng.randrange(count)
+            met[word] += 1
+            pairs += [(ids[number], rng.choice((number, self.others[0]))) for _ in range(more)]
+            if word == "a pair of another id":
+                pairs.append((ids[number] ^ 1 << rng.randrange(64), number))
+            if word == "a pair of another transaction":
+                pairs = [pair for pair in pairs if pair[0] != ids[number]] + [(ids[number], rng.choice(self.others))]
+        rng.shuffle(pairs)
+        return pairs
+
+    def hand_in(self):
+        """What is missing, or something else."""
+        play, rng = self.play, self.rng
+        if not play.found:
+            return
+        right = [place for place in missing(play.found) if place < play.in_block]
+        play.fill(rng.choice((right, right, right[::-1], right[1:], right + self.others[:1], self.others[:1] * len(right))))
+
+    def undiffer(self):
+        rng = self.rng
+        steps = [rng.choice((0, 1, rng.randrange(5), rng.randrange(1 << 64))) if rng.random() < 0.3 else 0 for _ in range(rng.randrange(5))]
+        self.play.undiffer(steps, rng.choice((rng.randrange(12), len(steps), rng.randrange(1 << 64))))
+
+
+def generated(seed, count, play=None):
+    """So many compact blocks."""
+    play = play or Play()
+    drawing = Drawing(play, seed)
+    for _ in range(count):
+        drawing.draw()
+    return play
+
+
+def worked_cases(play):
+    for case in CASES:
+        case(play)
+
+
+def unmet(met):
+    names = sorted(MET - set(met))
+    if names:
+        print("never met:", ", ".join(names))
+    return len(names)
+
+
+def store():
+    """Writes the stored run of bench_compact, as the plain reader tells it."""
+    play = Play()
+    worked_cases(play)
+    generated(STORED_SEED, STORED, play)
+    folder = os.path.join(ROOT, "crates", "bench_compact")
+    with open(os.path.join(folder, "stdin"), "wb") as file:
+        file.write(b"".join(play.records))
+    with open(os.path.join(folder, "stdout"), "w", encoding="ascii") as file:
+        file.write("\n".join(play.wanted) + "\n")
+    print(f"{len(play.records)} records, {len(play.wanted)} lines")
+    sys.exit(1 if unmet(play.met) else 0)
+
+
+def main():
+    reader = usage(__doc__, count="how many compact blocks", seed="their seed", program="the program, if not crates/bench_compact/out/bench_compact")
+    reader.add_argument("--store", action="store_true", help="write the stored run")
+    words = reader.parse_args()
+    if words.store:
+        store()
+    count, seed = int(words.count or 2_000), int(words.seed or 1)
+    program = built(words.program, "bench_compact")
+    play = Play()
+    worked_cases(play)
+    a_block_of_all_that_fit(play)
+    generated(seed, count, play)
+    told = play.differences(program)
+    for difference in told:
+        print(difference)
+    print(", ".join(f"{name} {times}" for name, times in sorted(play.met.items())))
+    print(f"{count} compact blocks, {len(play.wanted)} lines, {len(told)} that differ")
+    sys.exit(1 if told or (count >= 2_000 and unmet(play.met)) else 0)
+
+
+if __name__ == "__main__":
+    main()
