@@ -26,7 +26,7 @@ with open(os.path.join(ROOT, "crates", "bench_sound", "stdin"), "rb") as FILE:
     FIRST_BLOCK = FILE.read()
 # So many numbers are told one by one.
 FEW = 16
-# How many compact blocks are stored, from which seed, and how many places a block has at the most where it has as many as fit.
+# How many compact blocks are stored, from which seed, and how many places a block has at the most.
 STORED, STORED_SEED, MOST_PLACES = 60, 3, 16_666
 # What a run has to meet.
 MET = {"sound", "wrong", "repeat", "missing", "filled: sound", "filled: wrong", "filled: F17", "indexes", "indexes: F16", "a doubled pair",
@@ -99,6 +99,11 @@ class Play:
         """Pairs of an id and a transaction's number."""
         self.put(b"q", b"".join(struct.pack("<QI", *pair) for pair in pairs))
         self.pairs = [(wanted, self.txs[number]) for wanted, number in pairs]
+
+    def pair_all(self):
+        """Pairs of all transactions under their short ids, the last first."""
+        self.put(b"a")
+        self.pairs = list(zip(self.names(), self.txs))[::-1]
 
     def names(self):
         """The short ids of all transactions."""
@@ -228,7 +233,7 @@ def row_12_two_are_missing(play):
         expect(play.fill(given), wanted)
 
 
-def three_pairs_of_one_id(play):
+def row_c_three_pairs_of_one_id(play):
     ids = some_block(play, 3, 9, [0])
     others = [play.more(bare(mark)) for mark in range(2)]
     three = [(ids[1], 1), (ids[1], others[0]), (ids[1], others[1])]
@@ -272,23 +277,21 @@ def prefilled_past_the_total(play):
     expect(play.place(), "F16 BadIndex")
 
 
-def a_block_of_all_that_fit(play, text_of=bare):
-    """Row b: 16,666 places, of which the first is there whole: without pairs, and with all pairs in reverse order."""
-    txs = [text_of(number) for number in range(MOST_PLACES)]
+def row_b_all_places_that_fit(play):
+    """A block of 16,666 places, of which the first is there whole: without pairs, and with all pairs in reverse order."""
+    txs = [bare(number) for number in range(MOST_PLACES)]
     play.of(txs)
     play.use_nonce(1)
     play.compact([0])
-    ids = play.names()
-    play.use_pairs([])
     expect(play.place(), numbers_line("missing", list(range(1, MOST_PLACES))))
-    play.use_pairs([(ids[number], number) for number in range(MOST_PLACES - 1, 0, -1)])
-    # The slow form would look through 16,665 pairs for each id.
-    play.place(judged(play.header, txs))
-    expect(play.wanted[-1], "sound")
+    play.pair_all()
+    # Each pair has the id of one place, as no two ids are equal: the slow form would look 16,666 times through all of them.
+    assert len(set(play.names())) == MOST_PLACES and set(play.ids) <= set(play.names())
+    expect(play.place(judged(play.header, txs)), "sound")
 
 
 CASES = [short_id_of_the_first_coinbase, row_9_indexes_as_differences, row_10_repeated_ids, row_11_another_transaction_with_the_id,
-         row_12_two_are_missing, three_pairs_of_one_id, lists_that_are_not_sound, prefilled_past_the_total]
+         row_12_two_are_missing, row_c_three_pairs_of_one_id, lists_that_are_not_sound, prefilled_past_the_total, row_b_all_places_that_fit]
 
 
 # ---- generated compact blocks
@@ -395,7 +398,6 @@ def main():
     program = built(words.program, "bench_compact")
     play = Play()
     worked_cases(play)
-    a_block_of_all_that_fit(play)
     generated(seed, count, play)
     told = play.differences(program)
     for difference in told:
