@@ -1,5 +1,9 @@
-ghost use Rattle.std.specs.Prelude.{◌<◌, length};
+ghost use Rattle.std.specs.Prelude.{◌≡◌, length, IfOk};
 ghost use Rattle.cb_compact.specs.Differences.{Rise};
+ghost use Rattle.cb_compact.specs.Forms.{places_of};
+
+mod agreeing;
+mod slow;
 
 use super::*;
 use cb_base::{Fault, Hash256, Shared};
@@ -107,14 +111,31 @@ fn header_of(alloc: Global, count: u32) -> Result<Header, Fault> {
     })
 }
 
-// What came of placing: `whole`, `wrong`, `repeat`, or how many places are missing.
-fn told(placed: Result<Placed, Fault>) -> u64 {
+/// What came of a compact block.
+#[derive(Clone, Copy, PartialEq, Eq)]
+enum Told {
+    Sound,
+    Wrong,
+    // So many places are missing.
+    Missing(usize),
+    Repeat,
+    // A fault of this number.
+    Refused(u8),
+}
+
+fn what_filled(filled: &Filled) -> Told {
+    match filled {
+        Filled::Sound(_) => Told::Sound,
+        Filled::Wrong => Told::Wrong,
+    }
+}
+
+fn what_placed(placed: Result<Placed, Fault>) -> Told {
     match placed {
-        Ok(Placed::Whole(Filled::Sound(_sound))) => 1_000,
-        Ok(Placed::Whole(Filled::Wrong)) => 1_001,
-        Ok(Placed::Missing(places, _partial)) => places.len() as u64,
-        Ok(Placed::Repeat) => 1_002,
-        Err(_) => 1_003,
+        Ok(Placed::Whole(filled)) => what_filled(&filled),
+        Ok(Placed::Missing(places, _partial)) => Told::Missing(places.len()),
+        Ok(Placed::Repeat) => Told::Repeat,
+        Err(fault) => Told::Refused(fault.number()),
     }
 }
 
@@ -124,71 +145,112 @@ fn pair_of(alloc: Global, id: u64, lock_time: u32) -> Result<Pair, Fault> {
     Ok(Pair { id, tx })
 }
 
-// What comes of the ids 0, 1, .. of a block of as many transactions, and of pairs of these ids and lock times.
-fn placed(alloc: Global, ids: &[u64], count: u32, pairs: &[(u64, u32)]) -> Result<Placed, Fault>
-    requires { 0 < length ids.now }
-{
-    let header = header_of(alloc, count)?;
-    let mut list = Vec::new(alloc);
+fn pairs_of(alloc: Global, pairs: &[(u64, u32)]) -> Result<Vec<Pair>, Fault> {
+    let mut list = Vec::with_capacity(alloc, pairs.len())?;
     for (id, lock_time) in pairs {
         list.push(pair_of(alloc, *id, *lock_time)?)?;
     }
-    place(alloc, header, ids, Vec::new(alloc), list)
+    Ok(list)
+}
+
+// The transactions that are whole at these places, each with its place as its lock time.
+fn whole_at(alloc: Global, places: &[u64]) -> Result<Vec<Prefilled>, Fault>
+    ensures { IfOk result (λ prefilled. places_of prefilled.items ≡ places.now) }
+{
+    let mut prefilled = Vec::with_capacity(alloc, places.len())?;
+    for place in places {
+        let tx = tx_of(alloc, (*place & 0xffff) as u32)?;
+        prefilled.push(Prefilled { place: *place, tx })?;
+    }
+    Ok(prefilled)
+}
+
+// What comes of the ids of a block, whose transactions have the lock times 0, 1, .., and of which some are whole behind these
+// differences; pairs are of an id and a lock time.
+fn placed(
+    alloc: Global,
+    ids: &[u64],
+    differences: &[u64],
+    pairs: &[(u64, u32)],
+) -> Result<Placed, Fault> {
+    let total = ids.len() + differences.len();
+    let places = undiffer(alloc, differences, total as u64)?;
+    differences_lead_back();
+    let prefilled = whole_at(alloc, places.as_slice())?;
+    if ids.is_empty() || ids.len() + prefilled.len() != total {
+        return Err(Fault::Empty);
+    }
+    let header = header_of(alloc, (total & 0xffff) as u32)?;
+    let list = pairs_of(alloc, pairs)?;
+    place(alloc, header, ids, prefilled, list)
 }
 
 #[test]
 fn row_10(rt: HostRuntime) -> Result<(), Fail> {
-    assert!(rt; told(placed(rt.alloc(), &[5, 5], 2, &[])) == 1_002);
+    assert!(rt; what_placed(placed(rt.alloc(), &[5, 5], &[], &[])) == Told::Repeat);
     Ok(())
 }
 
 // Another transaction than the sender's has the id.
 #[test]
 fn row_11(rt: HostRuntime) -> Result<(), Fail> {
-    assert!(rt; told(placed(rt.alloc(), &[0, 1], 2, &[(0, 0), (1, 7)])) == 1_001);
-    assert!(rt; told(placed(rt.alloc(), &[0, 1], 2, &[(1, 1), (0, 0)])) == 1_000);
+    assert!(rt; what_placed(placed(rt.alloc(), &[1], &[0], &[(1, 7)])) == Told::Wrong);
+    assert!(rt; what_placed(placed(rt.alloc(), &[1], &[0], &[(1, 1), (0, 7)])) == Told::Sound);
     Ok(())
 }
 
-#[test]
-fn pairs_of_one_id_are_missing(rt: HostRuntime) -> Result<(), Fail> {
-    assert!(rt; told(placed(rt.alloc(), &[0, 1], 2, &[(0, 0), (1, 1), (1, 2)])) == 1);
-    assert!(rt; told(placed(rt.alloc(), &[0, 1], 2, &[(1, 1), (1, 1), (0, 0), (1, 1)])) == 1);
-    Ok(())
-}
-
-// A block of nine of which two are missing: filled with one, and with the right two.
-fn filled_with(alloc: Global, lock_times: &[u32]) -> u64 {
-    let pairs = [(0, 0), (1, 1), (3, 3), (4, 4), (5, 5), (6, 6), (8, 8)];
-    let Ok(Placed::Missing(_places, partial)) = placed(
-        alloc,
-        &[0, 1, 2, 3, 4, 5, 6, 7, 8],
-        9,
-        &pairs,
-    ) else {
-        return 1_004;
-    };
+// A block of nine, the first of which is whole, and two of which are missing: these are handed in.
+fn filled_with(alloc: Global, lock_times: &[u32]) -> Result<Told, Fault> {
+    let pairs = [(1, 1), (3, 3), (4, 4), (5, 5), (6, 6), (8, 8)];
     let mut txs = Vec::new(alloc);
     for lock_time in lock_times {
-        let Ok(tx) = tx_of(alloc, *lock_time) else {
-            return 1_005;
-        };
-        let pushed: Result<_, _> = txs.push(tx);
-        if pushed.is_err() {
-            return 1_006;
-        }
+        txs.push(tx_of(alloc, *lock_time)?)?;
     }
-    match partial.fill(txs) {
-        Ok(Filled::Sound(_sound)) => 1_000,
-        Ok(Filled::Wrong) => 1_001,
-        Err(fault) => u64::from(fault.number()),
+    let Placed::Missing(_places, partial) = placed(alloc, &[1, 2, 3, 4, 5, 6, 7, 8], &[0], &pairs)?
+    else {
+        return Ok(Told::Repeat);
+    };
+    let filled = partial.fill(txs)?;
+    Ok(what_filled(&filled))
+}
+
+fn is_filled(alloc: Global, lock_times: &[u32], expected: Told) -> bool {
+    match filled_with(alloc, lock_times) {
+        Ok(filled) => filled == expected,
+        Err(fault) => Told::Refused(fault.number()) == expected,
     }
 }
 
 #[test]
 fn row_12(rt: HostRuntime) -> Result<(), Fail> {
-    assert!(rt; filled_with(rt.alloc(), &[2]) == 17);
-    assert!(rt; filled_with(rt.alloc(), &[2, 7]) == 1_000);
-    assert!(rt; filled_with(rt.alloc(), &[7, 2]) == 1_001);
+    assert!(rt; is_filled(rt.alloc(), &[2], Told::Refused(17)));
+    assert!(rt; is_filled(rt.alloc(), &[2, 7], Told::Sound));
+    assert!(rt; is_filled(rt.alloc(), &[7, 2], Told::Wrong));
+    Ok(())
+}
+
+// Three pairs of the id 1, in any order, and one of the id 2, at any place between them.
+const THREE_PAIRS: &[&[(u64, u32)]] = &[
+    &[(1, 1), (1, 7), (1, 8), (2, 2)],
+    &[(1, 1), (1, 8), (2, 2), (1, 7)],
+    &[(1, 7), (2, 2), (1, 1), (1, 8)],
+    &[(2, 2), (1, 7), (1, 8), (1, 1)],
+    &[(1, 8), (2, 2), (1, 1), (1, 7)],
+    &[(1, 8), (1, 7), (1, 1), (2, 2)],
+    &[(1, 1), (1, 1), (2, 2), (1, 1)],
+];
+
+fn is_missing(alloc: Global, pairs: &[(u64, u32)]) -> bool {
+    match placed(alloc, &[1, 2], &[0], pairs) {
+        Ok(Placed::Missing(places, _partial)) => places.as_slice() == [1].as_slice(),
+        _ => false,
+    }
+}
+
+#[test]
+fn row_c_three_pairs_of_one_id_are_missing(rt: HostRuntime) -> Result<(), Fail> {
+    for pairs in THREE_PAIRS {
+        assert!(rt; is_missing(rt.alloc(), *pairs));
+    }
     Ok(())
 }
