@@ -50,7 +50,8 @@ impl Player {
     /// - `x` a transaction, which gets the next number; `n` a nonce in eight bytes;
     /// - `c` differences of eight bytes: the compact block is the form of the block in which these places are whole;
     /// - `i` the short ids of a compact block, of eight bytes; `f` entries of a difference and a transaction's number for those
-    ///   that are whole in it; `q` entries of an id and a transaction's number for pairs.
+    ///   that are whole in it;
+    /// - `q` entries of an id and a transaction's number for pairs; `a` makes pairs of all transactions, the last first.
     ///
     /// Orders, of which each tells a line: `s` the short ids of all transactions, so many times; `u` the indexes below a total
     /// of these differences; `p` looks for the compact block's transactions among the pairs, so many times; `r` only copies
@@ -65,6 +66,7 @@ impl Player {
             b'i' => self.take_ids(&mut cursor),
             b'f' => self.take_whole(&mut cursor),
             b'q' => self.take_pairs(&mut cursor),
+            b'a' => self.pair_all(),
             _ => {
                 let line = self.line_of(kind, &mut cursor)?;
                 self.lines.push_str(line.as_str())?;
@@ -121,6 +123,19 @@ impl Player {
     fn take_pairs<'a>(&mut self, cursor: &mut Cursor<'a>) -> Result<(), Fault> {
         let entries = read_entries(self.alloc, cursor)?;
         self.pairs = pairs_at(self.alloc, self.txs.as_slice(), entries.as_slice())?;
+        Ok(())
+    }
+
+    // Pairs of all transactions under their short ids, the last first.
+    fn pair_all(&mut self) -> Result<(), Fault> {
+        let key = key(&self.block.block().header, self.nonce);
+        let mut pairs = Vec::with_capacity(self.alloc, self.txs.len())?;
+        for named in self.txs.iter().rev() {
+            let id = short_id(key, &named.txid());
+            let tx = named.clone()?;
+            pairs.push(Pair { id, tx })?;
+        }
+        self.pairs = pairs;
         Ok(())
     }
 

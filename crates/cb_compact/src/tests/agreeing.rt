@@ -126,7 +126,7 @@ fn is_alike(alloc: Global, header: Header, case: &Case) -> Result<bool, Fault> {
 // How many cases are answered alike.
 fn count_alike(alloc: Global) -> Result<u32, Fault> {
     let header = header_of(alloc, 3)?;
-    let mut alike = 0;
+    let mut alike = 0u32;
     for number in 0..CASES {
         let case = case_of(alloc, number)?;
         if is_alike(alloc, header, &case)? {
