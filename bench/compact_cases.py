@@ -132,7 +132,6 @@ class Play:
         """What comes of the compact block: a line."""
         places = indexes([step for step, _ in self.whole], len(self.ids) + len(self.whole))
         if places is None:
-            self.met["prefilled: F16"] += 1
             return "F16 BadIndex"
         self.found = None
         if len(set(self.ids)) < len(self.ids):
@@ -145,7 +144,7 @@ class Play:
 
     def place(self, wanted=None):
         line = self.order(b"p", struct.pack("<I", 1), wanted or self.placed())
-        self.met[line.split()[0]] += 1
+        self.met["prefilled: F16" if line.startswith("F16") else line.split()[0]] += 1
         return line
 
     def fill(self, numbers):
@@ -360,6 +359,18 @@ def generated(seed, count, play=None):
     for _ in range(count):
         drawing.draw()
     return play
+
+
+def rebuilding_play():
+    """Records of a compact form, of a block of which two are missing, which are handed in, and of one of which none is."""
+    play = Play()
+    ids = some_block(play, 5, 7, [0])
+    play.use_pairs([(ids[number], number) for number in (4, 2)])
+    play.place()
+    play.fill([1, 3])
+    play.pair_all()
+    play.place()
+    return b"".join(play.records)
 
 
 def worked_cases(play):

@@ -1,8 +1,8 @@
 #!/usr/bin/env python3
 """Refuses each growth of memory in turn, and looks at how the built programs end.
 
-It needs the programs (crates/NAME/out/NAME of cbrelay, bench_sound and bench_chain, as ./build --all leaves them), a C compiler
-as `cc`, and python3, and takes a few seconds. A small library that is loaded before the C library counts growths and makes the Nth
+It needs the programs (crates/NAME/out/NAME of cbrelay, bench_sound, bench_chain and bench_compact, as ./build --all leaves them), a C
+compiler as `cc`, and python3, and takes a few seconds. A small library that is loaded before the C library counts growths and makes the Nth
 fail; N goes up until a run makes fewer. Each run has to end with status 4 after a beginning of what it prints with ample memory,
 or wholly as with ample memory, where it could do without that growth.
 """
@@ -17,6 +17,7 @@ from typing import NamedTuple
 from bench import block, pings, unknown, usage
 from calls import told_play
 from chain import careful_play, careful_turns, copying_play
+from compact_cases import rebuilding_play
 
 ROOT = os.path.dirname(os.path.dirname(os.path.abspath(__file__)))
 
@@ -74,6 +75,7 @@ RUNS = [
     ("chain, faults on a side branch, and turns to it and back", "bench_chain", [], careful_turns()),
     ("chain, calls that are told and questions", "bench_chain", [], told_play(10)),
     ("chain, copies of it, of a block and of a message", "bench_chain", [], copying_play()),
+    ("compact, a block of which two are missing, and then none", "bench_compact", [], rebuilding_play()),
 ]
 
 
@@ -141,7 +143,7 @@ def in_turn(told, crate, words, data, library):
 
 def main():
     usage(__doc__).parse_args()
-    for crate in ("cbrelay", "bench_sound", "bench_chain"):
+    for crate in sorted({crate for _, crate, _, _ in RUNS}):
         if not os.access(os.path.join(ROOT, "crates", crate, "out", crate), os.X_OK):
             sys.exit(f"{crate} isn't built: ./build {crate}")
     with tempfile.TemporaryDirectory() as folder:
