@@ -284,8 +284,8 @@ def row_b_all_places_that_fit(play):
     play.compact([0])
     expect(play.place(), numbers_line("missing", list(range(1, MOST_PLACES))))
     play.pair_all()
-    # Each pair has the id of one place, as no two ids are equal: the slow form would look 16,666 times through all of them.
-    assert len(set(play.names())) == MOST_PLACES and set(play.ids) <= set(play.names())
+    # No two ids are equal, so each pair serves one place: the slow form would look 16,665 times through all of them.
+    assert len({name for name, _ in play.pairs}) == MOST_PLACES
     expect(play.place(judged(play.header, txs)), "sound")
 
 
