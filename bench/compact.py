@@ -2,11 +2,11 @@
 """Measures compact blocks: short ids, finding transactions among few and many pairs, blocks that are rebuilt, and growths of memory.
 
 It needs the built program crates/bench_compact/out/bench_compact (as ./build bench_compact leaves it), openssl, a C compiler as `cc`, and
-python3, and takes some five minutes. Times are of the processor. What an order takes is the least time of some runs with it, less that of
-as many that only copy its pairs, or that do without it; orders whose times are compared take turns. `place` is measured at random ids, and
-at ids that were searched for, such that they meet in the table by which ids find their places: all begin at one group of it, or have the
-same tag too. Since the table hashes with a fixed seed, whoever picks the ids of a compact block can do so. The status is 0 where `place`
-meets as many growths of as many bytes at small transactions as at large ones, so that it copies none, and else 1.
+python3, and takes some two minutes. Times are of the processor. What an order takes is the least time of some runs with it, less that of
+as many that only copy its pairs, or that do without it; orders whose times are compared take turns. Ids are drawn at random. Beside them
+stand ids that whoever sends a block would pick: a search found them, such that in a table that hashes with std's fixed seed they would all
+begin at one group, or have the same tag too. The status is 0 where `place` meets as many growths of as many bytes at small transactions as
+at large ones, so that it copies none, and else 1.
 """
 
 import random
@@ -30,14 +30,14 @@ NAMED, OFTEN, PLACED = 1_000, 1_000, 20
 # Transactions whose growths are compared: their sizes, how many a block has, and how often it is placed.
 SMALL, LARGE, TRANSACTIONS, TIMES = 60, 60_000, 10, 10
 TURNS = 2 * RUNS
-# The table's groups have nine ids each, on average, and are as many as a power of two says.
+# A table's groups have nine ids each at the most, on average, and are as many as a power of two says.
 GROUP = 9
 SEARCH = r"""
 #include <stdint.h>
 #include <stdio.h>
 #include <stdlib.h>
 
-/* Tells the first ids whose hash in the table has no bit of a mask. */
+/* Tells the first ids whose hash in a table with std's seed has no bit of a mask. */
 int main(int words, char **word) {
     uint32_t mask = strtoul(word[1], NULL, 10);
     long left = atol(word[2]);
@@ -87,7 +87,7 @@ def shuffled(pairs, rng):
 
 
 class Ids:
-    """Ids that meet in the table, by search."""
+    """Ids that would meet in a table with std's seed, by search."""
 
     def __init__(self, folder):
         self.program = f"{folder}/search"
@@ -149,10 +149,10 @@ def groups_of(count):
 
 
 def twice_the_ids(runs, searched):
-    """Half as many ids as fit and as many, of which one lacks its pair, at random and where they meet in the table."""
+    """Half as many ids as fit and as many, of which one lacks its pair, at random and such that they would meet."""
     rng, group = random.Random(3), groups_of(IDS) - 1
-    kinds = [("at random", rng.sample(range(1 << 48), IDS), PLACED), ("that begin at one group of the table", searched.alike(IDS, group), 5),
-             ("that begin there with the same tag", searched.alike(IDS, group | 0xFF00_0000), 2)]
+    kinds = [("at random", rng.sample(range(1 << 48), IDS), PLACED), ("that would begin at one group", searched.alike(IDS, group), 5),
+             ("that would begin there with the same tag", searched.alike(IDS, group | 0xFF00_0000), 2)]
     for name, ids, often in kinds:
         plays = []
         for count in (IDS // 2, IDS):
