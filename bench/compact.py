@@ -151,15 +151,15 @@ def groups_of(count):
 def twice_the_ids(runs, searched):
     """Half as many ids as fit and as many, of which one lacks its pair, at random and such that they would meet."""
     rng, group = random.Random(3), groups_of(IDS) - 1
-    kinds = [("at random", rng.sample(range(1 << 48), IDS), PLACED), ("that would begin at one group", searched.alike(IDS, group), 5),
-             ("that would begin there with the same tag", searched.alike(IDS, group | 0xFF00_0000), 2)]
-    for name, ids, often in kinds:
+    kinds = [("at random", rng.sample(range(1 << 48), IDS)), ("that would begin at one group", searched.alike(IDS, group)),
+             ("that would begin there with the same tag", searched.alike(IDS, group | 0xFF00_0000))]
+    for name, ids in kinds:
         plays = []
         for count in (IDS // 2, IDS):
             # In reverse order: in any order as many transactions as fit take longer to come from memory than half of them.
             pairs = [(name, number) for number, name in enumerate(ids[:count]) if number > 0][::-1]
-            plays.append(placing(known(blocks_of(count, 60), ids[:count], pairs), often))
-        some, twice = (took / often for took in seconds_of([(runs, play) for play in plays], 2 * TURNS))
+            plays.append(placing(known(blocks_of(count, 60), ids[:count], pairs)))
+        some, twice = (took / PLACED for took in seconds_of([(runs, play) for play in plays], 2 * TURNS))
         print(f"place of ids {name}: {some * 1e3:.2f} ms for {IDS // 2:,}, {twice * 1e3:.2f} ms for {IDS:,}: {twice / some:.2f} times as long", flush=True)
 
 
