@@ -4,6 +4,7 @@
 mod compacting;
 mod difference;
 mod form;
+mod id_seed;
 mod law;
 mod named;
 mod partial;
@@ -14,6 +15,7 @@ mod table;
 pub use compacting::compact;
 pub use difference::{differ, undiffer};
 pub use form::{Compact, Prefilled};
+pub use id_seed::IdSeed;
 pub use law::{
     a_form_is_rebuilt_from_its_own_pairs, an_honest_form_is_rebuilt, differences_lead_back,
     what_is_told_as_sound_is_the_block,

@@ -4,12 +4,11 @@ ghost use Rattle.cb_base.specs.declared.fault.Fault.TheVariants.{Memory};
 ghost use Rattle.cb_compact.specs.Slots.{AreDifferent};
 ghost use Rattle.cb_compact.specs.Tables.{IsTable, found_tx, one_more, tx_in};
 
+use crate::id_seed::IdSeed;
 use crate::named::{NamedTx, Pair};
 use cb_base::Fault;
-use sha2::{Digest, Sha256};
 use std::alloc::Global;
 use std::collections::HashMap;
-use std::hash::{BuildHasher, FoldHasher, Hasher};
 
 /// Which of the pairs have an id.
 #[derive(Debug, Drop)]
@@ -42,38 +41,10 @@ impl Found {
     }
 }
 
-// Hashes the ids of a compact block under a seed.
-#[derive(Clone, Copy)]
-pub(crate) struct Seeded {
-    hasher: FoldHasher,
-}
-
-impl BuildHasher for Seeded {
-    type Hasher = FoldHasher;
-
-    ghost build_hasher = { λ seeded. seeded.hasher };
-
-    fn build_hasher(&self) -> FoldHasher {
-        self.hasher
-    }
-}
-
-// The seed is the SHA-256 of all ids. Whoever sends a block picks its ids, and would make them meet in the table if the seed
-// were known before all of them are picked.
-fn seed_of(ids: &[u64]) -> Seeded {
-    let mut digest = Sha256::new();
-    for id in ids {
-        digest.update(id.to_le_bytes().as_slice());
-    }
-    let mut hasher = FoldHasher::default();
-    hasher.write(digest.finalize().as_slice());
-    Seeded { hasher }
-}
-
 // The ids of a compact block, and what was found for each. So each pair is looked up once, and each id once more.
 #[derive(Drop)]
 pub(crate) struct Table {
-    found: HashMap<u64, Found, Seeded>,
+    found: HashMap<u64, Found, IdSeed>,
 }
 
 // The table of some ids, for which no pair was looked up yet: none where an id stands twice.
@@ -81,7 +52,7 @@ pub(crate) fn table_of(alloc: Global, ids: &[u64]) -> Result<Option<Table>, Faul
     ensures exact { IfOk result (λ table. MatchOption table (¬ AreDifferent ids.now) (λ table. AreDifferent ids.now × IsTable ids.now [] table.found.entries)) }
     ensures memory { IsOkUnless result Memory }
 {
-    let mut found = HashMap::with_capacity_and_hasher(alloc, ids.len(), seed_of(ids))?;
+    let mut found = HashMap::with_capacity_and_hasher(alloc, ids.len(), IdSeed::of(ids))?;
     for id in ids {
         if found.insert(*id, Found::Nobody)?.is_some() {
             return Ok(None);
