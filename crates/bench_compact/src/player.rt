@@ -44,19 +44,18 @@ impl Player {
         self.lines
     }
 
-    /// Does what a record says. What it holds is
+    /// Does what a record says. Numbers are of eight bytes, entries of a number and a transaction's number in four bytes, and
+    /// how often something is done stands in four bytes. What is remembered:
     ///
-    /// - `b` a block, whose transactions are numbered from 0 on, and whose header a compact block has from now on;
-    /// - `x` a transaction, which gets the next number; `n` a nonce in eight bytes;
-    /// - `c` differences of eight bytes: the compact block is the form of the block in which these places are whole;
-    /// - `i` the short ids of a compact block, of eight bytes; `f` entries of a difference and a transaction's number for those
+    /// - `b` a block, whose transactions are numbered from 0 on; `x` a transaction, which gets the next number; `n` a nonce;
+    /// - `i` the short ids of a compact block, which has the block's header; `f` entries of differences, for the transactions
     ///   that are whole in it;
-    /// - `q` entries of an id and a transaction's number for pairs; `a` makes pairs of all transactions, the last first.
+    /// - `q` entries of ids, for pairs; `a` makes pairs of all transactions, the last first.
     ///
-    /// Orders, of which each tells a line: `s` the short ids of all transactions, so many times; `u` the indexes below a total
-    /// of these differences; `p` looks for the compact block's transactions among the pairs, so many times; `r` only copies
-    /// the pairs as often; `l` hands in the transactions of these numbers for the places that are missing; `j` reads and
-    /// judges a block, so many times. How often is told in four bytes.
+    /// What is done, and told in a line: `c` makes the compact form of the block, in which the places of these differences are
+    /// whole; `p` looks for its transactions among the pairs, so many times; `r` only copies the pairs as often; `l` hands in
+    /// the transactions of these entries for the places that are missing; `s` tells the short ids of all transactions, so many
+    /// times; `u` the indexes below a total of these differences; `j` reads and judges a block, so many times.
     pub fn play(&mut self, kind: u8, payload: &[u8]) -> Result<(), Fault> {
         let mut cursor = Cursor::new(payload);
         match kind {
