@@ -1,6 +1,12 @@
 pub mod Entries
+pub mod Fetches
 pub mod Fitting
 pub mod Folds
+pub mod Followed
+pub mod Hears
 pub mod Laws
 pub mod Questions
+pub mod Reached
+pub mod Requested
 pub mod Traces
+pub mod Wishes

@@ -9,6 +9,10 @@ mod oracle;
 mod tests;
 mod trace;
 
-pub use law::{each_ping_is_answered, few_questions_stand, settings_stay};
+pub use law::{
+    blocks_are_fetched_as_told, each_ping_is_answered, each_session_is_reached,
+    few_questions_stand, headers_are_told_where_asked_for, send_headers_goes_out_once,
+    settings_stay,
+};
 pub use oracle::Oracle;
 pub use trace::{Counts, Trace, TraceEntry};
