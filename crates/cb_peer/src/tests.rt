@@ -1,7 +1,10 @@
 use super::*;
 use cb_base::{Fault, Hash256, Shared};
+use cb_block::Header;
 use cb_journal::{Answer, Question};
 use cb_payload::{CompactRelay, Listed};
+use cb_state::News;
+use cb_talk::our_version;
 use cb_wire::{BoundedMessage, Item, Message};
 use std::alloc::Global;
 use std::test::*;
@@ -48,5 +51,150 @@ fn a_session_introduces_itself(rt: HostRuntime) -> Result<(), Fail> {
     let (session, messages) = Session::new(alloc, outbound)?;
     assert!(rt; messages.len() == 1 && letter(&messages[0]) == b'v');
     assert!(rt; session.state() == State::Start && !session.is_waiting());
+    Ok(())
+}
+
+const TIP: Hash256 = Hash256([7; 32]);
+
+const HEADER: Header = Header {
+    version: 1,
+    prev: TIP,
+    root: TIP,
+    time: 0,
+    bits: 0,
+    nonce: 0,
+};
+
+/// How one message tells of a tip: `1` to `8` by so many headers, `i` by one entry of type 2 of its hash, `?` otherwise.
+fn telling(message: &Message) -> u8 {
+    match message {
+        Message::Headers(headers) => b'0' + (headers.as_slice().len() % 9) as u8,
+        Message::Inv(entries) => match entries.as_slice().first() {
+            Some(entry) if entry.kind == 2 && entry.hash == TIP => b'i',
+            _ => b'?',
+        },
+        _ => b'?',
+    }
+}
+
+/// A message of the peer.
+fn said(alloc: Global, message: BoundedMessage) -> Result<Event, Fail> {
+    Ok(Event::Said(Shared::new(alloc, Item::Good(message))?))
+}
+
+/// The hall's answer that so many headers lead to the tip, and whether they are too many.
+fn news(alloc: Global, count: usize, long: bool) -> Result<Event, Fail> {
+    let path = vec![in alloc; HEADER; count]?;
+    match Listed::new(path) {
+        Ok(path) => Ok(Event::Told(Answer::News(News {
+            tip: TIP,
+            path,
+            long,
+            block: None,
+            txids: Listed::from_few(Vec::new(alloc)),
+            next: 0,
+            high: false,
+        }))),
+        Err(_) => Err(Fail::from("too many headers")),
+    }
+}
+
+/// How the step of an event tells of the tip; `-` where it sends nothing.
+fn told(alloc: Global, session: &mut Session, event: &Event) -> u8 {
+    match session.step(alloc, event) {
+        Ok((messages, _)) => match messages.first() {
+            Some(message) => telling(message.message()),
+            None => b'-',
+        },
+        Err(_) => b'!',
+    }
+}
+
+/// The same of an event that was made.
+fn told_of(alloc: Global, session: &mut Session, made: Result<Event, Fail>) -> Result<u8, Fail> {
+    match made {
+        Ok(event) => Ok(told(alloc, session, &event)),
+        Err(fail) => Err(fail),
+    }
+}
+
+/// The hall lets an item or a tick in.
+fn let_in(alloc: Global, session: &mut Session) {
+    told(alloc, session, &Event::Told(Answer::Go));
+}
+
+/// A peer's `version`.
+fn version(alloc: Global) -> Result<Event, Fail> {
+    said(alloc, our_version(alloc, 9, 0, 0)?)
+}
+
+/// A peer's `sendheaders`, or a `ping` in its place.
+fn wish(alloc: Global, asks: bool) -> Result<Event, Fail> {
+    if asks {
+        said(alloc, BoundedMessage::new(Message::SendHeaders))
+    } else {
+        said(alloc, BoundedMessage::new(Message::Ping(0)))
+    }
+}
+
+/// A peer sends its `version`, its `verack`, and `sendheaders` where it asks for headers.
+fn shake_hands(alloc: Global, session: &mut Session, asks: bool) -> Result<(), Fail> {
+    told_of(alloc, session, version(alloc))?;
+    let_in(alloc, session);
+    told_of(
+        alloc,
+        session,
+        said(alloc, BoundedMessage::new(Message::Verack)),
+    )?;
+    let_in(alloc, session);
+    let none = Listed::from_few(Vec::new(alloc));
+    told(alloc, session, &Event::Told(Answer::Locator(none)));
+    told_of(alloc, session, news(alloc, 0, false))?;
+    told_of(alloc, session, wish(alloc, asks))?;
+    let_in(alloc, session);
+    told_of(alloc, session, news(alloc, 0, false))?;
+    Ok(())
+}
+
+/// How a tick tells of the tip to which so many headers lead.
+fn told_by_tick(
+    alloc: Global,
+    session: &mut Session,
+    count: usize,
+    long: bool,
+) -> Result<u8, Fail> {
+    told(alloc, session, &Event::Tick);
+    let_in(alloc, session);
+    told_of(alloc, session, news(alloc, count, long))
+}
+
+/// How a session is told of one block, of eight and of nine.
+fn tell_three(alloc: Global, session: &mut Session, asks: bool) -> Result<[u8; 3], Fail> {
+    shake_hands(alloc, session, asks)?;
+    let one = told_by_tick(alloc, session, 1, false)?;
+    let eight = told_by_tick(alloc, session, 8, false)?;
+    let nine = told_by_tick(alloc, session, 1, true)?;
+    Ok([one, eight, nine])
+}
+
+fn inbound_session(alloc: Global) -> Result<Session, Fail> {
+    let (session, _) = Session::new(alloc, SETTINGS)?;
+    Ok(session)
+}
+
+/// The same of a session of its own.
+fn told_of_three(alloc: Global, asks: bool) -> Result<[u8; 3], Fail> {
+    match inbound_session(alloc) {
+        Ok(mut session) => tell_three(alloc, &mut session, asks),
+        Err(fail) => Err(fail),
+    }
+}
+
+#[test]
+fn row_b_blocks_are_told_by_headers_where_asked_for(rt: HostRuntime) -> Result<(), Fail> {
+    let asked = told_of_three(rt.alloc(), true)?;
+    assert!(rt; asked == *b"18i");
+    let unasked = told_of_three(rt.alloc(), false)?;
+    assert!(rt; unasked == *b"iii");
     Ok(())
 }
