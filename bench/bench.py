@@ -258,6 +258,16 @@ def built(path, crate, top=ROOT):
     return path
 
 
+def write_stored_run(crate, records, lines):
+    """Writes what a program is run on by the gate, and what it has to print then."""
+    folder = os.path.join(ROOT, "crates", crate)
+    with open(os.path.join(folder, "stdin"), "wb") as file:
+        file.write(b"".join(records))
+    with open(os.path.join(folder, "stdout"), "w", encoding="ascii") as file:
+        file.write("\n".join(lines) + "\n")
+    print(f"{len(records)} records, {len(lines)} lines")
+
+
 def cases():
     """What the table tells of: a name, the command, and its input."""
     yield "decode, 1,000,000 pings", "decode", as_lines(pings(1_000_000), PIECE)

@@ -16,7 +16,7 @@ import subprocess
 import sys
 from collections import Counter
 
-from bench import ROOT, block_of, built, hash_twice, some_name, transaction, usage
+from bench import ROOT, block_of, built, hash_twice, some_name, transaction, usage, write_stored_run
 from chain import record
 from plain_compact import differences, indexes, judged, key_of, missing, short_id, slots
 
@@ -390,12 +390,7 @@ def store():
     play = Play()
     worked_cases(play)
     generated(STORED_SEED, STORED, play)
-    folder = os.path.join(ROOT, "crates", "bench_compact")
-    with open(os.path.join(folder, "stdin"), "wb") as file:
-        file.write(b"".join(play.records))
-    with open(os.path.join(folder, "stdout"), "w", encoding="ascii") as file:
-        file.write("\n".join(play.wanted) + "\n")
-    print(f"{len(play.records)} records, {len(play.wanted)} lines")
+    write_stored_run("bench_compact", play.records, play.wanted)
     sys.exit(1 if unmet(play.met) else 0)
 
 

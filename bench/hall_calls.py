@@ -8,14 +8,13 @@ faulty ones, transactions, what peers ask, kicks and openings. With `--store` no
 are written to crates/bench_hall/stdin, and what the plain hall answers to crates/bench_hall/stdout.
 """
 
-import os
 import random
 import struct
 import subprocess
 import sys
 from collections import Counter
 
-from bench import ROOT, built, usage
+from bench import built, usage, write_stored_run
 from calls import MOST_MONEY, NOBODY, Block, Drawing, Header, Tx, header_text
 from chain import GENESIS, record
 from plain_hall import NULL_POINT, AnyTx, PlainHall, paying
@@ -620,12 +619,7 @@ def store():
     play = Play()
     worked_examples(play)
     generated(STORED_SEED, STORED, True, play)
-    folder = os.path.join(ROOT, "crates", "bench_hall")
-    with open(os.path.join(folder, "stdin"), "wb") as file:
-        file.write(b"".join(play.records))
-    with open(os.path.join(folder, "stdout"), "w", encoding="ascii") as file:
-        file.write("\n".join(play.lines()) + "\n")
-    print(f"{len(play.records)} records, {len(play.lines())} lines")
+    write_stored_run("bench_hall", play.records, play.lines())
     sys.exit(1 if unmet(play.met, MET) else 0)
 
 
