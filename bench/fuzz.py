@@ -17,7 +17,9 @@ import sys
 from bench import built, usage
 
 MAGIC = bytes.fromhex("fabfb5da")
-NAMES = {1: "Memory", 2: "Truncated", 3: "NotShortest", 12: "BadMagic", 13: "Oversize", 14: "Trailing"}
+NAMES = {1: "Memory", 2: "Truncated", 3: "NotShortest", 4: "TooMany", 9: "Empty", 12: "BadMagic", 13: "Oversize", 14: "Trailing"}
+CARRIERS = ("tx", "block", "cmpctblock", "getblocktxn", "blocktxn")
+MOST_TXS = 16_666
 
 
 def envelope(command, payload):
@@ -55,7 +57,7 @@ def item_of(field, checksum, payload):
     name = name.decode("ascii")
     if name == "verack":
         return ("bad", name, 14) if payload else ("verack",)
-    if name in ("tx", "block"):
+    if name in CARRIERS:
         try:
             return (name, *carried(name, payload))
         except Fault as fault:
@@ -78,19 +80,51 @@ class Fault(Exception):
 
 
 def carried(name, payload):
-    """What is printed of a transaction or a block: its hash, and its bytes or its transactions."""
+    """What is printed of a transaction, a block or a compact block (BIP 152), or of what is asked of one and given: a hash, and
+    numbers of bytes or of transactions."""
     if name == "tx":
         place = after_tx(payload, 0)
         told = shown(payload), len(payload)
-    else:
-        place = after(payload, 0, 80)
-        txs, place = count_at(payload, place, 10)
-        for _ in range(txs):
-            place = after_tx(payload, place)
+    elif name == "block":
+        txs, place = after_txs(payload, after(payload, 0, 80))
         told = shown(payload[:80]), txs
+    elif name == "cmpctblock":
+        ids, prefilled, place = after_forms(payload, after(payload, 0, 88))
+        told = shown(payload[:80]), "ids", ids, "prefilled", prefilled
+    elif name == "getblocktxn":
+        count, place = after_differences(payload, after(payload, 0, 32))
+        told = payload[:32][::-1].hex(), count
+    else:
+        txs, place = after_txs(payload, after(payload, 0, 32))
+        told = payload[:32][::-1].hex(), txs
     if place < len(payload):
         raise Fault(14)
     return told
+
+
+def after_forms(data, place):
+    """How many short ids and prefilled transactions there are, and the place behind them."""
+    ids, place = count_at(data, place, 6)
+    prefilled, place = compact_at(data, after(data, place, 6 * ids))
+    if ids + prefilled == 0:
+        raise Fault(9)
+    if ids + prefilled > MOST_TXS:
+        raise Fault(4)
+    after(data, place, 11 * prefilled)
+    for _ in range(prefilled):
+        place = after_tx(data, compact_at(data, place)[1])
+    return ids, prefilled, place
+
+
+def after_differences(data, place):
+    """How many differences there are, and the place behind them."""
+    count, place = compact_at(data, place)
+    if count > MOST_TXS:
+        raise Fault(4)
+    after(data, place, count)
+    for _ in range(count):
+        _, place = compact_at(data, place)
+    return count, place
 
 
 def shown(text):
@@ -129,6 +163,14 @@ def count_at(data, place, least):
 def after_script(data, place):
     size, place = compact_at(data, place)
     return after(data, place, size)
+
+
+def after_txs(data, place):
+    """How many transactions there are, and the place behind them."""
+    txs, place = count_at(data, place, 10)
+    for _ in range(txs):
+        place = after_tx(data, place)
+    return txs, place
 
 
 def after_tx(data, place):
@@ -213,13 +255,42 @@ def random_tx(rng):
     return text + random_bytes(rng, 4)
 
 
-def random_tx_or_block(rng):
-    """The envelope of a transaction or a block; some are hurt before the checksum is taken."""
-    if rng.random() < 0.5:
-        command, payload = b"tx", random_tx(rng)
+def random_txs(rng):
+    txs = rng.choice([0, 1, 2, 5])
+    return spelled(rng, txs) + b"".join(random_tx(rng) for _ in range(txs))
+
+
+def random_forms(rng):
+    """Short ids and prefilled transactions, and now and then a count of these that is near the limit of both together."""
+    ids, prefilled = rng.choice([0, 0, 1, 2, 7]), rng.choice([0, 1, 1, 3])
+    told = rng.choice([MOST_TXS - ids, MOST_TXS - ids + 1]) if rng.random() < 0.1 else prefilled
+    text = spelled(rng, ids) + random_bytes(rng, 6 * ids) + spelled(rng, told)
+    return text + b"".join(random_difference(rng) + random_tx(rng) for _ in range(prefilled))
+
+
+def random_difference(rng):
+    return spelled(rng, rng.choice([0, 1, 252, 253, 16_665, rng.randrange(1 << 64)]))
+
+
+def random_differences(rng):
+    count = rng.choice([0, 1, 3, 300])
+    told = rng.choice([MOST_TXS, MOST_TXS + 1]) if rng.random() < 0.1 else count
+    return spelled(rng, told) + b"".join(random_difference(rng) for _ in range(count))
+
+
+def random_carrier(rng):
+    """The envelope of a transaction, a block or a compact block; some are hurt before the checksum is taken."""
+    command = rng.choice(CARRIERS)
+    if command == "tx":
+        payload = random_tx(rng)
+    elif command == "block":
+        payload = random_bytes(rng, 80) + random_txs(rng)
+    elif command == "cmpctblock":
+        payload = random_bytes(rng, 88) + random_forms(rng)
+    elif command == "getblocktxn":
+        payload = random_bytes(rng, 32) + random_differences(rng)
     else:
-        txs = rng.choice([0, 1, 2, 5])
-        command, payload = b"block", random_bytes(rng, 80) + spelled(rng, txs) + b"".join(random_tx(rng) for _ in range(txs))
+        payload = random_bytes(rng, 32) + random_txs(rng)
     change = rng.randrange(8)
     if change == 0:
         payload = payload[: rng.randrange(len(payload))]
@@ -228,12 +299,12 @@ def random_tx_or_block(rng):
     elif change == 2:
         place = rng.randrange(len(payload))
         payload = payload[:place] + bytes([rng.choice([0, 1, 252, 253, 254, 255])]) + payload[place + 1 :]
-    return envelope(command, payload)
+    return envelope(command.encode(), payload)
 
 
 def random_message(rng):
-    if rng.random() < 0.3:
-        return random_tx_or_block(rng)
+    if rng.random() < 0.4:
+        return random_carrier(rng)
     command = rng.choice([b"verack", b"ping", b"pong", b"ping", b"hello", b"a b", b"pingpongping", bytes(rng.randrange(256) for _ in range(rng.randrange(13)))])
     size = rng.choice([0, 8, 8, 8, 7, 9, rng.randrange(200)])
     return envelope(command, bytes(rng.randrange(256) for _ in range(size)))

@@ -28,6 +28,8 @@ ADMITS, MINED = 5_000_000, 10
 # How many entries a peer asks for, and how often, such that a long journal doesn't begin anew meanwhile.
 FEW, MANY = (5_000, 30), (50_000, 3)
 CALLS = 1_000_000
+# How many transactions a small pool has, how many short ids are looked for in one, and how often: a match, and the list of its pairs.
+FEW_WAITING, IDS, MATCHES, LISTS = 1_000, 100, 10_000, 100
 TURNS = 3 * RUNS
 
 
@@ -135,6 +137,19 @@ def lists(runs):
         print(f"  {many / few:.2f} times as long for {MANY[0] // FEW[0]} times as many")
 
 
+def matched(runs, pools):
+    """A match with a small pool and with a large one, and the list of its pairs, which is made without the hall."""
+    calls = (("a match", asked("match", bytes(80), 1, list(range(IDS))), MATCHES), ("the list of its pairs", (b"v", b""), LISTS))
+    plays, names = [], []
+    for count in (FEW_WAITING, WAITING):
+        ground = pools.ground(pools.others[:count], 0) + record(*calls[0][1])
+        for name, call, times in calls:
+            plays.append((runs, Play(ground + repeated(times, *call), ground + repeated(0, *call))))
+            names.append((f"{name} with a pool of {count:,}", times))
+    for (name, times), took in zip(names, seconds_of(plays, TURNS)):
+        print(f"{name}: {took / times * 1e6:,.1f} µs", flush=True)
+
+
 def served(runs):
     """The memory of an answer with one block many times, at a small block and at a large one."""
     for size in (200, 900_000):
@@ -170,6 +185,7 @@ def main():
         blocks(runs, pools)
         mined(runs, pools)
         lists(runs)
+        matched(runs, pools)
         served(runs)
         memory(runs, pools)
 

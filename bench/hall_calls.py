@@ -17,10 +17,11 @@ from collections import Counter
 from bench import built, usage, write_stored_run
 from calls import MOST_MONEY, NOBODY, Block, Drawing, Header, Tx, header_text
 from chain import GENESIS, record
+from plain_compact import differences, key_of, short_id
 from plain_hall import NULL_POINT, AnyTx, PlainHall, paying
 
 # So many calls go to one hall. So many are stored, from this seed, whose blocks aren't longer than this.
-CALLS, STORED, STORED_SEED, SHORT = 400, 300, 25, 1_500
+CALLS, STORED, STORED_SEED, SHORT = 400, 300, 69, 1_500
 # The connections that ask are mostly of so many peers. Blocks are on one branch alone up to this height, and the journal has so many
 # entries before it first begins anew.
 ASKING, HIGH, EARLY = 6, 12, 100
@@ -36,7 +37,8 @@ MET = {f"tx {fault}" for fault in REFUSED_TXS} | {f"block {fault}" for fault in 
     "a transaction taken", "a block taken", "a capable peer's tip", "another peer's tip", "a reorganisation", "a transaction back in the pool",
     "a transaction out of the pool", "headers F23 NoParent", "headers taken", "a way of 8", "a way of 9", "a block told whole", "short at 5",
     "whole at 6", "near", "a question of a kicked connection", "of an older connection", "an announcer that leaves", "an opened announcer",
-    "a journal that begins anew", "computed again", "replayed", "mined", "mined and handed in", "handed in", "repeated"}
+    "a journal that begins anew", "computed again", "replayed", "mined", "mined and handed in", "handed in", "repeated", "places told as part", "places told as whole", "places told as absent",
+    "places told as refused", "places part at 10", "places whole at 11", "pairs of several", "pairs of a pool that was"}
 MET_IN_FULL = MET | {"tx F5 BadTx 3", "block F5 BadTx 4", "block F5 BadTx 6", "block F10 BadCoinbase", "block F13 Oversize", "headers F11 BadWork",
                      "headers F24 BadParent"}
 
@@ -46,6 +48,10 @@ MET_IN_FULL = MET | {"tx F5 BadTx 3", "block F5 BadTx 4", "block F5 BadTx 6", "b
 
 def entries_text(entries):
     return b"".join(struct.pack("<I", kind) + name for kind, name in entries)
+
+
+def numbers_text(numbers):
+    return b"".join(struct.pack("<Q", number) for number in numbers)
 
 
 def question_text(question):
@@ -63,6 +69,10 @@ def question_text(question):
         return b"b", bytes([rest[1]]) + rest[0].text
     if word == "after":
         return b"f", rest[1] + b"".join(rest[0])
+    if word == "match":
+        return b"d", rest[0] + numbers_text([rest[1], *rest[2]])
+    if word == "places":
+        return b"e", rest[0] + numbers_text(rest[1])
     tip, number, whole = rest
     return b"n", struct.pack("<BQ", whole, number) + (tip or b"")
 
@@ -121,6 +131,9 @@ class Play:
 
     def look(self):
         return self.put(b"i", b"", self.hall.look())
+
+    def last_pairs(self):
+        return self.put(b"v", b"", self.hall.last_pairs())
 
     def counts(self):
         return self.put(b"j", b"", self.hall.counts())
@@ -261,6 +274,58 @@ def row_13_compact_near_the_tip(play):
         expect(play.ask((0, 1), "items", [(4, blocks[height - 1].header.name)])[6:12], f" {word}")
 
 
+def row_13_parts_near_the_tip(play):
+    """At height 12 the transactions of the block at height 2 are served alone, of the one at height 1 the whole block. A place that
+    isn't one of the block's is refused at any height, and of a block that isn't there nothing is served."""
+    play.begin()
+    blocks = chained(play, GENESIS, range(1, 13))
+    for height, word in ((2, "part"), (1, "whole")):
+        name = blocks[height - 1].header.name
+        told = f"{word} {name[::-1].hex()} "
+        expect(play.ask((0, 1), "places", name, [0])[:len(told)], told)
+        for places in ([1], [0, 0], [0, (1 << 64) - 1]):
+            expect(play.ask((0, 1), "places", name, places), "places F16 BadIndex")
+    expect(play.ask((0, 1), "places", blocks[1].header.name, []), f"part {blocks[1].header.name[::-1].hex()}")
+    expect(play.ask((0, 1), "places", NOBODY, [0]), "absent")
+
+
+def places_of_a_block(play):
+    """Of a block of four transactions those at the places 0, 2 and 3, whose differences are 0, 1 and 0."""
+    play.begin()
+    [first] = chained(play, GENESIS, [1])
+    spent = [paying(1, [(first.txs[0].name, 0)], [50])]
+    for mark in (2, 3):
+        spent.append(paying(mark, [(spent[-1].name, 0)], [50]))
+    [block] = chained(play, first.header.name, [2], spent=spent)
+    told = "".join(f" tx {block.txs[place].name[::-1].hex()} {len(block.txs[place].text)}" for place in (0, 2, 3))
+    expect(play.ask((0, 1), "places", block.header.name, [0, 1, 0]), f"part {block.header.name[::-1].hex()}{told}")
+
+
+def pairs_of_a_pool_that_was(play):
+    """t waits, and is matched by its id. Then u is given, and a block takes t: the pairs are what they were, and a new match tells u."""
+    play.begin()
+    [first] = chained(play, GENESIS, [1])
+    t = paying(1, [(first.txs[0].name, 0)], [50])
+    u = paying(2, [(t.name, 0)], [50])
+    expect(play.last_pairs(), "no pairs")
+    expect(play.ask((0, 1), "tx", t), "tx -")
+    header, nonce = first.header.text, 5
+    key = key_of(header, nonce)
+    ids = [short_id(key, u.name), 7, short_id(key, t.name)]
+    told = f"pairs {ids[2]} {t.name[::-1].hex()}"
+    expect(play.ask((0, 1), "match", header, nonce, ids), told)
+    expect(play.ask((0, 1), "tx", u), "tx -")
+    expect(play.last_pairs(), told)
+    both = f"{told} {ids[0]} {u.name[::-1].hex()}"
+    expect(play.ask((0, 1), "match", header, nonce, ids), both)
+    chained(play, first.header.name, [2], spent=[t])
+    expect(pool_words(play.ask((1, 1), "news", None, 0, False)), f" txids{names_text([u])} next 2 high false")
+    expect(play.last_pairs(), both)
+    expect(play.ask((1, 1), "match", header, nonce, ids), f"pairs {ids[0]} {u.name[::-1].hex()}")
+    expect(play.ask((1, 1), "match", header, nonce + 1, ids), "pairs")
+    expect(play.again(), "again journal 9 answers 9 same true")
+
+
 def row_14_announcers(play):
     """Which of the first five peers are announcers after each of these gave a tip."""
     play.begin()
@@ -273,7 +338,7 @@ def row_14_announcers(play):
 
 def worked_examples(play):
     for example in (row_a_pool_over_a_reorganisation, row_b_first_block_made, row_c_kicked, row_8_refused_for_its_size, row_13_compact_near_the_tip,
-                    row_14_announcers, kicked_and_opened_again, wanted_once, served_of_a_new_hall, nothing_is_new):
+                    row_13_parts_near_the_tip, places_of_a_block, pairs_of_a_pool_that_was, row_14_announcers, kicked_and_opened_again, wanted_once, served_of_a_new_hall, nothing_is_new):
         example(play)
 
 
@@ -387,7 +452,7 @@ class Generated:
     def __init__(self, play, seed, is_short):
         self.play, self.rng = play, random.Random(f"kinds {seed}")
         self.calls, self.odd = Calls(play, seed, is_short), 0
-        self.kinds = [(30, self.give), (15, self.give_tx), (4, self.extend), (1, self.mine), (7, self.news), (4, self.want), (5, self.serve),
+        self.kinds = [(30, self.give), (15, self.give_tx), (4, self.extend), (1, self.mine), (7, self.news), (4, self.want), (5, self.serve), (4, self.places), (4, self.match), (1, self.pairs),
                       (3, self.after), (2, self.locator), (2, self.admit), (4, self.heads), (1, self.kick), (2, self.open), (1, self.remade),
                       (1, self.overspent), (2, self.odd_block), (1, self.orphaned), (2, self.overtake), (2, self.checkpoint), (1, self.again), (2, self.replay), (1, self.counts), (2, self.repeat)]
 
@@ -549,6 +614,35 @@ class Generated:
                 self.meet(name)
         self.ask("items", entries)
 
+    def places(self):
+        """Of a block near the tip, of one ten or eleven below it, or of one of a branch; now and then one place too many."""
+        now, rng = self.play.hall.now, self.rng
+        way = now.chain.way(now.tip())
+        name = rng.choice([self.calls.near(way, 9), rng.choice(self.calls.names() + [NOBODY])])
+        depth = rng.choice([10, 11, None, None])
+        if depth is not None and len(way) > depth:
+            name = way[-1 - depth]
+        count = len(now.chain.kept[name].txs) if name in now.chain.kept else 1
+        places = sorted(rng.sample(range(count), rng.randrange(count + 1)))
+        told = self.ask("places", name, differences(places) + [0] * (rng.random() < 0.2))
+        word = "refused" if told.startswith("places") else told.split()[0]
+        self.meet(f"places told as {word}")
+        self.meet(f"places {word} at {depth}", depth is not None and len(way) > depth)
+
+    def match(self):
+        """Some of the pool by their ids, and an id that is none's."""
+        now, rng = self.play.hall.now, self.rng
+        nonce = rng.randrange(1 << 64)
+        header = self.calls.near(self.calls.headers, 5).text if self.calls.headers else bytes(80)
+        key = key_of(header, nonce)
+        ids = [short_id(key, tx.name) for tx, _ in now.pool if rng.random() < 0.6] + [rng.randrange(1 << 48)]
+        rng.shuffle(ids)
+        told = self.ask("match", header, nonce, ids + ids[:rng.randrange(2)])
+        self.meet("pairs of several", len(told.split()) > 3)
+
+    def pairs(self):
+        self.meet("pairs of a pool that was", len(self.play.last_pairs().split()) > 2)
+
     def after(self):
         names = self.calls.names() + [NOBODY]
         self.ask("after", [self.rng.choice(names) for _ in range(self.rng.randrange(4))], self.rng.choice(names))
@@ -588,7 +682,7 @@ class Generated:
     def repeat(self):
         """A call a few times, of which no line is printed."""
         now, calls = self.play.hall.now, self.calls
-        questions = [("admit",), ("locator",), ("tx", calls.tx()), ("want", calls.entries()), ("items", calls.entries()), ("news", None, 0, False),
+        questions = [("admit",), ("locator",), ("tx", calls.tx()), ("want", calls.entries()), ("items", calls.entries()), ("news", None, 0, False), ("match", bytes(80), 1, [2]), ("places", now.tip(), [0]),
                      ("block", calls.drawn(Block(now.tip(), [Tx(calls.mark(), [], [50])])), True)]
         self.play.ask_often(self.rng.randrange(4), calls.any_connection(), *self.rng.choice(questions))
         self.meet("repeated")

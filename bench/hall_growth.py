@@ -3,9 +3,10 @@
 
 It needs the built program crates/bench_hall/out/bench_hall (as ./build bench_hall leaves it), a C compiler as `cc`, and python3, and
 takes some seconds. A block of 200 bytes and one of 900,000, with as many transactions, are given, served and told as news: a call has
-to meet as many growths of as many bytes for the one as for the other, so that the block is shared and never copied. Then each growth
-is refused in turn while three blocks take the place of two under a pool of ten, and a look before and after each call tells whether
-anything changed: each run has to end as with ample memory, or with status 4. The status is 0 where both is so.
+to meet as many growths of as many bytes for the one as for the other, so that the block is shared and never copied. So has a match
+with a pool of one transaction and with one of a thousand, once the pool was matched with. Then each growth is refused in turn while
+three blocks take the place of two under a pool of ten, and the pool is matched with, and a look before and after each call tells
+whether anything changed: each run has to end as with ample memory, or with status 4. The status is 0 where all is so.
 """
 
 import struct
@@ -16,10 +17,13 @@ from bench import built, usage
 from calls import Block, Tx
 from chain import GENESIS, record
 from hall_calls import Play, question_text, repeated
+from plain_compact import key_of, short_id
 from plain_hall import NULL_POINT, AnyTx, paying
 from refuse_growth import Growths, build, in_turn, run
 
 SMALL, LARGE, REPEATS = 200, 900_000, 10
+# How many transactions a pool has that is matched with, and how many short ids are looked for.
+ONE, THOUSAND, IDS = 1, 1_000, 100
 # How many transactions wait in the pool, of which the blocks that are put off have some.
 POOL, PUT_OFF = 10, 2
 
@@ -74,6 +78,22 @@ def counted(program, library):
     return differing
 
 
+def waiting(count, given):
+    """So many transactions are given, of which so many wait: the others are given a second time."""
+    block = Block(GENESIS, [Tx(0, [], [50] * count)])
+    txs = [paying(mark, [(block.txs[0].name, mark)], [50]) for mark in range(count)]
+    return record(*asked("block", block, True)) + b"".join(record(*asked("tx", txs[place % count])) for place in range(given))
+
+
+def matched(program, library):
+    """Whether a match doesn't meet the same growths with a small and with a large pool."""
+    match = asked("match", bytes(80), 1, list(range(IDS)))
+    small, large = (of_call(program, library, waiting(count, THOUSAND) + record(*match), match, REPEATS) for count in (ONE, THOUSAND))
+    print(f"a match meets {small.count:g} growths of {small.bytes:,.0f} bytes with a pool of {ONE}, "
+          f"and {large.count:g} of {large.bytes:,.0f} bytes with one of {THOUSAND:,}")
+    return small != large
+
+
 def reorganisation():
     """Three blocks take the place of two, whose transactions stand in front of a pool then, beside a look before and after the last."""
     play = Play()
@@ -104,6 +124,11 @@ def reorganisation():
     assert len(play.hall.now.pool) == POOL + PUT_OFF and play.hall.now.height() == POOL + PUT_OFF + 1
     play.look()
     play.ask((1, 1), "news", None, 0, False)
+    header = bytes(80)
+    for place in (0, 1):
+        play.ask((2, 1), "match", header, 7, [short_id(key_of(header, 7), tx.name) for tx, _ in play.hall.now.pool[place:]])
+    play.last_pairs()
+    play.ask((2, 1), "places", prev, [0])
     return play
 
 
@@ -116,7 +141,7 @@ def main():
         print(difference)
     with tempfile.TemporaryDirectory() as folder:
         library = build(folder)
-        failures = counted(program, library) + in_turn("three blocks for two under a pool of ten", "bench_hall", [], b"".join(play.records), library)
+        failures = counted(program, library) + matched(program, library) + in_turn("three blocks for two under a pool of ten", "bench_hall", [], b"".join(play.records), library)
     sys.exit(1 if failures or differences else 0)
 
 

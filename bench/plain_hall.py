@@ -12,10 +12,13 @@ from types import SimpleNamespace
 from bench import compact_size, hash_twice, merkle_root
 from calls import MOST_MONEY, Block, Header, Plain, Tx, connected, has_work, line
 from chain import GENESIS
+from plain_compact import indexes, key_of, short_id
 
 NULL_POINT = (bytes(32), 0xFFFF_FFFF)
 PEERS, GENESIS_SIZE, GENESIS_TIME = 64, 285, 1_296_688_602
-POOL, ANNOUNCERS, ANNOUNCED, DEPTH, BLOCK_BYTES = 10_000, 3, 8, 5, 1_000_000
+# The first block's one transaction: its name, as it is shown, and its size.
+GENESIS_TX = ("4a5e1e4baab89f3a32518a88c31bc87f618f76673e2cc77ab2127b7afdeda33b", 204)
+POOL, ANNOUNCERS, ANNOUNCED, DEPTH, PART_DEPTH, BLOCK_BYTES = 10_000, 3, 8, 5, 10, 1_000_000
 JOURNAL_ENTRIES, JOURNAL_WEIGHT, ENTRY_WEIGHT, LISTED_WEIGHT = 1_000_000, 64_000_000, 64, 40
 # How many calls are folded at the most to tell how things stand.
 FOLDED = 16
@@ -239,6 +242,23 @@ class Shared:
             return f" {'short' if near else 'whole'} {shown(name)} {size}"
         return f" lacking {kind} {shown(name)}"
 
+    def answer_places(self, _, name, differences):
+        """The transactions at places of a block, or all of it where it is deep down."""
+        if not self.has_block(name):
+            return "absent", 0
+        txs = [GENESIS_TX] if name == GENESIS else [(shown(tx.name), len(tx.text)) for tx in self.chain.kept[name].txs]
+        places = indexes(differences, len(txs))
+        if places is None:
+            return "places F16 BadIndex", 0
+        if self.chain.height(name) + PART_DEPTH >= self.height():
+            return f"part {shown(name)}" + "".join(f" tx {txs[place][0]} {txs[place][1]}" for place in places), 0
+        return f"whole {shown(name)} {GENESIS_SIZE if name == GENESIS else len(self.chain.kept[name].text)}", 0
+
+    def answer_match(self, _, header, nonce, ids):
+        key = key_of(header, nonce)
+        pairs = [(short_id(key, tx.name), tx) for tx, _ in self.pool]
+        return "pairs" + "".join(f" {number} {shown(tx.name)}" for number, tx in pairs if number in ids), 0
+
     def answer_after(self, _, locator, stop):
         return line("following", self.chain.after(locator, stop)), 0
 
@@ -288,6 +308,8 @@ def weight(entry):
             content = len(content_of[0].text)
         elif word in ("headers", "want", "items", "after"):
             content = LISTED_WEIGHT * len(content_of[0])
+        elif word in ("match", "places"):
+            content = LISTED_WEIGHT * len(content_of[-1])
     return ENTRY_WEIGHT + content
 
 
@@ -297,6 +319,8 @@ class PlainHall:
     def __init__(self):
         self.calls, self.start = [], 0
         self.connections = [(peer, 1) for peer in range(PEERS)]
+        # The pairs that were told last.
+        self.pairs = "no pairs"
         # So many calls lead to what is kept here, and all of them to the other.
         self.kept = (0, Shared())
         self.now = Shared()
@@ -325,7 +349,10 @@ class PlainHall:
     # ---- calls; each gives a line and how much it tells
 
     def ask(self, connection, question):
-        return self.note(("asked", connection, question))
+        told = self.note(("asked", connection, question))
+        if told[0].startswith("pairs"):
+            self.pairs = told[0]
+        return told
 
     def submit(self, question):
         return self.note(("submitted", question))
@@ -354,6 +381,10 @@ class PlainHall:
 
     def look(self):
         return self.now.look(), 0
+
+    def last_pairs(self):
+        """Whatever became of the pool."""
+        return self.pairs, 0
 
     def asked(self, entries):
         return Counter(entry[1] for entry in entries if entry[0] == "asked")

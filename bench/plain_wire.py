@@ -12,6 +12,7 @@ from fuzz import Fault, after, after_tx, compact_at, count_at, envelope
 from plain_hall import AnyTx
 
 MOST_ENTRIES, MOST_HEADERS, MOST_LOCATOR, MOST_AGENT = 50_000, 2_000, 101, 256
+MOST_TXS = 16_666
 NOBODY = bytes(26)
 LISTS = ("inv", "getdata", "notfound")
 EMPTY = ("verack", "sendheaders")
@@ -86,6 +87,48 @@ def read_headers(data):
     return headers, place
 
 
+def read_txs(data, place):
+    """Transactions behind their count, and the place behind them."""
+    count, place = count_at(data, place, 10)
+    txs = []
+    for _ in range(count):
+        end = after_tx(data, place)
+        txs.append(ReadTx(data[place:end]))
+        place = end
+    return txs, place
+
+
+def read_compact_block(data):
+    """A header, a nonce, short ids, and prefilled transactions behind their differences (BIP 152)."""
+    told = SimpleNamespace(header=Header(data[:80]))
+    told.nonce, place = number(data, after(data, 0, 80), "<Q")
+    count, place = count_at(data, place, 6)
+    told.ids = [int.from_bytes(data[place + 6 * k : place + 6 * k + 6], "little") for k in range(count)]
+    prefilled, place = compact_at(data, place + 6 * count)
+    if count + prefilled == 0:
+        raise Fault(9)
+    if count + prefilled > MOST_TXS:
+        raise Fault(4)
+    after(data, place, 11 * prefilled)
+    told.prefilled = []
+    for _ in range(prefilled):
+        difference, place = compact_at(data, place)
+        end = after_tx(data, place)
+        told.prefilled.append((difference, ReadTx(data[place:end])))
+        place = end
+    return told, place
+
+
+def read_differences(data):
+    """A block's hash, and differences of indexes (BIP 152)."""
+    count, place = limited(data, after(data, 0, 32), MOST_TXS, 1)
+    differences = []
+    for _ in range(count):
+        difference, place = compact_at(data, place)
+        differences.append(difference)
+    return (data[:32], differences), place
+
+
 def read_fields(name, data):
     """A payload's value, and the place behind it."""
     if name in EMPTY:
@@ -113,16 +156,19 @@ def read_fields(name, data):
     if name == "tx":
         place = after_tx(data, 0)
         return ReadTx(data[:place]), place
-    count, place = count_at(data, after(data, 0, 80), 10)
-    txs = []
-    for _ in range(count):
-        end = after_tx(data, place)
-        txs.append(ReadTx(data[place:end]))
-        place = end
+    if name == "cmpctblock":
+        return read_compact_block(data)
+    if name == "getblocktxn":
+        return read_differences(data)
+    if name == "blocktxn":
+        txs, place = read_txs(data, after(data, 0, 32))
+        return (data[:32], txs), place
+    txs, place = read_txs(data, after(data, 0, 80))
     return ReadBlock(data[:place], txs), place
 
 
-KNOWN = ("version", "verack", "ping", "pong", "sendheaders", "sendcmpct", *LISTS, "headers", "getheaders", "tx", "block")
+KNOWN = ("version", "verack", "ping", "pong", "sendheaders", "sendcmpct", *LISTS, "headers", "getheaders", "tx", "block",
+         "cmpctblock", "getblocktxn", "blocktxn")
 
 
 def read(name, data):

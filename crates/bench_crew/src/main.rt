@@ -4,29 +4,18 @@
 
 ghost use Rattle.std.specs.Prelude.{◌≡◌, ◌≤◌};
 
-mod handling;
-#[cfg(test)]
-mod lister;
 mod plain;
-mod reading;
-mod refusal;
-mod service;
 mod settings;
-mod signals;
 mod tally;
-#[cfg(test)]
-mod tests;
 mod work;
 
 use crate::plain::{run_loop, run_mutex, tally_of};
-use crate::refusal::Refusal;
-use crate::service::{Orders, serve};
 use crate::settings::{Mode, Settings, read_settings};
-use crate::signals::Signals;
 use crate::tally::Tally;
 use crate::work::HashWork;
 use cb_base::Fault;
 use cb_crew::{Crew, Desk, Fresh, NewCrew};
+use cb_service::{Orders, Refusal, Signals, serve};
 use std::alloc::Global;
 use std::io::{ErrorKind, Read};
 use std::marker::Sync;

@@ -1,9 +1,9 @@
 ghost use Rattle.std.specs.Prelude.{◌≡◌, ◌≤◌};
 
-use crate::reading::item_at;
 use crate::settings::Settings;
 use crate::tally::Tally;
 use cb_base::Fault;
+use cb_service::item_at;
 use std::alloc::Global;
 use std::collections::VecDeque;
 use std::marker::Sync;

@@ -7,17 +7,17 @@ use Rattle.cb_journal.specs.declared.entry.Entry.TheVariants as entries
 use Rattle.cb_journal.specs.declared.entry.Local.TheVariants as local
 use Rattle.cb_journal.specs.declared.question.Question.{Question}
 use Rattle.cb_journal.specs.declared.question.Question.TheVariants as question
-use Rattle.cb_journal.specs.declared.question.Request.TheVariants.{After, Items}
+use Rattle.cb_journal.specs.declared.question.Request.TheVariants.{After, Items, Places}
 use Rattle.cb_journal.specs.Journal.{JournalState, new_journal}
 use Rattle.cb_hall.specs.Hall.{Grows, Submitted, latest_connection, next_connection}
 use Rattle.bench_hall.specs.declared.call.Call.{Call}
 use Rattle.bench_hall.specs.declared.call.Call.TheVariants.{Ask, Checkpoint, Extend, Kick, Open, See, Submit}
 use Rattle.bench_hall.specs.declared.call.Sight.{Sight}
-use Rattle.bench_hall.specs.declared.call.Sight.TheVariants.{Again, Counts, Look, Mine, Replay}
+use Rattle.bench_hall.specs.declared.call.Sight.TheVariants.{Again, Counts, Look, Mine, Pairs, Replay}
 
 -- ---- the kinds of records, by their letters
 
--- a h l w t b s f n
+-- a h l w t b s f e n d
 abbrev pub question_kind : Question → ℕ
 question_kind question.Admit = 97
 question_kind (question.Headers headers) = 104
@@ -27,15 +27,18 @@ question_kind (question.GiveTx tx) = 116
 question_kind (question.GiveBlock given) = 98
 question_kind (question.Serve (Items list)) = 115
 question_kind (question.Serve (After locator stop)) = 102
+question_kind (question.Serve (Places hash differences)) = 101
 question_kind (question.News told) = 110
+question_kind (question.Match sought) = 100
 
--- i j g r m
+-- i j g r m v
 abbrev pub sight_kind : Sight → ℕ
 sight_kind Look = 105
 sight_kind Counts = 106
 sight_kind Again = 103
 sight_kind Replay = 114
 sight_kind (Mine mark) = 109
+sight_kind Pairs = 118
 
 -- o k T B M p
 abbrev pub call_kind : Call → ℕ

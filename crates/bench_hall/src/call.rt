@@ -18,6 +18,8 @@ pub enum Sight {
     Replay,
     /// The block that is made with this mark.
     Mine(u8),
+    /// The pairs that were told last, in a list that is made now.
+    Pairs,
 }
 
 /// What a record asks of a hall.

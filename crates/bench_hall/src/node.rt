@@ -7,9 +7,11 @@ use crate::call::{Call, Reply, Sight};
 use crate::log::Log;
 use crate::replaying::replay_line;
 use crate::seeing::{counts_line, look_line, mined_line, standing_lines, view_lines};
+use crate::telling::pairs_line;
 use cb_base::Fault;
 use cb_hall::{Badge, Hall};
 use cb_journal::{Answer, Local, PEERS, Question};
+use cb_pool::Pairs;
 use cb_state::Connection;
 use std::alloc::Global;
 
@@ -20,6 +22,8 @@ pub struct Node {
     hall: Hall,
     badges: Vec<Badge>,
     log: Log,
+    // The pairs that were told last.
+    pairs: Option<Pairs>,
 }
 
 /// A new hall of so many peers, and the badges of their first connections. The only error is `Fault::Memory`.
@@ -56,6 +60,7 @@ impl Node {
             hall,
             badges,
             log: Log::new(alloc),
+            pairs: None,
         })
     }
 
@@ -163,6 +168,7 @@ impl Node {
             Sight::Again => self.again(),
             Sight::Replay => self.replay(),
             Sight::Mine(mark) => mined_line(self.alloc, &self.hall, mark),
+            Sight::Pairs => self.last_pairs(),
         };
         Ok(Reply::Seen(line?))
     }
@@ -199,6 +205,14 @@ impl Node {
         replay_line(self.alloc, &self.hall)
     }
 
+    // The pairs that were told last, in a list.
+    fn last_pairs(&self) -> Result<String, Fault> {
+        match &self.pairs {
+            Some(pairs) => pairs_line(self.alloc, pairs),
+            None => Ok(String::from_str(self.alloc, "no pairs\n")?),
+        }
+    }
+
     /// Keeps in mind how a call ended before which the journal had so many entries, and the line that is printed of it.
     pub fn remember(&mut self, had: usize, reply: &Reply, line: Option<&str>) -> Result<(), Fault>
         ensures { self.new.hall ≡ self.old.hall }
@@ -209,8 +223,19 @@ impl Node {
         if had > 0 && self.entries() != had.wrapping_add(1) {
             self.log.begin_anew();
         }
-        if let Reply::Told(_) = reply {
+        if let Reply::Told(answer) = reply {
             self.log.note(line)?;
+            self.keep_pairs(answer)?;
+        }
+        Ok(())
+    }
+
+    // Keeps pairs that were told.
+    fn keep_pairs(&mut self, answer: &Answer) -> Result<(), Fault>
+        ensures { self.new.hall ≡ self.old.hall }
+    {
+        if let Answer::Pairs(pairs) = answer {
+            self.pairs = Some(pairs.copy()?);
         }
         Ok(())
     }

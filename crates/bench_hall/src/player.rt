@@ -69,8 +69,15 @@ impl Player {
     {
         let had = self.node.entries();
         let reply = self.perform(call)?;
-        let line = reply_line(self.alloc, &reply)?;
-        self.node.remember(had, &reply, Some(line.as_str()))?;
+        self.print(had, &reply)
+    }
+
+    // Prints the line of what a call told, and notes it.
+    fn print(&mut self, had: usize, reply: &Reply) -> Result<(), Fault>
+        ensures { self.new.node.hall ≡ self.old.node.hall }
+    {
+        let line = reply_line(self.alloc, reply)?;
+        self.node.remember(had, reply, Some(line.as_str()))?;
         self.lines.push_str(line.as_str())?;
         Ok(())
     }

@@ -4,7 +4,7 @@ ghost use Rattle.bench_hall.specs.Playing.{call_kind, question_kind};
 use crate::call::{Call, Sight};
 use cb_base::{Cursor, Fault, Hash256, Shared};
 use cb_block::{Header, SoundBlock, read_block, read_header, sound};
-use cb_journal::{Given, Local, Question, Request, Told};
+use cb_journal::{Given, Local, Question, Request, Sought, Told};
 use cb_payload::{HeaderList, Listed, Locator};
 use cb_state::{Connection, Entries, Inventory};
 use cb_tx::{Tx, read_hash, read_tx};
@@ -51,6 +51,26 @@ fn read_headers(alloc: Global, cursor: &mut Cursor) -> Result<HeaderList, Fault>
         headers.push(read_header(cursor)?)?;
     }
     as_listed(headers)
+}
+
+// Short ids, or differences of places, each in eight bytes.
+fn read_numbers<const MOST: usize>(
+    alloc: Global,
+    cursor: &mut Cursor,
+) -> Result<Listed<u64, MOST>, Fault> {
+    let mut numbers = Vec::new(alloc);
+    for _ in 0..cursor.left() / 8 {
+        numbers.push(cursor.u64()?)?;
+    }
+    as_listed(numbers)
+}
+
+// A header, a nonce, and short ids.
+fn read_sought<'a>(alloc: Global, cursor: &mut Cursor<'a>) -> Result<Sought, Fault> {
+    let header = read_header(cursor)?;
+    let nonce = cursor.u64()?;
+    let ids = Shared::new(alloc, read_numbers(alloc, cursor)?)?;
+    Ok(Sought { header, nonce, ids })
 }
 
 // The list, if it isn't too long.
@@ -112,6 +132,12 @@ fn read_question<'a>(alloc: Global, kind: u8, cursor: &mut Cursor<'a>) -> Result
             Ok(Question::Serve(Request::After(locator, stop)))
         }
         b'n' => Ok(Question::News(read_told(cursor)?)),
+        b'd' => Ok(Question::Match(read_sought(alloc, cursor)?)),
+        b'e' => {
+            let hash = read_hash(cursor)?;
+            let differences = read_numbers(alloc, cursor)?;
+            Ok(Question::Serve(Request::Places(hash, differences)))
+        }
         _ => Err(Fault::NotEnabled),
     }
 }
@@ -122,10 +148,11 @@ fn read_question<'a>(alloc: Global, kind: u8, cursor: &mut Cursor<'a>) -> Result
 /// - `a` and `l` (leave, locator) nothing;
 /// - `h` headers; `w` and `s` (want, serve) entries of inventory; `f` (after) a stop and the hashes of a locator;
 /// - `t` a transaction; `b` whether the peer knows compact blocks, and a block;
-/// - `n` (news) whether the block is asked for, a number of arrival in eight bytes, and the tip that was told, if one was.
+/// - `n` (news) whether the block is asked for, a number of arrival in eight bytes, and the tip that was told, if one was;
+/// - `d` (match) a header, a nonce in eight bytes, and short ids; `e` (places) a block's hash and differences, each in eight bytes.
 ///
 /// The others: `o` and `k` (open, kick) a peer, `T` and `B` what is handed in, `m` and `M` (mine, extend) a mark, and `p`, `i`,
-/// `j`, `g` and `r` (checkpoint, look, counts, again, replay) nothing.
+/// `j`, `g`, `r` and `v` (checkpoint, look, counts, again, replay, the pairs that were told last) nothing.
 pub fn read_call<'a>(alloc: Global, kind: u8, cursor: &mut Cursor<'a>) -> Result<Call, Fault>
     ensures { IfOk result (λ call. call_kind call ≡ kind) }
 {
@@ -141,6 +168,7 @@ pub fn read_call<'a>(alloc: Global, kind: u8, cursor: &mut Cursor<'a>) -> Result
         b'g' => Ok(Call::See(Sight::Again)),
         b'r' => Ok(Call::See(Sight::Replay)),
         b'm' => Ok(Call::See(Sight::Mine(cursor.u8()?))),
+        b'v' => Ok(Call::See(Sight::Pairs)),
         _ => {
             let connection = read_connection(cursor)?;
             let question = read_question(alloc, kind, cursor)?;

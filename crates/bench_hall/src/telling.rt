@@ -1,8 +1,10 @@
 use crate::call::Reply;
 use cb_base::{Fault, Hash256};
 use cb_block::{Header, SoundBlock};
+use cb_compact::Pair;
 use cb_journal::Answer;
-use cb_state::{Connection, Heads, Inventory, Need, News, Piece};
+use cb_pool::Pairs;
+use cb_state::{Connection, Excerpt, Heads, Inventory, Need, News, Part, Piece};
 use std::alloc::Global;
 
 /// A line that grows word by word. Words but the first begin with a blank.
@@ -128,6 +130,43 @@ impl Line {
         Ok(())
     }
 
+    /// Pairs in a list: each short id, and its transaction's name.
+    pub fn pairs(&mut self, pairs: &Pairs) -> Result<(), Fault> {
+        let list = pairs.list(self.alloc)?;
+        self.listed(list.as_slice())
+    }
+
+    fn listed(&mut self, list: &[Pair]) -> Result<(), Fault> {
+        self.text.push_str("pairs")?;
+        for pair in list {
+            let id = pair.id;
+            write!(self.text, " {id}")?;
+            self.hash(&pair.tx.txid())?;
+        }
+        Ok(())
+    }
+
+    // The hash of the block, and each transaction with its size.
+    fn part(&mut self, part: &Part) -> Result<(), Fault> {
+        self.text.push_str("part")?;
+        self.hash(&part.hash())?;
+        for tx in part.txs().as_slice() {
+            let txid = tx.txid(self.alloc)?;
+            self.sized(" tx", &txid, tx.size())?;
+        }
+        Ok(())
+    }
+
+    fn excerpt(&mut self, excerpt: &Excerpt) -> Result<(), Fault> {
+        match excerpt {
+            Excerpt::Absent => self.text.push_str("absent")?,
+            Excerpt::Refused(fault) => self.refusal("places", Some(*fault))?,
+            Excerpt::Part(part) => self.part(part)?,
+            Excerpt::Whole(block) => self.block("whole", block.block())?,
+        }
+        Ok(())
+    }
+
     fn answer(&mut self, answer: &Answer) -> Result<(), Fault> {
         match answer {
             Answer::Go => self.text.push_str("go")?,
@@ -143,6 +182,8 @@ impl Line {
             Answer::Served(pieces) => self.pieces(pieces.as_slice())?,
             Answer::Following(headers) => self.headers("following", headers.as_slice())?,
             Answer::News(news) => self.news(news)?,
+            Answer::Pairs(pairs) => self.pairs(pairs)?,
+            Answer::Excerpt(excerpt) => self.excerpt(excerpt)?,
         }
         Ok(())
     }
@@ -172,6 +213,14 @@ impl Line {
 pub fn answer_line(alloc: Global, answer: &Answer) -> Result<String, Fault> {
     let mut line = Line::new(alloc);
     line.answer(answer)?;
+    line.text.push('\n')?;
+    Ok(line.text)
+}
+
+/// The line of pairs in a list.
+pub fn pairs_line(alloc: Global, pairs: &Pairs) -> Result<String, Fault> {
+    let mut line = Line::new(alloc);
+    line.pairs(pairs)?;
     line.text.push('\n')?;
     Ok(line.text)
 }

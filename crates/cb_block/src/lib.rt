@@ -20,6 +20,3 @@ pub use law::{
 pub use rules::check_block;
 pub use soundness::{SoundBlock, genesis, sound, sound_by};
 pub use tree::{mutated, root};
-
-#[cfg(test)]
-mod tests;

@@ -22,6 +22,3 @@ pub use law::{
     active_is_linked, has_history, kept_meet_rules, kept_once, ledger_is_folded,
     marked_for_a_reason, marked_is_never_spent, none_higher, one_tree,
 };
-
-#[cfg(test)]
-mod tests;

@@ -24,6 +24,3 @@ pub use named::{NamedTx, Pair};
 pub use partial::{Filled, Partial, Placed};
 pub use placing::place;
 pub use short_ids::{key, short_id};
-
-#[cfg(test)]
-mod tests;

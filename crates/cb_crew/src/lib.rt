@@ -19,8 +19,3 @@ pub use ring::{Hand, Ring};
 pub use ring_rule::Travels;
 pub use side::ReaderSide;
 pub use work::{Fresh, Given, Work};
-
-#[cfg(test)]
-mod ring_tests;
-#[cfg(test)]
-mod tests;

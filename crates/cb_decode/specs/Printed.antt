@@ -13,7 +13,10 @@ use Rattle.cb_block.specs.Text.{header_text}
 use Rattle.cb_block.specs.declared.block.Block as blocks
 use Rattle.cb_block.specs.declared.header.Header as headers
 use Rattle.cb_wire.specs.declared.message.Message.{Message}
-use Rattle.cb_wire.specs.declared.message.Message.TheVariants.{Version, Verack, Ping, Pong, SendHeaders, SendCmpct, Inv, GetData, NotFound, Headers, GetHeaders, Tx, Block, Unknown}
+use Rattle.cb_wire.specs.declared.message.Message.TheVariants.{Version, Verack, Ping, Pong, SendHeaders, SendCmpct, Inv, GetData, NotFound, Headers, GetHeaders, Tx, Block, CmpctBlock, GetBlockTxn, BlockTxn, Unknown}
+use Rattle.cb_payload.specs.declared.block_transactions.BlockTransactions.{BlockTransactions}
+use Rattle.cb_payload.specs.declared.block_transactions.BlockTransactionsRequest.{BlockTransactionsRequest}
+use Rattle.cb_payload.specs.declared.compact_block.HeaderAndShortIds.{HeaderAndShortIds}
 use Rattle.cb_payload.specs.declared.inventory.InvEntry.{InvEntry}
 use Rattle.cb_payload.specs.declared.requests.CompactRelay.{CompactRelay}
 use Rattle.cb_payload.specs.declared.requests.HeadersRequest.{HeadersRequest}
@@ -33,6 +36,19 @@ tx_line tx = codes "tx " ++ hash_shown (double_hash (tx_text tx)) ++ codes " " +
 -- a block: its hash, and how many transactions it has
 abbrev pub block_line : blocks.Block → List ℕ
 block_line block = codes "block " ++ hash_shown (double_hash (header_text block.header)) ++ codes " " ++ decimal (length block.txs) ++ codes "\n"
+
+-- a compact block: its hash, and how many transactions it has in short ids and how many whole
+abbrev pub compact_block_line : HeaderAndShortIds → List ℕ
+compact_block_line block =
+    codes "cmpctblock " ++ hash_shown (double_hash (header_text block.header)) ++ codes " ids " ++ decimal (length block.txs.ids) ++ codes " prefilled " ++ decimal (length block.txs.prefilled) ++ codes "\n"
+
+-- a request for a block's transactions: the block's hash, and how many are asked for
+abbrev pub txs_request_line : BlockTransactionsRequest → List ℕ
+txs_request_line request = codes "getblocktxn " ++ hash_shown request.block ++ codes " " ++ decimal (length request.differences) ++ codes "\n"
+
+-- a block's transactions: the block's hash, and how many they are
+abbrev pub block_txs_line : BlockTransactions → List ℕ
+block_txs_line txs = codes "blocktxn " ++ hash_shown txs.block ++ codes " " ++ decimal (length txs.txs) ++ codes "\n"
 
 -- a version: its number, the services, the height and the agent in hex
 abbrev pub version_line : versions.Version → List ℕ
@@ -81,6 +97,9 @@ message_text (Ping nonce) = codes "ping " ++ decimal nonce ++ codes "\n"
 message_text (Pong nonce) = codes "pong " ++ decimal nonce ++ codes "\n"
 message_text (Tx tx) = tx_line tx
 message_text (Block block) = block_line block
+message_text (CmpctBlock block) = compact_block_line block
+message_text (GetBlockTxn request) = txs_request_line request
+message_text (BlockTxn txs) = block_txs_line txs
 message_text (Unknown name payload) = codes "unknown " ++ name ++ codes " " ++ decimal (length payload) ++ codes "\n"
 
 -- an item: its message, or what is wrong with it

@@ -3,13 +3,16 @@
 ghost use Rattle.std.specs.Prelude.{◌≡◌, [], ◌++◌, length, None, IfOk, IsOk, OnOk, IsOkUnless, string_bytes};
 ghost use Rattle.hex.specs.Hex.{encode_lower};
 ghost use Rattle.cb_run.specs.declared.ending.Halt.TheVariants.{Memory};
-ghost use Rattle.cb_decode.specs.Printed.{block_line, broken_text, compact_relay_line, counted_line, entries_text, entry_line, header_line, headers_text, item_text, items_text, message_text, request_line, tx_line, version_line};
+ghost use Rattle.cb_decode.specs.Printed.{block_line, block_txs_line, broken_text, compact_block_line, compact_relay_line, counted_line, entries_text, entry_line, header_line, headers_text, item_text, items_text, message_text, request_line, tx_line, txs_request_line, version_line};
 
 use cb_base::{Fault, Hash256, dsha};
 use cb_block::{Block, Header};
 use cb_run::Halt;
 use cb_tx::{Tx, write_tx};
-use cb_wire::{Agent, CompactRelay, HeadersRequest, InvEntry, Item, Locator, Message, Version};
+use cb_wire::{
+    Agent, BlockTransactions, BlockTransactionsRequest, CompactRelay, Differences,
+    HeaderAndShortIds, HeadersRequest, InvEntry, Item, Locator, Message, Version,
+};
 use std::alloc::Global;
 
 /// Appends what is printed of items, one after another. The only error is want of memory.
@@ -59,6 +62,9 @@ fn push_message(alloc: Global, text: &mut String, message: &Message) -> Result<(
         Message::GetHeaders(request) => push_request(alloc, text, request)?,
         Message::Tx(tx) => push_tx(alloc, text, tx)?,
         Message::Block(block) => push_block(alloc, text, block)?,
+        Message::CmpctBlock(block) => push_compact_block(alloc, text, block)?,
+        Message::GetBlockTxn(request) => push_txs_request(alloc, text, request)?,
+        Message::BlockTxn(txs) => push_block_txs(alloc, text, txs)?,
         Message::Unknown(name, payload) => {
             let name = name.as_str();
             let length = payload.len();
@@ -210,6 +216,58 @@ fn push_block(alloc: Global, text: &mut String, block: &Block) -> Result<(), Hal
     let hash = block.header.hash().show(alloc).map_err(Halt::of_memory)?;
     let count = block.txs.as_slice().len();
     writeln!(text, "block {hash} {count}")?;
+    Ok(())
+}
+
+/// Appends the line of a compact block: its hash, and how many transactions it has in short ids and how many whole. The only error is
+/// want of memory.
+fn push_compact_block(
+    alloc: Global,
+    text: &mut String,
+    block: &HeaderAndShortIds,
+) -> Result<(), Halt>
+    ensures text { OnOk result (string_bytes text.new ≡ string_bytes text.old ++ compact_block_line block.now) }
+    ensures memory { IsOkUnless result Memory }
+{
+    let name = block.header.hash().show(alloc).map_err(Halt::of_memory)?;
+    let ids = block.txs.ids().len();
+    let prefilled = block.txs.prefilled().len();
+    write!(text, "cmpctblock {name} ids {ids}")?;
+    writeln!(text, " prefilled {prefilled}")?;
+    Ok(())
+}
+
+/// Appends the line of a request for a block's transactions: the block's hash, and how many are asked for. The only error is want of
+/// memory.
+fn push_txs_request(
+    alloc: Global,
+    text: &mut String,
+    request: &BlockTransactionsRequest,
+) -> Result<(), Halt>
+    ensures text { OnOk result (string_bytes text.new ≡ string_bytes text.old ++ txs_request_line request.now) }
+    ensures memory { IsOkUnless result Memory }
+{
+    let hash = request.block.show(alloc).map_err(Halt::of_memory)?;
+    let count = differences_len(&request.differences);
+    writeln!(text, "getblocktxn {hash} {count}")?;
+    Ok(())
+}
+
+/// How many transactions are asked for.
+fn differences_len(differences: &Differences) -> usize
+    ensures { result ≡ length differences.now }
+{
+    differences.as_slice().len()
+}
+
+/// Appends the line of a block's transactions: the block's hash, and how many they are. The only error is want of memory.
+fn push_block_txs(alloc: Global, text: &mut String, txs: &BlockTransactions) -> Result<(), Halt>
+    ensures text { OnOk result (string_bytes text.new ≡ string_bytes text.old ++ block_txs_line txs.now) }
+    ensures memory { IsOkUnless result Memory }
+{
+    let hash = txs.block.show(alloc).map_err(Halt::of_memory)?;
+    let count = txs.txs.as_slice().len();
+    writeln!(text, "blocktxn {hash} {count}")?;
     Ok(())
 }
 

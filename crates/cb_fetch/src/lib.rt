@@ -4,8 +4,6 @@
 
 mod fetch;
 mod laws;
-#[cfg(test)]
-mod tests;
 
 pub use fetch::{Fetch, MOST_IN_FLIGHT, MOST_WANTED};
 pub use laws::{

@@ -14,11 +14,14 @@ use Rattle.cb_journal.specs.declared.entry.Entry.{Entry}
 use Rattle.cb_journal.specs.declared.entry.Entry.TheVariants.{Asked, Kick, Opened, Submitted}
 use Rattle.cb_chain.specs.Following.{headers_after}
 use Rattle.cb_chain.specs.Locator.{locator_of}
-use Rattle.cb_state.specs.Serving.{pieces_of}
+use Rattle.cb_compact.specs.ShortIds.{key_of}
+use Rattle.cb_pool.specs.Listing.{txs_of}
+use Rattle.cb_pool.specs.Matching.{pairs_of}
+use Rattle.cb_state.specs.Serving.{excerpt_of, pieces_of}
 use Rattle.cb_journal.specs.declared.question.Question.{Question}
 use Rattle.cb_journal.specs.declared.question.Question.TheVariants as ask
 use Rattle.cb_journal.specs.declared.question.Request.{Request}
-use Rattle.cb_journal.specs.declared.question.Request.TheVariants.{After, Items}
+use Rattle.cb_journal.specs.declared.question.Request.TheVariants.{After, Items, Places}
 use Rattle.cb_journal.specs.Connections.{Slots, changed_at, connected_of, counted, fresh, is_kicked, kicked, opened, put_in}
 use Rattle.cb_journal.specs.Replica.{Does, Leads, ReplicaState, Steps}
 use Rattle.cb_journal.specs.Replies.{Answers, IsServed, Replies}
@@ -165,6 +168,7 @@ turned_away old new calls answers c leads is =
 served_not : (old : NodeState) (request : Request) (answer : Answer) → IsServed old request answer → answer ≢ Kicked
 served_not old (Items entries) answer served same = let e : reply.Served (pieces_of old entries) ≡ Kicked = sym served ∙ same in cc
 served_not old (After locator stop) answer served same = let e : reply.Following (headers_after old.tree locator stop) ≡ Kicked = sym served ∙ same in cc
+served_not old (Places hash differences) answer served same = let e : reply.Excerpt (excerpt_of old hash differences) ≡ Kicked = sym served ∙ same in cc
 
 answers_not : (old new : NodeState) (c : Connection) (question : Question) (answer : Answer) → Answers old c question answer new → answer ≢ Kicked
 answers_not old new c ask.Admit answer h same = let e : reply.Go ≡ Kicked = sym h.0 ∙ same in cc
@@ -175,6 +179,8 @@ answers_not old new c (ask.GiveTx tx) answer h same = let e : reply.TxTaken h.0 
 answers_not old new c (ask.GiveBlock given) answer h same = let e : reply.Taken h.0 ≡ Kicked = sym h.1 ∙ same in cc
 answers_not old new c (ask.Serve request) answer h same = served_not old request answer h.0 same
 answers_not old new c (ask.News since) answer h same = let e : reply.News h.0 ≡ Kicked = sym h.1 ∙ same in cc
+answers_not old new c (ask.Match sought) answer h same =
+    let e : reply.Pairs (pairs_of (key_of sought.header sought.nonce) sought.ids (txs_of old.pool.list)) ≡ Kicked = sym h.0 ∙ same in cc
 
 replies_not : (b : Bool) (old new : NodeState) (c : Connection) (question : Question) (answer : Answer) → b ≡ false → Replies b old c question answer new → answer ≢ Kicked
 replies_not true old new c question answer h replies = absurd (let e : true ≡ false = h in cc)

@@ -14,6 +14,3 @@ pub use note::Note;
 pub use queued::{Opening, Queued};
 pub use reader::{EndedSeat, Full, NotOpened, ReaderSeat};
 pub use taker::TakerSeat;
-
-#[cfg(test)]
-mod tests;

@@ -3,8 +3,6 @@
 
 mod sink;
 mod source;
-#[cfg(test)]
-mod tests;
 mod writing;
 
 pub use sink::{Out, Sink, SinkFailure};

@@ -18,7 +18,7 @@ use Rattle.cb_journal.specs.declared.entry.Local.TheVariants as local
 use Rattle.cb_journal.specs.declared.question.Question.{Question}
 use Rattle.cb_journal.specs.declared.question.Question.TheVariants as question
 use Rattle.cb_journal.specs.declared.question.Request.{Request}
-use Rattle.cb_journal.specs.declared.question.Request.TheVariants.{After, Items}
+use Rattle.cb_journal.specs.declared.question.Request.TheVariants.{After, Items, Places}
 use Rattle.cb_journal.specs.Connections.{Slots, is_kicked}
 use Rattle.cb_journal.specs.Replica.{Leads, ReplicaState, Steps, Tells, heard}
 use Rattle.cb_journal.specs.Replies.{Answers, IsServed, Replies, Submits, giver}
@@ -50,6 +50,7 @@ one_news state connection told from whole a b is are =
 one_served : (state : NodeState) (request : Request) (told again : Answer) → IsServed state request told → IsServed state request again → told ≡ again
 one_served state (Items entries) told again is are = is ∙ sym are
 one_served state (After locator stop) told again is are = is ∙ sym are
+one_served state (Places hash differences) told again is are = is ∙ sym are
 
 one_answer : (old new other : NodeState) (connection : Connection) (asked : Question) (told again : Answer) → Answers old connection asked told new → Answers old connection asked again other
     → (told ≡ again) × (new ≡ other)
@@ -66,6 +67,7 @@ one_answer old new other connection (question.GiveBlock given) told again (taken
 one_answer old new other connection (question.Serve request) told again h k = (one_served old request told again h.0 k.0, h.1 ∙ sym k.1)
 one_answer old new other connection (question.News since) told again (news, e, is, same) (tale, f, are, like) =
     (e ∙ ap answer.News (one_news old connection since.tip since.from since.whole news tale is are) ∙ sym f, same ∙ sym like)
+one_answer old new other connection (question.Match sought) told again h k = (h.0 ∙ sym k.0, h.1 ∙ sym k.1)
 
 one_reply : (kicked : Bool) (old new other : NodeState) (connection : Connection) (asked : Question) (told again : Answer) → Replies kicked old connection asked told new
     → Replies kicked old connection asked again other → (told ≡ again) × (new ≡ other)

@@ -3,6 +3,9 @@ use Rattle.std.specs.Prelude.{◌≡◌, Bool, true, false, if◌then◌else◌,
 use Rattle.cb_base.specs.declared.fault.Fault.{Fault}
 use Rattle.cb_chain.specs.Following.{headers_after}
 use Rattle.cb_chain.specs.Locator.{locator_of}
+use Rattle.cb_compact.specs.ShortIds.{key_of}
+use Rattle.cb_pool.specs.Listing.{txs_of}
+use Rattle.cb_pool.specs.Matching.{pairs_of}
 use Rattle.cb_state.specs.declared.connection.Connection.{Connection}
 use Rattle.cb_state.specs.declared.giving.Heads.{Heads}
 use Rattle.cb_state.specs.declared.giving.Taken.{Taken}
@@ -10,7 +13,7 @@ use Rattle.cb_state.specs.declared.news.News.{News}
 use Rattle.cb_state.specs.declared.wanting.Need.{Need}
 use Rattle.cb_state.specs.Giving.{TakesBlock, TakesHeads, TakesTx}
 use Rattle.cb_state.specs.News.{IsNews}
-use Rattle.cb_state.specs.Serving.{pieces_of}
+use Rattle.cb_state.specs.Serving.{excerpt_of, pieces_of}
 use Rattle.cb_state.specs.State.{NodeState}
 use Rattle.cb_state.specs.Wanting.{IsNeed}
 use Rattle.cb_journal.specs.declared.answer.Answer.{Answer}
@@ -21,7 +24,7 @@ use Rattle.cb_journal.specs.declared.question.Given.{Given}
 use Rattle.cb_journal.specs.declared.question.Question.{Question}
 use Rattle.cb_journal.specs.declared.question.Question.TheVariants as question
 use Rattle.cb_journal.specs.declared.question.Request.{Request}
-use Rattle.cb_journal.specs.declared.question.Request.TheVariants.{After, Items}
+use Rattle.cb_journal.specs.declared.question.Request.TheVariants.{After, Items, Places}
 
 -- A connection that knows compact blocks is thanked for a new tip.
 abbrev pub giver : Connection → Given → Option Connection
@@ -30,6 +33,7 @@ giver connection given = if given.capable then Some connection else None
 abbrev pub IsServed : NodeState → Request → Answer → Type 0
 IsServed state (Items entries) told = told ≡ answer.Served (pieces_of state entries)
 IsServed state (After locator stop) told = told ≡ answer.Following (headers_after state.tree locator stop)
+IsServed state (Places hash differences) told = told ≡ answer.Excerpt (excerpt_of state hash differences)
 
 -- a question of a connection that wasn't kicked
 abbrev pub Answers : NodeState → Connection → Question → Answer → NodeState → Type 0
@@ -43,6 +47,8 @@ Answers old connection (question.GiveBlock given) told new =
 Answers old connection (question.Serve request) told new = IsServed old request told × (new ≡ old)
 Answers old connection (question.News since) told new =
     (news : News) × (told ≡ answer.News news) × IsNews old connection since.tip since.from since.whole news × (new ≡ old)
+Answers old connection (question.Match sought) told new =
+    (told ≡ answer.Pairs (pairs_of (key_of sought.header sought.nonce) sought.ids (txs_of old.pool.list))) × (new ≡ old)
 
 -- Each question of a kicked connection is answered so, and changes nothing.
 abbrev pub Replies : Bool → NodeState → Connection → Question → Answer → NodeState → Type 0

@@ -7,14 +7,15 @@ use Rattle.cb_journal.specs.declared.entry.Entry.TheVariants.{Asked, Submitted}
 use Rattle.cb_journal.specs.declared.entry.Local.{Local}
 use Rattle.cb_journal.specs.declared.entry.Local.TheVariants as local
 use Rattle.cb_journal.specs.declared.question.Question.{Question}
-use Rattle.cb_journal.specs.declared.question.Question.TheVariants.{Headers, Want, GiveTx, GiveBlock, Serve}
+use Rattle.cb_journal.specs.declared.question.Question.TheVariants.{Headers, Want, GiveTx, GiveBlock, Serve, Match}
 use Rattle.cb_journal.specs.declared.question.Request.{Request}
-use Rattle.cb_journal.specs.declared.question.Request.TheVariants.{Items, After}
+use Rattle.cb_journal.specs.declared.question.Request.TheVariants.{Items, After, Places}
 
 -- 40 for each entry of a list
 abbrev pub request_weight : Request → ℕ
 request_weight (Items entries) = 40 * length entries
 request_weight (After locator stop) = 40 * length locator
+request_weight (Places hash differences) = 40 * length differences
 
 -- and the bytes of a transaction's or a block's text
 abbrev pub question_weight : Question → ℕ
@@ -23,6 +24,7 @@ question_weight (Want entries) = 40 * length entries
 question_weight (GiveTx tx) = length (tx_text tx)
 question_weight (GiveBlock given) = length (block_text given.block)
 question_weight (Serve request) = request_weight request
+question_weight (Match sought) = 40 * length sought.ids
 question_weight other = 0
 
 abbrev pub local_weight : Local → ℕ

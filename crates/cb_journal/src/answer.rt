@@ -1,8 +1,10 @@
 use cb_base::Fault;
 use cb_payload::{HeaderList, Locator};
-use cb_state::{Heads, Need, News, Pieces, Taken};
+use cb_pool::Pairs;
+use cb_state::{Excerpt, Heads, Need, News, Pieces, Taken};
 
-/// What a session is answered. A message can carry each of its lists, transactions and blocks.
+/// What a session is answered. A message can carry each of its lists, transactions and blocks, but for pairs: these are for
+/// the session itself.
 #[derive(Debug, Drop)]
 pub enum Answer {
     /// It may.
@@ -25,4 +27,8 @@ pub enum Answer {
     Following(HeaderList),
     /// What is new.
     News(News),
+    /// The transactions of the pool that may stand in a compact block. `Pairs::list` finds them, when nobody waits for the hall.
+    Pairs(Pairs),
+    /// What is served of places of a block.
+    Excerpt(Excerpt),
 }

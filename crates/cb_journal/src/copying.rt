@@ -4,10 +4,10 @@ ghost use Rattle.cb_journal.specs.Copying.{is_plain_answer, is_plain_entry, is_p
 
 use crate::answer::Answer;
 use crate::entry::{Entry, Local};
-use crate::question::{Given, Question, Request};
+use crate::question::{Given, Question, Request, Sought};
 use cb_base::Fault;
 use cb_chain::Hashes;
-use cb_state::{BoundedBlock, Heads, Need, News, Piece, Pieces, Taken};
+use cb_state::{BoundedBlock, Excerpt, Heads, Need, News, Piece, Pieces, Taken};
 use std::alloc::Global;
 
 // The same hashes once more. The only error is `Fault::Memory`.
@@ -44,6 +44,22 @@ impl Given {
     }
 }
 
+impl Sought {
+    /// The same once more, whose ids are shared. It takes no memory: the only error is `Fault::Memory`, where a count of owners is
+    /// full.
+    pub fn copy(&self) -> Result<Sought, Fault>
+        ensures same { IfOk result (λ copy. copy ≡ self.now) }
+        ensures memory { IsOkUnless result Memory }
+    {
+        let ids = self.ids.clone()?;
+        Ok(Sought {
+            header: self.header,
+            nonce: self.nonce,
+            ids,
+        })
+    }
+}
+
 impl Request {
     /// The same request once more. The only error is `Fault::Memory`.
     pub fn copy(&self, alloc: Global) -> Result<Request, Fault>
@@ -53,12 +69,15 @@ impl Request {
         match self {
             Request::Items(entries) => Ok(Request::Items(entries.copy(alloc)?)),
             Request::After(locator, stop) => Ok(Request::After(locator.copy(alloc)?, *stop)),
+            Request::Places(hash, differences) => {
+                Ok(Request::Places(*hash, differences.copy(alloc)?))
+            }
         }
     }
 }
 
 impl Question {
-    /// The same question once more, which shares its transaction or block.
+    /// The same question once more, which shares its transaction, its block or its short ids.
     ///
     /// The only error is `Fault::Memory`. A question for leave, for a locator or for news takes none.
     pub fn copy(&self, alloc: Global) -> Result<Question, Fault>
@@ -75,6 +94,7 @@ impl Question {
             Question::GiveBlock(given) => Ok(Question::GiveBlock(given.copy()?)),
             Question::Serve(request) => Ok(Question::Serve(request.copy(alloc)?)),
             Question::News(told) => Ok(Question::News(*told)),
+            Question::Match(sought) => Ok(Question::Match(sought.copy()?)),
         }
     }
 }
@@ -204,6 +224,19 @@ fn copy_pieces(alloc: Global, pieces: &Pieces) -> Result<Pieces, Fault>
     Ok(Pieces::from_few(copies))
 }
 
+// What is served of places of a block, once more, where transactions and a block are shared. The only error is `Fault::Memory`.
+fn copy_excerpt(alloc: Global, excerpt: &Excerpt) -> Result<Excerpt, Fault>
+    ensures same { IfOk result (λ copy. copy ≡ excerpt.now) }
+    ensures memory { IsOkUnless result Memory }
+{
+    match excerpt {
+        Excerpt::Absent => Ok(Excerpt::Absent),
+        Excerpt::Refused(fault) => Ok(Excerpt::Refused(*fault)),
+        Excerpt::Part(part) => Ok(Excerpt::Part(part.copy(alloc)?)),
+        Excerpt::Whole(block) => Ok(Excerpt::Whole(block.copy()?)),
+    }
+}
+
 impl Answer {
     /// The same answer once more, which shares its transactions and blocks.
     ///
@@ -224,6 +257,8 @@ impl Answer {
             Answer::Served(pieces) => Ok(Answer::Served(copy_pieces(alloc, pieces)?)),
             Answer::Following(headers) => Ok(Answer::Following(headers.copy(alloc)?)),
             Answer::News(news) => Ok(Answer::News(copy_news(alloc, news)?)),
+            Answer::Pairs(pairs) => Ok(Answer::Pairs(pairs.copy()?)),
+            Answer::Excerpt(excerpt) => Ok(Answer::Excerpt(copy_excerpt(alloc, excerpt)?)),
         }
     }
 }

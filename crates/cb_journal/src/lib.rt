@@ -16,8 +16,5 @@ pub use connections::{Connected, Connections, PEERS};
 pub use entry::{Entry, Local};
 pub use journal::{JOURNAL_ENTRIES, JOURNAL_WEIGHT, Journal};
 pub use law::{one_end, one_step};
-pub use question::{Given, Question, Request, Told};
+pub use question::{Given, Question, Request, Sought, Told};
 pub use replica::{MOST_CALLS, Replica};
-
-#[cfg(test)]
-mod tests;

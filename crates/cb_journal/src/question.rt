@@ -2,8 +2,9 @@ ghost use Rattle.std.specs.Prelude.{◌≡◌, ◌^◌, ◌-◌, ◌*◌, min};
 ghost use Rattle.cb_journal.specs.Weight.{question_weight, request_weight};
 
 use cb_base::{Hash256, Shared};
-use cb_block::SoundBlock;
-use cb_payload::{HeaderList, Locator};
+use cb_block::{Header, SoundBlock};
+use cb_payload::{Differences, HeaderList, Locator};
+use cb_pool::ShortIds;
 use cb_state::Entries;
 use cb_tx::Tx;
 
@@ -19,6 +20,17 @@ pub struct Given {
     pub capable: bool,
 }
 
+/// What the transactions of a compact block are looked for by (BIP 152).
+#[derive(Debug, Drop)]
+pub struct Sought {
+    /// The block's header: it and the nonce make the key of the short ids.
+    pub header: Header,
+    /// The nonce that the block's sender chose.
+    pub nonce: u64,
+    /// The short ids, which the answer shares.
+    pub ids: Shared<ShortIds>,
+}
+
 /// What a peer asks to be served.
 #[derive(Debug, Drop)]
 pub enum Request {
@@ -26,6 +38,8 @@ pub enum Request {
     Items(Entries),
     /// The headers of the best chain behind a locator, up to a stop (Bitcoin's protocol, `getheaders`).
     After(Locator, Hash256),
+    /// The transactions of a block at the places with these differences (BIP 152, `getblocktxn`).
+    Places(Hash256, Differences),
 }
 
 /// What a peer was told before.
@@ -58,6 +72,8 @@ pub enum Question {
     Serve(Request),
     /// What is new since the peer was told?
     News(Told),
+    /// The peer gave a compact block: which transactions of the pool may stand in it?
+    Match(Sought),
 }
 
 // For how many bytes a list of so many entries counts.
@@ -79,6 +95,7 @@ impl Question {
             Question::Serve(request) => request.weight(),
             Question::GiveTx(tx) => tx.size(),
             Question::GiveBlock(given) => given.block.block().size(),
+            Question::Match(sought) => list_weight(sought.ids.as_slice().len()),
             Question::Admit | Question::Locator | Question::News(_) => 0,
         }
     }
@@ -92,6 +109,7 @@ impl Request {
         match self {
             Request::Items(entries) => list_weight(entries.as_slice().len()),
             Request::After(locator, _) => list_weight(locator.as_slice().len()),
+            Request::Places(_, differences) => list_weight(differences.as_slice().len()),
         }
     }
 }

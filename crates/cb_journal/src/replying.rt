@@ -30,6 +30,10 @@ fn served(state: &State, request: &Request) -> Result<Answer, Fault>
             let headers = state.chain().after(locator.as_slice(), stop)?;
             Ok(Answer::Following(HeaderList::from_few(headers)))
         }
+        Request::Places(hash, differences) => {
+            let excerpt = state.serve_places(hash, differences.as_slice())?;
+            Ok(Answer::Excerpt(excerpt))
+        }
     }
 }
 
@@ -61,6 +65,10 @@ pub(crate) fn reply(
         Question::News(told) => {
             let news = state.news(connection, told.tip, told.from, told.whole)?;
             Ok(Answer::News(news))
+        }
+        Question::Match(sought) => {
+            let pairs = state.match_ids(&sought.header, sought.nonce, &sought.ids)?;
+            Ok(Answer::Pairs(pairs))
         }
     }
 }

@@ -16,6 +16,3 @@ pub use law::{
 pub use ledger::Ledger;
 pub use overlay::Overlay;
 pub use undo::{CoinChange, Undo};
-
-#[cfg(test)]
-mod tests;

@@ -1,4 +1,10 @@
+pub mod Beginnings
+pub mod CompactTrips
+pub mod Compacting
 pub mod Counting
+pub mod Fetching
 pub mod Introducing
+pub mod Needing
 pub mod Requesting
 pub mod RoundTrips
+pub mod SixBytes

@@ -1,4 +1,7 @@
+pub mod BlockTransactions
+pub mod CompactBlocks
 pub mod Lists
 pub mod Requests
 pub mod RoundTrip
+pub mod ShortForms
 pub mod Version

@@ -1,23 +1,39 @@
 //! The payloads of messages that have several fields (Bitcoin's peer-to-peer protocol): `version`, `sendcmpct`, `getheaders`,
-//! and the lists of `inv`, `getdata`, `notfound` and `headers`. Each is read from the left and written as its one text.
+//! the lists of `inv`, `getdata`, `notfound` and `headers`, and BIP 152's `cmpctblock`, `getblocktxn` and `blocktxn`. Each is read
+//! from the left and written as its one text.
 #![tactic(auto)]
 
+mod block_transactions;
+mod compact_block;
+mod compact_laws;
 mod inventory;
 mod laws;
 mod listed;
 mod lists;
+mod prefilled;
 mod requests;
-#[cfg(test)]
-mod tests;
+mod short_form;
+mod short_ids;
+mod tx_lists;
 mod version;
 
+pub use block_transactions::{
+    BlockTransactions, BlockTransactionsRequest, Differences, put_block_txs, put_txs_request,
+    read_block_txs, read_txs_request,
+};
+pub use compact_block::{HeaderAndShortIds, put_compact_block, read_compact_block};
+pub use compact_laws::{
+    beginnings_of_compact_blocks_are_truncated, compact_blocks_are_read_as_written,
+};
 pub use inventory::{Entries, HeaderList, InvEntry, Locator};
 pub use laws::{
     lists_are_read_as_written, requests_are_read_as_written, versions_are_read_as_spelled,
 };
 pub use listed::Listed;
 pub use lists::{ListItem, entries_size, headers_size, locator_size, put_list, read_list};
+pub use prefilled::PrefilledTransaction;
 pub use requests::{
     CompactRelay, HeadersRequest, put_compact_relay, put_request, read_compact_relay, read_request,
 };
+pub use short_form::CompactTxs;
 pub use version::{Agent, NetAddress, Version, put_version, read_version};

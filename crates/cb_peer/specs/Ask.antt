@@ -5,7 +5,7 @@ use Rattle.cb_journal.specs.declared.answer.Answer.{Answer}
 use Rattle.cb_journal.specs.declared.answer.Answer.TheVariants as answers
 use Rattle.cb_journal.specs.declared.question.Question.{Question}
 use Rattle.cb_journal.specs.declared.question.Question.TheVariants as questions
-use Rattle.cb_journal.specs.declared.question.Request.TheVariants.{Items, After}
+use Rattle.cb_journal.specs.declared.question.Request.TheVariants.{Items, After, Places}
 use Rattle.cb_payload.specs.declared.inventory.InvEntry.{InvEntry}
 use Rattle.cb_state.specs.declared.inventory.Inventory.{Inventory}
 use Rattle.cb_state.specs.declared.inventory.Inventory.TheVariants as entry
@@ -88,5 +88,7 @@ fits (questions.GiveTx tx) (answers.TxTaken refused) = true
 fits (questions.GiveBlock given) (answers.Taken taken) = true
 fits (questions.Serve (Items entries)) (answers.Served pieces) = true
 fits (questions.Serve (After locator stop)) (answers.Following headers) = true
+fits (questions.Serve (Places hash differences)) (answers.Excerpt excerpt) = true
+fits (questions.Match sought) (answers.Pairs pairs) = true
 fits (questions.News since) (answers.News news) = true
 fits question other = false

@@ -2,6 +2,8 @@
 use Rattle.std.specs.Prelude.{ℕ, ◌+◌, ◌*◌, Bool, true, false, length}
 use Rattle.cb_journal.specs.declared.answer.Answer.{Answer}
 use Rattle.cb_journal.specs.declared.answer.Answer.TheVariants as answers
+use Rattle.cb_state.specs.declared.excerpt.Excerpt.{Excerpt}
+use Rattle.cb_state.specs.declared.excerpt.Excerpt.TheVariants as excerpts
 use Rattle.cb_wire.specs.declared.item.Item.{Item}
 use Rattle.cb_wire.specs.declared.item.Item.TheVariants.{Good}
 use Rattle.cb_wire.specs.Grammar.{payload_text}
@@ -87,7 +89,12 @@ abbrev pub payload_of : Item → ℕ
 payload_of (Good message) = length (payload_text message)
 payload_of other = 0
 
--- the entries of an answer's lists
+-- the transactions of a block's places
+abbrev pub excerpt_entries : Excerpt → ℕ
+excerpt_entries (excerpts.Part part) = length part.txs
+excerpt_entries other = 0
+
+-- the entries of an answer's lists; pairs share the list of a pool, which has at most 10,000 transactions
 abbrev pub answer_entries : Answer → ℕ
 answer_entries answers.Go = 0
 answer_entries answers.Kicked = 0
@@ -99,6 +106,8 @@ answer_entries (answers.Taken taken) = length taken.locator
 answer_entries (answers.Served pieces) = length pieces
 answer_entries (answers.Following headers) = length headers
 answer_entries (answers.News news) = length news.path + length news.txids
+answer_entries (answers.Pairs pairs) = 10000
+answer_entries (answers.Excerpt excerpt) = excerpt_entries excerpt
 
 -- 64 bytes, and the payload of an item, or 40 for each entry of an answer's lists
 abbrev pub held_by : Event → ℕ

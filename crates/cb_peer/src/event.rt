@@ -1,8 +1,10 @@
 ghost use Rattle.std.specs.Prelude.{◌≡◌, ◌≤◌, ◌^◌, ◌-◌, ◌*◌, min};
-ghost use Rattle.cb_peer.specs.Event.{answer_entries, held_by, payload_of};
+ghost use Rattle.cb_peer.specs.Event.{answer_entries, excerpt_entries, held_by, payload_of};
 
 use cb_base::{Fault, Shared};
 use cb_journal::Answer;
+use cb_pool::MOST_TXS;
+use cb_state::Excerpt;
 use cb_wire::Item;
 
 /// For how many bytes an entry of an answer's list counts.
@@ -108,6 +110,18 @@ fn entries_of(answer: &Answer) -> u64
         Answer::Following(headers) => headers.as_slice().len() as u64,
         Answer::News(news) => news.path.as_slice().len() as u64
             + news.txids.as_slice().len() as u64,
+        Answer::Pairs(_) => MOST_TXS as u64,
+        Answer::Excerpt(excerpt) => places_of(excerpt),
+    }
+}
+
+// How many transactions of a block's places an answer has.
+fn places_of(excerpt: &Excerpt) -> u64
+    ensures { result ≡ min (excerpt_entries excerpt.now) (2 ^ 64 - 1) }
+{
+    match excerpt {
+        Excerpt::Part(part) => part.txs().as_slice().len() as u64,
+        Excerpt::Absent | Excerpt::Refused(_) | Excerpt::Whole(_) => 0,
     }
 }
 

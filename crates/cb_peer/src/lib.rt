@@ -13,8 +13,6 @@ mod settings;
 mod soundness;
 mod standing;
 mod state;
-#[cfg(test)]
-mod tests;
 
 pub use ask::Ask;
 pub use event::Event;

@@ -91,6 +91,9 @@ impl Session {
             | Message::GetHeaders(_)
             | Message::Tx(_)
             | Message::Block(_)
+            | Message::CmpctBlock(_)
+            | Message::GetBlockTxn(_)
+            | Message::BlockTxn(_)
             | Message::Unknown(_, _) => Ok(Made::nothing(alloc)),
         }
     }
@@ -148,6 +151,9 @@ impl Session {
             | Message::GetHeaders(_)
             | Message::Tx(_)
             | Message::Block(_)
+            | Message::CmpctBlock(_)
+            | Message::GetBlockTxn(_)
+            | Message::BlockTxn(_)
             | Message::Unknown(_, _) => Ok(Made::nothing(alloc)),
         }
     }
@@ -201,6 +207,9 @@ impl Session {
             | Message::Verack
             | Message::Ping(_)
             | Message::Pong(_)
+            | Message::CmpctBlock(_)
+            | Message::GetBlockTxn(_)
+            | Message::BlockTxn(_)
             | Message::Unknown(_, _) => self.end(alloc, Vec::new(alloc)),
         }
     }

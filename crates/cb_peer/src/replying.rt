@@ -90,7 +90,9 @@ impl Session {
             Answer::Served(pieces) => self.send_served(alloc, pieces),
             Answer::Following(headers) => self.send_headers(alloc, headers),
             Answer::Kicked => Ok(self.end_by(alloc, CloseReason::Kicked)),
-            Answer::Go | Answer::News(_) => Ok(Made::nothing(alloc)),
+            Answer::Go | Answer::News(_) | Answer::Pairs(_) | Answer::Excerpt(_) => {
+                Ok(Made::nothing(alloc))
+            }
         }
     }
 

@@ -81,6 +81,9 @@ fn meets_message(message: &Message, answer: &Answer) -> bool
         | Message::SendHeaders
         | Message::SendCmpct(_)
         | Message::NotFound(_)
+        | Message::CmpctBlock(_)
+        | Message::GetBlockTxn(_)
+        | Message::BlockTxn(_)
         | Message::Unknown(_, _) => meets_locator(answer),
     }
 }

@@ -1,5 +1,6 @@
 pub mod Laws
 pub mod Left
+pub mod Matching
 pub mod Named
 pub mod Numbers
 pub mod Spent

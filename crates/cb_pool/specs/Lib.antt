@@ -1,4 +1,5 @@
 pub mod Folding
 pub mod Leaving
 pub mod Listing
+pub mod Matching
 pub mod Rules

@@ -6,6 +6,7 @@ ghost use Rattle.cb_pool.specs.Rules.{IsUntold, RefusesAlone, StandsAlone, txid_
 
 use cb_base::{Fault, Hash256, Shared};
 use cb_block::SoundBlock;
+use cb_compact::NamedTx;
 use cb_tx::{Tx, check_tx};
 use std::alloc::{AllocError, Global};
 use std::marker::Model;
@@ -78,6 +79,16 @@ impl Candidate {
         ensures alone { StandsAlone self.now }
     {
         &self.tx
+    }
+
+    // The transaction with its name, shared. No memory is taken: the only error is `Fault::Memory`, where a count of owners is
+    // full.
+    pub(crate) fn named(&self) -> Result<NamedTx, Fault>
+        ensures same { IfOk result (λ named. named ≡ self.now) }
+        ensures memory { IsOkUnless result Memory }
+    {
+        let tx = self.tx.clone()?;
+        Ok(NamedTx::known(self.txid, tx))
     }
 
     // How many outputs it spends or makes.

@@ -6,6 +6,7 @@ mod checking;
 mod coins;
 mod law;
 mod members;
+mod pairs;
 mod pool;
 mod refolding;
 
@@ -15,8 +16,6 @@ pub use law::{
     stays_as_it_is,
 };
 pub use members::MOST_TXS;
+pub use pairs::{MOST_IDS, Pairs, ShortIds};
 pub use pool::Pool;
 pub use refolding::Refolding;
-
-#[cfg(test)]
-mod tests;

@@ -9,6 +9,7 @@ use crate::candidate::Candidate;
 use crate::checking::fault_over;
 use crate::coins::{make_outputs, spend_outputs};
 use cb_base::{Fault, Hash256};
+use cb_compact::NamedTx;
 use cb_ledger::Ledger;
 use cb_tx::OutPoint;
 use indexmap::IndexMap;
@@ -161,6 +162,18 @@ impl Members {
         ensures names { NamesDiffer (txs_of self.now.list) }
     {
         self.entries.len()
+    }
+
+    // They, each with its name, in order. The only error is `Fault::Memory`.
+    pub(crate) fn named(&self, alloc: Global) -> Result<Vec<NamedTx>, Fault>
+        ensures exact { IfOk result (λ named. named.items ≡ txs_of self.now.list) }
+        ensures memory { IsOkUnless result Memory }
+    {
+        let mut named = Vec::with_capacity(alloc, self.entries.len())?;
+        for pooled in self.entries.values() {
+            named.push(pooled.tx.named()?)?;
+        }
+        Ok(named)
     }
 
     // The same. The only error is `Fault::Memory`, and only where there is one.

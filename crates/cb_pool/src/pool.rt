@@ -2,11 +2,14 @@ ghost use Rattle.std.specs.Prelude.{◌≡◌, ◌⊎◌, ◌==◌, ◌≤◌, [
 ghost use Rattle.cb_base.specs.declared.fault.Fault.TheVariants.{Memory};
 ghost use Rattle.cb_ledger.specs.Spend.{spend};
 ghost use Rattle.cb_pool.specs.Listing.{since_of, txs_of, with_last};
+ghost use Rattle.cb_pool.specs.Matching.{pairs_of};
 ghost use Rattle.cb_pool.specs.Rules.{Applies, IsUntold, Refuses, is_named_in, named_in};
 
 use crate::candidate::Candidate;
 use crate::members::Members;
+use crate::pairs::{Pairs, ShortIds};
 use cb_base::{Fault, Hash256, Shared};
+use cb_compact::NamedTx;
 use cb_ledger::Ledger;
 use cb_tx::Tx;
 use std::alloc::Global;
@@ -21,18 +24,21 @@ pub struct Pool {
     pub(crate) alloc: Global,
     pub(crate) members: Members,
     pub(crate) next: u64,
+    // Its transactions with their names, from the first `pairs` on and until it changes.
+    pub(crate) named: Option<Shared<Vec<NamedTx>>>,
 }
 
 impl Model for Pool {
+    ghost use Rattle.std.specs.Prelude.{◌≡◌, IfSome};
     ghost use Rattle.cb_pool.specs.Listing.{Listing};
 
     ghost Value = { Listing };
 
-    ghost use Rattle.cb_pool.specs.Listing.{AreNumbered};
+    ghost use Rattle.cb_pool.specs.Listing.{AreNumbered, txs_of};
 
     ghost view = { λ pool. record { list = pool.members.list; next = pool.next } };
 
-    ghost invariant = { λ pool. AreNumbered pool.members.list pool.next };
+    ghost invariant = { λ pool. AreNumbered pool.members.list pool.next × IfSome pool.named (λ named. named.items ≡ txs_of pool.members.list) };
 }
 
 impl Pool {
@@ -45,6 +51,7 @@ impl Pool {
             alloc,
             members: Members::new(alloc),
             next: 0,
+            named: None,
         }
     }
 
@@ -88,6 +95,7 @@ impl Pool {
         let number = self.next;
         self.members.push(candidate, number);
         self.next = number.saturating_add(1);
+        self.named = None;
         Ok(number)
     }
 
@@ -152,6 +160,35 @@ impl Pool {
         Ok(txids)
     }
 
+    /// The transactions whose short ids under a key are among these (BIP 152), in order, each with its short id, as the pool is
+    /// now. No transaction is hashed or copied: which of them they are is found by `Pairs::list`.
+    ///
+    /// The first call makes a list of all transactions for it, which the pool keeps until it changes; the others take no memory.
+    /// The only error is `Fault::Memory`.
+    pub fn pairs(&mut self, key: (u64, u64), ids: &Shared<ShortIds>) -> Result<Pairs, Fault>
+        ensures exact { IfOk result (λ pairs. pairs ≡ pairs_of key ids.now (txs_of self.old.list)) }
+        ensures same { self.new ≡ self.old }
+        ensures memory { IsOkUnless result Memory }
+    {
+        let txs = self.shared_list()?;
+        Ok(Pairs::new(txs, key, ids.clone()?))
+    }
+
+    // Its transactions with their names.
+    fn shared_list(&mut self) -> Result<Shared<Vec<NamedTx>>, Fault>
+        ensures exact { IfOk result (λ txs. txs.items ≡ txs_of self.old.list) }
+        ensures same { self.new ≡ self.old }
+        ensures memory { IsOkUnless result Memory }
+    {
+        if let Some(named) = &self.named {
+            return Ok(named.clone()?);
+        }
+        let named = self.members.named(self.alloc)?;
+        let txs = Shared::new(self.alloc, named)?;
+        self.named = Some(txs.clone()?);
+        Ok(txs)
+    }
+
     /// A pool that equals it, and shares its transactions. The only error is `Fault::Memory`.
     pub fn copy(&self) -> Result<Pool, Fault>
         ensures same { IfOk result (λ copy. copy ≡ self.now) }
@@ -162,6 +199,7 @@ impl Pool {
             alloc: self.alloc,
             members: self.members.copy(self.alloc)?,
             next: self.next,
+            named: None,
         })
     }
 }

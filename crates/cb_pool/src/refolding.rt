@@ -139,6 +139,7 @@ impl Pool {
         take_old(&mut members, ledger, old, next);
         self.members = members;
         self.next = next;
+        self.named = None;
     }
 
     /// Folds the pool anew over another ledger, with these transactions first: a plan and `refold_with` in one.

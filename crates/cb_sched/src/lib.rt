@@ -13,6 +13,3 @@ pub use laws::{
     taken_only_grows,
 };
 pub use system::System;
-
-#[cfg(test)]
-mod tests;

@@ -5,8 +5,6 @@ mod conversation;
 mod hearing;
 mod reading;
 mod serving;
-#[cfg(test)]
-mod tests;
 
 pub use cb_hall::{Badge, Hall};
 pub use cb_io::{In, Out, Sink, SinkFailure, Source, WriteEnd, WriteFault, write_out};

@@ -9,8 +9,6 @@ ghost use Rattle.cb_sim.specs.SimRun.{DoesLine, final_text, refusal_text, status
 
 mod read;
 mod report;
-#[cfg(test)]
-mod tests;
 
 use cb_base::Fault;
 use cb_sched::System;

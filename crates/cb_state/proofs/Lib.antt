@@ -5,6 +5,7 @@ pub mod Mined
 pub mod MinedLaws
 pub mod OnceEach
 pub mod OneAnswer
+pub mod Parted
 pub mod PutOff
 pub mod Takings
 pub mod TipHeight

@@ -1,18 +1,24 @@
--- What is served of the entries that a peer asks for (Bitcoin's protocol, `getdata`; BIP 152: only blocks near the tip are
--- served as compact ones).
-use Rattle.std.specs.Prelude.{◌+◌, ℕ, Bool, nat_le, if◌then◌else◌, List, filter_map, Option, None, Some}
+-- What is served of what a peer asks for (Bitcoin's protocol, `getdata`; BIP 152: only blocks near the tip are served as compact
+-- ones, and only of these some transactions alone, `getblocktxn`).
+use Rattle.std.specs.Prelude.{◌+◌, ℕ, Bool, nat_le, nat_lt, if◌then◌else◌, List, length, filter_map, Option, None, Some}
+use Rattle.std.specs.List.{list_all}
+use Rattle.cb_base.specs.declared.fault.Fault.TheVariants.{BadIndex}
 use Rattle.cb_base.specs.declared.hash.Hash256.{Hash256}
 use Rattle.cb_block.specs.declared.block.Block as blocks
 use Rattle.cb_tx.specs.declared.tx.Tx as txs
 use Rattle.cb_chain.specs.Best.{best}
 use Rattle.cb_chain.specs.Entries.{Tree, block_of}
 use Rattle.cb_chain.specs.Laws.{height_in}
+use Rattle.cb_compact.specs.Differences.{sums}
 use Rattle.cb_pool.specs.Listing.{txs_of}
 use Rattle.cb_pool.specs.Rules.{named_in}
+use Rattle.cb_state.specs.declared.excerpt.Excerpt.{Excerpt}
+use Rattle.cb_state.specs.declared.excerpt.Excerpt.TheVariants as excerpt
 use Rattle.cb_state.specs.declared.inventory.Inventory.{Inventory}
 use Rattle.cb_state.specs.declared.inventory.Inventory.TheVariants as entry
 use Rattle.cb_state.specs.declared.serving.Piece.{Piece}
 use Rattle.cb_state.specs.declared.serving.Piece.TheVariants as piece
+use Rattle.cb_state.specs.Parts.{txs_at}
 use Rattle.cb_state.specs.State.{NodeState}
 
 -- at most so many blocks stand above it on the active chain's height
@@ -41,3 +47,25 @@ piece_of state (entry.Other kind hash) = None
 -- one for each entry of a known type, in order
 abbrev pub pieces_of : NodeState → List Inventory → List Piece
 pieces_of state entries = filter_map (piece_of state) entries
+
+-- ---- places of a block
+
+-- each is one of the first ones, so many as there are transactions
+abbrev pub are_below : ℕ → List ℕ → Bool
+are_below total places = list_all (λ place. nat_lt place total) places
+
+-- The transactions at these places, and where the block stands too deep for that, the whole block. A place that isn't one of the
+-- block's is refused.
+abbrev pub excerpt_at : Bool → Hash256 → List ℕ → blocks.Block → Excerpt
+excerpt_at near hash places block =
+    if are_below (length block.txs) places
+    then (if near then excerpt.Part (record { hash = hash; txs = txs_at block.txs places }) else excerpt.Whole block)
+    else excerpt.Refused BadIndex
+
+abbrev pub excerpt_there : Bool → Hash256 → List ℕ → Option blocks.Block → Excerpt
+excerpt_there near hash places None = excerpt.Absent
+excerpt_there near hash places (Some block) = excerpt_at near hash places block
+
+-- of a block that is kept and not marked bad, by the differences of places, up to ten below the tip
+abbrev pub excerpt_of : NodeState → Hash256 → List ℕ → Excerpt
+excerpt_of state hash differences = excerpt_there (is_within 10 state.tree hash) hash (sums 0 differences) (block_of state.tree hash)

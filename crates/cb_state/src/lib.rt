@@ -4,10 +4,12 @@
 mod announcers;
 mod bounded;
 mod connection;
+mod excerpt;
 mod giving;
 mod inventory;
 mod law;
 mod locating;
+mod matching;
 mod mining;
 mod news;
 mod serving;
@@ -16,6 +18,7 @@ mod wanting;
 
 pub use bounded::BoundedBlock;
 pub use connection::Connection;
+pub use excerpt::{Excerpt, Part};
 pub use giving::{Heads, Taken};
 pub use inventory::{Entries, Inventory, MOST_ENTRIES};
 pub use law::one_answer;

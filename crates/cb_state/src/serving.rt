@@ -93,17 +93,17 @@ impl State {
         ensures memory { IsOkUnless result Memory }
     {
         match kept_block(&self.chain, &hash)? {
-            Some(block) if self.is_near_tip(&hash) => Ok(Piece::Short(block)),
+            Some(block) if self.is_within(&hash, MOST_COMPACT_DEPTH) => Ok(Piece::Short(block)),
             Some(block) => Ok(Piece::Whole(block)),
             None => Ok(Piece::Lacking(Inventory::CompactBlock(hash))),
         }
     }
 
-    // Whether it stands at most five below the tip.
-    fn is_near_tip(&self, hash: &Hash256) -> bool
-        ensures { result ≡ is_within 5 self.now.tree hash.now }
+    // Whether it stands at most so far below the tip.
+    pub(crate) fn is_within(&self, hash: &Hash256, depth: u32) -> bool
+        ensures { result ≡ is_within depth self.now.tree hash.now }
     {
         let height = self.chain.height(hash).unwrap_or(0);
-        self.chain.tip_height().saturating_sub(height) <= MOST_COMPACT_DEPTH
+        self.chain.tip_height().saturating_sub(height) <= depth
     }
 }

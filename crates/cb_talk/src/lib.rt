@@ -5,8 +5,6 @@ mod announcing;
 mod greeting;
 mod inventory;
 mod serving;
-#[cfg(test)]
-mod tests;
 
 pub use announcing::{announce_tip, announce_txs};
 pub use greeting::{our_version, wishes};

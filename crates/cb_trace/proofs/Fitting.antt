@@ -3,7 +3,7 @@ use Rattle.std.proofs.Common.{◌≡◌, ◌∙◌, Bool, true, false, Some, ap}
 use Rattle.cb_journal.specs.declared.answer.Answer.{Answer}
 use Rattle.cb_journal.specs.declared.question.Question.{Question}
 use Rattle.cb_journal.specs.declared.question.Question.TheVariants as questions
-use Rattle.cb_journal.specs.declared.question.Request.TheVariants.{Items, After}
+use Rattle.cb_journal.specs.declared.question.Request.TheVariants.{Items, After, Places}
 use Rattle.cb_journal.specs.Journal.{JournalState}
 use Rattle.cb_journal.specs.Replies.{Replies}
 use Rattle.cb_hall.specs.Badge.{BadgeState}
@@ -20,6 +20,8 @@ reply_fits false old new badge (questions.GiveTx tx) answer r = ap (fits (questi
 reply_fits false old new badge (questions.GiveBlock given) answer r = ap (fits (questions.GiveBlock given)) r.1
 reply_fits false old new badge (questions.Serve (Items entries)) answer r = ap (fits (questions.Serve (Items entries))) r.0
 reply_fits false old new badge (questions.Serve (After locator stop)) answer r = ap (fits (questions.Serve (After locator stop))) r.0
+reply_fits false old new badge (questions.Serve (Places hash differences)) answer r = ap (fits (questions.Serve (Places hash differences))) r.0
+reply_fits false old new badge (questions.Match sought) answer r = ap (fits (questions.Match sought)) r.0
 reply_fits false old new badge (questions.News since) answer r = ap (fits (questions.News since)) r.1
 
 -- what was granted was answered by its kind

@@ -5,8 +5,6 @@
 mod asking;
 mod law;
 mod oracle;
-#[cfg(test)]
-mod tests;
 mod trace;
 
 pub use law::{

@@ -17,6 +17,3 @@ pub use script::Script;
 pub use size::compact_size;
 pub use tx::{Inputs, OutPoint, Outputs, Tx, TxIn, TxOut};
 pub use writing::{beginning_of_tx_is_truncated, one_text, write_tx};
-
-#[cfg(test)]
-mod tests;

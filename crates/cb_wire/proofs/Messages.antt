@@ -22,15 +22,22 @@ use Rattle.cb_wire.specs.declared.command.Command.{Command}
 use Rattle.cb_wire.specs.declared.command.Command.TheVariants as known
 use Rattle.cb_payload.specs.declared.inventory.InvEntry.{InvEntry}
 use Rattle.cb_wire.specs.declared.message.Message.{Message}
-use Rattle.cb_wire.specs.declared.message.Message.TheVariants.{Version, Verack, Ping, Pong, SendHeaders, SendCmpct, Inv, GetData, NotFound, Headers, GetHeaders, Tx, Block, Unknown}
+use Rattle.cb_wire.specs.declared.message.Message.TheVariants.{Version, Verack, Ping, Pong, SendHeaders, SendCmpct, Inv, GetData, NotFound, Headers, GetHeaders, Tx, Block, CmpctBlock, GetBlockTxn, BlockTxn, Unknown}
+use Rattle.cb_payload.specs.declared.block_transactions.BlockTransactions.{BlockTransactions}
+use Rattle.cb_payload.specs.declared.block_transactions.BlockTransactionsRequest.{BlockTransactionsRequest}
+use Rattle.cb_payload.specs.declared.compact_block.HeaderAndShortIds.{HeaderAndShortIds}
 use Rattle.cb_payload.specs.declared.requests.CompactRelay.{CompactRelay}
 use Rattle.cb_payload.specs.declared.requests.HeadersRequest.{HeadersRequest}
 use Rattle.cb_wire.specs.Command.{IsCommand, known_command, known_commands, command_name, is_command}
+use Rattle.cb_payload.specs.BlockTransactions.{IsBlockTxs, IsTxsRequest, block_txs_at, block_txs_text, txs_request_at, txs_request_text}
+use Rattle.cb_payload.specs.CompactBlocks.{IsCompactBlock, compact_block_at, compact_block_text}
 use Rattle.cb_payload.specs.Lists.{IsEntry, entry_at, entry_text, listed_at, listed_header_at, listed_header_text}
 use Rattle.cb_payload.specs.Requests.{IsRequest, compact_relay_at, compact_relay_text, request_at, request_text}
 use Rattle.cb_payload.specs.Version.{version_at}
 use Rattle.cb_wire.specs.Grammar.{name_of, payload_text, IsPayload, Spells, IsMessage, IsWithinLimits, whole, payload_at, message_under, message_at}
 use Rattle.cb_payload.specs.RoundTrip.{Gives}
+use Rattle.cb_payload.proofs.Compacting.{compact_block_takes, compact_block_again}
+use Rattle.cb_payload.proofs.Fetching.{block_txs_takes, block_txs_again, txs_request_takes, txs_request_again, txs_request_most}
 use Rattle.cb_payload.proofs.Counting.{entry_kind, listed_header_kind, listed_takes, listed_again, entries_most, headers_most}
 use Rattle.cb_payload.proofs.Introducing.{version_spells, version_read, version_text_spells, version_most}
 use Rattle.cb_payload.proofs.Requesting.{compact_relay_takes, compact_relay_again, compact_relay_long, request_takes, request_again, request_most}
@@ -52,6 +59,9 @@ known_command_lem known.Headers = refl
 known_command_lem known.GetHeaders = refl
 known_command_lem known.Tx = refl
 known_command_lem known.Block = refl
+known_command_lem known.CmpctBlock = refl
+known_command_lem known.GetBlockTxn = refl
+known_command_lem known.BlockTxn = refl
 
 chosen : {A : Type 0} (b : Bool) (x y z : A) → cond b x y ≡ z → ((b ≡ true) × (x ≡ z)) ⊎ ((b ≡ false) × (y ≡ z))
 chosen true x y z e = inl (refl, e)
@@ -107,6 +117,15 @@ tx_field = record { takes = tx_spells; again = tx_again }
 
 block_field : IsField blocks.Block block_text block_at IsBlock
 block_field = record { takes = block_spells; again = block_again }
+
+compact_block_field : IsField HeaderAndShortIds compact_block_text compact_block_at IsCompactBlock
+compact_block_field = record { takes = compact_block_takes; again = compact_block_again }
+
+txs_request_field : IsField BlockTransactionsRequest txs_request_text txs_request_at IsTxsRequest
+txs_request_field = record { takes = txs_request_takes; again = txs_request_again }
+
+block_txs_field : IsField BlockTransactions block_txs_text block_txs_at IsBlockTxs
+block_txs_field = record { takes = block_txs_takes; again = block_txs_again }
 
 -- what a payload of one field says of its message
 record IsRow (A : Type 0) (text : A → List ℕ) (Is : A → Type 0) (make : A → Message) (name : List ℕ) : Type 0 where
@@ -169,6 +188,12 @@ payload_at-is known.Tx bytes message fits e =
     field_whole transaction.Tx tx_text tx_at IsTx tx_field Tx (command_name known.Tx) (record { named = λ x. refl; spelled = λ x b p. p; kept = λ x is. is }) bytes message fits e
 payload_at-is known.Block bytes message fits e =
     field_whole blocks.Block block_text block_at IsBlock block_field Block (command_name known.Block) (record { named = λ x. refl; spelled = λ x b p. p; kept = λ x is. is }) bytes message fits e
+payload_at-is known.CmpctBlock bytes message fits e =
+    field_whole HeaderAndShortIds compact_block_text compact_block_at IsCompactBlock compact_block_field CmpctBlock (command_name known.CmpctBlock) (record { named = λ x. refl; spelled = λ x b p. p; kept = λ x is. is }) bytes message fits e
+payload_at-is known.GetBlockTxn bytes message fits e =
+    field_whole BlockTransactionsRequest txs_request_text txs_request_at IsTxsRequest txs_request_field GetBlockTxn (command_name known.GetBlockTxn) (record { named = λ x. refl; spelled = λ x b p. p; kept = λ x is. is }) bytes message fits e
+payload_at-is known.BlockTxn bytes message fits e =
+    field_whole BlockTransactions block_txs_text block_txs_at IsBlockTxs block_txs_field BlockTxn (command_name known.BlockTxn) (record { named = λ x. refl; spelled = λ x b p. p; kept = λ x is. is }) bytes message fits e
 
 under-spells : (o : Option Command) (name bytes : List ℕ) (message : Message) → known_command name ≡ o → AreBytes bytes → message_under o name bytes ≡ Ok message → Spells name bytes message
 under-spells (Some command) name bytes message k fits e =
@@ -205,6 +230,9 @@ payload_read (Headers headers) bytes h p = field_read (List header.Header) (list
 payload_read (GetHeaders request) bytes h p = field_read HeadersRequest request_text request_at IsRequest request_field GetHeaders request bytes h p
 payload_read (Tx tx) bytes h p = field_read transaction.Tx tx_text tx_at IsTx tx_field Tx tx bytes h p
 payload_read (Block block) bytes h p = field_read blocks.Block block_text block_at IsBlock block_field Block block bytes h p
+payload_read (CmpctBlock block) bytes h p = field_read HeaderAndShortIds compact_block_text compact_block_at IsCompactBlock compact_block_field CmpctBlock block bytes h p
+payload_read (GetBlockTxn request) bytes h p = field_read BlockTransactionsRequest txs_request_text txs_request_at IsTxsRequest txs_request_field GetBlockTxn request bytes h p
+payload_read (BlockTxn txs) bytes h p = field_read BlockTransactions block_txs_text block_txs_at IsBlockTxs block_txs_field BlockTxn txs bytes h p
 payload_read (Unknown name payload) bytes h p = ap (λ o. message_under o name bytes) h.unknown ∙ ap (λ (b : List ℕ). Ok (Unknown name b)) (sym p)
 
 -- a text is a payload of its message
@@ -222,6 +250,9 @@ text_spells (Headers headers) = refl
 text_spells (GetHeaders request) = refl
 text_spells (Tx tx) = refl
 text_spells (Block block) = refl
+text_spells (CmpctBlock block) = refl
+text_spells (GetBlockTxn request) = refl
+text_spells (BlockTxn txs) = refl
 text_spells (Unknown name payload) = refl
 
 -- a text is read as its message
@@ -250,6 +281,9 @@ name_of-command (Headers headers) h = refl
 name_of-command (GetHeaders request) h = refl
 name_of-command (Tx tx) h = refl
 name_of-command (Block block) h = refl
+name_of-command (CmpctBlock block) h = refl
+name_of-command (GetBlockTxn request) h = refl
+name_of-command (BlockTxn txs) h = refl
 name_of-command (Unknown name payload) h = h.form
 
 -- ---- limits
@@ -269,6 +303,9 @@ payload_most (Headers headers) h limit = omega (arith, headers_most headers h.0 
 payload_most (GetHeaders request) h limit = omega (arith, request_most request h)
 payload_most (Tx tx) h limit = limit
 payload_most (Block block) h limit = limit
+payload_most (CmpctBlock block) h limit = limit
+payload_most (GetBlockTxn request) h limit = omega (arith, txs_request_most request h)
+payload_most (BlockTxn txs) h limit = limit
 payload_most (Unknown name payload) h limit = limit
 
 -- a message with a payload of at most 4,000,000 bytes is within the limits
@@ -286,6 +323,9 @@ within (Headers headers) bytes p le = tt
 within (GetHeaders request) bytes p le = tt
 within (Tx tx) bytes p le = subst (λ (b : List ℕ). length b ≤ 4000000) (sym p) le
 within (Block block) bytes p le = subst (λ (b : List ℕ). length b ≤ 4000000) (sym p) le
+within (CmpctBlock block) bytes p le = subst (λ (b : List ℕ). length b ≤ 4000000) (sym p) le
+within (GetBlockTxn request) bytes p le = tt
+within (BlockTxn txs) bytes p le = subst (λ (b : List ℕ). length b ≤ 4000000) (sym p) le
 within (Unknown name payload) bytes p le = subst (λ (b : List ℕ). length b ≤ 4000000) (sym p) le
 
 -- ---- what a reader answers

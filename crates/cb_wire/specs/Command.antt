@@ -3,11 +3,11 @@ use Rattle.std.specs.Prelude.{◌≡◌, ℕ, ◌-◌, ◌&&◌, Bool, true, Lis
 use Rattle.std.specs.List.{list_all, position_or_len}
 use Rattle.std.specs.Str.{bytes_eq}
 use Rattle.cb_wire.specs.declared.command.Command.{Command}
-use Rattle.cb_wire.specs.declared.command.Command.TheVariants.{Version, Verack, Ping, Pong, SendHeaders, SendCmpct, Inv, GetData, NotFound, Headers, GetHeaders, Tx, Block}
+use Rattle.cb_wire.specs.declared.command.Command.TheVariants.{Version, Verack, Ping, Pong, SendHeaders, SendCmpct, Inv, GetData, NotFound, Headers, GetHeaders, Tx, Block, CmpctBlock, GetBlockTxn, BlockTxn}
 
 -- the known commands
 abbrev pub known_commands : List Command
-known_commands = Version ∷ Verack ∷ Ping ∷ Pong ∷ SendHeaders ∷ SendCmpct ∷ Inv ∷ GetData ∷ NotFound ∷ Headers ∷ GetHeaders ∷ Tx ∷ Block ∷ []
+known_commands = Version ∷ Verack ∷ Ping ∷ Pong ∷ SendHeaders ∷ SendCmpct ∷ Inv ∷ GetData ∷ NotFound ∷ Headers ∷ GetHeaders ∷ Tx ∷ Block ∷ CmpctBlock ∷ GetBlockTxn ∷ BlockTxn ∷ []
 
 abbrev pub command_name : Command → List ℕ
 command_name Version = codes "version"
@@ -23,6 +23,9 @@ command_name Headers = codes "headers"
 command_name GetHeaders = codes "getheaders"
 command_name Tx = codes "tx"
 command_name Block = codes "block"
+command_name CmpctBlock = codes "cmpctblock"
+command_name GetBlockTxn = codes "getblocktxn"
+command_name BlockTxn = codes "blocktxn"
 
 -- the known command of a name
 abbrev pub known_command : List ℕ → Option Command

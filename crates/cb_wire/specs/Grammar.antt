@@ -12,9 +12,11 @@ use Rattle.cb_block.specs.Reading as blocks
 use Rattle.cb_wire.specs.declared.command.Command.{Command}
 use Rattle.cb_wire.specs.declared.command.Command.TheVariants as known
 use Rattle.cb_wire.specs.declared.message.Message.{Message}
-use Rattle.cb_wire.specs.declared.message.Message.TheVariants.{Version, Verack, Ping, Pong, SendHeaders, SendCmpct, Inv, GetData, NotFound, Headers, GetHeaders, Tx, Block, Unknown}
+use Rattle.cb_wire.specs.declared.message.Message.TheVariants.{Version, Verack, Ping, Pong, SendHeaders, SendCmpct, Inv, GetData, NotFound, Headers, GetHeaders, Tx, Block, CmpctBlock, GetBlockTxn, BlockTxn, Unknown}
 use Rattle.cb_wire.specs.Command.{command_name, known_command, IsUnknownName}
 use Rattle.cb_payload.specs.Lists.{CountsSome, IsEntry, entry_at, entry_text, limited_at, listed_at, listed_header_at, listed_header_text}
+use Rattle.cb_payload.specs.BlockTransactions as fetched
+use Rattle.cb_payload.specs.CompactBlocks as compacts
 use Rattle.cb_payload.specs.Requests as requests
 use Rattle.cb_payload.specs.Version as versions
 
@@ -33,6 +35,9 @@ name_of (Headers headers) = command_name known.Headers
 name_of (GetHeaders request) = command_name known.GetHeaders
 name_of (Tx tx) = command_name known.Tx
 name_of (Block block) = command_name known.Block
+name_of (CmpctBlock block) = command_name known.CmpctBlock
+name_of (GetBlockTxn request) = command_name known.GetBlockTxn
+name_of (BlockTxn txs) = command_name known.BlockTxn
 name_of (Unknown name payload) = name
 
 -- the text of a message's payload: the spelling that is written
@@ -50,6 +55,9 @@ payload_text (Headers headers) = list_text listed_header_text headers
 payload_text (GetHeaders request) = requests.request_text request
 payload_text (Tx tx) = tx_text tx
 payload_text (Block block) = block_text block
+payload_text (CmpctBlock block) = compacts.compact_block_text block
+payload_text (GetBlockTxn request) = fetched.txs_request_text request
+payload_text (BlockTxn txs) = fetched.block_txs_text txs
 payload_text (Unknown name payload) = payload
 
 -- these bytes are a payload of the message: its text, and of a version also what says the same otherwise
@@ -64,7 +72,7 @@ pub record Spells (name bytes : List ℕ) (message : Message) : Type 0 where
 
 -- What the types of a message's fields keep: numbers in their ranges, hashes of 32 bytes, an unknown name that is no known
 -- one, and lists that are no longer than the protocol allows: 50,000 entries, 2,000 headers, 101 hashes of a locator, an
--- agent of 256 bytes.
+-- agent of 256 bytes, 1 to 16,666 transactions of a compact block, 16,666 of a request for them.
 abbrev pub IsMessage : Message → Type 0
 IsMessage (Version version) = versions.IsVersion version
 IsMessage Verack = Unit {0}
@@ -79,12 +87,17 @@ IsMessage (Headers headers) = (length headers ≤ 2000) × All IsHeader headers
 IsMessage (GetHeaders request) = requests.IsRequest request
 IsMessage (Tx tx) = IsTx tx
 IsMessage (Block block) = IsBlock block
+IsMessage (CmpctBlock block) = compacts.IsCompactBlock block
+IsMessage (GetBlockTxn request) = fetched.IsTxsRequest request
+IsMessage (BlockTxn txs) = fetched.IsBlockTxs txs
 IsMessage (Unknown name payload) = IsUnknownName name
 
 -- At most 4,000,000 bytes of payload. Where each field has a limit of its own, as the types keep it, there are always fewer.
 abbrev pub IsWithinLimits : Message → Type 0
 IsWithinLimits (Tx tx) = length (tx_text tx) ≤ 4000000
 IsWithinLimits (Block block) = length (block_text block) ≤ 4000000
+IsWithinLimits (CmpctBlock block) = length (compacts.compact_block_text block) ≤ 4000000
+IsWithinLimits (BlockTxn txs) = length (fetched.block_txs_text txs) ≤ 4000000
 IsWithinLimits (Unknown name payload) = length payload ≤ 4000000
 IsWithinLimits message = Unit {0}
 
@@ -113,6 +126,9 @@ payload_at known.Headers bytes = listed_at 2000 81 listed_header_at bytes >>= λ
 payload_at known.GetHeaders bytes = requests.request_at bytes >>= λ request. whole (GetHeaders request.0, request.1)
 payload_at known.Tx bytes = transactions.tx_at bytes >>= λ tx. whole (Tx tx.0, tx.1)
 payload_at known.Block bytes = blocks.block_at bytes >>= λ block. whole (Block block.0, block.1)
+payload_at known.CmpctBlock bytes = compacts.compact_block_at bytes >>= λ block. whole (CmpctBlock block.0, block.1)
+payload_at known.GetBlockTxn bytes = fetched.txs_request_at bytes >>= λ request. whole (GetBlockTxn request.0, request.1)
+payload_at known.BlockTxn bytes = fetched.block_txs_at bytes >>= λ txs. whole (BlockTxn txs.0, txs.1)
 
 -- the same under any name: what isn't known is kept as it is
 abbrev pub message_under : Option Command → List ℕ → List ℕ → Result Message Fault
@@ -126,7 +142,7 @@ message_at name bytes = message_under (known_command name) name bytes
 abbrev pub IsFaulty : List ℕ → List ℕ → Fault → Type 0
 IsFaulty name bytes fault = message_at name bytes ≡ Err fault
 
--- The fault is met before any memory is taken: by the first count of a list, a transaction or a block, or anywhere in
+-- The fault is met before any memory is taken: by the first count of a list, of a transaction or of a block, or anywhere in
 -- another known command's payload.
 abbrev pub IsUnpaid : Option Command → List ℕ → Fault → Type 0
 IsUnpaid (Some known.Inv) bytes fault = limited_at 50000 36 bytes ≡ Err fault
@@ -136,11 +152,15 @@ IsUnpaid (Some known.Headers) bytes fault = limited_at 2000 81 bytes ≡ Err fau
 IsUnpaid (Some known.GetHeaders) bytes fault = requests.request_count_at bytes ≡ Err fault
 IsUnpaid (Some known.Tx) bytes fault = transactions.first_count_at bytes ≡ Err fault
 IsUnpaid (Some known.Block) bytes fault = blocks.first_count_at bytes ≡ Err fault
+IsUnpaid (Some known.CmpctBlock) bytes fault = compacts.compact_block_count_at bytes ≡ Err fault
+IsUnpaid (Some known.GetBlockTxn) bytes fault = fetched.txs_request_count_at bytes ≡ Err fault
+IsUnpaid (Some known.BlockTxn) bytes fault = fetched.block_txs_count_at bytes ≡ Err fault
 IsUnpaid (Some command) bytes fault = payload_at command bytes ≡ Err fault
 IsUnpaid None bytes fault = ⊥
 
 -- Reading takes memory: that of a list that isn't empty, of a version with an agent, of a transaction or a block with items
--- or of a whole one, or that of a command that isn't known, whose name is kept.
+-- or of a whole one, of a compact block with ids or prefilled transactions, or that of a command that isn't known, whose name is
+-- kept.
 abbrev pub IsPaid : Option Command → List ℕ → Type 0
 IsPaid (Some known.Version) bytes = versions.TakesMemory bytes
 IsPaid (Some known.Inv) bytes = CountsSome 50000 36 bytes
@@ -150,6 +170,9 @@ IsPaid (Some known.Headers) bytes = CountsSome 2000 81 bytes
 IsPaid (Some known.GetHeaders) bytes = requests.TakesMemory bytes
 IsPaid (Some known.Tx) bytes = transactions.TakesMemory bytes ⊎ IsOk (payload_at known.Tx bytes)
 IsPaid (Some known.Block) bytes = blocks.TakesMemory bytes ⊎ IsOk (payload_at known.Block bytes)
+IsPaid (Some known.CmpctBlock) bytes = compacts.CompactBlockTakesMemory bytes
+IsPaid (Some known.GetBlockTxn) bytes = fetched.TxsRequestTakesMemory bytes
+IsPaid (Some known.BlockTxn) bytes = fetched.BlockTxsTakesMemory bytes
 IsPaid (Some command) bytes = ⊥
 IsPaid None bytes = Unit {0}
 
@@ -163,5 +186,8 @@ HoldsNothing (Headers headers) = length headers ≡ 0
 HoldsNothing (GetHeaders request) = length request.locator ≡ 0
 HoldsNothing (Tx tx) = ⊥
 HoldsNothing (Block block) = ⊥
+HoldsNothing (CmpctBlock block) = ⊥
+HoldsNothing (GetBlockTxn request) = length request.differences ≡ 0
+HoldsNothing (BlockTxn txs) = txs.txs ≡ []
 HoldsNothing (Unknown name payload) = ⊥
 HoldsNothing message = Unit {0}

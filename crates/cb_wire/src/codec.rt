@@ -21,8 +21,8 @@ use std::alloc::Global;
 /// `command` is of a command's form: 1 to 12 bytes from the space to the tilde. An error is `Fault::Memory`, or the
 /// fault of the first field from the left that can't be read: `NotShortest` where a count or a length is spelled longer
 /// than it needs, `TooMany` where it is above its limit, `Truncated` where bytes lack or a count of items doesn't fit in
-/// what is left, `BadBool` where a flag is neither 0 nor 1 or a header's count isn't 0, and last `Trailing` where bytes are
-/// left over, which a `version` never is.
+/// what is left, `Empty` where a compact block stands for no transactions, `BadBool` where a flag is neither 0 nor 1 or a header's
+/// count isn't 0, and last `Trailing` where bytes are left over, which a `version` never is.
 pub fn decode(alloc: Global, command: &str, payload: &[u8]) -> Result<Message, Fault>
     requires { IsCommand command.now }
     // What is read is spelled so.

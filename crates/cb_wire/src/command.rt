@@ -22,6 +22,9 @@ pub enum Command {
     GetHeaders,
     Tx,
     Block,
+    CmpctBlock,
+    GetBlockTxn,
+    BlockTxn,
 }
 
 impl Command {
@@ -52,6 +55,9 @@ impl Command {
             "getheaders" => Some(Command::GetHeaders),
             "tx" => Some(Command::Tx),
             "block" => Some(Command::Block),
+            "cmpctblock" => Some(Command::CmpctBlock),
+            "getblocktxn" => Some(Command::GetBlockTxn),
+            "blocktxn" => Some(Command::BlockTxn),
             _ => None,
         }
     }
@@ -74,6 +80,9 @@ impl Command {
             Command::GetHeaders => "getheaders",
             Command::Tx => "tx",
             Command::Block => "block",
+            Command::CmpctBlock => "cmpctblock",
+            Command::GetBlockTxn => "getblocktxn",
+            Command::BlockTxn => "blocktxn",
         }
     }
 }

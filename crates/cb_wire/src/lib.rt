@@ -18,8 +18,9 @@ mod payload;
 pub use assembler::{Assembler, Fed};
 pub use bounded::BoundedMessage;
 pub use cb_payload::{
-    Agent, CompactRelay, Entries, HeaderList, HeadersRequest, InvEntry, Listed, Locator,
-    NetAddress, Version,
+    Agent, BlockTransactions, BlockTransactionsRequest, CompactRelay, CompactTxs, Differences,
+    Entries, HeaderAndShortIds, HeaderList, HeadersRequest, InvEntry, Listed, Locator, NetAddress,
+    PrefilledTransaction, Version,
 };
 pub use codec::{decode, encode, encode_into};
 pub use command::{Command, UnknownName};
@@ -30,6 +31,3 @@ pub use laws::{
 };
 pub use message::Message;
 pub use payload::Payload;
-
-#[cfg(test)]
-mod tests;

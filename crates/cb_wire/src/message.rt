@@ -13,9 +13,11 @@ use crate::payload::Payload;
 use cb_base::{Cursor, Fault, Shared};
 use cb_block::{Block, read_block, write_block};
 use cb_payload::{
-    CompactRelay, Entries, HeaderList, HeadersRequest, Version, entries_size, headers_size,
-    put_compact_relay, put_list, put_request, put_version, read_compact_relay, read_list,
-    read_request, read_version,
+    BlockTransactions, BlockTransactionsRequest, CompactRelay, Entries, HeaderAndShortIds,
+    HeaderList, HeadersRequest, Version, entries_size, headers_size, put_block_txs,
+    put_compact_block, put_compact_relay, put_list, put_request, put_txs_request, put_version,
+    read_block_txs, read_compact_block, read_compact_relay, read_list, read_request,
+    read_txs_request, read_version,
 };
 use cb_tx::{Tx, read_tx, write_tx};
 use std::alloc::Global;
@@ -49,6 +51,12 @@ pub enum Message {
     Tx(Shared<Tx>),
     /// `block`: a header, and transactions of which nothing says that they belong to it.
     Block(Shared<Block>),
+    /// `cmpctblock` (BIP 152): a header, and its block's transactions in short ids.
+    CmpctBlock(HeaderAndShortIds),
+    /// `getblocktxn` (BIP 152): a request for some of a block's transactions.
+    GetBlockTxn(BlockTransactionsRequest),
+    /// `blocktxn` (BIP 152): the transactions that were asked for.
+    BlockTxn(BlockTransactions),
     /// Any other command, with its payload as it came.
     Unknown(UnknownName, Payload),
 }
@@ -86,6 +94,18 @@ pub fn read_payload(alloc: Global, command: Command, payload: &[u8]) -> Result<M
             let block = whole(read_block(alloc, &mut cursor)?, &cursor)?;
             Ok(Message::Block(Shared::new(alloc, block)?))
         }
+        Command::CmpctBlock => {
+            let block = read_compact_block(alloc, &mut cursor)?;
+            whole(Message::CmpctBlock(block), &cursor)
+        }
+        Command::GetBlockTxn => {
+            let request = read_txs_request(alloc, &mut cursor)?;
+            whole(Message::GetBlockTxn(request), &cursor)
+        }
+        Command::BlockTxn => {
+            let txs = read_block_txs(alloc, &mut cursor)?;
+            whole(Message::BlockTxn(txs), &cursor)
+        }
     }
 }
 
@@ -119,6 +139,9 @@ pub fn put_payload(out: &mut Vec<u8>, message: &Message) -> Result<(), Fault>
         Message::GetHeaders(request) => put_request(out, request)?,
         Message::Tx(tx) => write_tx(out, tx)?,
         Message::Block(block) => write_block(out, block)?,
+        Message::CmpctBlock(block) => put_compact_block(out, block)?,
+        Message::GetBlockTxn(request) => put_txs_request(out, request)?,
+        Message::BlockTxn(txs) => put_block_txs(out, txs)?,
         Message::Unknown(name, payload) => put_unknown(out, name, payload)?,
     }
     Ok(())
@@ -156,11 +179,14 @@ impl Message {
             Message::GetHeaders(_) => Command::GetHeaders.name(),
             Message::Tx(_) => Command::Tx.name(),
             Message::Block(_) => Command::Block.name(),
+            Message::CmpctBlock(_) => Command::CmpctBlock.name(),
+            Message::GetBlockTxn(_) => Command::GetBlockTxn.name(),
+            Message::BlockTxn(_) => Command::BlockTxn.name(),
             Message::Unknown(name, _) => name.as_str(),
         }
     }
 
-    /// An equal message, which shares its transaction or block with this one: only a list, an agent or an unknown command
+    /// An equal message, which shares its transactions or its block with this one: only a list, an agent or an unknown command
     /// takes memory.
     ///
     /// The only error is `Fault::Memory`, and a message that holds no memory takes none.
@@ -183,6 +209,9 @@ impl Message {
             Message::GetHeaders(request) => Message::GetHeaders(request.copy(alloc)?),
             Message::Tx(tx) => Message::Tx(tx.clone()?),
             Message::Block(block) => Message::Block(block.clone()?),
+            Message::CmpctBlock(block) => Message::CmpctBlock(block.copy(alloc)?),
+            Message::GetBlockTxn(request) => Message::GetBlockTxn(request.copy(alloc)?),
+            Message::BlockTxn(txs) => Message::BlockTxn(txs.copy(alloc)?),
             Message::Unknown(name, payload) => {
                 Message::Unknown(name.copy(alloc)?, payload.copy(alloc)?)
             }
@@ -198,9 +227,11 @@ impl Message {
             Message::Version(_) | Message::Verack | Message::Ping(_) | Message::Pong(_) => true,
             Message::SendHeaders | Message::SendCmpct(_) => true,
             Message::Inv(_) | Message::GetData(_) | Message::NotFound(_) => true,
-            Message::Headers(_) | Message::GetHeaders(_) => true,
+            Message::Headers(_) | Message::GetHeaders(_) | Message::GetBlockTxn(_) => true,
             Message::Tx(tx) => tx.size() <= 4_000_000,
             Message::Block(block) => block.size() <= 4_000_000,
+            Message::CmpctBlock(block) => block.size() <= 4_000_000,
+            Message::BlockTxn(txs) => txs.size() <= 4_000_000,
             Message::Unknown(_, payload) => payload.len() <= 4_000_000,
         }
     }
@@ -223,6 +254,9 @@ impl Message {
             Message::GetHeaders(request) => request.size(),
             Message::Tx(tx) => tx.size(),
             Message::Block(block) => block.size(),
+            Message::CmpctBlock(block) => block.size(),
+            Message::GetBlockTxn(request) => request.size(),
+            Message::BlockTxn(txs) => txs.size(),
             Message::Unknown(_, payload) => payload.len() as u64,
         }
     }

@@ -1,11 +1,7 @@
-//! The program `cbrelay`: its command line, and what each of its commands prints.
+//! The program `cbrelay`: it hands its words and its standard streams to the crate cb_command.
 #![tactic(auto)]
 
-mod command;
-mod serve;
-#[cfg(test)]
-mod tests;
-
+use cb_command::{command, refuse_foreign};
 use cb_io::{In, Out};
 use cb_run::Status;
 use std::io::ErrorKind;
@@ -18,7 +14,7 @@ fn main(rt: HostRuntime) -> ExitCode {
     let words = match std::env::args(&rt) {
         Ok(args) => args.collect(alloc),
         Err(error) if error.kind() == ErrorKind::InvalidData => {
-            return ExitCode::from(command::refuse_foreign(&mut errors));
+            return ExitCode::from(refuse_foreign(&mut errors));
         }
         Err(_) => return ExitCode::from(Status::NoMemory.code()),
     };
@@ -27,5 +23,5 @@ fn main(rt: HostRuntime) -> ExitCode {
     };
     let mut reader = In::new(rt.reader());
     let mut writer = Out::new(std::io::writer(&rt));
-    ExitCode::from(command::command(alloc, words, &mut reader, &mut writer, &mut errors))
+    ExitCode::from(command(alloc, words, &mut reader, &mut writer, &mut errors))
 }

@@ -1,4 +1,5 @@
 use Rattle.std.proofs.Common.{◌∙◌, ◌≤◌, ap, subst}
+use Rattle.std.proofs.lemmas.Result.{err_from_is_err_and}
 use Rattle.cb_journal.specs.Journal.{IsPast, JournalState}
 use Rattle.cb_journal.proofs.Leading.{at_begin, at_few, at_fit, at_more}
 use Rattle.cb_journal.proofs.journal.Journal.replayed.Goals as goal
@@ -24,3 +25,7 @@ pub loop-entry-preserved : goal.loop-entry-preserved
 loop-entry-preserved c =
     at_more c.args.self.now.base c.loop-entry.replica c.apply_again.new.replica c.args.self.now.latest c.args.self.now.entries c.deref-entry-items.result.now c.loop-entry.entry-index _
     c.entry-item.result c.loop-entry.answers.items c.apply_again.new.answers.items c.loop-entry.invariant c.loop-entry-test.true c.entry-item.is c.in_ok-apply_again.ensures.ok
+
+pub returns-in_err-apply_again-clause-memory : goal.returns-in_err-apply_again-clause-memory
+returns-in_err-apply_again-clause-memory c =
+    let p = err_from_is_err_and c.from_residual-in_err-apply_again.result c.from_residual-in_err-apply_again.ensures.1 in rw p.1 (p.2 ∙ c.in_err-apply_again.ensures.memory)

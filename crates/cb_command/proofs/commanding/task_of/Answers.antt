@@ -1,0 +1,22 @@
+use Rattle.std.proofs.Common.{◌≡◌, ap, sym, map, ◌∙◌}
+use Rattle.std.specs.Prelude.{option_map, string_bytes}
+use Rattle.clap.specs.Words.{App, app_of, fault_of, is_simple, is_simple_and_free, subcommand_of, takes}
+use Rattle.cb_command.specs.Words.{program, task_named}
+use Rattle.cb_command.proofs.Entering.{name_of_rows, program_is_free, program_is_simple}
+use Rattle.cb_command.proofs.commanding.task_of.Goals as goal
+
+pub returns-in-Ok-clause-task : goal.returns-in-Ok-clause-task
+returns-in-Ok-clause-task c =
+    let whole : app_of c.in_ok-line.line ≡ program = c.in_ok-line.ensures in
+    let words = map string_bytes c.args.words.now in
+    let rows = (c.in-Ok.ensures.matches (ap is_simple whole ∙ program_is_simple)).1 ∙ ap (λ (a : App). subcommand_of a words) whole in
+    c.task_named.ensures ∙ ap task_named (c.subcommand_name.ensures ∙ name_of_rows c.in-Ok.matches ∙ ap (option_map (λ found. found.0)) rows)
+
+pub returns-in-Err-clause-passes : goal.returns-in-Err-clause-passes
+returns-in-Err-clause-passes c = λ taken.
+    c.in-Err.ensures.passes (ap (λ (a : App). takes a (map string_bytes c.args.words.now)) c.in_ok-line.ensures ∙ taken)
+
+pub returns-in-Ok-clause-kinds : goal.returns-in-Ok-clause-kinds
+returns-in-Ok-clause-kinds c =
+    let whole : app_of c.in_ok-line.line ≡ program = c.in_ok-line.ensures in
+    sym (ap (λ (a : App). fault_of a (map string_bytes c.args.words.now)) whole) ∙ c.in-Ok.ensures.kinds (ap is_simple_and_free whole ∙ program_is_free)

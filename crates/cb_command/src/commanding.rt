@@ -1,0 +1,215 @@
+//! The command line.
+
+ghost use Rattle.std.specs.Prelude.{◌≡◌, ◌⊎◌, ℕ, true, false, IsErrOf, List, [], ◌∷◌, codes, map, option_map, string_bytes, IfOk, IfErr, MatchResult};
+ghost use Rattle.std.specs.Io.KnownBytes.{Appends};
+ghost use Rattle.cb_peer.specs.declared.state.CloseReason.{CloseReason};
+ghost use Rattle.cb_peer.specs.declared.state.CloseReason.TheVariants as reasons;
+ghost use Rattle.cb_run.specs.declared.ending.Halt.TheVariants.{Memory, WriteFailed};
+ghost use Rattle.cb_run.specs.declared.ending.Status.TheVariants.{Usage};
+ghost use Rattle.cb_command.specs.Command.{PrintsReport, EndsEarly, Halts, Refuses, TellsPeer, code_of};
+ghost use Rattle.cb_run.specs.Ending.{halt_status, halt_line};
+ghost use Rattle.cb_command.specs.Peer.{WasServed};
+ghost use Rattle.cb_sim.specs.SimInput.{SimulatesKnown};
+ghost use Rattle.cb_command.specs.Words.{AreRefused, ByTask, program, task_in, task_named};
+ghost use Rattle.clap.specs.Words.{FailsBy, app_of, fault_of, kind_of, takes};
+ghost use Rattle.clap.specs.declared.error.kind.ErrorKind.TheVariants.{OutOfMemory};
+
+use crate::serve::serve_peer;
+use cb_decode::decode;
+use cb_io::{Sink, Source};
+use cb_run::{Halt, Status, write_all};
+use cb_sim::simulate;
+use clap::Command;
+use clap::error::ErrorKind;
+use std::alloc::{AllocError, Global};
+
+/// What a command line asks for.
+#[derive(Clone, Copy, Debug, PartialEq, Eq)]
+pub enum Task {
+    /// Print the items of a stream.
+    Decode,
+    /// Answer a peer.
+    Serve,
+    /// Run the crew's core by hand.
+    Sim,
+}
+
+/// The version that `--version` tells.
+const VERSION: &str = "0.1.0";
+
+/// What `--help` tells below the commands.
+const USE: &str = "\
+Without a command `decode` runs. All input is standard input. The network is Bitcoin's regression
+test network (regtest).
+
+Exit status:
+  0  all was done
+  1  the command line was refused, or help or the version was asked for
+  2  sim: an act was refused
+  3  the input has a fault, or a read or a write failed
+  4  memory ran out
+
+Example:
+  echo fabfb5da76657261636b000000000000000000005df6e0e2 | cbrelay decode";
+
+/// Does what the words ask for, and answers the exit status.
+///
+/// The first word is the program's name. All input comes from `reader`. What is printed goes to `writer`, and to `errors`
+/// what is said of the command line and of a read or a write that failed.
+pub fn command<R: Source, W: Sink, E: Sink>(
+    alloc: Global,
+    words: Vec<String>,
+    reader: &mut R,
+    writer: &mut W,
+    errors: &mut E,
+) -> u8
+    // Over every reader, writer and standard error: where the status is 1, clap refuses the words.
+    ensures refused { result ≡ 1 → AreRefused (map string_bytes words.items) × (reader.new ≡ reader.old) × (writer.new ≡ writer.old) }
+    // The words were refused; or memory ran out before their command began; or clap finds no fault in them, and their
+    // command came to its end, or ended early for a cause.
+    ensures ran { (AreRefused (map string_bytes words.items) × Refuses (E.has_failed errors.new) result × (reader.new ≡ reader.old) × (writer.new ≡ writer.old))
+        ⊎ ((EndsEarly (E.contents errors.old) (E.contents errors.new) (E.has_failed errors.new) result Memory × (reader.new ≡ reader.old) × (writer.new ≡ writer.old))
+        ⊎ ((fault_of program (map string_bytes words.items) ≡ []) × ByTask (task_in (map string_bytes words.items))
+        ((PrintsReport (R.remaining reader.old) (W.contents writer.old) (W.contents writer.new) result × (errors.new ≡ errors.old))
+        ⊎ Halts (R.remaining reader.old) (R.has_failed reader.new) (W.has_failed writer.new) (E.contents errors.old) (E.contents errors.new) (E.has_failed errors.new) result)
+        ((reason : CloseReason)
+        × (WasServed (R.remaining reader.old) (R.remaining reader.new) (R.has_failed reader.new) (W.contents writer.old) (W.contents writer.new) (W.has_failed writer.old) (W.has_failed writer.new) reason
+        ⊎ ((reason ≡ reasons.Memory) × (reader.new ≡ reader.old) × (writer.new ≡ writer.old)))
+        × TellsPeer (R.has_failed reader.new) (W.has_failed writer.new) (E.contents errors.old) (E.contents errors.new) (E.has_failed errors.new) result reason)
+        ((SimulatesKnown (R.remaining reader.old) (W.contents writer.old) (W.contents writer.new) result × (errors.new ≡ errors.old))
+        ⊎ Halts (R.remaining reader.old) (R.has_failed reader.new) (W.has_failed writer.new) (E.contents errors.old) (E.contents errors.new) (E.has_failed errors.new) result))) }
+    // The commands by their words.
+    ensures named { (name : List ℕ) → (task_in (name ∷ []) ≡ Task.Decode) × (task_in (name ∷ codes "decode" ∷ []) ≡ Task.Decode)
+        × (task_in (name ∷ codes "serve" ∷ []) ≡ Task.Serve) × (task_in (name ∷ codes "sim" ∷ []) ≡ Task.Sim) }
+    // They are taken.
+    ensures taken { (name : List ℕ) → (takes program (name ∷ []) ≡ true) × (takes program (name ∷ codes "decode" ∷ []) ≡ true)
+        × (takes program (name ∷ codes "serve" ∷ []) ≡ true) × (takes program (name ∷ codes "sim" ∷ []) ≡ true) }
+{
+    match task_of(alloc, words.as_slice()) {
+        Ok(Task::Decode) => settle(code_of(decode(alloc, reader, writer)), errors),
+        Ok(Task::Serve) => answer_peer(alloc, reader, writer, errors),
+        Ok(Task::Sim) => settle(simulate(alloc, reader, writer), errors),
+        Err(error) => settle_refusal(alloc, &error, errors),
+    }
+}
+
+/// Refuses a command line of which a word isn't UTF-8: says so on `errors`, and answers the exit status.
+pub fn refuse_foreign<E: Sink>(errors: &mut E) -> u8
+    ensures { ((result ≡ 1) × Appends (E.contents errors.old) (E.contents errors.new) (codes "error: a word of the command line isn't UTF-8\n"))
+        ⊎ ((result ≡ 3) × (E.has_failed errors.new ≡ true)) }
+{
+    match write_all(errors, b"error: a word of the command line isn't UTF-8\n") {
+        Ok(()) => Status::Usage.code(),
+        Err(halt) => halt.status().code(),
+    }
+}
+
+/// Answers a peer, and then says what failed.
+fn answer_peer<R: Source, W: Sink, E: Sink>(
+    alloc: Global,
+    reader: &mut R,
+    writer: &mut W,
+    errors: &mut E,
+) -> u8
+    ensures { (reason : CloseReason)
+        × (WasServed (R.remaining reader.old) (R.remaining reader.new) (R.has_failed reader.new) (W.contents writer.old) (W.contents writer.new) (W.has_failed writer.old) (W.has_failed writer.new) reason
+        ⊎ ((reason ≡ reasons.Memory) × (reader.new ≡ reader.old) × (writer.new ≡ writer.old)))
+        × TellsPeer (R.has_failed reader.new) (W.has_failed writer.new) (E.contents errors.old) (E.contents errors.new) (E.has_failed errors.new) result reason }
+{
+    let ended = serve_peer(alloc, reader, writer, errors);
+    settle(code_of(ended), errors)
+}
+
+/// Says why the command line was refused, or gives the help that it asked for.
+fn settle_refusal<E: Sink>(alloc: Global, error: &clap::Error, errors: &mut E) -> u8
+    ensures ends { Refuses (E.has_failed errors.new) result ⊎ EndsEarly (E.contents errors.old) (E.contents errors.new) (E.has_failed errors.new) result Memory }
+    ensures memory { kind_of error.now ≡ OutOfMemory → EndsEarly (E.contents errors.old) (E.contents errors.new) (E.has_failed errors.new) result Memory }
+{
+    let ended = refuse(alloc, error, errors);
+    settle(code_of(ended), errors)
+}
+
+/// The exit status of a run. Where it ended early, standard error is told why.
+fn settle<E: Sink>(ended: Result<u8, Halt>, errors: &mut E) -> u8
+    ensures settled { MatchResult ended (λ code. (result ≡ code) × (errors.new ≡ errors.old))
+        (EndsEarly (E.contents errors.old) (E.contents errors.new) (E.has_failed errors.new) result) }
+    ensures stays { E.has_failed errors.old ≡ true → E.has_failed errors.new ≡ true }
+{
+    match ended {
+        Ok(code) => code,
+        Err(halt) => tell(halt, errors).code(),
+    }
+}
+
+/// The number of the status that a run came to.
+fn code_of(ended: Result<Status, Halt>) -> Result<u8, Halt>
+    ensures { result ≡ code_of ended }
+{
+    let status = ended?;
+    Ok(status.code())
+}
+
+/// The program's command line.
+fn command_line<'a>(alloc: Global) -> Result<Command<'a>, AllocError>
+    ensures { IfOk result (λ line. app_of line ≡ program) }
+{
+    let decode = Command::new(alloc, "decode").about("Print the items of a stream of hex pieces");
+    let serve = Command::new(alloc, "serve").about("Answer a peer: its bytes in, ours out");
+    let sim = Command::new(alloc, "sim").about("Run the crew's core, a line for each act");
+    Command::new(alloc, "cbrelay")
+        .about("A compact block relay node")
+        .version(VERSION)
+        .after_help(USE)
+        .subcommand(decode)?
+        .subcommand(serve)?
+        .subcommand(sim)
+}
+
+/// The task that the words name: `decode` where they name none.
+fn task_of(alloc: Global, words: &[String]) -> Result<Task, clap::Error>
+    ensures task { IfOk result (λ task. task ≡ task_in (map string_bytes words.now)) }
+    ensures kinds { FailsBy (fault_of program (map string_bytes words.now)) result }
+    ensures passes { IfErr result (λ error. takes program (map string_bytes words.now) ≡ true → kind_of error ≡ OutOfMemory) }
+{
+    let line = command_line(alloc)?;
+    match line.try_get_matches_from(words) {
+        Ok(matches) => Ok(task_named(matches.subcommand_name())),
+        Err(error) => Err(error),
+    }
+}
+
+/// The task of the command that was entered: `decode`, where none was.
+fn task_named(name: Option<&str>) -> Task
+    ensures { result ≡ task_named (option_map (λ text. text.now) name.entry) }
+{
+    match name {
+        Some("serve") => Task::Serve,
+        Some("sim") => Task::Sim,
+        Some(_) | None => Task::Decode,
+    }
+}
+
+/// Prints why the command line was refused, or the help that it asked for.
+fn refuse<E: Sink>(alloc: Global, error: &clap::Error, errors: &mut E) -> Result<Status, Halt>
+    ensures usage { IfOk result (λ status. status ≡ Usage) }
+    ensures err { IfErr result (λ halt. ((halt ≡ Memory) × (errors.new ≡ errors.old)) ⊎ ((halt ≡ WriteFailed) × (E.has_failed errors.new ≡ true))) }
+    ensures memory { kind_of error.now ≡ OutOfMemory → IsErrOf result Memory }
+{
+    if error.kind() == ErrorKind::OutOfMemory {
+        return Err(Halt::Memory);
+    }
+    let text = error.to_string(alloc)?;
+    write_all(errors, text.as_bytes())?;
+    Ok(Status::Usage)
+}
+
+/// Says on standard error why the run ended early, and answers the status.
+fn tell<E: Sink>(halt: Halt, errors: &mut E) -> Status
+    ensures told { Appends (E.contents errors.old) (E.contents errors.new) (halt_line halt) ⊎ (E.has_failed errors.new ≡ true) }
+    ensures status { result ≡ halt_status halt }
+    ensures stays { E.has_failed errors.old ≡ true → E.has_failed errors.new ≡ true }
+{
+    // Where even this can't be written, the status alone tells.
+    let _ = write_all(errors, halt.line().as_bytes());
+    halt.status()
+}

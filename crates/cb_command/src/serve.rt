@@ -1,0 +1,116 @@
+//! The command `serve`: one peer's connection over standard input and output.
+
+ghost use Rattle.std.specs.Prelude.{◌≡◌, ◌⊎◌, true, OnOk, OnErr, IsOkUnless};
+ghost use Rattle.std.specs.Io.KnownBytes.{Appends};
+ghost use Rattle.cb_peer.specs.State.{is_closed};
+ghost use Rattle.cb_peer.specs.declared.state.CloseReason.{CloseReason};
+ghost use Rattle.cb_peer.specs.declared.state.CloseReason.TheVariants as reasons;
+ghost use Rattle.cb_peer.specs.declared.state.State.TheVariants.{Closed};
+ghost use Rattle.cb_run.specs.declared.ending.Halt.TheVariants.{WriteFailed};
+ghost use Rattle.cb_command.specs.Peer.{WasServed, PeerEnds, closed_text, peer_end, reason_status};
+
+use cb_io::{Sink, Source};
+use cb_run::{Halt, Status, write_all};
+use cb_session::{CloseReason, Hall, Settings, State, serve};
+use std::alloc::Global;
+
+/// What the session is given: it is the peer's connection, and all else is fixed, so that a run can be made again.
+const SETTINGS: Settings = Settings {
+    inbound: true,
+    nonce: 1,
+    time: 0,
+    height: 0,
+    salt: 0,
+};
+
+/// Answers a peer until its session is over, and tells why on standard error.
+///
+/// An error is that a read or a write failed. Want of memory closes the session, and the status tells.
+pub fn serve_peer<R: Source, W: Sink, E: Sink>(
+    alloc: Global,
+    reader: &mut R,
+    writer: &mut W,
+    errors: &mut E,
+) -> Result<Status, Halt>
+    // The connection was served whole; or there was no memory before the first read, and nothing was read or written.
+    // In both cases its end is told.
+    ensures { (reason : CloseReason) × (WasServed (R.remaining reader.old) (R.remaining reader.new) (R.has_failed reader.new) (W.contents writer.old) (W.contents writer.new) (W.has_failed writer.old) (W.has_failed writer.new) reason
+        ⊎ ((reason ≡ reasons.Memory) × (reader.new ≡ reader.old) × (writer.new ≡ writer.old)))
+        × PeerEnds (R.has_failed reader.new) (W.has_failed writer.new) (E.contents errors.old) (E.contents errors.new) (E.has_failed errors.new) reason result }
+{
+    let reason = connection(alloc, reader, writer);
+    tell_closed(errors, reason)?;
+    end_of(reader, writer, reason)
+}
+
+/// Serves the connection with a hall of its own. Want of memory before the first read closes it as later.
+fn connection<R: Source, W: Sink>(alloc: Global, reader: &mut R, writer: &mut W) -> CloseReason
+    ensures { WasServed (R.remaining reader.old) (R.remaining reader.new) (R.has_failed reader.new) (W.contents writer.old) (W.contents writer.new) (W.has_failed writer.old) (W.has_failed writer.new) result
+        ⊎ ((result ≡ reasons.Memory) × (reader.new ≡ reader.old) × (writer.new ≡ writer.old)) }
+{
+    let Ok((mut hall, mut badges)) = Hall::new(alloc, 1) else {
+        return CloseReason::Memory;
+    };
+    let Some(mut badge) = badges.pop() else {
+        return CloseReason::Memory;
+    };
+    match serve(alloc, reader, writer, &mut hall, &mut badge, SETTINGS) {
+        Ok(served) => reason_of(served.trace.state()),
+        Err(_) => CloseReason::Memory,
+    }
+}
+
+/// Tells why a session is over. The only error is that a write failed.
+fn tell_closed<E: Sink>(errors: &mut E, reason: CloseReason) -> Result<(), Halt>
+    ensures told { OnOk result (Appends (E.contents errors.old) (E.contents errors.new) (closed_text reason)) }
+    ensures failed { IsOkUnless result WriteFailed }
+    ensures marked { OnErr result (E.has_failed errors.new ≡ true) }
+{
+    write_all(errors, b"closed ")?;
+    write_all(errors, reason.name().as_bytes())?;
+    write_all(errors, b"\n")
+}
+
+/// How the run ends: a read or a write that failed comes before the session's reason.
+fn end_of<R: Source, W: Sink>(reader: &R, writer: &W, reason: CloseReason) -> Result<Status, Halt>
+    ensures { result ≡ peer_end (R.has_failed reader.now) (W.has_failed writer.now) reason }
+{
+    if reader.failed() {
+        return Err(Halt::ReadFailed);
+    }
+    if writer.failed() {
+        return Err(Halt::WriteFailed);
+    }
+    Ok(status_of(reason))
+}
+
+/// Why a session that is over is.
+fn reason_of(state: State) -> CloseReason
+    requires { is_closed state ≡ true }
+    ensures { state ≡ Closed result }
+{
+    match state {
+        State::Closed(reason) => reason,
+        State::Start | State::Greeted | State::Ready => unreachable!(),
+    }
+}
+
+/// The status of a run whose session was closed for this reason.
+fn status_of(reason: CloseReason) -> Status
+    ensures { result ≡ reason_status reason }
+{
+    match reason {
+        CloseReason::Bye => Status::Success,
+        CloseReason::Memory => Status::NoMemory,
+        CloseReason::BadStream
+        | CloseReason::BadMessage
+        | CloseReason::BadBlock
+        | CloseReason::BadRequest
+        | CloseReason::OldPeer
+        | CloseReason::SelfPeer
+        | CloseReason::Kicked
+        | CloseReason::TraceFull
+        | CloseReason::HallFull
+        | CloseReason::WriteFault => Status::BadInput,
+    }
+}

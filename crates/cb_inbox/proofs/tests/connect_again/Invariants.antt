@@ -1,9 +1,0 @@
-use Rattle.std.proofs.Common.{◌≡◌, ◌+◌, ◌*◌, length}
-use Rattle.cb_inbox.proofs.tests.connect_again.Given as goal
-
-abbrev pub invariant-loop-number : goal.invariant-loop-number
-invariant-loop-number g l = record {
-  reader : l.reader.inbox ≡ l.inbox.name;
-  taker : l.taker.inbox ≡ l.inbox.name;
-  count : length l.reader.queued + 3 ≡ l.number * 3;
-}

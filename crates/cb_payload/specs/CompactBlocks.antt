@@ -1,0 +1,38 @@
+-- The message cmpctblock (BIP 152, HeaderAndShortIDs): a header, a nonce, and the transactions in their short form.
+use Rattle.std.specs.Prelude.{◌≡◌, ◌⊎◌, ℕ, ◌^◌, ◌<◌, List, ◌++◌, All, Ok}
+use Rattle.std.specs.Int.{w64, to_le_bytes}
+use Rattle.cb_base.specs.Reading.{Read, ◌>>=◌, number_at}
+use Rattle.cb_tx.specs.Reading.{count_at}
+use Rattle.cb_block.specs.Reading.{header_at}
+use Rattle.cb_block.specs.Text.{IsHeader, header_text}
+use Rattle.cb_payload.specs.declared.compact_block.HeaderAndShortIds.{HeaderAndShortIds}
+use Rattle.cb_payload.specs.ShortForms.{IsPrefilled, IsShortForm, prefilled_count_at, short_form_at, short_form_text}
+
+unfoldable pub compact_block_text : HeaderAndShortIds → List ℕ
+compact_block_text c = header_text c.header ++ (to_le_bytes w64 c.nonce ++ short_form_text c.txs)
+
+unfoldable pub compact_block_at : List ℕ → Read HeaderAndShortIds
+compact_block_at bytes = do
+  header ← header_at bytes
+  nonce ← number_at w64 header.1
+  txs ← short_form_at nonce.1
+  Ok (record { header = header.0; nonce = nonce.0; txs = txs.0 }, txs.1)
+
+-- The values that a compact block of the program has: each number is one of its field, each hash has 32 bytes, and it stands
+-- for 1 to 16,666 transactions.
+pub record IsCompactBlock (c : HeaderAndShortIds) : Type 0 where
+  pub header : IsHeader c.header
+  pub nonce : c.nonce < 2 ^ 64
+  pub form : IsShortForm c.txs
+  pub prefilled : All IsPrefilled c.txs.prefilled
+
+-- the header, the nonce and the count of ids
+unfoldable pub compact_block_count_at : List ℕ → Read ℕ
+compact_block_count_at bytes = do
+  header ← header_at bytes
+  nonce ← number_at w64 header.1
+  count_at 6 nonce.1
+
+-- reading takes memory: there are ids, or there are none and then prefilled transactions
+abbrev pub CompactBlockTakesMemory : List ℕ → Type 0
+CompactBlockTakesMemory bytes = (n : ℕ × List ℕ) × (compact_block_count_at bytes ≡ Ok n) × ((0 < n.0) ⊎ ((m : ℕ × List ℕ) × (prefilled_count_at 0 n.1 ≡ Ok m)))
