@@ -38,6 +38,14 @@ fn front<R: Wait>(rt: &R, ring: &Ring<Tray>, hand: &mut Hand<Tray>) -> Result<Tr
     }
 }
 
+/// Whose tray it is, if one was there.
+fn peer_of(tray: Option<Tray>) -> Option<u16> {
+    match tray {
+        Some(tray) => Some(tray.peer),
+        None => None,
+    }
+}
+
 // Two hands claim trays from the front of the ring and give them back at its back.
 #[test]
 fn trays_go_round(rt: HostRuntime) -> Result<(), Fail> {
@@ -49,21 +57,25 @@ fn trays_go_round(rt: HostRuntime) -> Result<(), Fail> {
     let mut second = ring.hire(&mut first);
     let mut one = front(&rt, &ring, &mut first)?;
     let two = front(&rt, &ring, &mut second)?;
-    assert_eq!(rt; (one.peer, two.peer), (0, 1));
+    let began = (one.peer, two.peer);
     one.taken = 5;
     ring.give(&rt, &mut first, one);
     ring.give(&rt, &mut second, two);
     let three = front(&rt, &ring, &mut second)?;
     let four = front(&rt, &ring, &mut first)?;
-    assert_eq!(rt; (three.peer, four.peer, four.taken), (2, 0, 5));
+    let went_on = (three.peer, four.peer, four.taken);
     ring.in_turn(&mut first);
     ring.give(&rt, &mut second, three);
     ring.give(&rt, &mut first, four);
     ring.join(&mut first, second);
-    assert_eq!(rt; ring.keep(&rt, &mut first).map(|kept| kept.peer), Some(1));
-    assert_eq!(rt; ring.keep(&rt, &mut first).map(|kept| kept.peer), Some(2));
-    assert_eq!(rt; ring.keep(&rt, &mut first).map(|kept| kept.peer), Some(0));
-    assert!(rt; ring.keep(&rt, &mut first).is_none());
+    let kept = [
+        peer_of(ring.keep(&rt, &mut first)),
+        peer_of(ring.keep(&rt, &mut first)),
+        peer_of(ring.keep(&rt, &mut first)),
+        peer_of(ring.keep(&rt, &mut first)),
+    ];
+    assert!(rt; began == (0, 1) && went_on == (2, 0, 5));
+    assert!(rt; kept == [Some(1), Some(2), Some(0), None]);
     Ok(())
 }
 

@@ -3,36 +3,60 @@ use cb_sched::{Act, Mark, System};
 use std::process::Abort;
 use std::test::*;
 
+/// Whether a system does these acts, one after another: each that can come, and refuses the others.
+fn does(system: &mut System, acts: &[(Act, bool)]) -> bool {
+    for (act, granted) in acts {
+        let expected = if *granted {
+            Ok(())
+        } else {
+            Err(Fault::NotEnabled)
+        };
+        if system.apply(*act) != expected {
+            return false;
+        }
+    }
+    true
+}
+
+/// Whether these marks were queued for the first peer, and of them these were taken and these lie in its inbox.
+fn has_marks(system: &System, queued: &[Mark], taken: &[Mark], waiting: &[Mark]) -> bool {
+    system.peers() == 1
+        && system.queued(0) == queued
+        && system.taken(0) == taken
+        && system.inbox(0) == waiting
+}
+
+/// Whether the first of two handlers holds the desk of the one peer, whose inbox has room for four marks.
+fn is_held_by_the_first(system: &System) -> bool {
+    system.peers() == 1
+        && system.handlers() == 2
+        && system.capacity() == 4
+        && system.ring().count() == 0
+        && system.held(0) == Some(0)
+        && system.held(1).is_none()
+}
+
 // One peer whose two items and end mark are taken by two handlers in turn: the order of acts is the worked example's.
 #[test]
 fn two_handlers_share_a_desk(rt: HostRuntime) -> Result<(), Fail> {
     let mut system = System::new(rt.alloc(), 1, 2, 4)?;
-    for act in [
-        Act::Put(0, 10),
-        Act::Put(0, 11),
-        Act::Claim(1),
-        Act::Take(1),
-        Act::Give(1),
-        Act::Claim(0),
-        Act::Take(0),
-        Act::End(0),
-        Act::Take(0),
-    ] {
-        assert_eq!(rt; system.apply(act), Ok(()), "at {act:?}");
-    }
-    assert_eq!(rt; system.apply(Act::Take(0)), Err(Fault::NotEnabled));
-    assert_eq!(rt;
-        (system.peers(), system.handlers(), system.capacity()),
-        (1, 2, 4)
-    );
-    assert!(rt; system.peers() == 1 && system.handlers() == 2, "the sizes");
+    let acts = [
+        (Act::Put(0, 10), true),
+        (Act::Put(0, 11), true),
+        (Act::Claim(1), true),
+        (Act::Take(1), true),
+        (Act::Give(1), true),
+        (Act::Claim(0), true),
+        (Act::Take(0), true),
+        (Act::End(0), true),
+        (Act::Take(0), true),
+        (Act::Take(0), false),
+    ];
+    assert!(rt; does(&mut system, acts.as_slice()));
     system.reached();
     let all = [Mark::Item(10), Mark::Item(11), Mark::End];
-    assert_eq!(rt; system.queued(0), all.as_slice());
-    assert_eq!(rt; system.taken(0), all.as_slice());
-    assert_eq!(rt; system.inbox(0).len(), 0);
-    assert_eq!(rt; system.ring().count(), 0);
-    assert_eq!(rt; (system.held(0), system.held(1)), (Some(0), None));
+    assert!(rt; has_marks(&system, all.as_slice(), all.as_slice(), &[]));
+    assert!(rt; is_held_by_the_first(&system));
     Ok(())
 }
 
@@ -40,7 +64,7 @@ fn two_handlers_share_a_desk(rt: HostRuntime) -> Result<(), Fail> {
 #[test]
 fn connection_after_connection(rt: HostRuntime) -> Result<(), Fail> {
     let mut system = System::new(rt.alloc(), 1, 1, 4)?;
-    for (act, granted) in [
+    let acts = [
         (Act::Open(0), false),
         (Act::Put(0, 1), true),
         (Act::Open(0), false),
@@ -55,45 +79,50 @@ fn connection_after_connection(rt: HostRuntime) -> Result<(), Fail> {
         (Act::Take(0), true),
         (Act::Take(0), true),
         (Act::Take(0), true),
-    ] {
-        let expected = if granted {
-            Ok(())
-        } else {
-            Err(Fault::NotEnabled)
-        };
-        assert_eq!(rt; system.apply(act), expected, "at {act:?}");
-    }
-    assert!(rt; system.peers() == 1, "the sizes");
+    ];
+    assert!(rt; does(&mut system, acts.as_slice()));
     let all = [Mark::Item(1), Mark::End, Mark::Open, Mark::Item(2)];
-    assert_eq!(rt; system.queued(0), all.as_slice());
-    assert_eq!(rt; system.inbox(0), [Mark::Item(2)].as_slice());
-    assert_eq!(rt; system.taken(0).len(), 3);
+    let taken = [Mark::Item(1), Mark::End, Mark::Open];
+    let waiting = [Mark::Item(2)];
+    assert!(rt;
+        has_marks(
+            &system,
+            all.as_slice(),
+            taken.as_slice(),
+            waiting.as_slice()
+        )
+    );
     Ok(())
 }
 
-/// Whether a peer's connection ends and its next one begins, and a handler takes both marks.
-fn goes_over(system: &mut System) -> bool {
-    for act in [Act::End(0), Act::Open(0), Act::Take(0), Act::Take(0)] {
-        if system.apply(act).is_err() {
-            return false;
-        }
-    }
-    true
-}
+/// A peer's connection ends and its next one begins, and a handler takes both marks.
+const GOES_OVER: [(Act, bool); 4] = [
+    (Act::End(0), true),
+    (Act::Open(0), true),
+    (Act::Take(0), true),
+    (Act::Take(0), true),
+];
+
+/// An item and the end of the last connection.
+const ENDS: [(Act, bool); 4] = [
+    (Act::Put(0, 7), true),
+    (Act::End(0), true),
+    (Act::Take(0), true),
+    (Act::Open(0), false),
+];
 
 #[test]
 fn a_peer_has_256_connections(rt: HostRuntime) -> Result<(), Fail> {
     let mut system = System::new(rt.alloc(), 1, 1, 2)?;
-    assert_eq!(rt; system.apply(Act::Claim(0)), Ok(()));
+    assert!(rt; does(&mut system, &[(Act::Claim(0), true)]));
     for connection in 1..256 {
-        assert!(rt; goes_over(&mut system), "behind connection {connection}");
+        assert!(rt;
+            does(&mut system, GOES_OVER.as_slice()),
+            "behind connection {connection}"
+        );
     }
-    assert_eq!(rt; system.apply(Act::Put(0, 7)), Ok(()));
-    assert_eq!(rt; system.apply(Act::End(0)), Ok(()));
-    assert_eq!(rt; system.apply(Act::Take(0)), Ok(()));
-    assert_eq!(rt; system.apply(Act::Open(0)), Err(Fault::NotEnabled));
-    assert!(rt; system.peers() == 1, "the sizes");
-    assert_eq!(rt; system.queued(0).len(), 2 * 255 + 2);
+    assert!(rt; does(&mut system, ENDS.as_slice()));
+    assert!(rt; system.peers() == 1 && system.queued(0).len() == 2 * 255 + 2);
     Ok(())
 }
 
