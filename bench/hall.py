@@ -29,7 +29,7 @@ ADMITS, MINED = 5_000_000, 10
 FEW, MANY = (5_000, 30), (50_000, 3)
 CALLS = 1_000_000
 # How many transactions a small pool has, how many short ids are looked for in one, and how often: a match, and the list of its pairs.
-FEW_WAITING, IDS, MATCHES, LISTS = 1_000, 100, 10_000, 100
+FEW_WAITING, IDS, MATCHES, LISTS = 1_000, 100, 10_000, 2_000
 TURNS = 3 * RUNS
 
 
