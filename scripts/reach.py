@@ -143,6 +143,8 @@ class Reach:
                 self.add_whole(library)
         elif words[0] in self.libraries:
             library, part, names = self.libraries[words[0]], "".join(words[1:2]), words[2:]
+            if names[:1] == ["contracts"]:
+                raise SystemExit(f"Rattle.{'.'.join(words)} names a contract of another crate, which isn't followed")
             if part == "specs" and names[:1] and names[0] in OF_MODULES:
                 part, names = "src", names[1:]
             found = [it for it in (part, "src") if names and library.files(it, names[0])] if part in ("src", "specs", "proofs") else []

@@ -13,6 +13,11 @@ HEAD = "# Crates whose wrong bodies were all refused: how many, and the SHA-256 
 OWN, BELOW = ("src", "specs", "proofs", "attacks"), ("src", "specs", "proofs")
 # where a crate names its tests
 NAMES_TESTS = re.compile(r"#\[cfg\(test\)\]\n *mod \w+;\n")
+# the head of a block whose functions are a trait's, and that of a public function
+OF_TRAIT = re.compile(r"^(?:pub(?:\([^)]*\))? )?(?:unsafe )?(?:trait\b|impl\b.* for\b|impl\b[^{]*$)")
+PUBLIC = re.compile(r"^\s*pub\s+(?!\()")
+# an import: its path, and the names in braces behind it
+IMPORTS = re.compile(r"^((?:ghost )?use [^;{]*)(?:\{([^}]*)\})?;\n", re.M)
 # files of proofs that speak of the goals of one function, which no other crate can name
 OF_GOALS = ("Answers.antt", "Invariants.antt")
 
@@ -52,15 +57,47 @@ def opens_body(line, indent, lines, kept):
         depth += depth_of(line)
 
 
-def without_bodies(text):
-    """Returns a source, as rt fmt lays it out, without the bodies of its functions, of which a crate above is told nothing."""
-    kept, lines = [], iter(text.split("\n"))
+def without_private(text):
+    """Returns a source, as rt fmt lays it out, without what a crate above is told nothing of: comments, the bodies of functions, and
+    functions that aren't public, with their contracts. A method of a trait is public."""
+    kept, of_trait = [], False
+    lines = iter([line for line in text.split("\n") if not line.lstrip().startswith("//")])
     for line in lines:
-        kept.append(line)
+        of_trait = line != "}" and (of_trait or bool(OF_TRAIT.match(line)))
         found = FUNCTION.match(line)
-        if found and opens_body(line, found[1], lines, kept):
-            kept.append(next(it for it in lines if it == found[1] + "}"))
+        if not found:
+            kept.append(line)
+            continue
+        own = [line]
+        if opens_body(line, found[1], lines, own):
+            own.append(next(it for it in lines if it == found[1] + "}"))
+        if of_trait or PUBLIC.match(line):
+            kept += own
+            continue
+        while kept and kept[-1].lstrip().startswith("#["):
+            kept.pop()
     return "\n".join(kept)
+
+
+def is_used(name, text):
+    """Whether a text uses an imported name: a word, or the signs of an operator."""
+    words = [it for it in name.split("◌") if it]
+    return all(re.search(rf"(?<!\w){re.escape(it)}(?!\w)" if re.fullmatch(r"\w+", it) else re.escape(it), text) for it in words)
+
+
+def without_imports(text):
+    """Returns a source without the imports of names that nothing else in it uses. What it brings out to others stays."""
+    others = IMPORTS.sub("", text)
+
+    def kept(found):
+        head, names = found[1], found[2]
+        if names is None:
+            last = re.split(r"::|\.| as ", head)[-1]
+            return found[0] if last == "*" or is_used(last, others) else ""
+        used = [it for it in re.split(r",\s*", names.strip().rstrip(",")) if is_used(it.split(" as ")[-1].strip(), others)]
+        return f"{head}{{{', '.join(used)}}};\n" if used else ""
+
+    return IMPORTS.sub(kept, text)
 
 
 class Tried:
@@ -83,7 +120,7 @@ class Tried:
                     continue
                 text = file.read_text(encoding="utf-8")
                 if file.suffix == ".rt":
-                    text = without_tests(text) if is_own else without_bodies(without_tests(text))
+                    text = without_tests(text) if is_own else without_imports(without_private(without_tests(text)))
                 found[part, file.relative_to(crate.folder / part).as_posix()] = text
         return found
 
@@ -96,7 +133,7 @@ class Tried:
         """Returns the SHA-256 of the logic's name and of all that a check of the crate's wrong bodies reads, with its path.
 
         That is each of its own files but its tests. Of a crate below it is what that one's library tells and names lead to:
-        definitions, lemmas, and each function with its contract, but neither its body nor how that was proved.
+        definitions, lemmas, and each public function with its contract, but neither its body nor how that was proved.
         """
         own, libraries = self.texts(crate, OWN, is_own=True), [self.library(it) for it in self.repository.below(crate)]
         reach = Reach(own.values(), libraries)

@@ -1,4 +1,7 @@
 ghost use Rattle.std.specs.Prelude.{◌≡◌, reverse, IfOk, IsOkUnless, string_bytes};
+ghost use Rattle.std.proofs.Common.{rules};
+ghost use Rattle.std.specs.Simd.{first_chunks};
+ghost use Rattle.std.specs.Cmp.Rules.{hashing};
 ghost use Rattle.sha2.specs.Sha256.{sha256};
 ghost use Rattle.hex.specs.Hex.{encode_lower};
 ghost use Rattle.cb_base.specs.declared.fault.Fault.TheVariants.{Memory};
@@ -6,10 +9,26 @@ ghost use Rattle.cb_base.specs.declared.fault.Fault.TheVariants.{Memory};
 use crate::fault::Fault;
 use sha2::{Digest, Sha256};
 use std::alloc::Global;
+use std::hash::{Hash, Hasher};
 
 /// A hash of 32 bytes, in the order in which they are sent: the name of a transaction or of a block.
-#[derive(Clone, Copy, Debug, PartialEq, Eq, PartialOrd, Ord, Hash)]
+#[derive(Clone, Copy, Debug, PartialEq, Eq, PartialOrd, Ord)]
 pub struct Hash256(pub [u8; 32]);
+
+impl Hash for Hash256 {
+    ghost hash_input = { λ hash. first_chunks 8 4 hash.0 };
+
+    ghost respects_eq = { Prim.search (hashing, rules) };
+
+    /// Gives a table's hasher the 32 bytes in four pieces of eight. One of all would leave whoever picks the bytes to have the
+    /// hasher forget some of them: std's multiplies a piece's bytes with each other.
+    fn hash<H: Hasher>(&self, state: &mut H) {
+        let (words, _) = self.0.as_slice().as_chunks::<8>();
+        for word in words {
+            state.write(word.as_slice());
+        }
+    }
+}
 
 impl Hash256 {
     /// The hash as people write it: in lower-case hex, its bytes in reverse.

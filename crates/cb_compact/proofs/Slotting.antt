@@ -9,7 +9,7 @@ use Rattle.cb_block.specs.declared.block.Block.{Block}
 use Rattle.cb_block.specs.Blocks.{IsSoundBlock, IsUnsound}
 use Rattle.cb_compact.specs.Differences.{Rise}
 use Rattle.cb_compact.specs.Forms.{places_of}
-use Rattle.cb_compact.specs.Slots.{filled, laid_out, missing}
+use Rattle.cb_compact.specs.Slots.{laid_out, missing}
 use Rattle.cb_compact.specs.declared.form.Prefilled.{Prefilled}
 use Rattle.cb_compact.proofs.Indexes.{from_here, rise_more}
 
@@ -89,22 +89,6 @@ pub missing_anywhere : (m n : ℕ) (slots : List (Option Tx)) → length (missin
 missing_anywhere m n [] = refl
 missing_anywhere m n (None ∷ slots) = ap (λ k. suc k) (missing_anywhere (m + 1) (n + 1) slots)
 missing_anywhere m n (Some tx ∷ slots) = missing_anywhere (m + 1) (n + 1) slots
-
--- A place more at which something stands, and one at which nothing does.
-pub filled_some : (slots : List (Option Tx)) (given : List Tx) (i used : ℕ) (tx : Tx) (d : Option Tx) → i < length slots → get_or slots i d ≡ Some tx
-    → (filled (drop i slots) (drop used given) ≡ tx ∷ filled (drop (i + 1) slots) (drop used given)) × (length (missing 0 (drop i slots)) ≡ length (missing 0 (drop (i + 1) slots)))
-filled_some slots given i used tx d within is =
-    let here = from_here slots i d within ∙ ap (λ slot. slot ∷ drop (i + 1) slots) is in
-    (ap (λ list. filled list (drop used given)) here, ap (λ list. length (missing 0 list)) here ∙ missing_anywhere 1 0 (drop (i + 1) slots))
-
-pub one_missing : (slots : List (Option Tx)) (i : ℕ) (d : Option Tx) → i < length slots → get_or slots i d ≡ None → length (missing 0 (drop i slots)) ≡ suc (length (missing 0 (drop (i + 1) slots)))
-one_missing slots i d within is = ap (λ list. length (missing 0 list)) (from_here slots i d within ∙ ap (λ slot. slot ∷ drop (i + 1) slots) is) ∙ ap (λ k. suc k) (missing_anywhere 1 0 (drop (i + 1) slots))
-
-pub filled_none : (slots : List (Option Tx)) (given : List Tx) (i used : ℕ) (d : Option Tx) (e : Tx) → i < length slots → used < length given → get_or slots i d ≡ None
-    → (filled (drop i slots) (drop used given) ≡ get_or given used e ∷ filled (drop (i + 1) slots) (drop (used + 1) given))
-filled_none slots given i used d e within some is =
-    ap (λ list. filled list (drop used given)) (from_here slots i d within ∙ ap (λ slot. slot ∷ drop (i + 1) slots) is)
-    ∙ ap (λ list. filled (None ∷ drop (i + 1) slots) list) (from_here given used e some)
 
 -- A block for which there is a reason against it isn't sound.
 pub not_sound : (block : Block) (fault : Fault) → IsUnsound block fault → ¬ IsSoundBlock block

@@ -1,11 +1,12 @@
 -- The table by which pairs find the places that they serve.
-use Rattle.std.specs.Prelude.{◌≡◌, ℕ, nat_eq, List, [], ◌∷◌, Option, Some, None, if◌then◌else◌}
+use Rattle.std.specs.Prelude.{◌≡◌, ℕ, zero, suc, false, nat_eq, List, [], ◌∷◌, map, slice_get, Option, Some, None}
 use Rattle.std.specs.Map.{lookup}
 use Rattle.cb_tx.specs.declared.tx.Tx.{Tx}
 use Rattle.cb_compact.specs.Slots.{is_among, with_id}
 use Rattle.cb_compact.specs.declared.named.Pair.{Pair}
 use Rattle.cb_compact.specs.declared.table.Found.{Found}
 use Rattle.cb_compact.specs.declared.table.Found.TheVariants.{Nobody, One, Several}
+use Rattle.cb_compact.specs.declared.table.Table.{Table}
 
 -- none of the pairs, one, or several
 abbrev pub found_of : List Pair → Found
@@ -25,15 +26,31 @@ found_tx Nobody = None
 found_tx (One tx) = Some tx
 found_tx Several = None
 
--- the same of what stands in a table, if anything does
-abbrev pub found_here : Option Found → Option Tx
-found_here None = None
-found_here (Some found) = found_tx found
+-- what was found for each of the ids among the pairs, in order
+abbrev pub all_found : List ℕ → List Pair → List Found
+all_found ids pairs = map (λ id. found_of (with_id id pairs)) ids
 
--- each of the ids has what was found for it among the pairs, and nothing else is there
-abbrev pub IsTable : List ℕ → List Pair → List (ℕ × Found) → Type 0
-IsTable ids pairs entries = (id : ℕ) → lookup (nat_eq id) entries ≡ (if is_among id ids then Some (found_of (with_id id pairs)) else None)
+-- where an id stands among the ids, if it does
+abbrev pub IsPlace : List ℕ → ℕ → Option ℕ → Type 0
+IsPlace ids id None = is_among id ids ≡ false
+IsPlace ids id (Some place) = slice_get ids place ≡ Some id
 
--- the transaction that an id stands for by the entries of a table
-abbrev pub tx_in : List (ℕ × Found) → ℕ → Option Tx
-tx_in entries id = found_here (lookup (nat_eq id) entries)
+-- the entries tell where each id stands
+abbrev pub ArePlaces : List ℕ → List (ℕ × ℕ) → Type 0
+ArePlaces ids entries = (id : ℕ) → IsPlace ids id (lookup (nat_eq id) entries)
+
+-- The table of the ids: where each of them stands, and what was found for each among the pairs.
+pub record IsTable (ids : List ℕ) (pairs : List Pair) (table : Table) : Type 0 where
+  pub places : ArePlaces ids table.places.entries
+  pub found : table.found.items ≡ all_found ids pairs
+
+-- one more was found for what stands at a place
+abbrev pub more_at : ℕ → Tx → List Found → List Found
+more_at place tx [] = []
+more_at zero tx (found ∷ others) = one_more found tx ∷ others
+more_at (suc place) tx (found ∷ others) = found ∷ more_at place tx others
+
+-- one more was found, where there is a place for it
+abbrev pub with_pair : Option ℕ → Tx → List Found → List Found
+with_pair None tx found = found
+with_pair (Some place) tx found = more_at place tx found

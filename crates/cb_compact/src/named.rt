@@ -61,6 +61,14 @@ impl NamedTx {
     {
         self.txid
     }
+
+    // The transaction and its txid.
+    pub(crate) fn into_parts(self) -> (Shared<Tx>, Hash256)
+        ensures tx { result.0 ≡ self }
+        ensures txid { result.1 ≡ double_hash (tx_text self) }
+    {
+        (self.tx, self.txid)
+    }
 }
 
 impl Clone for NamedTx {

@@ -61,21 +61,26 @@ struct Listed {
 }
 
 impl Listed {
-    fn push(&mut self, named: &NamedTx) -> Result<(), Fault>
-        ensures txs { OnOk result (self.new.txs.items ≡ self.old.txs.items ++ named.now ∷ []) }
-        ensures txids { OnOk result (self.new.txids.items ≡ self.old.txids.items ++ double_hash (tx_text named.now) ∷ []) }
+    fn push(&mut self, named: NamedTx) -> Result<(), Fault>
+        ensures txs { OnOk result (self.new.txs.items ≡ self.old.txs.items ++ named ∷ []) }
+        ensures txids { OnOk result (self.new.txids.items ≡ self.old.txids.items ++ double_hash (tx_text named) ∷ []) }
         ensures memory { IsOkUnless result Memory }
     {
-        self.txs.push(named.tx().clone()?)?;
-        self.txids.push(named.txid())?;
+        let (tx, txid) = named.into_parts();
+        self.txs.push(tx)?;
+        self.txids.push(txid)?;
         Ok(())
     }
 }
 
 // The whole list, with these transactions at the places at which nothing stands. Those alone are hashed.
-fn fill_in(alloc: Global, slots: &[Option<NamedTx>], given: &[Shared<Tx>]) -> Result<Listed, Fault>
-    requires { length given.now ≡ length (missing 0 slots.now) }
-    ensures txs { IfOk result (λ listed. listed.txs.items ≡ filled slots.now given.now) }
+fn fill_in(
+    alloc: Global,
+    slots: Vec<Option<NamedTx>>,
+    given: &[Shared<Tx>],
+) -> Result<Listed, Fault>
+    requires { length given.now ≡ length (missing 0 slots.items) }
+    ensures txs { IfOk result (λ listed. listed.txs.items ≡ filled slots.items given.now) }
     ensures names { IfOk result (λ listed. listed.txids.items ≡ names (texts listed.txs.items)) }
     ensures memory { IsOkUnless result Memory }
 {
@@ -91,7 +96,7 @@ fn fill_in(alloc: Global, slots: &[Option<NamedTx>], given: &[Shared<Tx>]) -> Re
         }
         let tx = given[used].clone()?;
         let named = NamedTx::new(alloc, tx)?;
-        listed.push(&named)?;
+        listed.push(named)?;
         used += 1;
     }
     Ok(listed)
@@ -101,10 +106,10 @@ fn fill_in(alloc: Global, slots: &[Option<NamedTx>], given: &[Shared<Tx>]) -> Re
 pub(crate) fn whole(
     alloc: Global,
     header: Header,
-    slots: &[Option<NamedTx>],
+    slots: Vec<Option<NamedTx>>,
 ) -> Result<Filled, Fault>
-    requires { missing 0 slots.now ≡ [] }
-    ensures filled { IfOk result (IsFilled header (filled slots.now [])) }
+    requires { missing 0 slots.items ≡ [] }
+    ensures filled { IfOk result (IsFilled header (filled slots.items [])) }
     ensures memory { IsOkUnless result Memory }
 {
     let listed = fill_in(alloc, slots, &[])?;
@@ -162,7 +167,7 @@ impl Partial {
         if txs.len() != self.lacking {
             return Err(Fault::WrongCount);
         }
-        let listed = fill_in(self.alloc, self.slots.as_slice(), txs.as_slice())?;
+        let listed = fill_in(self.alloc, self.slots, txs.as_slice())?;
         judge(self.alloc, self.header, listed)
     }
 }

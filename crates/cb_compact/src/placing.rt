@@ -4,12 +4,12 @@ ghost use Rattle.cb_compact.specs.Differences.{Rise};
 ghost use Rattle.cb_compact.specs.Forms.{places_of};
 ghost use Rattle.cb_compact.specs.Placing.{IsPlaced};
 ghost use Rattle.cb_compact.specs.Slots.{AreDifferent, choice, laid_out, missing, slots};
-ghost use Rattle.cb_compact.specs.Tables.{IsTable, tx_in};
+ghost use Rattle.cb_compact.specs.Tables.{IsTable, found_tx};
 
 use crate::form::Prefilled;
 use crate::named::{NamedTx, Pair};
 use crate::partial::{Partial, Placed, whole};
-use crate::table::{Table, table_of};
+use crate::table::{Found, table_of};
 use cb_base::Fault;
 use cb_block::Header;
 use std::alloc::Global;
@@ -22,40 +22,17 @@ fn is_given(prefilled: &[Prefilled], passed: usize, place: u64) -> bool
     passed < prefilled.len() && prefilled[passed].place == place
 }
 
-// What the table found for each id, in order.
-fn found_of(alloc: Global, table: &Table, ids: &[u64]) -> Result<Vec<Option<NamedTx>>, Fault>
-    ensures same { IfOk result (λ found. found.items ≡ map (tx_in table.now.found.entries) ids.now) }
-    ensures memory { IsOkUnless result Memory }
-{
-    let mut found = Vec::with_capacity(alloc, ids.len())?;
-    for id in ids {
-        found.push(table.tx(*id)?)?;
-    }
-    Ok(found)
-}
-
-// What stands at a place, once more. No memory is taken.
-fn copied(slot: &Option<NamedTx>) -> Result<Option<NamedTx>, Fault>
-    ensures same { IfOk result (λ copy. copy ≡ slot.now) }
-    ensures memory { IsOkUnless result Memory }
-{
-    match slot {
-        Some(named) => Ok(Some(named.clone()?)),
-        None => Ok(None),
-    }
-}
-
-// All places in order: the prefilled transactions at theirs, each hashed here, and between them the others.
+// All places in order: the prefilled transactions at theirs, each hashed here, and between them what was found for each id.
 fn lay_out(
     alloc: Global,
     prefilled: &[Prefilled],
-    others: &[Option<NamedTx>],
+    found: &[Found],
 ) -> Result<Vec<Option<NamedTx>>, Fault>
-    requires { Rise 0 (length others.now + length prefilled.now) (places_of prefilled.now) }
-    ensures same { IfOk result (λ list. list.items ≡ laid_out 0 prefilled.now others.now) }
+    requires { Rise 0 (length found.now + length prefilled.now) (places_of prefilled.now) }
+    ensures same { IfOk result (λ list. list.items ≡ laid_out 0 prefilled.now (map found_tx found.now)) }
     ensures memory { IsOkUnless result Memory }
 {
-    let total = others.len() + prefilled.len();
+    let total = found.len() + prefilled.len();
     let mut list = Vec::with_capacity(alloc, total)?;
     let mut passed = 0;
     for place in 0..total {
@@ -65,8 +42,7 @@ fn lay_out(
             passed += 1;
             continue;
         }
-        let other = copied(&others[place - passed])?;
-        list.push(other)?;
+        list.push(found[place - passed].tx()?)?;
     }
     Ok(list)
 }
@@ -107,12 +83,11 @@ pub fn place(
         return Ok(Placed::Repeat);
     };
     table.look_up(pairs.as_slice())?;
-    let others = found_of(alloc, &table, ids)?;
-    let list = lay_out(alloc, prefilled.as_slice(), others.as_slice())?;
+    let list = lay_out(alloc, prefilled.as_slice(), table.found())?;
     let places = missing_of(alloc, list.as_slice())?;
     let lacking = places.as_slice().len();
     if lacking == 0 {
-        return Ok(Placed::Whole(whole(alloc, header, list.as_slice())?));
+        return Ok(Placed::Whole(whole(alloc, header, list)?));
     }
     let partial = Partial::new(alloc, header, list, lacking);
     Ok(Placed::Missing(places, partial))

@@ -1,8 +1,10 @@
-ghost use Rattle.std.specs.Prelude.{◌≡◌, ◌==◌, ℕ, List, [], nat_eq, option_map, if◌then◌else◌, IfOk, IsOkUnless, MatchOption, OnOk};
+ghost use Rattle.std.specs.Prelude.{◌≡◌, List, ℕ, [], nat_eq, IfOk, IsOkUnless, MatchOption, OnOk, ⊤};
+ghost use Rattle.std.specs.HashMap.{hasher_of};
 ghost use Rattle.std.specs.Map.{lookup};
 ghost use Rattle.cb_base.specs.declared.fault.Fault.TheVariants.{Memory};
+ghost use Rattle.cb_compact.specs.Seeding.{seed_of};
 ghost use Rattle.cb_compact.specs.Slots.{AreDifferent};
-ghost use Rattle.cb_compact.specs.Tables.{IsTable, found_tx, one_more, tx_in};
+ghost use Rattle.cb_compact.specs.Tables.{IsTable, found_tx, one_more, with_pair};
 
 use crate::id_seed::IdSeed;
 use crate::named::{NamedTx, Pair};
@@ -30,7 +32,7 @@ impl Found {
     }
 
     // The transaction, where exactly one pair has it.
-    fn tx(&self) -> Result<Option<NamedTx>, Fault>
+    pub(crate) fn tx(&self) -> Result<Option<NamedTx>, Fault>
         ensures same { IfOk result (λ tx. tx ≡ found_tx self.now) }
         ensures memory { IsOkUnless result Memory }
     {
@@ -41,43 +43,50 @@ impl Found {
     }
 }
 
-// The ids of a compact block, and what was found for each. So each pair is looked up once, and each id once more.
+// The place of each of a compact block's ids among them, and what was found for each, in order. So each pair is looked up once.
 #[derive(Drop)]
 pub(crate) struct Table {
-    found: HashMap<u64, Found, IdSeed>,
+    places: HashMap<u64, usize, IdSeed>,
+    found: Vec<Found>,
 }
 
 // The table of some ids, for which no pair was looked up yet: none where an id stands twice.
 pub(crate) fn table_of(alloc: Global, ids: &[u64]) -> Result<Option<Table>, Fault>
-    ensures exact { IfOk result (λ table. MatchOption table (¬ AreDifferent ids.now) (λ table. AreDifferent ids.now × IsTable ids.now [] table.found.entries)) }
+    ensures exact { IfOk result (λ table. MatchOption table (¬ AreDifferent ids.now) (λ table. AreDifferent ids.now × IsTable ids.now [] table)) }
+    // No answer tells what the ids are hashed under.
+    ensures seed { IfOk result (λ table. MatchOption table ⊤ (λ table. hasher_of table.places ≡ seed_of ids.now)) }
     ensures memory { IsOkUnless result Memory }
 {
-    let mut found = HashMap::with_capacity_and_hasher(alloc, ids.len(), IdSeed::of(ids))?;
-    for id in ids {
-        if found.insert(*id, Found::Nobody)?.is_some() {
+    let mut places = HashMap::with_capacity_and_hasher(alloc, ids.len(), IdSeed::of(ids))?;
+    let mut found = Vec::with_capacity(alloc, ids.len())?;
+    for (place, id) in ids.iter().enumerate() {
+        if places.insert(*id, place)?.is_some() {
             return Ok(None);
         }
+        found.push(Found::Nobody)?;
     }
-    Ok(Some(Table { found }))
+    Ok(Some(Table { places, found }))
 }
 
 impl Table {
     // One pair more.
     fn add(&mut self, pair: &Pair) -> Result<(), Fault>
-        ensures found { OnOk result ((id : ℕ) → lookup (nat_eq id) self.new.found.entries
-            ≡ (if pair.now.id == id then option_map (λ found. one_more found pair.now.tx) (lookup (nat_eq id) self.old.found.entries) else lookup (nat_eq id) self.old.found.entries)) }
+        ensures places { self.new.places.entries ≡ self.old.places.entries }
+        ensures found { OnOk result (self.new.found.items ≡ with_pair (lookup (nat_eq pair.now.id) self.old.places.entries) pair.now.tx self.old.found.items) }
         ensures memory { IsOkUnless result Memory }
     {
-        let tx = pair.tx.clone()?;
-        if let Some(found) = self.found.get_mut(&pair.id) {
-            found.add(tx);
+        let Some(place) = self.places.get(&pair.id).copied() else {
+            return Ok(());
+        };
+        if place < self.found.len() {
+            self.found[place].add(pair.tx.clone()?);
         }
         Ok(())
     }
 
     // Looks each of the pairs up.
     pub(crate) fn look_up(&mut self, pairs: &[Pair]) -> Result<(), Fault>
-        ensures found { OnOk result ((ids : List ℕ) → IsTable ids [] self.old.found.entries → IsTable ids pairs.now self.new.found.entries) }
+        ensures found { OnOk result ((ids : List ℕ) → AreDifferent ids → IsTable ids [] self.old → IsTable ids pairs.now self.new) }
         ensures memory { IsOkUnless result Memory }
     {
         for pair in pairs {
@@ -86,14 +95,10 @@ impl Table {
         Ok(())
     }
 
-    // The transaction that the id stands for, where exactly one pair has it.
-    pub(crate) fn tx(&self, id: u64) -> Result<Option<NamedTx>, Fault>
-        ensures same { IfOk result (λ tx. tx ≡ tx_in self.now.found.entries id) }
-        ensures memory { IsOkUnless result Memory }
+    // What was found for each id, in order.
+    pub(crate) fn found(&self) -> &[Found]
+        ensures { result.now ≡ self.now.found.items }
     {
-        match self.found.get(&id) {
-            Some(found) => found.tx(),
-            None => Ok(None),
-        }
+        self.found.as_slice()
     }
 }

@@ -9,6 +9,7 @@ ghost use Rattle.cb_payload.specs.BlockTransactions.{BlockTxsTakesMemory, IsBloc
 
 use crate::listed::Listed;
 use crate::lists::{ListItem, list_size, put_list, read_list};
+use crate::short_form::MOST_BLOCK_TXS;
 use crate::tx_lists::{put_tx_items, share_tx_items, tx_items_of, tx_items_size};
 use cb_base::{Cursor, Fault, Hash256, put_compact};
 use cb_block::Txs;
@@ -17,7 +18,7 @@ use std::alloc::Global;
 
 /// Indexes in a block, as the differences that are written: the first is the index itself, each further one is how many places lie
 /// between it and the one before.
-pub type Differences = Listed<u64, 16_666>;
+pub type Differences = Listed<u64, MOST_BLOCK_TXS>;
 
 /// A request for some of a block's transactions (BIP 152, BlockTransactionsRequest), as the message `getblocktxn` carries it.
 #[derive(Debug, Drop)]

@@ -35,5 +35,5 @@ pub use prefilled::PrefilledTransaction;
 pub use requests::{
     CompactRelay, HeadersRequest, put_compact_relay, put_request, read_compact_relay, read_request,
 };
-pub use short_form::CompactTxs;
+pub use short_form::{CompactTxs, MOST_BLOCK_TXS};
 pub use version::{Agent, NetAddress, Version, put_version, read_version};

@@ -14,7 +14,7 @@ use std::marker::Model;
 
 /// How many transactions a compact block may stand for (own): 1,000,000 bytes, the most that a block has, by 60, the least that a
 /// valid transaction has, rounded down.
-const MOST_TXS: usize = 16_666;
+pub const MOST_BLOCK_TXS: usize = 16_666;
 
 /// The transactions of a compact block (BIP 152): the short ids of those that it leaves out, and those that it carries whole. They
 /// are 1 to 16,666 together, and each id has six bytes.
@@ -45,7 +45,7 @@ impl CompactTxs {
         ensures few { IsShortForm (record { ids = ids.items; prefilled = prefilled.items }) → IsOk result }
     {
         let total = ids.len().saturating_add(prefilled.len());
-        if total == 0 || total > MOST_TXS || !are_short(ids.as_slice()) {
+        if total == 0 || total > MOST_BLOCK_TXS || !are_short(ids.as_slice()) {
             return Err((ids, prefilled));
         }
         Ok(CompactTxs { ids, prefilled })
@@ -126,7 +126,7 @@ fn read_prefilled_count(cursor: &mut Cursor, ids: usize) -> Result<usize, Fault>
     if total == 0 {
         return Err(Fault::Empty);
     }
-    if total > MOST_TXS as u128 {
+    if total > MOST_BLOCK_TXS as u128 {
         return Err(Fault::TooMany);
     }
     if (cursor.left() as u128) < u128::from(count) * 11 {

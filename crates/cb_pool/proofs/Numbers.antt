@@ -1,11 +1,13 @@
 -- The numbers of a list's transactions: one more behind the others, one less.
-use Rattle.std.proofs.Common.{◌≡◌, ℕ, ◌+◌, ◌<◌, List, [], ◌∷◌, ◌++◌, sym, subst, arith, append_assoc}
+use Rattle.std.proofs.Common.{◌≡◌, ◌≤◌, ℕ, ◌+◌, ◌<◌, List, [], ◌∷◌, ◌++◌, cond, map, refl, sym, ap, ◌∙◌, subst, arith, append_assoc}
+use Rattle.std.proofs.lemmas.Bool.{lt-leb}
 use Rattle.std.proofs.lemmas.List.{append-nil}
-use Rattle.std.specs.Prelude.{◌≢◌}
+use Rattle.std.specs.Prelude.{◌≢◌, filter, nat_le}
 use Rattle.std.specs.List.{AllByRecursion}
 use Rattle.cb_tx.specs.declared.tx.Tx.{Tx}
 use Rattle.cb_pool.specs.declared.members.Pooled.{Pooled}
-use Rattle.cb_pool.specs.Listing.{AreNumbered, Differ, number_after}
+use Rattle.cb_pool.specs.Listing.{AreNumbered, Differ, number_after, since_of}
+use Rattle.cb_pool.specs.Rules.{txid_of}
 
 module _ {X : Type 0} where
   all_weaker : (P Q : X → Type 0) (xs : List X) → ((x : X) → P x → Q x) → AllByRecursion P xs → AllByRecursion Q xs
@@ -56,3 +58,13 @@ numbered_less xs ys pooled next h = λ lt.
 -- one that comes next is the last of those before the rest
 pub numbered_moved : (xs ys : List Pooled) (pooled : Pooled) (next : ℕ) → AreNumbered (xs ++ pooled ∷ ys) next → AreNumbered ((xs ++ pooled ∷ []) ++ ys) next
 numbered_moved xs ys pooled next h = subst (λ (l : List Pooled). AreNumbered l next) (sym (append_assoc xs (pooled ∷ []) ys)) h
+
+-- Where the numbers haven't run out, nothing has the next one or one behind it.
+pub none_since : (list : List Pooled) (next number : ℕ) → AreNumbered list next → next < 18446744073709551615 → next ≤ number → since_of list number ≡ []
+none_since list next number numbered low past = go list (numbered low).0 where
+  go : (l : List Pooled) → AllByRecursion (λ (pooled : Pooled). pooled.number < next) l → since_of l number ≡ []
+  go [] all = refl
+  go (pooled ∷ l) all =
+      let below : pooled.number < number = omega (arith, all.0, past) in
+      let rest = filter (λ (it : Pooled). nat_le number it.number) l in
+      ap (λ b. map (λ (it : Pooled). txid_of it.tx) (cond b (pooled ∷ rest) rest)) (lt-leb number pooled.number below) ∙ go l all.1

@@ -16,6 +16,6 @@ pub use law::{
     stays_as_it_is,
 };
 pub use members::MOST_TXS;
-pub use pairs::{MOST_IDS, Pairs, ShortIds};
+pub use pairs::{Pairs, ShortIds};
 pub use pool::Pool;
 pub use refolding::Refolding;

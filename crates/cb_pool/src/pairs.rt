@@ -1,21 +1,19 @@
 ghost use Rattle.std.specs.Prelude.{◌≡◌, ℕ, filter, map, nat_eq, IfOk, IsOkUnless};
-ghost use Rattle.std.specs.HashSet.{contains};
+ghost use Rattle.std.specs.HashSet.{contains, hasher_of};
 ghost use Rattle.cb_base.specs.declared.fault.Fault.TheVariants.{Memory};
+ghost use Rattle.cb_compact.specs.Seeding.{seed_of};
 ghost use Rattle.cb_compact.specs.Slots.{is_among};
 ghost use Rattle.cb_pool.specs.Matching.{pair_of, pairs_of};
 
 use cb_base::{Fault, Shared};
 use cb_compact::{IdSeed, NamedTx, Pair, short_id};
-use cb_payload::Listed;
+use cb_payload::{Listed, MOST_BLOCK_TXS};
 use std::alloc::Global;
 use std::collections::HashSet;
 use std::marker::Model;
 
-/// How many short ids a compact block has at the most (own).
-pub const MOST_IDS: usize = 16_666;
-
 /// The short ids of a compact block (BIP 152), at most 16,666.
-pub type ShortIds = Listed<u64, MOST_IDS>;
+pub type ShortIds = Listed<u64, MOST_BLOCK_TXS>;
 
 /// The transactions that a pool had whose short ids are among those of a compact block (BIP 152). It is seen as the list of
 /// them, each with its short id, in the pool's order.
@@ -78,6 +76,8 @@ impl Pairs {
 // The set of these ids, under a seed that all of them decide.
 fn set_of(alloc: Global, ids: &[u64]) -> Result<HashSet<u64, IdSeed>, Fault>
     ensures ids { IfOk result (λ wanted. (id : ℕ) → contains nat_eq wanted id ≡ is_among id ids.now) }
+    // No answer tells what the ids are hashed under.
+    ensures seed { IfOk result (λ wanted. hasher_of wanted ≡ seed_of ids.now) }
     ensures memory { IsOkUnless result Memory }
 {
     let mut wanted = HashSet::with_capacity_and_hasher(alloc, ids.len(), IdSeed::of(ids))?;

@@ -1,4 +1,4 @@
-ghost use Rattle.std.specs.Prelude.{◌≡◌, ◌⊎◌, ◌==◌, ◌≤◌, [], length, slice_get, Err, IfOk, IsOk, IsOkUnless, MatchOption, MatchResult, None, Some};
+ghost use Rattle.std.specs.Prelude.{◌≡◌, ◌⊎◌, ◌==◌, ◌≤◌, [], length, slice_get, Err, IfOk, IsOk, IsOkUnless, IsTrue, MatchOption, MatchResult, None, Some};
 ghost use Rattle.cb_base.specs.declared.fault.Fault.TheVariants.{Memory};
 ghost use Rattle.cb_ledger.specs.Spend.{spend};
 ghost use Rattle.cb_pool.specs.Listing.{since_of, txs_of, with_last};
@@ -144,6 +144,14 @@ impl Pool {
         self.next
     }
 
+    // Whether it is seen by the next number alone that each transaction's is below this one. So who has heard of all may ask again
+    // and again, and the pool isn't walked.
+    fn is_before(&self, number: u64) -> bool
+        ensures { IsTrue result → since_of self.now.list number ≡ [] }
+    {
+        self.next < u64::MAX && self.next <= number
+    }
+
     /// The names of those whose number is at least this one, in order. The only error is `Fault::Memory`, and only where
     /// there is one.
     pub fn since(&self, number: u64) -> Result<Vec<Hash256>, Fault>
@@ -152,6 +160,9 @@ impl Pool {
         ensures memory { IsOkUnless result Memory }
     {
         let mut txids = Vec::new(self.alloc);
+        if self.is_before(number) {
+            return Ok(txids);
+        }
         for pooled in self.members.entries.values() {
             if number <= pooled.number {
                 txids.push(pooled.tx.txid())?;

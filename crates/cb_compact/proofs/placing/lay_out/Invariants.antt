@@ -1,11 +1,12 @@
-use Rattle.std.proofs.Common.{◌≡◌, ◌+◌, ◌-◌, ◌≤◌, ◌++◌, drop, length}
+use Rattle.std.proofs.Common.{◌≡◌, ◌+◌, ◌-◌, ◌≤◌, ◌++◌, drop, length, map}
 use Rattle.cb_compact.specs.Differences.{Rise}
 use Rattle.cb_compact.specs.Forms.{places_of}
 use Rattle.cb_compact.specs.Slots.{laid_out}
+use Rattle.cb_compact.specs.Tables.{found_tx}
 use Rattle.cb_compact.proofs.placing.lay_out.Given as goal
 
 abbrev pub invariant-loop-place : goal.invariant-loop-place
 invariant-loop-place l =
-    (l.list.items ++ laid_out l.place (drop l.passed l.prefilled) (drop (l.place - l.passed) l.others) ≡ laid_out 0 l.prefilled l.others)
-    × Rise l.place (length l.others + length l.prefilled) (places_of (drop l.passed l.prefilled))
+    (l.list.items ++ laid_out l.place (drop l.passed l.prefilled) (drop (l.place - l.passed) (map found_tx l.found)) ≡ laid_out 0 l.prefilled (map found_tx l.found))
+    × Rise l.place (length l.found + length l.prefilled) (places_of (drop l.passed l.prefilled))
     × (l.passed ≤ length l.prefilled) × (l.passed ≤ l.place)

@@ -9,5 +9,7 @@ pub loop-id-preserved : goal.loop-id-preserved
 loop-id-preserved c =
     let i = c.loop-id.id-index in
     let ids = c.args.ids.now in
-    let more = (take_at_read ids i 0 c.loop-id-test.true).1 in
-    λ other. set_more (contains nat_eq c.loop-id.wanted) (contains nat_eq c.insert.new.self) (take i ids) (get_or ids i 0) c.in_ok-insert.ensures.updates.0 c.loop-id.invariant other ∙ ap (is_among other) (sym more)
+    let more = (take_at_read ids i 0 c.loop-id-test.true).1 in (
+      λ other. set_more (contains nat_eq c.loop-id.wanted) (contains nat_eq c.insert.new.self) (take i ids) (get_or ids i 0) c.in_ok-insert.ensures.updates.0 c.loop-id.invariant.0 other ∙ ap (is_among other) (sym more),
+      c.in_ok-insert.ensures.hasher ∙ c.loop-id.invariant.1,
+    )
