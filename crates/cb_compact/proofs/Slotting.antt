@@ -34,7 +34,7 @@ laid_kept first total (given ∷ more) x xs (low, below, rest) =
     let next : given.place - first ≡ suc (given.place - (first + 1)) = omega (arith, low) in
     ap (λ n. take n (x ∷ xs) ++ Some given.tx ∷ laid_out (given.place + 1) more (drop n (x ∷ xs))) next
 
-laid_none : (first : ℕ) (more : List Prefilled) (others : List (Option Tx)) → length others ≡ 0 → Rise first first (places_of more) → laid_out first more others ≡ []
+pub laid_none : (first : ℕ) (more : List Prefilled) (others : List (Option Tx)) → length others ≡ 0 → Rise first first (places_of more) → laid_out first more others ≡ []
 laid_none first [] [] none rises = refl
 laid_none first [] (x ∷ xs) none rises = absurd (let no : suc (length xs) ≡ 0 = none in omega (arith, no))
 laid_none first (given ∷ more) others none (low, below, rest) = absurd (omega (arith, low, below))

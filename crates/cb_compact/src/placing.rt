@@ -26,14 +26,15 @@ fn is_given(prefilled: &[Prefilled], passed: usize, place: u64) -> bool
 fn lay_out(
     alloc: Global,
     prefilled: &[Prefilled],
-    found: &[Found],
+    found: Vec<Found>,
 ) -> Result<Vec<Option<NamedTx>>, Fault>
-    requires { Rise 0 (length found.now + length prefilled.now) (places_of prefilled.now) }
-    ensures same { IfOk result (λ list. list.items ≡ laid_out 0 prefilled.now (map found_tx found.now)) }
+    requires { Rise 0 (length found.items + length prefilled.now) (places_of prefilled.now) }
+    ensures same { IfOk result (λ list. list.items ≡ laid_out 0 prefilled.now (map found_tx found.items)) }
     ensures memory { IsOkUnless result Memory }
 {
     let total = found.len() + prefilled.len();
     let mut list = Vec::with_capacity(alloc, total)?;
+    let mut others = found.into_iter();
     let mut passed = 0;
     for place in 0..total {
         if is_given(prefilled, passed, place as u64) {
@@ -42,7 +43,9 @@ fn lay_out(
             passed += 1;
             continue;
         }
-        list.push(found[place - passed].tx()?)?;
+        if let Some(found) = others.next() {
+            list.push(found.into_tx())?;
+        }
     }
     Ok(list)
 }
@@ -79,11 +82,11 @@ pub fn place(
     ensures placed { IfOk result (IsPlaced header ids.now prefilled.items pairs.items) }
     ensures memory { IsOkUnless result Memory }
 {
-    let Some(mut table) = table_of(alloc, ids)? else {
+    let Some(table) = table_of(alloc, ids)? else {
         return Ok(Placed::Repeat);
     };
-    table.look_up(pairs.as_slice())?;
-    let list = lay_out(alloc, prefilled.as_slice(), table.found())?;
+    let found = table.found_among(pairs);
+    let list = lay_out(alloc, prefilled.as_slice(), found)?;
     let places = missing_of(alloc, list.as_slice())?;
     let lacking = places.as_slice().len();
     if lacking == 0 {

@@ -4,7 +4,7 @@ ghost use Rattle.std.specs.Map.{lookup};
 ghost use Rattle.cb_base.specs.declared.fault.Fault.TheVariants.{Memory};
 ghost use Rattle.cb_compact.specs.Seeding.{seed_of};
 ghost use Rattle.cb_compact.specs.Slots.{AreDifferent};
-ghost use Rattle.cb_compact.specs.Tables.{IsTable, found_tx, one_more, with_pair};
+ghost use Rattle.cb_compact.specs.Tables.{IsTable, all_found, found_tx, one_more, with_pair};
 
 use crate::id_seed::IdSeed;
 use crate::named::{NamedTx, Pair};
@@ -32,13 +32,12 @@ impl Found {
     }
 
     // The transaction, where exactly one pair has it.
-    pub(crate) fn tx(&self) -> Result<Option<NamedTx>, Fault>
-        ensures same { IfOk result (λ tx. tx ≡ found_tx self.now) }
-        ensures memory { IsOkUnless result Memory }
+    pub(crate) fn into_tx(self) -> Option<NamedTx>
+        ensures { result ≡ found_tx self }
     {
         match self {
-            Found::One(tx) => Ok(Some(tx.clone()?)),
-            Found::Nobody | Found::Several => Ok(None),
+            Found::One(tx) => Some(tx),
+            Found::Nobody | Found::Several => None,
         }
     }
 }
@@ -70,35 +69,26 @@ pub(crate) fn table_of(alloc: Global, ids: &[u64]) -> Result<Option<Table>, Faul
 
 impl Table {
     // One pair more.
-    fn add(&mut self, pair: &Pair) -> Result<(), Fault>
+    fn add(&mut self, pair: Pair)
         ensures places { self.new.places.entries ≡ self.old.places.entries }
-        ensures found { OnOk result (self.new.found.items ≡ with_pair (lookup (nat_eq pair.now.id) self.old.places.entries) pair.now.tx self.old.found.items) }
-        ensures memory { IsOkUnless result Memory }
+        ensures found { self.new.found.items ≡ with_pair (lookup (nat_eq pair.id) self.old.places.entries) pair.tx self.old.found.items }
     {
         let Some(place) = self.places.get(&pair.id).copied() else {
-            return Ok(());
+            return;
         };
         if place < self.found.len() {
-            self.found[place].add(pair.tx.clone()?);
+            self.found[place].add(pair.tx);
         }
-        Ok(())
     }
 
-    // Looks each of the pairs up.
-    pub(crate) fn look_up(&mut self, pairs: &[Pair]) -> Result<(), Fault>
-        ensures found { OnOk result ((ids : List ℕ) → AreDifferent ids → IsTable ids [] self.old → IsTable ids pairs.now self.new) }
-        ensures memory { IsOkUnless result Memory }
+    // What the pairs have for each id, in order: each of them is looked up.
+    pub(crate) fn found_among(self, pairs: Vec<Pair>) -> Vec<Found>
+        ensures found { (ids : List ℕ) → AreDifferent ids → IsTable ids [] self → result.items ≡ all_found ids pairs.items }
     {
+        let mut table = self;
         for pair in pairs {
-            self.add(pair)?;
+            table.add(pair);
         }
-        Ok(())
-    }
-
-    // What was found for each id, in order.
-    pub(crate) fn found(&self) -> &[Found]
-        ensures { result.now ≡ self.now.found.items }
-    {
-        self.found.as_slice()
+        table.found
     }
 }
