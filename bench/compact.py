@@ -148,19 +148,34 @@ def groups_of(count):
     return groups
 
 
+def placing_all(ids):
+    """A block of these ids, all but one of which have a pair, in reverse order: in any order as many transactions as fit take longer to come
+    from memory than half of them."""
+    pairs = [(name, number) for number, name in enumerate(ids) if number > 0][::-1]
+    return placing(known(blocks_of(len(ids), 60), ids, pairs))
+
+
+def twice(runs, name, counts, plays):
+    """What twice the ids take."""
+    some, double = (took / PLACED for took in seconds_of([(runs, play) for play in plays], 2 * TURNS))
+    print(f"place of ids {name}: {some * 1e3:.2f} ms for {counts[0]:,}, {double * 1e3:.2f} ms for {counts[1]:,}: {double / some:.2f} times as long", flush=True)
+
+
 def twice_the_ids(runs, searched):
-    """Half as many ids as fit and as many, of which one lacks its pair, at random and such that they would meet."""
-    rng, group = random.Random(3), groups_of(IDS) - 1
-    kinds = [("at random", rng.sample(range(1 << 48), IDS)), ("that would begin at one group", searched.alike(IDS, group)),
+    """Half as many ids as fit and as many, of which one lacks its pair, at random and such that they would meet; and at random fewer of them,
+    which stay near the processor, and both among the same pairs."""
+    rng, group, half = random.Random(3), groups_of(IDS) - 1, (IDS // 2, IDS)
+    ids, others, text = rng.sample(range(1 << 48), IDS), rng.sample(range(1 << 48), MANY), blocks_of(IDS, 60)
+    kinds = [("at random", ids), ("that would begin at one group", searched.alike(IDS, group)),
              ("that would begin there with the same tag", searched.alike(IDS, group | 0xFF00_0000))]
-    for name, ids in kinds:
-        plays = []
-        for count in (IDS // 2, IDS):
-            # In reverse order: in any order as many transactions as fit take longer to come from memory than half of them.
-            pairs = [(name, number) for number, name in enumerate(ids[:count]) if number > 0][::-1]
-            plays.append(placing(known(blocks_of(count, 60), ids[:count], pairs)))
-        some, twice = (took / PLACED for took in seconds_of([(runs, play) for play in plays], 2 * TURNS))
-        print(f"place of ids {name}: {some * 1e3:.2f} ms for {IDS // 2:,}, {twice * 1e3:.2f} ms for {IDS:,}: {twice / some:.2f} times as long", flush=True)
+    for name, picked in kinds:
+        twice(runs, name, half, [placing_all(picked[:count]) for count in half])
+    few = (IDS // 16, IDS // 8)
+    twice(runs, "at random", few, [placing_all(ids[:count]) for count in few])
+    for most in (FEW, MANY):
+        right = [(name, number) for number, name in enumerate(ids) if number > 0][:most]
+        pairs = shuffled(right + [(name, 0) for name in others[: most - len(right)]], rng)
+        twice(runs, f"at random among the same {most:,} pairs", half, [placing(known(text, ids[:count], pairs)) for count in half])
 
 
 def growths(program, library, data):

@@ -17,7 +17,7 @@ use Rattle.cb_ledger.specs.Spend.{spend}
 use Rattle.cb_ledger.specs.Unspent.{Unspent}
 use Rattle.cb_ledger.proofs.Txs.{true-is_coinbase}
 use Rattle.cb_chain.specs.declared.change.Change.{Change}
-use Rattle.cb_chain.specs.Best.{Stop, best, branch, is_higher, stopped_at, then_spend, unspent_after}
+use Rattle.cb_chain.specs.Best.{Stop, best, branch, is_higher, stopped_at, unspent_after}
 use Rattle.cb_chain.specs.Calls.{AcceptsBlock, block_entry, block_fault, change_of, is_full_under, joined, marked_above}
 use Rattle.cb_chain.specs.Entries.{Tree, block_hash, height_of, is_kept, is_marked}
 use Rattle.cb_chain.specs.History.{IsHistoric}
@@ -26,7 +26,7 @@ use Rattle.cb_chain.proofs.Laws.{tip_kept}
 use Rattle.cb_chain.proofs.NewTip.{best_new, branch_new, height_new, height_other, joined_err, joined_ok}
 use Rattle.cb_chain.proofs.Nodes.{reverse_cons, same-refl}
 use Rattle.cb_chain.proofs.Reached.{marked_err, planted_after}
-use Rattle.cb_chain.proofs.SideNodes.{block_free, kept_other, unspent_own}
+use Rattle.cb_chain.proofs.SideNodes.{block_free, kept_other}
 use Rattle.cb_pool.specs.Listing.{txs_of}
 use Rattle.cb_pool.proofs.Spent.{ok_at}
 use Rattle.cb_state.specs.declared.connection.Connection.{Connection}
@@ -34,6 +34,7 @@ use Rattle.cb_state.specs.declared.giving.Taken.{Taken}
 use Rattle.cb_state.specs.Giving.{TakesBlock, refused_for}
 use Rattle.cb_state.specs.Mining.{IsMined, coinbase_of, next_height, subsidy}
 use Rattle.cb_state.specs.State.{IsUnspent, NodeState, WaitOn}
+use Rattle.cb_state.proofs.Growing.{spent_on}
 use Rattle.cb_state.proofs.TipHeight.{tip_low}
 use Rattle.cb_hall.specs.MinedBlock.{FaresAsMined, IsMadeAgain, IsNextTip}
 use Rattle.cb_hall.proofs.Extending.{behind_coinbase, spends_front}
@@ -143,9 +144,8 @@ module _ (old : Tree) (block : Block) (height : ℕ) (u : Unspent) (is : IsTipOf
   higher : is_higher grown hash (best old) ≡ true
   higher = rw (tall_new, tall_old) (lt-ltb height (suc height) (omega arith))
 
-  -- it is spent over what is unspent behind the old tip
   spent : unspent_after grown hash ≡ stopped_at hash (spend u block.txs)
-  spent = unspent_own (block_entry block) old ∙ ap (λ (h : Hash256). then_spend (block_entry block) (unspent_after old h)) on ∙ ap (then_spend (block_entry block)) is.unspent
+  spent = spent_on old block u on is.unspent
 
   next_tip : (w : Unspent) → spend u block.txs ≡ Ok w → IsNextTip old block grown
   next_tip w e =

@@ -5,3 +5,4 @@ pub mod Named
 pub mod Numbers
 pub mod Spent
 pub mod Taking
+pub mod Untouched

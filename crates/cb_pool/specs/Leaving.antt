@@ -48,3 +48,7 @@ pub record AreMembers (entries : List (Hash256 × Pooled)) (list : List Pooled) 
   pub alone : AllByRecursion (λ pooled. StandsAlone pooled.tx) list
   pub few : length list ≤ 10000
   pub after : (u : Unspent) → changed u (changes_of coins) ≡ after_txs u (txs_of list)
+
+-- behind these changes the same stands at the outpoint, whatever did before
+abbrev pub IsChanged : List (OutPoint × Option ℤ) → OutPoint → Type 0
+IsChanged coins point = (value : Option ℤ) × ((u : Unspent) → map.get (changed u (changes_of coins)) point ≡ value)

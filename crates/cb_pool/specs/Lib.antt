@@ -3,3 +3,4 @@ pub mod Leaving
 pub mod Listing
 pub mod Matching
 pub mod Rules
+pub mod Touching

@@ -1,4 +1,4 @@
-ghost use Rattle.std.specs.Prelude.{◌≡◌, ◌≢◌, ◌++◌, ◌∷◌, [], List, All, IsOk, None};
+ghost use Rattle.std.specs.Prelude.{◌≡◌, ◌≢◌, ◌++◌, ◌∷◌, [], List, All, IsOk, None, Ok};
 ghost use Rattle.std.specs.FinMap as finite;
 ghost use Rattle.cb_tx.specs.declared.tx.OutPoint.{OutPoint};
 ghost use Rattle.cb_tx.specs.declared.tx.Tx.{Tx};
@@ -8,6 +8,7 @@ ghost use Rattle.cb_ledger.specs.Unspent.{Unspent};
 ghost use Rattle.cb_pool.specs.Folding.{Refolds};
 ghost use Rattle.cb_pool.specs.Listing.{AreNumbered, Listing, NamesDiffer, txs_of};
 ghost use Rattle.cb_pool.specs.Rules.{StandsAlone};
+ghost use Rattle.cb_pool.specs.Touching.{AreApart};
 
 use crate::pool::Pool;
 use cb_ledger::Ledger;
@@ -57,6 +58,17 @@ pub fn one_fold()
 pub fn stays_as_it_is(pool: &Pool, ledger: &Ledger)
     requires { IsOk (spend ledger.now.unspent (txs_of pool.now.list)) }
     ensures { Refolds ledger.now.unspent [] pool.now pool.now }
+{
+    each_stands_alone(pool);
+    let _ = pool.len();
+}
+
+/// A pool whose list applies in turn to a ledger stays as it is behind transactions that are apart from it: over what they leave
+/// its list applies in turn, so it is folded into itself.
+pub fn stays_behind_others(pool: &Pool, ledger: &Ledger)
+    requires { IsOk (spend ledger.now.unspent (txs_of pool.now.list)) }
+    ensures { (others : List Tx) (after : Unspent) → AreApart (txs_of pool.now.list) others → spend ledger.now.unspent others ≡ Ok after
+        → IsOk (spend after (txs_of pool.now.list)) × Refolds after [] pool.now pool.now }
 {
     each_stands_alone(pool);
     let _ = pool.len();

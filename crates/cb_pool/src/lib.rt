@@ -1,6 +1,7 @@
 //! The pool: transactions that wait for a block, in the order in which they came.
 #![tactic(auto)]
 
+mod apart;
 mod candidate;
 mod checking;
 mod coins;
@@ -13,7 +14,7 @@ mod refolding;
 pub use candidate::Candidate;
 pub use law::{
     each_spends_what_is_there, each_stands_alone, none_is_spent_twice, numbers_differ, one_fold,
-    stays_as_it_is,
+    stays_as_it_is, stays_behind_others,
 };
 pub use members::MOST_TXS;
 pub use pairs::{Pairs, ShortIds};

@@ -1,17 +1,19 @@
-ghost use Rattle.std.specs.Prelude.{◌≡◌, ◌+◌, ◌<◌, ◌≤◌, ◌++◌, ◌∷◌, [], false, length, slice_get, All, Err, IfOk, IsOk, IsOkUnless, MatchOption, None, OnOk, Some};
+ghost use Rattle.std.specs.Prelude.{◌≡◌, ◌+◌, ◌<◌, ◌≤◌, ◌^◌, ◌++◌, ◌∷◌, [], false, length, slice_get, All, Err, IfOk, IsOk, IsOkUnless, IsTrue, MatchOption, None, OnOk, Some};
 ghost use Rattle.cb_base.specs.declared.fault.Fault.TheVariants.{Memory};
 ghost use Rattle.cb_ledger.specs.Spend.{spend};
 ghost use Rattle.cb_pool.specs.Leaving.{touched_by};
 ghost use Rattle.cb_pool.specs.Listing.{NamesDiffer, txs_of};
 ghost use Rattle.cb_pool.specs.Rules.{Applies, Refuses, StandsAlone, is_named_in, named_in, txid_of};
+ghost use Rattle.cb_pool.specs.Touching.{AreApart};
 
+use crate::apart::keeps;
 use crate::candidate::Candidate;
 use crate::checking::fault_over;
 use crate::coins::{make_outputs, spend_outputs};
 use cb_base::{Fault, Hash256};
 use cb_compact::NamedTx;
 use cb_ledger::Ledger;
-use cb_tx::OutPoint;
+use cb_tx::{OutPoint, Tx};
 use indexmap::IndexMap;
 use indexmap::map::IntoValues;
 use std::alloc::{AllocError, Global};
@@ -124,6 +126,15 @@ impl Members {
         };
         let had: Result<_, _> = self.entries.insert(txid, tx);
         had.unwrap();
+    }
+
+    // Whether a transaction of this name spends and makes no output that one of them spends or makes.
+    pub(crate) fn is_apart_from(&self, txid: Hash256, tx: &Tx) -> bool
+        requires name { txid ≡ txid_of tx.now }
+        ensures apart { IsTrue result → AreApart (txs_of self.now.list) (tx.now ∷ []) }
+        ensures seen { AreApart (txs_of self.now.list) (tx.now ∷ []) → length tx.now.outputs ≤ 2 ^ 32 → IsTrue result }
+    {
+        keeps(&self.coins, txid, tx)
     }
 
     // The transaction of this name.

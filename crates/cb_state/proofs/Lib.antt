@@ -1,6 +1,7 @@
 pub mod AskedFor
 pub mod Carried
 pub mod Fits
+pub mod Growing
 pub mod Mined
 pub mod MinedLaws
 pub mod OnceEach

@@ -16,19 +16,24 @@ use Rattle.cb_chain.specs.Calls.{AcceptsBlock}
 use Rattle.cb_chain.specs.Entries.{Tree, block_hash, is_lacking}
 use Rattle.cb_chain.specs.Following.{headers_above}
 use Rattle.cb_chain.specs.Headers.{TakesHeaders}
-use Rattle.cb_chain.specs.Laws.{MayLead, Stays}
+use Rattle.cb_chain.specs.Laws as laws
+use Rattle.cb_chain.specs.Laws.{MayLead}
 use Rattle.cb_chain.specs.Locator.{locator_heights, locator_of}
-use Rattle.cb_pool.specs.Folding.{HasRoom, Refolds}
-use Rattle.cb_pool.specs.Listing.{Listing, Plan, txs_of, with_last}
+use Rattle.cb_pool.specs.Folding.{Refolds}
+use Rattle.cb_pool.specs.Listing.{Listing, txs_of, with_last}
 use Rattle.cb_pool.specs.Rules.{Applies, Refuses}
 use Rattle.cb_state.specs.declared.connection.Connection.{Connection}
 use Rattle.cb_state.specs.declared.giving.Heads.{Heads}
+use Rattle.cb_state.specs.declared.giving.Outlook.{Outlook}
+use Rattle.cb_state.specs.declared.giving.Outlook.TheVariants.{Folds, Stays}
 use Rattle.cb_state.specs.declared.giving.Taken.{Taken}
-use Rattle.cb_state.specs.Giving.{Follows, IsPlanOn, TakesBlock, TakesHeads, TakesTx, TakesTxOver, announcers_after, became_tip, has_some, locator_for, txs_in, txs_put_off}
+use Rattle.cb_state.specs.Giving.{Follows, TakesBlock, TakesHeads, TakesTx, TakesTxOver, announcers_after, became_tip, has_some, locator_for, txs_above, txs_in, txs_put_off}
+use Rattle.cb_state.specs.Outlooks.{IsOutlookOn, IsReady, first_of}
 use Rattle.cb_state.specs.State.{NodeState, IsUnspent, WaitOn}
+use Rattle.cb_state.proofs.Growing.{grown_on}
 
 -- a locator is told of the active chain alone
-pub locator_stays : (old new : Tree) → Stays old new → locator_of old ≡ locator_of new
+pub locator_stays : (old new : Tree) → laws.Stays old new → locator_of old ≡ locator_of new
 locator_stays old new stays =
     ap (λ (headers : List Header). filter_map (λ height. option_map block_hash (slice_get headers height)) (locator_heights (length headers - 1))) (sym stays.0)
 
@@ -51,16 +56,16 @@ tx_taken old tx pool u unspent applies is = (u, unspent, (applies, ap (λ (p : L
 
 -- ---- a block
 
-pub nothing_on : (hashes : List Hash256) → nat_eq (length hashes) 0 ≡ true → hashes ≡ []
+pub nothing_on : {X : Type 0} (xs : List X) → nat_eq (length xs) 0 ≡ true → xs ≡ []
 nothing_on [] e = refl
-nothing_on (hash ∷ hashes) e = absurd (omega (arith, eqb-true (length (hash ∷ hashes)) 0 e))
+nothing_on (x ∷ xs) e = absurd (omega (arith, eqb-true (length (x ∷ xs)) 0 e))
 
 pub something_on : (hashes : List Hash256) → nat_eq (length hashes) 0 ≡ false → hashes ≢ []
 something_on [] e = absurd (false≢true (sym e))
 something_on (hash ∷ hashes) e = λ none. absurd (let is : hash ∷ hashes ≡ [] = none in cc)
 
 -- what waits can still be spent where what is unspent stays
-pub waits_on : (old new : Tree) (pool : Listing) → WaitOn old pool → Stays old new → WaitOn new pool
+pub waits_on : (old new : Tree) (pool : Listing) → WaitOn old pool → laws.Stays old new → WaitOn new pool
 waits_on old new pool wait same_chain = λ u is. wait u (sym same_chain.1 ∙ is)
 
 -- it can be spent over what is unspent
@@ -71,7 +76,7 @@ waits_over tree pool u is ok = λ other are.
     subst (λ (w : Unspent). IsOk (spend w (txs_of pool.list))) same_u ok
 
 pub block_refused : (old : NodeState) (tree : Tree) (block : Block) (from : Option Connection) (fault : Fault) (locator : List Hash256) (told : Result Taken Fault)
-    → (((fault ≡ Memory) × (tree ≡ old.tree)) ⊎ AcceptsBlock old.tree block (Err fault) tree) → Stays old.tree tree → locator ≡ locator_of old.tree
+    → (((fault ≡ Memory) × (tree ≡ old.tree)) ⊎ AcceptsBlock old.tree block (Err fault) tree) → laws.Stays old.tree tree → locator ≡ locator_of old.tree
     → IfOk told (λ taken. (taken.refused ≡ Some fault) × (taken.locator ≡ locator_for (Some fault) locator) × (fault ≢ Memory))
     → IfOk told (λ taken. TakesBlock old block from taken (record old { tree = tree }))
 block_refused old tree block from fault locator (Err error) why same_chain located ok = tt
@@ -104,21 +109,29 @@ block_aside old tree block from change locator accepts none untold = record {
   locator = untold;
 }
 
--- the pool was folded anew by a plan
-abbrev pub Followed : Unspent → Listing → Listing → Option Plan → Type 0
-Followed u old new plan = MatchOption plan (new ≡ old) (λ p. Refolds u p.first old new × IsOk (spend u (txs_of new.list)))
+-- the outlook on the pool where the block becomes the tip, and none where it can't
+abbrev pub IsForeseen : NodeState → Block → Option Outlook → Type 0
+IsForeseen state block outlook = MatchOption outlook (¬ MayLead state.tree block.header.prev) (IsOutlookOn state block)
 
-pub block_leads : (old : NodeState) (tree : Tree) (pool : Listing) (announcers : List Connection) (block : Block) (from : Option Connection) (change : Change) (plan : Option Plan) (u : Unspent) (locator : List Hash256)
+-- the pool went by the outlook
+abbrev pub Followed : Unspent → Listing → Listing → Option Outlook → Type 0
+Followed u old new outlook = MatchOption outlook (new ≡ old) (λ o. Refolds u (first_of o) old new × IsOk (spend u (txs_of new.list)))
+
+-- what comes first is what was put off
+first_is : (state : NodeState) (block : Block) (outlook : Outlook) → IsOutlookOn state block outlook → first_of outlook ≡ txs_above state.tree block.header.prev
+first_is state block Stays is = sym is.above
+first_is state block (Folds plan) is = is.first
+
+pub block_leads : (old : NodeState) (tree : Tree) (pool : Listing) (announcers : List Connection) (block : Block) (from : Option Connection) (change : Change) (outlook : Option Outlook) (u : Unspent) (locator : List Hash256)
     → AcceptsBlock old.tree block (Ok change) tree → change.on ≢ []
     → (change.on ≢ [] → MayLead old.tree block.header.prev × (change.off ≡ reverse (map block_hash (headers_above old.tree block.header.prev))))
-    → MatchOption plan (¬ MayLead old.tree block.header.prev) (IsPlanOn old block.header.prev)
-    → IsUnspent tree u → Followed u old.pool pool plan → announcers ≡ announcers_after old.announcers true from → locator ≡ []
+    → IsForeseen old block outlook → IsUnspent tree u → Followed u old.pool pool outlook → announcers ≡ announcers_after old.announcers true from → locator ≡ []
     → TakesBlock old block from (record { refused = None; locator = locator }) (record { tree = tree; pool = pool; announcers = announcers })
-block_leads old tree pool announcers block from change None u locator accepts some leads planned unspent followed thanked untold = absurd (planned (leads some).0)
-block_leads old tree pool announcers block from change (Some plan) u locator accepts some leads planned unspent followed thanked untold =
+block_leads old tree pool announcers block from change None u locator accepts some leads foreseen unspent followed thanked untold = absurd (foreseen (leads some).0)
+block_leads old tree pool announcers block from change (Some outlook) u locator accepts some leads foreseen unspent followed thanked untold =
     let hashes = map block_hash (headers_above old.tree block.header.prev) in
     let tip : became_tip (Ok change) ≡ true = some_long change.on some in
-    let first : plan.first ≡ txs_put_off old.tree change.off = planned.first ∙ ap (txs_in old.tree) (sym (reverse-reverse hashes)) ∙ ap (txs_put_off old.tree) (sym (leads some).1) in
+    let first : first_of outlook ≡ txs_put_off old.tree change.off = first_is old block outlook foreseen ∙ ap (txs_in old.tree) (sym (reverse-reverse hashes)) ∙ ap (txs_put_off old.tree) (sym (leads some).1) in
     record {
       answer = Ok change;
       chain = accepts;
@@ -128,30 +141,27 @@ block_leads old tree pool announcers block from change (Some plan) u locator acc
       locator = untold;
     }
 
-pub leads_waits : (old : NodeState) (tree : Tree) (pool : Listing) (parent : Hash256) (plan : Option Plan) (u : Unspent)
-    → MayLead old.tree parent → MatchOption plan (¬ MayLead old.tree parent) (IsPlanOn old parent)
-    → IsUnspent tree u → Followed u old.pool pool plan → WaitOn tree pool
-leads_waits old tree pool parent None u leads planned unspent followed = absurd (planned leads)
-leads_waits old tree pool parent (Some plan) u leads planned unspent followed = waits_over tree pool u unspent followed.1
+pub leads_waits : (old : NodeState) (tree : Tree) (pool : Listing) (block : Block) (outlook : Option Outlook) (u : Unspent)
+    → MayLead old.tree block.header.prev → IsForeseen old block outlook → IsUnspent tree u → Followed u old.pool pool outlook → WaitOn tree pool
+leads_waits old tree pool block None u leads foreseen unspent followed = absurd (foreseen leads)
+leads_waits old tree pool block (Some outlook) u leads foreseen unspent followed = waits_over tree pool u unspent followed.1
 
--- the plan's room is room for the pool
-pub room_of : (state : NodeState) (parent : Hash256) (plan : Option Plan) → MatchOption plan (¬ MayLead state.tree parent) (IsPlanOn state parent)
-    → IfSome plan (λ p. HasRoom p state.pool.list)
-room_of state parent None planned = tt
-room_of state parent (Some plan) planned = planned.room
+-- the pool is ready for what was foreseen, once the chain has taken the block
+pub ready_for : (old : NodeState) (tree : Tree) (block : Block) (change : Change) (outlook : Option Outlook) (u : Unspent)
+    → AcceptsBlock old.tree block (Ok change) tree → change.on ≢ [] → IsForeseen old block outlook → IsUnspent tree u → IfSome outlook (IsReady u old.pool.list)
+ready_for old tree block change None u accepts some foreseen unspent = tt
+ready_for old tree block change (Some Stays) u accepts some foreseen unspent =
+    foreseen.wait u (grown_on old.tree tree block change foreseen.unspent u accepts some foreseen.on foreseen.behind_tip unspent)
+ready_for old tree block change (Some (Folds plan)) u accepts some foreseen unspent = foreseen.room
 
--- a plan for the whole state and the block that was shown
-pub planned_for : (whole old : NodeState) (shown block : Block) (plan : Option Plan) → old ≡ whole → shown ≡ block
-    → MatchOption plan (¬ MayLead whole.tree shown.header.prev) (IsPlanOn whole shown.header.prev)
-    → MatchOption plan (¬ MayLead old.tree block.header.prev) (IsPlanOn old block.header.prev)
-planned_for whole old shown block plan same_state same_block planned =
-    subst (λ (state : NodeState). MatchOption plan (¬ MayLead state.tree block.header.prev) (IsPlanOn state block.header.prev)) (sym same_state)
-    (subst (λ (b : Block). MatchOption plan (¬ MayLead whole.tree b.header.prev) (IsPlanOn whole b.header.prev)) same_block planned)
+-- what was foreseen of the whole state
+pub foreseen_for : (whole old : NodeState) (block : Block) (outlook : Option Outlook) → old ≡ whole → IsForeseen whole block outlook → IsForeseen old block outlook
+foreseen_for whole old block outlook same foreseen = subst (λ (state : NodeState). IsForeseen state block outlook) (sym same) foreseen
 
 -- ---- headers
 
 -- the locator was read before the chain changed
-pub heads_taken : (old : NodeState) (tree : Tree) (headers : List Header) (heads : Heads) (met locator : List Hash256) → TakesHeaders old.tree headers heads.refused met tree → Stays old.tree tree
+pub heads_taken : (old : NodeState) (tree : Tree) (headers : List Header) (heads : Heads) (met locator : List Hash256) → TakesHeaders old.tree headers heads.refused met tree → laws.Stays old.tree tree
     → locator ≡ locator_of old.tree → heads.lack ≡ filter (is_lacking tree) met → heads.locator ≡ locator_for heads.refused locator → TakesHeads old headers heads (record old { tree = tree })
 heads_taken old tree headers heads met locator takes stays read lack told =
     record {

@@ -2,6 +2,7 @@ pub mod Announcers
 pub mod Giving
 pub mod Mining
 pub mod News
+pub mod Outlooks
 pub mod Parts
 pub mod Serving
 pub mod State

@@ -4,9 +4,10 @@ ghost use Rattle.cb_block.specs.Blocks.{MeetsBlockRules};
 ghost use Rattle.cb_chain.specs.Entries.{is_lacking};
 ghost use Rattle.cb_chain.specs.Laws.{MayLead};
 ghost use Rattle.cb_ledger.specs.Spend.{spend};
-ghost use Rattle.cb_pool.specs.Folding.{HasRoom, Refolds};
+ghost use Rattle.cb_pool.specs.Folding.{Refolds};
 ghost use Rattle.cb_pool.specs.Listing.{txs_of};
-ghost use Rattle.cb_state.specs.Giving.{IsPlanOn, TakesBlock, TakesHeads, TakesTx, announcers_after, locator_for, txs_above, txs_under};
+ghost use Rattle.cb_state.specs.Giving.{TakesBlock, TakesHeads, TakesTx, announcers_after, locator_for, txs_above, txs_under};
+ghost use Rattle.cb_state.specs.Outlooks.{IsOutlookOn, IsReady, first_of};
 
 use crate::announcers::Announcers;
 use crate::connection::Connection;
@@ -17,7 +18,7 @@ use cb_block::{Header, SoundBlock};
 use cb_chain::{Chain, Hashes, kept_meet_rules};
 use cb_ledger::Ledger;
 use cb_payload::Locator;
-use cb_pool::{Candidate, Pool, Refolding};
+use cb_pool::{Candidate, Pool, Refolding, stays_as_it_is, stays_behind_others};
 use cb_tx::Tx;
 use std::alloc::Global;
 
@@ -98,14 +99,25 @@ fn lacking(chain: &Chain, hashes: Hashes) -> Hashes
     Hashes::new(list)
 }
 
-// Folds the pool anew by a plan, where there is one.
-fn follow(pool: &mut Pool, ledger: &Ledger, plan: Option<Refolding>)
-    requires room { IfSome plan (λ plan. HasRoom plan pool.old.list) }
-    ensures { MatchOption plan (pool.new ≡ pool.old) (λ plan. Refolds ledger.now.unspent plan.first pool.old pool.new
+// What becomes of the pool where a block becomes the tip.
+#[derive(Drop)]
+enum Outlook {
+    // It stays: the block comes on the tip, and spends and makes no output that the pool's transactions spend or make.
+    Stays,
+    // It is folded anew by a plan.
+    Folds(Refolding),
+}
+
+// The pool goes by an outlook, where there is one.
+fn follow(pool: &mut Pool, ledger: &Ledger, outlook: Option<Outlook>)
+    requires ready { IfSome outlook (IsReady ledger.now.unspent pool.old.list) }
+    ensures { MatchOption outlook (pool.new ≡ pool.old) (λ outlook. Refolds ledger.now.unspent (first_of outlook) pool.old pool.new
         × IsOk (spend ledger.now.unspent (txs_of pool.new.list))) }
 {
-    if let Some(plan) = plan {
-        pool.refold_with(ledger, plan);
+    match outlook {
+        Some(Outlook::Folds(plan)) => pool.refold_with(ledger, plan),
+        Some(Outlook::Stays) => stays_as_it_is(pool, ledger),
+        None => {}
     }
 }
 
@@ -147,7 +159,7 @@ impl State {
         ensures memory { IsOkUnless result Memory }
     {
         let locator = locator_of(&self.chain)?;
-        let plan = self.plan_for(&block.block().header.prev)?;
+        let outlook = self.outlook_on(&block)?;
         let change = match self.chain.accept_block(block) {
             Ok(change) => change,
             Err(fault) => return refusal(self.alloc, fault, locator),
@@ -159,7 +171,7 @@ impl State {
         if change.on.as_slice().is_empty() {
             return Ok(taken);
         }
-        follow(&mut self.pool, self.chain.ledger(), plan);
+        follow(&mut self.pool, self.chain.ledger(), outlook);
         thank(&mut self.announcers, from);
         Ok(taken)
     }
@@ -181,12 +193,13 @@ impl State {
         })
     }
 
-    // How the pool is folded anew where a block on this parent becomes the tip. There is no plan where that can't be, since
-    // the parent isn't known, or stands below the tip. The only error is `Fault::Memory`.
-    fn plan_for(&self, parent: &Hash256) -> Result<Option<Refolding>, Fault>
-        ensures plan { IfOk result (λ plan. MatchOption plan (¬ MayLead self.now.tree parent.now) (IsPlanOn self.now parent.now)) }
+    // What becomes of the pool where a block becomes the tip. There is no outlook where that can't be, since the block's parent
+    // isn't known, or stands below the tip. The only error is `Fault::Memory`.
+    fn outlook_on(&self, block: &SoundBlock) -> Result<Option<Outlook>, Fault>
+        ensures outlook { IfOk result (λ outlook. MatchOption outlook (¬ MayLead self.now.tree block.now.header.prev) (IsOutlookOn self.now block.now)) }
         ensures memory { IsOkUnless result Memory }
     {
+        let parent = &block.block().header.prev;
         let Some(height) = self.chain.height(parent) else {
             return Ok(None);
         };
@@ -194,7 +207,14 @@ impl State {
             return Ok(None);
         }
         let first = self.put_off_for(parent)?;
-        Ok(Some(self.pool.refolding(first)?))
+        if first.as_slice().is_empty()
+            && *parent == self.chain.tip()
+            && self.pool.is_apart_from(block)
+        {
+            stays_behind_others(&self.pool, self.chain.ledger());
+            return Ok(Some(Outlook::Stays));
+        }
+        Ok(Some(Outlook::Folds(self.pool.refolding(first)?)))
     }
 
     // The transactions other than coinbases of the blocks above the place where the active chain left a parent's branch, the

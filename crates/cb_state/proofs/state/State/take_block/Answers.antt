@@ -2,7 +2,7 @@ use Rattle.std.proofs.Common.{◌≡◌, ◌∙◌, [], List, subst, sym}
 use Rattle.std.specs.Prelude.{◌≢◌}
 use Rattle.cb_base.specs.declared.hash.Hash256.{Hash256}
 use Rattle.cb_state.specs.State.{NodeState}
-use Rattle.cb_state.proofs.Takings.{block_aside, block_leads, block_refused, leads_waits, nothing_on, planned_for, something_on, waits_on}
+use Rattle.cb_state.proofs.Takings.{block_aside, block_leads, block_refused, foreseen_for, leads_waits, nothing_on, ready_for, something_on, waits_on}
 use Rattle.cb_state.proofs.state.State.take_block.Goals as goal
 
 pub returns-in-Err-clause-taken : goal.returns-in-Err-clause-taken
@@ -26,14 +26,21 @@ pub invariant_of-self-2 : goal.invariant_of-self-2
 invariant_of-self-2 c =
     let old : NodeState = record { tree = c.self.inside.chain; pool = c.self.inside.pool; announcers = c.self.inside.announcers } in
     let some : c.in-Ok.change.on ≢ [] = subst (λ (hashes : List Hash256). hashes ≢ []) c.as_slice.ensures (something_on c.as_slice.result.now (sym c.is_empty.ensures ∙ c.if-is_empty.false)) in
-    let planned = planned_for c.args.self.now old c.block-2.result.now c.args.block c.in_ok-plan.plan c.self.view_is c.block-2.ensures.same c.in_ok-plan.ensures.plan in
-    leads_waits old c.accept_block.new.self c.follow.new.pool c.args.block.header.prev c.in_ok-plan.plan c.ledger.result.now.unspent (c.in-Ok.ensures.leads some).0 planned c.ledger.ensures c.follow.ensures
+    let foreseen = foreseen_for c.args.self.now old c.args.block c.in_ok-outlook.outlook c.self.view_is c.in_ok-outlook.ensures.outlook in
+    leads_waits old c.accept_block.new.self c.follow.new.pool c.args.block c.in_ok-outlook.outlook c.ledger.result.now.unspent (c.in-Ok.ensures.leads some).0 foreseen c.ledger.ensures c.follow.ensures
 
 pub returns-clause-taken : goal.returns-clause-taken
 returns-clause-taken c =
     let old : NodeState = record { tree = c.self.inside.chain; pool = c.self.inside.pool; announcers = c.self.inside.announcers } in
     let some : c.in-Ok.change.on ≢ [] = subst (λ (hashes : List Hash256). hashes ≢ []) c.as_slice.ensures (something_on c.as_slice.result.now (sym c.is_empty.ensures ∙ c.if-is_empty.false)) in
-    let planned = planned_for c.args.self.now old c.block-2.result.now c.args.block c.in_ok-plan.plan c.self.view_is c.block-2.ensures.same c.in_ok-plan.ensures.plan in
+    let foreseen = foreseen_for c.args.self.now old c.args.block c.in_ok-outlook.outlook c.self.view_is c.in_ok-outlook.ensures.outlook in
     let told : c.from_few.result ≡ [] = c.from_few.ensures ∙ c.new.ensures.items in
     rw (← c.self.view_is)
-    (block_leads old c.accept_block.new.self c.follow.new.pool c.thank.new.announcers c.args.block c.args.from c.in-Ok.change c.in_ok-plan.plan c.ledger.result.now.unspent c.from_few.result c.in-Ok.ensures.ok some c.in-Ok.ensures.leads planned c.ledger.ensures c.follow.ensures c.thank.ensures told)
+    (block_leads old c.accept_block.new.self c.follow.new.pool c.thank.new.announcers c.args.block c.args.from c.in-Ok.change c.in_ok-outlook.outlook c.ledger.result.now.unspent c.from_few.result c.in-Ok.ensures.ok some c.in-Ok.ensures.leads foreseen c.ledger.ensures c.follow.ensures c.thank.ensures told)
+
+pub follow-requires : goal.follow-requires
+follow-requires c =
+    let old : NodeState = record { tree = c.self.inside.chain; pool = c.self.inside.pool; announcers = c.self.inside.announcers } in
+    let some : c.in-Ok.change.on ≢ [] = subst (λ (hashes : List Hash256). hashes ≢ []) c.as_slice.ensures (something_on c.as_slice.result.now (sym c.is_empty.ensures ∙ c.if-is_empty.false)) in
+    let foreseen = foreseen_for c.args.self.now old c.args.block c.in_ok-outlook.outlook c.self.view_is c.in_ok-outlook.ensures.outlook in
+    record { ready = ready_for old c.accept_block.new.self c.args.block c.in-Ok.change c.in_ok-outlook.outlook c.ledger.result.now.unspent c.in-Ok.ensures.ok some foreseen c.ledger.ensures }
