@@ -2,7 +2,7 @@
 """Measures compact blocks: short ids, finding transactions among few and many pairs, blocks that are rebuilt, and growths of memory.
 
 It needs the built program crates/bench_compact/out/bench_compact (as ./build bench_compact leaves it), openssl, a C compiler as `cc`, and
-python3, and takes some two minutes. Times are of the processor. What an order takes is the least time of some runs with it, less that of
+python3, and takes some three minutes. Times are of the processor. What an order takes is the least time of some runs with it, less that of
 as many that only copy its pairs, or that do without it; orders whose times are compared take turns. Ids are drawn at random. Beside them
 stand ids that whoever sends a block would pick: a search found them, such that in a table that hashes with std's fixed seed they would all
 begin at one group, or have the same tag too. The status is 0 where `place` meets as many growths of as many bytes at small transactions as
@@ -161,21 +161,24 @@ def twice(runs, name, counts, plays):
     print(f"place of ids {name}: {some * 1e3:.2f} ms for {counts[0]:,}, {double * 1e3:.2f} ms for {counts[1]:,}: {double / some:.2f} times as long", flush=True)
 
 
+def among(ids, others, most, rng):
+    """So many pairs: of all of these ids but the first, as many as there are, and of others."""
+    right = [(name, number) for number, name in enumerate(ids) if number > 0][:most]
+    return shuffled(right + [(name, 0) for name in others[: most - len(right)]], rng)
+
+
 def twice_the_ids(runs, searched):
-    """Half as many ids as fit and as many, of which one lacks its pair, at random and such that they would meet; and at random fewer of them,
-    which stay near the processor, and both among the same pairs."""
+    """Half as many ids as fit and as many, at random and such that they would meet, among the same pairs; and where each id but one has a
+    pair, so that twice the pairs come with them."""
     rng, group, half = random.Random(3), groups_of(IDS) - 1, (IDS // 2, IDS)
     ids, others, text = rng.sample(range(1 << 48), IDS), rng.sample(range(1 << 48), MANY), blocks_of(IDS, 60)
     kinds = [("at random", ids), ("that would begin at one group", searched.alike(IDS, group)),
              ("that would begin there with the same tag", searched.alike(IDS, group | 0xFF00_0000))]
     for name, picked in kinds:
-        twice(runs, name, half, [placing_all(picked[:count]) for count in half])
-    few = (IDS // 16, IDS // 8)
-    twice(runs, "at random", few, [placing_all(ids[:count]) for count in few])
-    for most in (FEW, MANY):
-        right = [(name, number) for number, name in enumerate(ids) if number > 0][:most]
-        pairs = shuffled(right + [(name, 0) for name in others[: most - len(right)]], rng)
-        twice(runs, f"at random among the same {most:,} pairs", half, [placing(known(text, ids[:count], pairs)) for count in half])
+        for most in (FEW, MANY):
+            pairs = among(picked, others, most, rng)
+            twice(runs, f"{name}, among {most:,} pairs", half, [placing(known(text, picked[:count], pairs)) for count in half])
+        twice(runs, f"{name}, each with a pair", half, [placing_all(picked[:count]) for count in half])
 
 
 def growths(program, library, data):

@@ -30,7 +30,7 @@ FEW, MANY = (5_000, 30), (50_000, 3)
 CALLS = 1_000_000
 # How many transactions a small pool has, how many short ids are looked for in one, and how often: a match, and the list of its pairs.
 FEW_WAITING, IDS, MATCHES, LISTS = 1_000, 100, 10_000, 2_000
-TURNS = 3 * RUNS
+TURNS, BLOCK_TURNS = 3 * RUNS, 12 * RUNS
 
 
 class Runs(ChainRuns):
@@ -106,16 +106,17 @@ def leaves(runs):
 
 
 def blocks(runs, pools):
-    """A block of transactions over three pools."""
-    kinds = [("an empty pool", []), (f"a pool of {WAITING:,} others", pools.others), ("a pool of all of them", pools.own)]
+    """A block of transactions over some pools, at a short journal: behind a long one what is written before drowns it."""
+    kinds = [("an empty pool", []), (f"a pool of {WAITING:,} others", pools.others), ("a pool of all of them", pools.own),
+             (f"a pool of {WAITING:,} of which the block holds one", pools.own[:1] + pools.others[1:])]
     give = asked("block", pools.block, True)
-    names = [f"a block of {GIVEN:,} transactions over {name}" for name, _ in kinds]
-    plays = [at_lengths(lambda length, pool=pool: pools.ground(pool, length), give, 1) for _, pool in kinds]
-    bare, *others = tell_times(runs, names, plays, [1] * len(kinds))
+    grounds = [pools.ground(pool, LOW) for _, pool in kinds]
+    bare, *others = seconds_of([(runs, Play(ground + repeated(1, *give), ground + repeated(0, *give))) for ground in grounds], BLOCK_TURNS)
     rate = runs.hashed_a_second()
+    print(f"a block of {GIVEN:,} transactions over an empty pool: {bare * 1e3:,.2f} ms")
     for (name, _), took in zip(kinds[1:], others):
         more = took - bare
-        print(f"  over {name} {more * 1e3:,.3f} ms more than over an empty one, in which openssl hashes {more * rate / 1e6:,.2f} MB")
+        print(f"  over {name} {more * 1e3:,.2f} ms more, in which openssl hashes {more * rate / 1e6:,.2f} MB", flush=True)
 
 
 def mined(runs, pools):
