@@ -1,7 +1,7 @@
 #!/usr/bin/env python3
 """Measures the hall: questions at a short journal and at a long one, and the memory of long journals.
 
-It needs the built program crates/bench_hall/out/bench_hall (as ./build bench_hall leaves it) and python3, and takes some five minutes.
+It needs the built program crates/bench_hall/out/bench_hall (as ./build bench_hall leaves it) and python3, and takes some eight minutes.
 Times are of the processor. What a call takes is the least time of some runs with it, less that of as many that only read it; calls whose
 times are compared take turns. How much `openssl dgst -sha256` hashes in that time tells what the machine does. Memory is what a run has
 at its greatest, less that of a run of no input.
@@ -30,7 +30,7 @@ FEW, MANY = (5_000, 30), (50_000, 3)
 CALLS = 1_000_000
 # How many transactions a small pool has, how many short ids are looked for in one, and how often: a match, and the list of its pairs.
 FEW_WAITING, IDS, MATCHES, LISTS = 1_000, 100, 10_000, 2_000
-TURNS, BLOCK_TURNS = 3 * RUNS, 12 * RUNS
+TURNS, BLOCK_TURNS = 3 * RUNS, 8 * RUNS
 
 
 class Runs(ChainRuns):
@@ -90,9 +90,9 @@ def at_lengths(ground_of, call, count):
     return [Play(ground_of(length) + repeated(count, *call), ground_of(length) + repeated(0, *call)) for length in (LOW, HIGH)]
 
 
-def tell_times(runs, names, plays, counts):
+def tell_times(runs, names, plays, counts, turns=TURNS):
     """What a call takes at a short journal and at a long one."""
-    took = seconds_of([(runs, play) for pair in plays for play in pair], TURNS)
+    took = seconds_of([(runs, play) for pair in plays for play in pair], turns)
     short = []
     for name, count, low, high in zip(names, counts, took[::2], took[1::2]):
         short.append(low / count)
@@ -106,17 +106,17 @@ def leaves(runs):
 
 
 def blocks(runs, pools):
-    """A block of transactions over some pools, at a short journal: behind a long one what is written before drowns it."""
+    """A block of transactions over some pools. Behind a long journal what is written before takes much longer, so it takes more turns."""
     kinds = [("an empty pool", []), (f"a pool of {WAITING:,} others", pools.others), ("a pool of all of them", pools.own),
              (f"a pool of {WAITING:,} of which the block holds one", pools.own[:1] + pools.others[1:])]
     give = asked("block", pools.block, True)
-    grounds = [pools.ground(pool, LOW) for _, pool in kinds]
-    bare, *others = seconds_of([(runs, Play(ground + repeated(1, *give), ground + repeated(0, *give))) for ground in grounds], BLOCK_TURNS)
+    names = [f"a block of {GIVEN:,} transactions over {name}" for name, _ in kinds]
+    plays = [at_lengths(lambda length, pool=pool: pools.ground(pool, length), give, 1) for _, pool in kinds]
+    bare, *others = tell_times(runs, names, plays, [1] * len(kinds), BLOCK_TURNS)
     rate = runs.hashed_a_second()
-    print(f"a block of {GIVEN:,} transactions over an empty pool: {bare * 1e3:,.2f} ms")
     for (name, _), took in zip(kinds[1:], others):
         more = took - bare
-        print(f"  over {name} {more * 1e3:,.2f} ms more, in which openssl hashes {more * rate / 1e6:,.2f} MB", flush=True)
+        print(f"  over {name} {more * 1e3:,.2f} ms more than over an empty one, in which openssl hashes {more * rate / 1e6:,.2f} MB", flush=True)
 
 
 def mined(runs, pools):
