@@ -132,7 +132,7 @@ fn read_question<'a>(alloc: Global, kind: u8, cursor: &mut Cursor<'a>) -> Result
             Ok(Question::Serve(Request::After(locator, stop)))
         }
         b'n' => Ok(Question::News(read_told(cursor)?)),
-        b'd' => Ok(Question::Match(read_sought(alloc, cursor)?)),
+        b'd' => Ok(Question::Match(Shared::new(alloc, read_sought(alloc, cursor)?)?)),
         b'e' => {
             let hash = read_hash(cursor)?;
             let differences = read_numbers(alloc, cursor)?;

@@ -4,7 +4,7 @@ ghost use Rattle.cb_journal.specs.Copying.{is_plain_answer, is_plain_entry, is_p
 
 use crate::answer::Answer;
 use crate::entry::{Entry, Local};
-use crate::question::{Given, Question, Request, Sought};
+use crate::question::{Given, Question, Request};
 use cb_base::Fault;
 use cb_chain::Hashes;
 use cb_state::{BoundedBlock, Excerpt, Heads, Need, News, Piece, Pieces, Taken};
@@ -44,22 +44,6 @@ impl Given {
     }
 }
 
-impl Sought {
-    /// The same once more, whose ids are shared. It takes no memory: the only error is `Fault::Memory`, where a count of owners is
-    /// full.
-    pub fn copy(&self) -> Result<Sought, Fault>
-        ensures same { IfOk result (λ copy. copy ≡ self.now) }
-        ensures memory { IsOkUnless result Memory }
-    {
-        let ids = self.ids.clone()?;
-        Ok(Sought {
-            header: self.header,
-            nonce: self.nonce,
-            ids,
-        })
-    }
-}
-
 impl Request {
     /// The same request once more. The only error is `Fault::Memory`.
     pub fn copy(&self, alloc: Global) -> Result<Request, Fault>
@@ -94,7 +78,7 @@ impl Question {
             Question::GiveBlock(given) => Ok(Question::GiveBlock(given.copy()?)),
             Question::Serve(request) => Ok(Question::Serve(request.copy(alloc)?)),
             Question::News(told) => Ok(Question::News(*told)),
-            Question::Match(sought) => Ok(Question::Match(sought.copy()?)),
+            Question::Match(sought) => Ok(Question::Match(sought.clone()?)),
         }
     }
 }

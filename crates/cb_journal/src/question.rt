@@ -73,7 +73,7 @@ pub enum Question {
     /// What is new since the peer was told?
     News(Told),
     /// The peer gave a compact block: which transactions of the pool may stand in it?
-    Match(Sought),
+    Match(Shared<Sought>),
 }
 
 // For how many bytes a list of so many entries counts.

@@ -53,6 +53,7 @@ impl Session {
 
     // A message; a ping has its pong in any phase (BIP 31; before the handshake: own).
     #[tactic(auto, unfolding(crate::specs::Receiving::received))]
+    #[inline(never)]
     fn receive(&mut self, alloc: Global, message: &Message) -> Result<Made, Fault>
         ensures ok { IfOk result (λ made. Makes (received self.old message.now) (Some (Good message.now)) self.new made.messages.items made.next) }
         ensures memory { IsOkUnless result Memory }
@@ -72,6 +73,7 @@ impl Session {
 
     // Before the handshake only a version is heard.
     #[tactic(auto, unfolding(crate::specs::Receiving::in_start))]
+    #[inline(never)]
     fn hear_first(&mut self, alloc: Global, message: &Message) -> Result<Made, Fault>
         ensures ok { (item : Option Item) → IfOk result (λ made. Makes (in_start self.old message.now) item self.new made.messages.items made.next) }
         ensures memory { IsOkUnless result Memory }
@@ -119,6 +121,7 @@ impl Session {
 
     // Behind the peer's version: its verack makes the session ready, and it may tell how it wants to be told of blocks.
     #[tactic(auto, unfolding(crate::specs::Receiving::in_greeted))]
+    #[inline(never)]
     fn hear_greeted(&mut self, alloc: Global, message: &Message) -> Result<Made, Fault>
         ensures ok { IfOk result (λ made. Makes (in_greeted self.old message.now) (Some (Good message.now)) self.new made.messages.items made.next) }
         ensures memory { IsOkUnless result Memory }
@@ -170,6 +173,7 @@ impl Session {
 
     // Once the session is ready.
     #[tactic(auto, unfolding(crate::specs::Receiving::in_ready))]
+    #[inline(never)]
     fn hear_ready(&mut self, alloc: Global, message: &Message) -> Result<Made, Fault>
         ensures ok { IfOk result (λ made. Makes (in_ready self.old message.now) (Some (Good message.now)) self.new made.messages.items made.next) }
         ensures memory { IsOkUnless result Memory }

@@ -71,6 +71,7 @@ impl Session {
 
     // What the hall answers about an item.
     #[tactic(auto, unfolding(crate::specs::Replying::answered))]
+    #[inline(never)]
     fn hear_about(
         &mut self,
         alloc: Global,
@@ -186,6 +187,7 @@ impl Session {
 
     // The wanted blocks that are still needed are asked for, by type 2.
     #[tactic(auto, unfolding(crate::specs::Replying::wanted_told))]
+    #[inline(never)]
     fn hear_wanted(&mut self, alloc: Global, need: &Need) -> Result<Made, Fault>
         ensures ok { (item : Option Item) → IfOk result (λ made. Makes (wanted_told self.old need.now) item self.new made.messages.items made.next) }
         ensures memory { IsOkUnless result Memory }
@@ -202,6 +204,7 @@ impl Session {
 
     // What is new: the tip, and transactions.
     #[tactic(auto, unfolding(crate::specs::Replying::news_told))]
+    #[inline(never)]
     fn hear_news(
         &mut self,
         alloc: Global,

@@ -7,6 +7,9 @@ ghost use Rattle.cb_journal.specs.declared.question.Question.TheVariants as ques
 ghost use Rattle.cb_peer.specs.Plan.{Answers, IsLightPlan, Makes, is_light_ask};
 ghost use Rattle.cb_peer.specs.Receiving.{Plan, ends};
 ghost use Rattle.cb_peer.specs.Replying.{answered};
+ghost use Rattle.cb_peer.specs.Event.{ends_at_once};
+ghost use Rattle.cb_peer.specs.Session.{closes, open_step};
+ghost use Rattle.cb_peer.specs.State.{SessionState};
 
 use crate::ask::Ask;
 use crate::event::Event;
@@ -65,6 +68,7 @@ impl Session {
     ghost use Rattle.cb_journal.specs.declared.answer.Answer.TheVariants as answers;
     ghost use Rattle.cb_peer.specs.declared.event.Event.TheVariants as events;
     ghost use Rattle.cb_peer.specs.declared.state.CloseReason.TheVariants as reasons;
+    ghost use Rattle.cb_peer.specs.declared.state.State.TheVariants as states;
 
     /// A session at its beginning, and the messages that it opens with: where this node made the connection, its `version`.
     ///
@@ -145,7 +149,7 @@ impl Session {
     ///
     /// The only error is `Fault::Memory`, which closes the session. A closed session changes and sends nothing, and so
     /// does one to which the event doesn't fit.
-    #[tactic(auto, unfolding(crate::specs::Session::step_of))]
+    #[tactic(auto, unfolding(crate::specs::Session::step_of, crate::specs::Session::open_step))]
     pub fn step(
         &mut self,
         alloc: Global,
@@ -161,39 +165,29 @@ impl Session {
         if self.state.is_closed() {
             return Ok((Vec::new(alloc), None));
         }
-        let settings = self.settings;
-        let answer = self.open_step(alloc, event);
-        if answer.is_err() {
-            *self = Session::bare(alloc, settings, State::Closed(CloseReason::Memory));
-        }
-        answer
-    }
-
-    // The step of a session that isn't closed: one arm for each kind of event.
-    #[tactic(auto, unfolding(crate::specs::Session::open_step))]
-    fn open_step(
-        &mut self,
-        alloc: Global,
-        event: &Event,
-    ) -> Result<(Vec<BoundedMessage>, Option<Question>), Fault>
-        ensures ok { IfOk result (λ made. Answers (open_step self.old event.now) self.new made.0.items made.1) }
-        ensures memory { IsOkUnless result Memory }
-        ensures calm { takes_no_memory event.now ≡ true → IsOk result }
-        ensures silent { spares self.old event.now ≡ true → (open_step self.old event.now).messages ≡ [] → is_light (open_step self.old event.now).question ≡ true → IsOk result }
-    {
         match event {
-            Event::Said(item) => {
-                let shared = item.clone()?;
-                Ok(self.arrive(alloc, Some(shared)))
-            }
+            Event::Said(item) => match item.clone() {
+                Ok(shared) => Ok(self.arrive(alloc, Some(shared))),
+                Err(_) => Err(self.starve(alloc, self.settings)),
+            },
             Event::Tick => Ok(self.arrive(alloc, None)),
             Event::Told(answer) => self.hear_answer(alloc, answer),
-            Event::Broken(_) => Ok(self.close(alloc, CloseReason::BadStream)),
-            Event::ReaderEnd => Ok(self.close(alloc, CloseReason::Bye)),
-            Event::NoMemory => Ok(self.close(alloc, CloseReason::Memory)),
-            Event::HallFull => Ok(self.close(alloc, CloseReason::HallFull)),
-            Event::WriteFault => Ok(self.close(alloc, CloseReason::WriteFault)),
+            Event::Broken(_)
+            | Event::ReaderEnd
+            | Event::NoMemory
+            | Event::HallFull
+            | Event::WriteFault => Ok(self.close(alloc, end_of(event))),
         }
+    }
+
+    // Ends the session, which was given these settings, for want of memory.
+    #[cold]
+    fn starve(&mut self, alloc: Global, settings: Settings) -> Fault
+        ensures over { self.new ≡ bare settings (states.Closed reasons.Memory) }
+        ensures memory { result ≡ Memory }
+    {
+        *self = Session::bare(alloc, settings, State::Closed(CloseReason::Memory));
+        Fault::Memory
     }
 
     /// Ends the session. It takes no memory.
@@ -243,6 +237,7 @@ impl Session {
         answer: &Answer,
     ) -> Result<(Vec<BoundedMessage>, Option<Question>), Fault>
         ensures ok { IfOk result (λ made. Answers (told self.old.standing self.old answer.now) self.new made.0.items made.1) }
+        ensures err { OnErr result (self.new ≡ over reasons.Memory self.old) }
         ensures memory { IsOkUnless result Memory }
         ensures calm { answer.now ≡ answers.Kicked → IsOk result }
         ensures silent { spares self.old (events.Told answer.now) ≡ true → (told self.old.standing self.old answer.now).messages ≡ [] → is_light (told self.old.standing self.old answer.now).question ≡ true → IsOk result }
@@ -265,13 +260,17 @@ impl Session {
         answer: &Answer,
     ) -> Result<(Vec<BoundedMessage>, Option<Question>), Fault>
         ensures ok { IfOk result (λ made. Answers (for_item standing.item (answered self.old standing.item standing.ask answer.now)) self.new made.0.items made.1) }
+        ensures err { OnErr result (self.new ≡ over reasons.Memory self.old) }
         ensures memory { IsOkUnless result Memory }
         ensures calm { answer.now ≡ answers.Kicked → IsOk result }
         ensures silent { weighs_item standing.item ≡ false → weighs_answer answer.now ≡ false → IsLightPlan (answered self.old standing.item standing.ask answer.now) → IsOk result }
     {
         let Standing { item, ask } = standing;
-        let made = self.answered(alloc, &item, ask, answer)?;
-        Ok(self.stand(item, made))
+        let settings = self.settings;
+        match self.answered(alloc, &item, ask, answer) {
+            Ok(made) => Ok(self.stand(item, made)),
+            Err(_) => Err(self.starve(alloc, settings)),
+        }
     }
 
     // What is asked stands with the item. The answer is what the step sends and asks.
@@ -329,5 +328,21 @@ impl Session {
                 whole: false,
             }),
         }
+    }
+}
+
+// Why an event ends a session that is neither an item, a tick nor an answer.
+#[tactic(auto, unfolding(crate::specs::Session::open_step))]
+fn end_of(event: &Event) -> CloseReason
+    requires { ends_at_once event.now ≡ true }
+    ensures { (s : SessionState) → open_step s event.now ≡ closes result s }
+{
+    match event {
+        Event::Broken(_) => CloseReason::BadStream,
+        Event::NoMemory => CloseReason::Memory,
+        Event::HallFull => CloseReason::HallFull,
+        Event::WriteFault => CloseReason::WriteFault,
+        Event::ReaderEnd => CloseReason::Bye,
+        Event::Said(_) | Event::Tick | Event::Told(_) => unreachable!(),
     }
 }

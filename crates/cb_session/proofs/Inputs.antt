@@ -1,14 +1,13 @@
 -- What a connection has heard: its inputs against what the bytes spell.
-use Rattle.std.proofs.Common.{◌≡◌, ◌≢◌, ◌<◌, ℕ, ◌+◌, ◌≤◌, ◌^◌, Bool, true, false, cond, eqb, ◌||◌, List, [], ◌∷◌, ◌++◌, length, take, Option, Some, None, Result, Ok, Err, refl, sym, ap, subst, ◌∙◌, append_assoc, arith, inl, inr, ◌⊎◌}
-use Rattle.std.specs.Prelude.{reverse, fold, IsOk, IsOkUnless}
+use Rattle.std.proofs.Common.{◌≡◌, ◌≢◌, ◌<◌, ℕ, ◌+◌, ◌≤◌, Bool, true, false, cond, ◌||◌, List, [], ◌∷◌, ◌++◌, length, take, Option, Some, None, Result, Ok, Err, refl, sym, ap, subst, ◌∙◌, append_assoc, arith, inl, inr, ◌⊎◌}
+use Rattle.std.specs.Prelude.{fold, IsOk, IsOkUnless}
 use Rattle.std.specs.List.{list_any}
 use Rattle.std.proofs.lemmas.List.Folds.{list_any-append}
-use Rattle.std.proofs.lemmas.List.{append-nil, length-append, map-append, reverse-append}
+use Rattle.std.proofs.lemmas.List.{append-nil, length-append, map-append}
 use Rattle.std.specs.Io.KnownBytes.{Consumes, Keeps}
 use Rattle.cb_base.specs.declared.fault.Fault.{Fault}
 use Rattle.cb_base.specs.declared.fault.Fault.TheVariants.{Memory}
 use Rattle.cb_wire.specs.declared.item.Item.{Item}
-use Rattle.cb_wire.specs.declared.item.Item.TheVariants.{Good, Damaged, Bad}
 use Rattle.cb_wire.specs.declared.envelope.Front.{Front}
 use Rattle.cb_wire.specs.declared.envelope.Front.TheVariants.{Partial, Broken, Whole}
 use Rattle.cb_wire.specs.Envelope.{front_at}
@@ -25,8 +24,8 @@ use Rattle.cb_peer.specs.declared.state.State.TheVariants.{Start, Closed}
 use Rattle.cb_peer.specs.declared.state.CloseReason.TheVariants.{Bye}
 use Rattle.cb_trace.specs.declared.trace.TraceEntry.{TraceEntry}
 use Rattle.cb_peer.specs.Event.{is_input, is_reader_end, kind_of}
-use Rattle.cb_peer.specs.State.{SessionState, is_closed}
-use Rattle.cb_trace.specs.Fold.{Account, EachOpen, account_of, account_step, entry_step, first_account, inputs_of, session_of}
+use Rattle.cb_peer.specs.State.{is_closed}
+use Rattle.cb_trace.specs.Fold.{Account, EachOpen, account_of, account_step, first_account, inputs_of, session_of}
 use Rattle.cb_trace.proofs.Entries.{entry_bye}
 use Rattle.cb_session.specs.declared.reading.ReadEnd.{ReadEnd}
 use Rattle.cb_session.specs.declared.reading.ReadEnd.TheVariants as ends
@@ -125,10 +124,6 @@ took_stopped told refused from now inputs taken more all e closed t =
       settled = t.settled;
       all = λ h. absurd (let clash = sym h ∙ closed in cc);
     }
-
--- the last one waiting is the next
-pub next_waiting : (old new : List Item) (item : Item) → old ≡ new ++ item ∷ [] → reverse old ≡ item ∷ reverse new
-next_waiting old new item e = ap reverse e ∙ reverse-append new (item ∷ [])
 
 -- ---- a piece
 

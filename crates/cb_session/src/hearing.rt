@@ -59,9 +59,7 @@ fn give_all<'a, W: Sink, H: Oracle>(
         Settled H.told H.refused from (progress conversation.old.trace.now conversation.old.hall.now conversation.old.badge.now (W.contents conversation.old.writer.now) (W.has_failed conversation.old.writer.now) conversation.old.written) inputs false →
         Took H.told H.refused from (progress conversation.new.trace.now conversation.new.hall.now conversation.new.badge.now (W.contents conversation.new.writer.now) (W.has_failed conversation.new.writer.now) conversation.new.written) inputs items.items }
 {
-    let mut waiting = items;
-    waiting.reverse();
-    while let Some(item) = waiting.pop() {
+    for item in items {
         if conversation.state().is_closed() {
             return;
         }

@@ -80,7 +80,7 @@ fn sought(alloc: Global) -> Result<Sought, Fault> {
 }
 
 fn asked_match(alloc: Global) -> Result<Question, Fault> {
-    Ok(Question::Match(sought(alloc)?))
+    Ok(Question::Match(Shared::new(alloc, sought(alloc)?)?))
 }
 
 fn kind_asked(question: &Question) -> char {

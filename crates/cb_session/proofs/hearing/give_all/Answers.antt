@@ -1,10 +1,9 @@
 use Rattle.std.proofs.Common.{List, [], ◌∷◌, ◌++◌, refl, sym, ap, ◌∙◌, append_assoc}
-use Rattle.std.specs.Prelude.{reverse}
-use Rattle.std.proofs.lemmas.List.{reverse-reverse}
+use Rattle.std.specs.Vec.Iter.{into_iter_items}
 use Rattle.cb_wire.specs.declared.item.Item.{Item}
 use Rattle.cb_peer.specs.State.{is_closed}
 use Rattle.cb_session.proofs.Accounts.{open_kept}
-use Rattle.cb_session.proofs.Inputs.{next_waiting, took_more, took_none, took_stopped}
+use Rattle.cb_session.proofs.Inputs.{took_more, took_none, took_stopped}
 use Rattle.cb_session.proofs.hearing.give_all.Goals as goal
 
 pub loop-item-init : goal.loop-item-init
@@ -13,7 +12,7 @@ loop-item-init g c =
       ends = (refl, refl, refl, refl);
       heeds = λ h. (g.met.W.Sink.heeds_none _, h);
       taken = [];
-      parts = sym (ap reverse c.reverse.ensures.items ∙ reverse-reverse c.args.items.items);
+      parts = sym c.into_iter-item-iterator.ensures.into_iter_gives.0;
       took = λ from inputs s. took_none g.H.Oracle.told g.H.Oracle.refused from _ inputs s;
     }
 
@@ -35,8 +34,8 @@ loop-item-preserved g c =
       taken = c.loop-item.invariant.taken ++ c.in-Some.item ∷ [];
       parts =
           c.loop-item.invariant.parts
-          ∙ ap (λ (is : List Item). c.loop-item.invariant.taken ++ is) (next_waiting c.loop-item.waiting.items c.pop.new.self.items c.in-Some.item c.in-Some.ensures.items)
-          ∙ sym (append_assoc c.loop-item.invariant.taken (c.in-Some.item ∷ []) (reverse c.pop.new.self.items));
+          ∙ ap (λ (is : List Item). c.loop-item.invariant.taken ++ is) c.in-Some.ensures.steps.0
+          ∙ sym (append_assoc c.loop-item.invariant.taken (c.in-Some.item ∷ []) (into_iter_items c.next.new.self));
       took =
           λ from inputs s.
           let t = c.loop-item.invariant.took from inputs s in
@@ -47,4 +46,4 @@ pub returns-then-is_closed-clause-took : goal.returns-then-is_closed-clause-took
 returns-then-is_closed-clause-took g c =
     let closed = ap is_closed (sym c.state.ensures) ∙ sym c.is_closed.ensures ∙ c.if-is_closed.true in
     λ from inputs s.
-    took_stopped g.H.Oracle.told g.H.Oracle.refused from _ inputs c.loop-item.invariant.taken (reverse c.loop-item.waiting.items) c.args.items.items c.loop-item.invariant.parts closed (c.loop-item.invariant.took from inputs s)
+    took_stopped g.H.Oracle.told g.H.Oracle.refused from _ inputs c.loop-item.invariant.taken (into_iter_items c.loop-item.item-iterator) c.args.items.items c.loop-item.invariant.parts closed (c.loop-item.invariant.took from inputs s)

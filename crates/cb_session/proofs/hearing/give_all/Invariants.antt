@@ -1,5 +1,5 @@
-use Rattle.std.proofs.Common.{◌≡◌, false, List, ◌++◌, vec_len}
-use Rattle.std.specs.Prelude.{reverse}
+use Rattle.std.proofs.Common.{◌≡◌, false, List, ◌++◌}
+use Rattle.std.specs.Vec.Iter.{into_iter_items}
 use Rattle.cb_wire.specs.declared.item.Item.{Item}
 use Rattle.cb_peer.specs.declared.event.Event.{Event}
 use Rattle.cb_session.specs.Conversation.{Origin, Settled, WritesOn, progress}
@@ -12,10 +12,7 @@ invariant-loop-item g l = record {
   ends : (l.conversation.trace.ghost_name ≡ l.fn.conversation.trace.ghost_name) × (l.conversation.writer.ghost_name ≡ l.fn.conversation.writer.ghost_name) × (l.conversation.hall.ghost_name ≡ l.fn.conversation.hall.ghost_name) × (l.conversation.badge.ghost_name ≡ l.fn.conversation.badge.ghost_name);
   heeds : WritesOn l.fn.conversation.trace.now (g.W.Sink.has_failed l.fn.conversation.writer.now) → g.W.Sink.heeds_failure l.fn.conversation.writer.now l.conversation.writer.now × WritesOn l.conversation.trace.now (g.W.Sink.has_failed l.conversation.writer.now);
   taken : List Item;
-  parts : l.fn.items.items ≡ taken ++ reverse l.waiting.items;
+  parts : l.fn.items.items ≡ taken ++ into_iter_items l.item-iterator;
   took : (from : Origin g.row.H.Denot) (inputs : List Event) →
       Settled g.H.Oracle.told g.H.Oracle.refused from (progress l.fn.conversation.trace.now l.fn.conversation.hall.now l.fn.conversation.badge.now (g.W.Sink.contents l.fn.conversation.writer.now) (g.W.Sink.has_failed l.fn.conversation.writer.now) l.fn.conversation.written) inputs false → Took g.H.Oracle.told g.H.Oracle.refused from (progress l.conversation.trace.now l.conversation.hall.now l.conversation.badge.now (g.W.Sink.contents l.conversation.writer.now) (g.W.Sink.has_failed l.conversation.writer.now) l.conversation.written) inputs taken;
 }
-
-abbrev pub decreases-loop-item : goal.decreases-loop-item
-decreases-loop-item g l = vec_len l.waiting

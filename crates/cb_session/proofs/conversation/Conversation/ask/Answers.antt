@@ -1,4 +1,4 @@
-use Rattle.std.proofs.Common.{List, [], sym, subst, true, false, ◌∙◌}
+use Rattle.std.proofs.Common.{List, [], sym, subst, true, false}
 use Rattle.cb_wire.specs.Stream.{texts}
 use Rattle.cb_wire.specs.declared.message.Message.{Message}
 use Rattle.cb_session.specs.Conversation.{Accounts, progress}

@@ -1,6 +1,6 @@
 use Rattle.std.proofs.Common.{ap, sym, ◌∙◌}
 use Rattle.cb_peer.specs.State.{is_closed}
-use Rattle.cb_session.proofs.Accounts.{all_answered, may_ask_on, not_both, open_question_is, open_told, open_whole, stands_on}
+use Rattle.cb_session.proofs.Accounts.{may_ask_on, not_both, open_question_is, open_told, open_whole, stands_on}
 use Rattle.cb_session.proofs.conversation.Conversation.converse.Goals as goal
 
 pub ask-messages-requires : goal.ask-messages-requires
