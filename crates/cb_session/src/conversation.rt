@@ -86,6 +86,7 @@ impl<'a, W: Sink, H: Oracle> Conversation<'a, W, H> {
     }
 
     /// Gives the session what came of the peer: writes what it sends, and asks the hall what it asks, until it asks no more.
+    #[inline(always)]
     pub fn give(&mut self, alloc: Global, event: Event)
         requires going { IsOpen self.old.trace.now }
         requires input { is_input (kind_of event) ≡ true }

@@ -1,4 +1,4 @@
-ghost use Rattle.std.specs.Prelude.{◌≡◌, ℕ, ◌+◌, ◌*◌, ◌≤◌, ◌<◌, ◌^◌, List, [], ◌∷◌, true, false, Bool, IfOk, IsOkUnless};
+ghost use Rattle.std.specs.Prelude.{◌≡◌, ℕ, ◌+◌, ◌*◌, ◌≤◌, ◌<◌, ◌^◌, List, [], ◌∷◌, true, false, Bool, None, IfOk, IsOk, IsOkUnless, OnErr};
 ghost use Rattle.cb_base.specs.declared.fault.Fault.TheVariants.{Memory};
 ghost use Rattle.cb_peer.specs.Event.{ends_at_once};
 ghost use Rattle.cb_peer.specs.Plan.{Answers};
@@ -86,7 +86,7 @@ impl Model for Trace {
 }
 
 impl Trace {
-    ghost use Rattle.std.specs.Prelude.{◌⊎◌, ◌≢◌, ◌-◌, min, length, None};
+    ghost use Rattle.std.specs.Prelude.{◌⊎◌, ◌≢◌, ◌-◌, min, length};
     ghost use Rattle.cb_fetch.specs.Fetching.{idle};
     ghost use Rattle.cb_peer.specs.Session.{openings};
     ghost use Rattle.cb_peer.specs.declared.event.Event.TheVariants as events;
@@ -223,6 +223,7 @@ impl Trace {
 
     /// Gives the session an event. The answer is the messages to send, in order, and the question to ask the hall
     /// after that. Where the session found no memory the entry is starved and nothing is sent.
+    #[inline(always)]
     pub fn step(&mut self, event: Event) -> (Vec<BoundedMessage>, Option<Question>)
         requires going { IsOpen self.old }
         requires ready { 2 ≤ self.old.room }
@@ -232,21 +233,21 @@ impl Trace {
     }
 
     /// Puts an event into the last place, where the session may go on only if there is one place more.
+    #[inline(always)]
     fn put(&mut self, event: Event) -> (Vec<BoundedMessage>, Option<Question>)
         requires going { IsOpen self.old }
         requires spare { ends_at_once event ≡ false → 2 ≤ self.old.room }
         ensures { TraceSteps self.old self.new event result.0.items result.1 }
     {
-        let given = give(self.alloc, &mut self.session, self.total.entries, &event);
-        let Given {
-            messages,
-            question,
-            starved,
-        } = given;
+        let heard = hear(self.alloc, &mut self.session, self.total.entries, &event);
+        let starved = heard.is_err();
         self.total = self.total.with(&event);
         self.held = self.held.saturating_add(event.held());
         self.entries.push_reserved(TraceEntry { event, starved });
-        (messages, question)
+        match heard {
+            Ok(made) => made,
+            Err(_) => (Vec::new(self.alloc), None),
+        }
     }
 
     /// For each answer of the hall since the base, in order, the question that stood before it, by folding the entries
@@ -264,40 +265,25 @@ impl Trace {
     }
 }
 
-/// What a session answered to an entry.
-#[derive(Drop)]
-struct Given {
-    messages: Vec<BoundedMessage>,
-    question: Option<Question>,
-    starved: bool,
-}
-
-/// Gives a session the event of the entry behind so many others.
-fn give(alloc: Global, session: &mut Session, before: u64, event: &Event) -> Given
+/// Gives a session the event of the entry behind so many others. The answer is the messages to send, in order, and the question to
+/// ask the hall after that.
+///
+/// The only error is that it found no memory for it, which closes the session.
+fn hear(
+    alloc: Global,
+    session: &mut Session,
+    before: u64,
+    event: &Event,
+) -> Result<(Vec<BoundedMessage>, Option<Question>), Fault>
     requires going { is_closed session.old.state ≡ false }
     requires few { before < 2 ^ 62 }
-    ensures answers { Answers (entry_step before session.old (record { event = event.now; starved = result.starved })) session.new result.messages.items result.question }
-    ensures calm { takes_no_memory event.now ≡ true → result.starved ≡ false }
-    ensures silent { spares session.old event.now ≡ true → (entry_step before session.old (record { event = event.now; starved = false })).messages ≡ [] → is_light (entry_step before session.old (record { event = event.now; starved = false })).question ≡ true → result.starved ≡ false }
+    ensures ok { IfOk result (λ made. Answers (entry_step before session.old (record { event = event.now; starved = false })) session.new made.0.items made.1) }
+    ensures err { OnErr result (Answers (entry_step before session.old (record { event = event.now; starved = true })) session.new [] None) }
+    ensures calm { takes_no_memory event.now ≡ true → IsOk result }
+    ensures silent { spares session.old event.now ≡ true → (entry_step before session.old (record { event = event.now; starved = false })).messages ≡ [] → is_light (entry_step before session.old (record { event = event.now; starved = false })).question ≡ true → IsOk result }
 {
     if before + 1 == LAST_ENTRY {
-        let (messages, question) = session.close(alloc, CloseReason::TraceFull);
-        return Given {
-            messages,
-            question,
-            starved: false,
-        };
+        return Ok(session.close(alloc, CloseReason::TraceFull));
     }
-    match session.step(alloc, event) {
-        Ok((messages, question)) => Given {
-            messages,
-            question,
-            starved: false,
-        },
-        Err(_) => Given {
-            messages: Vec::new(alloc),
-            question: None,
-            starved: true,
-        },
-    }
+    session.step(alloc, event)
 }
