@@ -1,4 +1,5 @@
-"""Runs the gate `rt ci` and passes on what it prints; before its last line, says when each of its parts was through.
+"""Runs the gate `rt ci` and passes on what it prints; before its last line, says when each of its parts was through and what
+each crate's proofs took.
 
 Usage: scripts/gate.py [ATTACKED], where ATTACKED is the last line of ./attack, told once more before the last line of `rt ci`.
 The status is that of `rt ci`.
@@ -8,6 +9,8 @@ import re
 import subprocess
 import sys
 import time
+
+from cost import Meter, spent, table
 
 # what a line of the gate shows to be through, and the words for it
 PARTS = [
@@ -19,8 +22,9 @@ PARTS = [
 
 
 def main():
-    began, through, last = time.monotonic(), {}, ""
+    began, before, through, last = time.monotonic(), spent(), {}, ""
     gate = subprocess.Popen(["rt", "ci"], stdout=subprocess.PIPE, stderr=subprocess.STDOUT, text=True, errors="replace")
+    meter = Meter(gate.pid)
     for line in gate.stdout:
         print(last, end="", flush=True)
         last = line
@@ -30,6 +34,7 @@ def main():
     status = gate.wait()
     for name, seconds in through.items():
         print(f"test: gate: {name} through after {seconds:.0f} s")
+    print(*table(meter.stop(), spent() - before), sep="\n")
     print(f"test: the gate: {time.monotonic() - began:.0f} s")
     for attacked in sys.argv[1:]:
         print(f"./attack: {attacked}")
