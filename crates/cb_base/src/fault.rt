@@ -45,64 +45,64 @@ impl TxRule {
     }
 }
 
-/// Why a call of the node's was refused. Each has a number and a name, and is printed as both: `F2 Truncated`.
+/// Why a call was refused. Each has a number and a name, and is printed as both: `F2 Truncated`.
 #[derive(Clone, Copy, Debug, PartialEq, Eq)]
 pub enum Fault {
-    /// Memory ran out: a growth was refused.
+    /// An allocation failed, or a value has 2^63 owners.
     Memory,
-    /// There are fewer bytes than the format needs.
+    /// Bytes are missing, or the items of a count don't fit in what is left.
     Truncated,
-    /// A CompactSize stands in a longer spelling than its number needs.
+    /// A CompactSize has a shorter spelling.
     NotShortest,
-    /// A count is above its limit, or a height above 1,000,000,000.
+    /// A count is above its limit, or a header or block would stand above height 1,000,000,000.
     TooMany,
-    /// A transaction breaks a rule that stands by itself.
+    /// A transaction breaks a rule by itself.
     BadTx(TxRule),
-    /// The Merkle root of the transactions isn't the header's.
+    /// A block's Merkle root isn't its header's.
     BadRoot,
-    /// Two neighbours in the Merkle tree are equal (CVE-2012-2459).
+    /// Two neighbours in the Merkle tree of a block are equal (CVE-2012-2459).
     Mutated,
-    /// A transaction has 64 bytes, as a node of the Merkle tree has (CVE-2017-12842).
+    /// A transaction of a block, or one for the pool, has 64 bytes, as a node of the Merkle tree has (CVE-2017-12842).
     Size64,
-    /// There is no transaction.
+    /// A block or a compact block has no transaction.
     Empty,
-    /// The first transaction is no coinbase, or a later one is.
+    /// A block's first transaction is no coinbase, or a later one is; or a coinbase was given to the pool.
     BadCoinbase,
-    /// A header's bits aren't the network's, or its hash is above the target.
+    /// A header's bits aren't the network's, or its hash is above the target; or no nonce serves for a mined block.
     BadWork,
-    /// A message doesn't begin with the network's magic bytes.
+    /// An envelope of a stream doesn't begin with the network's magic.
     BadMagic,
-    /// A payload has more than 4,000,000 bytes, or a block more than 1,000,000.
+    /// An envelope announces more than 4,000,000 bytes, or a block has more than 1,000,000.
     Oversize,
-    /// Bytes are left over after a payload.
+    /// Bytes are left over after a payload, or after a block that is read alone.
     Trailing,
     /// A flag is neither 0 nor 1, or the count behind a header isn't 0.
     BadBool,
-    /// A differential index is at or past the total, or past a u64.
+    /// A difference of indexes leads to or past the number of transactions, or past 64 bits (BIP 152).
     BadIndex,
-    /// The transactions handed in aren't as many as are missing.
+    /// Not as many transactions came as a block is missing (BIP 152, `blocktxn`).
     WrongCount,
-    /// It is there already.
+    /// The pool has the txid, a header is known, or a block is kept.
     Known,
     /// An input spends an output that isn't unspent.
     NoInput,
-    /// The pool holds 10,000 transactions.
+    /// The pool has 10,000 transactions.
     PoolFull,
-    /// Outputs add up to more than the inputs.
+    /// Outputs are worth more than inputs.
     Overspent,
     /// An output to be made is unspent already.
     Remade,
-    /// The parent isn't known, or its data isn't there.
+    /// A header's parent is unknown, or a block's parent isn't kept.
     NoParent,
-    /// The block or its parent is marked bad.
+    /// A header, a block or its parent is marked bad.
     BadParent,
-    /// The journal has 1,000,000 entries.
+    /// A hall, its journal or a connection's badge has 2^62 calls.
     JournalFull,
     /// An act of the crew's core can't come now.
     NotEnabled,
-    /// An inbox was full.
+    /// An inbox has no room.
     Full,
-    /// A slot has served its 256 connections, or a peer is at its last generation.
+    /// A peer of a crew had 256 connections, or a peer of a hall is at its last generation.
     NoMore,
 }
 

@@ -21,6 +21,7 @@ use crate::chain::Chain;
 pub fn has_history(chain: &Chain)
     ensures { IsHistoric chain.now }
 {
+    // No effect when it runs: it tells the prover what the type keeps.
     let _ = &chain.tree;
 }
 

@@ -13,6 +13,7 @@ pub fn each_is_fetched_once(fetch: &Fetch)
     ensures wanted { length fetch.now.wanted ≤ 2000 }
     ensures once { AreDifferent (fetch.now.flight ++ fetch.now.wanted) }
 {
+    // No effect when it runs: it tells the prover what the type keeps.
     let _ = &fetch.flight;
 }
 

@@ -17,9 +17,11 @@ pub(crate) fn mined_fares(state: &State, mark: u8, block: &SoundBlock)
 {
     let chain = state.chain();
     has_history(chain);
+    // No effect when it runs: it tells the prover what the type keeps.
     let _height = chain.tip_height();
     let _ledger = chain.ledger();
     let _pool = state.pool();
     mined_meets_rules(state, mark, block);
+    // No effect when it runs: it tells the prover what the type keeps.
     let _text = block.block().header.text();
 }

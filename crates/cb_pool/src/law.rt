@@ -18,6 +18,7 @@ pub fn each_stands_alone(pool: &Pool)
     ensures alone { All StandsAlone (txs_of pool.now.list) }
     ensures names { NamesDiffer (txs_of pool.now.list) }
 {
+    // No effect when it runs: it tells the prover what the type keeps.
     let _ = pool.members.len();
 }
 
@@ -25,6 +26,7 @@ pub fn each_stands_alone(pool: &Pool)
 pub fn numbers_differ(pool: &Pool)
     ensures { AreNumbered pool.now.list pool.now.next }
 {
+    // No effect when it runs: it tells the prover what the type keeps.
     let _ = &pool.members;
 }
 
@@ -60,6 +62,7 @@ pub fn stays_as_it_is(pool: &Pool, ledger: &Ledger)
     ensures { Refolds ledger.now.unspent [] pool.now pool.now }
 {
     each_stands_alone(pool);
+    // No effect when it runs: it tells the prover what the type keeps.
     let _ = pool.len();
 }
 
@@ -71,5 +74,6 @@ pub fn stays_behind_others(pool: &Pool, ledger: &Ledger)
         → IsOk (spend after (txs_of pool.now.list)) × Refolds after [] pool.now pool.now }
 {
     each_stands_alone(pool);
+    // No effect when it runs: it tells the prover what the type keeps.
     let _ = pool.len();
 }

@@ -130,6 +130,7 @@ fn excerpt_at(
     if !near {
         return Ok(Excerpt::Whole(BoundedBlock::new(block.copy()?)));
     }
+    // No effect when it runs: it tells the prover what the type keeps.
     let _ = header_size(&block.block().header);
     let list = txs_at(alloc, block.block().txs.as_slice(), places.as_slice())?;
     Ok(Excerpt::Part(Part::new(hash, Txs::new(list))))

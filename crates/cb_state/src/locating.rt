@@ -13,6 +13,7 @@ pub(crate) fn locator_of(chain: &Chain) -> Result<Locator, Fault>
     ensures memory { IsOkUnless result Memory }
 {
     has_history(chain);
+    // No effect when it runs: it tells the prover what the type keeps.
     let _ = chain.tip_height();
     let hashes = chain.locator()?;
     Ok(Locator::from_few(hashes))

@@ -213,5 +213,6 @@ pub fn mined_meets_rules(state: &State, mark: u8, block: &SoundBlock)
     ensures { MeetsBlockRules block.now }
 {
     each_stands_alone(state.pool());
+    // No effect when it runs: it tells the prover what the type keeps.
     let _text = block.block().header.text();
 }

@@ -115,6 +115,7 @@ impl State {
         ensures none { since_of self.now.pool.list number ≡ [] → IsOk result }
         ensures memory { IsOkUnless result Memory }
     {
+        // No effect when it runs: it tells the prover what the type keeps.
         let _ = self.pool.len();
         let txids = self.pool.since(number)?;
         Ok(Txids::from_few(txids))

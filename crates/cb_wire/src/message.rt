@@ -153,7 +153,7 @@ fn put_unknown(out: &mut Vec<u8>, name: &UnknownName, payload: &Payload) -> Resu
     ensures memory { IsOkUnless result Memory }
     ensures kept { IsUnknownName name.now }
 {
-    // Its name is of the form that its type keeps.
+    // No effect when it runs: it tells the prover what the type keeps.
     let _name = name.as_str();
     out.extend_from_slice(payload.as_slice())?;
     Ok(())
