@@ -1,4 +1,5 @@
 use Rattle.std.proofs.Common.{◌≡◌, ℕ, ◌+◌, take, drop, map, Err, ◌⊎◌, ◌++◌, ◌∷◌, [], length, List, Option, ap, sym, subst, ◌∙◌, None, inl, inr, refl, ◌<◌}
+use Rattle.std.proofs.lemmas.Result.{err_from_is_err_and}
 use Rattle.std.specs.Prelude.{IfSome}
 use Rattle.cb_base.specs.declared.fault.Fault.TheVariants.{Memory}
 use Rattle.cb_block.specs.declared.block.Block.{Block}
@@ -6,15 +7,65 @@ use Rattle.cb_ledger.specs.Spend.{spend}
 use Rattle.cb_ledger.specs.Undo.{LeadsBack}
 use Rattle.cb_ledger.specs.Unspent.{Unspent}
 use Rattle.cb_chain.specs.History.{IsHistoric}
-use Rattle.cb_chain.specs.Keeping.{climb, tree_of}
+use Rattle.cb_chain.specs.Keeping.{active_places, climb, tree_of}
 use Rattle.cb_chain.specs.Plans.{Moved}
 use Rattle.cb_chain.specs.Sides.{IsChain}
+use Rattle.cb_chain.specs.declared.node.Node.{Node}
 use Rattle.cb_chain.specs.declared.side.Side.{Side}
 use Rattle.cb_chain.proofs.Ledgers.{rests_let_go, rests_still}
 use Rattle.cb_chain.proofs.Outcomes.{IsEnd, IsStopped, moves, ready, stop_place, stop_tip, stops, tops_tip, why}
 use Rattle.cb_chain.proofs.Starts.{chain_as, sides_low}
 use Rattle.cb_chain.proofs.chain.Chain.extend.Goals as goal
 use Rattle.cb_chain.proofs.chain.Chain.extend.Goals.{After-add, After-drop-branch-in-Err}
+
+-- memory is wanting
+pub invariant_of-self : goal.invariant_of-self
+invariant_of-self c =
+    let was = c.self.inside in
+    let path = was.active.items in
+    let unspent = was.ledger.unspent in (
+      chain_as c.reserve.new.self.nodes was.tree.nodes path path was.tree.undos c.reserve.new.self.undos unspent unspent was.side was.side c.reserve.ensures.same refl c.reserve.ensures.undos refl refl c.self.invariant.0,
+      subst IsHistoric (sym (ap tree_of c.reserve.ensures.same)) c.self.invariant.1,
+    )
+
+pub returns-in_err-reserve-clause-err : goal.returns-in_err-reserve-clause-err
+returns-in_err-reserve-clause-err c =
+    let p = err_from_is_err_and c.from_residual.result c.from_residual.ensures.1 in rw (p.1, p.2) (inl (c.in_err-reserve.ensures.memory, ap tree_of c.reserve.ensures.same ∙ c.self.view_is))
+
+pub returns-in_err-reserve-clause-unchanged : goal.returns-in_err-reserve-clause-unchanged
+returns-in_err-reserve-clause-unchanged c = λ _. ap tree_of c.reserve.ensures.same ∙ c.self.view_is
+
+pub plan_for-requires-clause-active : goal.plan_for-requires-clause-active
+plan_for-requires-clause-active c = c.as_slice.ensures.value ∙ c.self.invariant.0.places ∙ ap (λ (ns : List Node). active_places (tree_of ns)) (sym c.reserve.ensures.same)
+
+pub invariant_of-self-in_err-fork : goal.invariant_of-self-in_err-fork
+invariant_of-self-in_err-fork c =
+    let was = c.self.inside in
+    let path = was.active.items in
+    let unspent = was.ledger.unspent in (
+      chain_as c.reserve.new.self.nodes was.tree.nodes path path was.tree.undos c.reserve.new.self.undos unspent unspent was.side was.side c.reserve.ensures.same refl c.reserve.ensures.undos refl refl c.self.invariant.0,
+      subst IsHistoric (sym (ap tree_of c.reserve.ensures.same)) c.self.invariant.1,
+    )
+
+pub returns-in_err-fork-clause-err : goal.returns-in_err-fork-clause-err
+returns-in_err-fork-clause-err c =
+    let p = err_from_is_err_and c.from_residual-in_err-fork.result c.from_residual-in_err-fork.ensures.1 in
+    rw (p.1, p.2) (inl (c.in_err-fork.ensures.memory, ap tree_of c.reserve.ensures.same ∙ c.self.view_is))
+
+pub returns-in_err-fork-clause-unchanged : goal.returns-in_err-fork-clause-unchanged
+returns-in_err-fork-clause-unchanged c = λ _. ap tree_of c.reserve.ensures.same ∙ c.self.view_is
+
+pub invariant_of-self-in_err-reserve-2 : goal.invariant_of-self-in_err-reserve-2
+invariant_of-self-in_err-reserve-2 c =
+    let was = c.self.inside in
+    let unspent = was.ledger.unspent in (
+      chain_as c.reserve.new.self.nodes was.tree.nodes was.active.items c.reserve-2.new.self.items was.tree.undos c.reserve.new.self.undos unspent unspent was.side was.side c.reserve.ensures.same c.reserve-2.ensures.items c.reserve.ensures.undos refl refl
+          c.self.invariant.0,
+      subst IsHistoric (sym (ap tree_of c.reserve.ensures.same)) c.self.invariant.1,
+    )
+
+pub returns-in_err-reserve-2-clause-unchanged : goal.returns-in_err-reserve-2-clause-unchanged
+returns-in_err-reserve-2-clause-unchanged c = λ _. ap tree_of c.reserve.ensures.same ∙ c.self.view_is
 
 -- the block is the tip
 ended : (c : After-add) → IsEnd c.args.self.now (tree_of c.add.new.self.nodes) c.args.kept c.in_ok-fork.field-0.change c.put_on.new.active.items c.add.new.self.undos c.connect.new.self.unspent c.rest_on.result
@@ -106,3 +157,11 @@ invariant_of-self-in-Err c =
 
 pub returns-in-Err-clause-err : goal.returns-in-Err-clause-err
 returns-in-Err-clause-err c = (stopped c).answer
+
+pub returns-in-Err-clause-unchanged : goal.returns-in-Err-clause-unchanged
+returns-in-Err-clause-unchanged c = λ e.
+    let memory : c.in-Err.fault ≡ Memory = cc in
+    elim c.mark_stop.ensures [
+      | inl same ↦ ap tree_of (same.1 ∙ c.reserve.ensures.same) ∙ c.self.view_is
+      | inr marked ↦ absurd (marked.0 memory)
+    ]

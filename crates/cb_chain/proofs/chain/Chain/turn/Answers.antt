@@ -1,17 +1,35 @@
-use Rattle.std.proofs.Common.{◌≡◌, ◌-◌, ◌<◌, ◌⊎◌, ◌++◌, ◌∷◌, [], length, List, Some, refl, ap, sym, subst, ◌∙◌, arith}
+use Rattle.std.proofs.Common.{◌≡◌, ◌-◌, ◌<◌, ◌⊎◌, ◌++◌, ◌∷◌, [], length, List, Some, inl, inr, refl, ap, sym, subst, ◌∙◌, arith}
+use Rattle.std.proofs.lemmas.Result.{err_from_is_err_and}
 use Rattle.std.specs.Prelude.{IsSome}
 use Rattle.cb_base.specs.declared.fault.Fault.TheVariants.{Memory}
 use Rattle.cb_chain.specs.declared.node.Node.{Node}
 use Rattle.cb_chain.specs.Best.{best}
 use Rattle.cb_chain.specs.Entries.{Tree}
 use Rattle.cb_chain.specs.History.{IsHistoric}
-use Rattle.cb_chain.specs.Keeping.{block_at, place_of, tree_of}
+use Rattle.cb_chain.specs.Keeping.{IsTree, active_places, block_at, place_of, tree_of}
 use Rattle.cb_chain.specs.Plans.{Moved}
 use Rattle.cb_chain.specs.Sides.{Tops}
 use Rattle.cb_chain.proofs.Outcomes.{IsEnd, IsStopped, MarkedFrom, moves, ready, stop_place, stops, why}
 use Rattle.cb_chain.proofs.Planning.{place_low}
 use Rattle.cb_chain.proofs.Starts.{chain_as, kept_chain, sides_low, starts, tip_at, tried_chain}
 use Rattle.cb_chain.proofs.chain.Chain.turn.Goals as goal
+
+-- memory is wanting before it is tried
+pub invariant_of-self : goal.invariant_of-self
+invariant_of-self c =
+    let was = c.self.inside in
+    let path = was.active.items in
+    let unspent = was.ledger.unspent in (
+      chain_as c.reserve.new.self.nodes was.tree.nodes path path was.tree.undos c.reserve.new.self.undos unspent unspent was.side was.side c.reserve.ensures.same refl c.reserve.ensures.undos refl refl c.self.invariant.0,
+      subst IsHistoric (sym (ap tree_of c.reserve.ensures.same)) c.self.invariant.1,
+    )
+
+pub returns-in_err-reserve-clause-err : goal.returns-in_err-reserve-clause-err
+returns-in_err-reserve-clause-err c =
+    let p = err_from_is_err_and c.from_residual.result c.from_residual.ensures.1 in rw (p.1, p.2) (inl (c.in_err-reserve.ensures.memory, ap tree_of c.reserve.ensures.same ∙ c.self.view_is))
+
+pub returns-in_err-reserve-clause-unchanged : goal.returns-in_err-reserve-clause-unchanged
+returns-in_err-reserve-clause-unchanged c = λ _. ap tree_of c.reserve.ensures.same ∙ c.self.view_is
 
 pub starts_from-side-requires-clause-tip : goal.starts_from-side-requires-clause-tip
 starts_from-side-requires-clause-tip c =
@@ -98,6 +116,20 @@ invariant_of-self-in-Err c = let end = stopped c in (end.chain, end.historic)
 pub returns-in-Err-clause-err : goal.returns-in-Err-clause-err
 returns-in-Err-clause-err c = (stopped c).answer
 
+pub returns-in-Err-clause-unchanged : goal.returns-in-Err-clause-unchanged
+returns-in-Err-clause-unchanged c = λ e.
+    let memory : c.in-Err.stop.fault ≡ Memory = cc in
+    elim c.mark_stop.ensures [
+      | inl same ↦ ap tree_of (same.1 ∙ c.try_on-tried.ensures.nodes ∙ c.reserve.ensures.same) ∙ c.self.view_is
+      | inr marked ↦ absurd (marked.0 memory)
+    ]
+
+pub switch-requires-clause-tree : goal.switch-requires-clause-tree
+switch-requires-clause-tree c = subst IsTree (sym c.try_on-tried.ensures.nodes) c.reserve.ensures.tree
+
+pub switch-requires-clause-active : goal.switch-requires-clause-active
+switch-requires-clause-active c = c.self.invariant.0.places ∙ ap (λ (ns : List Node). active_places (tree_of ns)) (sym (c.try_on-tried.ensures.nodes ∙ c.reserve.ensures.same))
+
 -- memory is wanting once it was tried
 pub invariant_of-self-in_err-change : goal.invariant_of-self-in_err-change
 invariant_of-self-in_err-change c =
@@ -115,6 +147,14 @@ invariant_of-self-in_err-change c =
       chain_as c.try_on-tried.new.tree.nodes nodes path c.switch.new.active.items tried tried unspent c.switch.new.ledger.unspent last c.switch.new.side same kept.0 refl kept.1 kept.2 more,
       subst IsHistoric (sym (ap tree_of (same ∙ c.reserve.ensures.same))) c.self.invariant.1,
     )
+
+pub returns-in_err-change-clause-err : goal.returns-in_err-change-clause-err
+returns-in_err-change-clause-err c =
+    let p = err_from_is_err_and c.from_residual-in_err-change.result c.from_residual-in_err-change.ensures.1 in
+    rw (p.1, p.2) (inl (c.in_err-change.ensures.memory, ap tree_of (c.try_on-tried.ensures.nodes ∙ c.reserve.ensures.same) ∙ c.self.view_is))
+
+pub returns-in_err-change-clause-unchanged : goal.returns-in_err-change-clause-unchanged
+returns-in_err-change-clause-unchanged c = λ _. ap tree_of (c.try_on-tried.ensures.nodes ∙ c.reserve.ensures.same) ∙ c.self.view_is
 
 -- the chain moves
 ended : (c : goal.After-add) → IsEnd c.args.self.now (tree_of c.add.new.self.nodes) c.args.kept c.in_ok-change.change c.switch.new.active.items c.add.new.self.undos c.switch.new.ledger.unspent c.switch.new.side
