@@ -16,6 +16,15 @@ rise_below least total (index ∷ others) (low, below, rest) = All-cons (λ inde
 pub sums_here : (least : ℕ) (list : List ℕ) (i : ℕ) → i < length list → sums least (drop i list) ≡ (least + get_or list i 0) ∷ sums (least + get_or list i 0 + 1) (drop (i + 1) list)
 sums_here least list i there = ap (sums least) (from_here list i 0 there)
 
+-- One index more: its difference comes next, and the others rise behind it.
+pub differences_here : (before total : ℕ) (list : List ℕ) (i : ℕ) → i < length list → Rise (before + 1) total (drop i list)
+    → (differences (before + 1) (drop i list) ≡ (get_or list i 0 - before - 1) ∷ differences (get_or list i 0 + 1) (drop (i + 1) list)) × (before < get_or list i 0) × Rise (get_or list i 0 + 1) total (drop (i + 1) list)
+differences_here before total list i there rises =
+    let here = from_here list i 0 there in
+    let next = subst (Rise (before + 1) total) here rises in
+    let same : get_or list i 0 - (before + 1) ≡ get_or list i 0 - before - 1 = omega arith in
+    (ap (differences (before + 1)) here ∙ ap (λ d. d ∷ differences (get_or list i 0 + 1) (drop (i + 1) list)) same, omega (arith, next.0), next.2)
+
 pub any_first : (P : ℕ → Type 0) (x : ℕ) (xs : List ℕ) → P x → Any P (x ∷ xs)
 any_first P x xs p = (0, x, omega arith, refl, p)
 

@@ -1,6 +1,7 @@
 -- Slots that are laid out, and filled.
-use Rattle.std.proofs.Common.{◌≡◌, ◌≢◌, ℕ, zero, suc, ◌+◌, ◌-◌, ◌<◌, ◌≤◌, List, [], ◌∷◌, ◌++◌, length, take, drop, get_or, map, Option, Some, None, refl, sym, ap, ◌∙◌, subst, arith, length-drop}
+use Rattle.std.proofs.Common.{◌≡◌, ◌≢◌, ℕ, zero, suc, ◌+◌, ◌-◌, ◌<◌, ◌≤◌, List, [], ◌∷◌, ◌++◌, length, take, drop, get_or, map, Option, Some, None, true, false, refl, sym, ap, ◌∙◌, subst, arith, length-drop}
 use Rattle.std.proofs.lemmas.List.{drop-map, length-map}
+use Rattle.std.specs.Option.{is_some}
 use Rattle.cb_base.specs.declared.fault.Fault.{Fault}
 use Rattle.cb_base.specs.declared.fault.Fault.TheVariants.{Empty, Size64, Mutated, BadRoot}
 use Rattle.cb_tx.specs.declared.tx.Tx.{Tx}
@@ -22,6 +23,18 @@ get_or_of_map f (x ∷ xs) (suc i) d e within = get_or_of_map f xs i d e (omega 
 pub rise_room : (first total : ℕ) (places : List ℕ) → Rise first total places → first ≤ total → first + length places ≤ total
 rise_room first total [] rises room = omega (arith, room)
 rise_room first total (place ∷ places) (low, below, rest) room = let more = rise_room (place + 1) total places rest (omega (arith, below)) in omega (arith, low, more)
+
+-- One place more is missing where nothing stands there.
+pub missing_here : (first : ℕ) (list : List (Option Tx)) (i : ℕ) (slot : Option Tx) → i < length list → slot ≡ get_or list i slot → missing first (drop i list) ≡ missing first (slot ∷ drop (i + 1) list)
+missing_here first list i slot there is = ap (missing first) (from_here list i slot there ∙ ap (λ s. s ∷ drop (i + 1) list) (sym is))
+
+pub missing_none : (first : ℕ) (slot : Option Tx) (others : List (Option Tx)) → is_some slot ≡ false → missing first (slot ∷ others) ≡ first ∷ missing (first + 1) others
+missing_none first None others none = refl
+missing_none first (Some tx) others none = absurd (let clash : true ≡ false = none in cc)
+
+pub missing_some : (first : ℕ) (slot : Option Tx) (others : List (Option Tx)) → is_some slot ≡ true → missing first (slot ∷ others) ≡ missing (first + 1) others
+missing_some first None others some = absurd (let clash : false ≡ true = some in cc)
+missing_some first (Some tx) others some = refl
 
 pub laid_at : (first : ℕ) (given : Prefilled) (more : List Prefilled) (others : List (Option Tx)) → given.place ≡ first → laid_out first (given ∷ more) others ≡ Some given.tx ∷ laid_out (first + 1) more others
 laid_at first given more others is =
