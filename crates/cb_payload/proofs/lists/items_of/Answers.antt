@@ -21,3 +21,9 @@ loop-preserved g c =
 
 pub returns-clause-exact : goal.returns-clause-exact
 returns-clause-exact g c = is_done _ g.T.ListItem.item_at c.loop.items.items c.args.count c.loop.counter c.loop.cursor (items_at g.T.ListItem.item_at c.args.count c.args.cursor.now) c.loop-test.false c.loop.invariant.read
+
+pub returns-in_err-read-clause-unpaid : goal.returns-in_err-read-clause-unpaid
+returns-in_err-read-clause-unpaid g c = λ none. absurd (omega (arith, none, c.loop-test.true))
+
+pub returns-in_err-push-clause-unpaid : goal.returns-in_err-push-clause-unpaid
+returns-in_err-push-clause-unpaid g c = λ none. absurd (omega (arith, none, c.loop-test.true))
