@@ -147,14 +147,14 @@ fn switch(
     ensures same { OnErr result ((active.new.items ≡ active.old.items) × (ledger.new.unspent ≡ ledger.old.unspent) × (side.new ≡ side.old)) }
     ensures memory { IsOkUnless result Memory }
 {
+    let mut back = tried.into_changes(alloc)?;
+    ledger.reserve(back.len())?;
     let Plan {
         fork,
         branch,
         change,
     } = plan_for(alloc, tree, active.as_slice(), spot)?;
     active.reserve(branch.len() + 1)?;
-    let mut back = tried.into_changes(alloc)?;
-    ledger.reserve(back.len())?;
     ledger.exchange(&mut back);
     let tip = active[active.len() - 1];
     let last = side.take().unwrap_or(Side::at(alloc, tip));

@@ -76,18 +76,18 @@ impl Tree {
         ensures tree { IfOk result (λ tree. IsTree tree.nodes) }
         ensures memory { IsOkUnless result Memory }
     {
-        let first = first_node(alloc)?;
-        let mut places = HashMap::new(alloc);
-        places.insert(first.hash, 0)?;
-        let mut nodes = Vec::with_capacity(alloc, 1)?;
-        nodes.push(first)?;
         let mut newest = Vec::with_capacity(alloc, 1)?;
         newest.push(0)?;
         let mut elder = Vec::with_capacity(alloc, 1)?;
         elder.push(0)?;
+        let found = Vec::with_capacity(alloc, 1)?;
         let mut undos = Vec::with_capacity(alloc, 1)?;
         undos.push(None)?;
-        let found = Vec::with_capacity(alloc, 1)?;
+        let mut nodes = Vec::with_capacity(alloc, 1)?;
+        let first = first_node(alloc)?;
+        let mut places = HashMap::new(alloc);
+        places.insert(first.hash, 0)?;
+        nodes.push(first)?;
         Ok(Tree {
             alloc,
             nodes,
@@ -215,15 +215,15 @@ impl Tree {
         ensures undos { IfOk result (λ copy. copy.undos ≡ self.now.undos) }
         ensures memory { IsOkUnless result Memory }
     {
+        let newest = Vec::from_slice(self.alloc, self.newest.as_slice())?;
+        let elder = Vec::from_slice(self.alloc, self.elder.as_slice())?;
+        let found = Vec::with_capacity(self.alloc, self.nodes.len())?;
+        let undos = copy_undos(self.alloc, self.undos.as_slice())?;
         let mut nodes = Vec::with_capacity(self.alloc, self.nodes.len())?;
         for node in &self.nodes {
             nodes.push(copy_node(node)?)?;
         }
         let places = self.places.clone()?;
-        let newest = Vec::from_slice(self.alloc, self.newest.as_slice())?;
-        let elder = Vec::from_slice(self.alloc, self.elder.as_slice())?;
-        let undos = copy_undos(self.alloc, self.undos.as_slice())?;
-        let found = Vec::with_capacity(self.alloc, self.nodes.len())?;
         Ok(Tree {
             alloc: self.alloc,
             nodes,

@@ -1,16 +1,19 @@
-use Rattle.std.proofs.Common.{rules, ◌≡◌, ◌∷◌, ◌∙◌, IfErr, IfOk, Ok, Err, ap, inr, refl, sym, subst, None, Some, true}
+use Rattle.std.proofs.Common.{rules, ◌≡◌, ◌∷◌, ◌∙◌, IfErr, IfOk, Ok, Err, Result, ap, inl, inr, refl, sym, subst, None, Option, Some, Bool, true, false, cond, not, ◌≢◌}
 use Rattle.std.proofs.lemmas.Result.{err_from_is_err_and}
 use Rattle.std.specs.Prelude.{◌⊎◌, slice_index_or}
-use Rattle.cb_base.specs.declared.fault.Fault.TheVariants.{Memory}
+use Rattle.cb_base.specs.declared.fault.Fault.{Fault}
+use Rattle.cb_base.specs.declared.fault.Fault.TheVariants.{BadParent, BadWork, Known, Memory, NoParent, TooMany}
 use Rattle.cb_block.specs.declared.block.Block.{Block}
 use Rattle.cb_block.specs.declared.header.Header.{Header}
+use Rattle.cb_block.specs.Blocks.{MeetsBlockRules}
 use Rattle.cb_block.specs.Work.{HasWork}
 use Rattle.cb_ledger.proofs.Lengths.{few_outputs}
+use Rattle.cb_chain.specs.declared.change.Change.{Change}
 use Rattle.cb_chain.specs.declared.node.Node.{Node}
-use Rattle.cb_chain.specs.Calls.AcceptsBlock.{refused}
-use Rattle.cb_chain.specs.Calls.{AcceptsBlock, bad_entry, block_fault, joined}
-use Rattle.cb_chain.specs.Entries.{Entry}
-use Rattle.cb_chain.specs.History.{IsHistoric}
+use Rattle.cb_chain.specs.Calls.AcceptsBlock.{meets_rules, refused, without_work}
+use Rattle.cb_chain.specs.Calls.{AcceptsBlock, bad_entry, block_fault, is_full_under, joined}
+use Rattle.cb_chain.specs.Entries.{Entry, Tree, block_hash, is_kept, is_marked}
+use Rattle.cb_chain.specs.History.{IsHistoric, IsHistory}
 use Rattle.cb_chain.specs.Keeping.{IsNode, IsSpot, entry_from, tree_of}
 use Rattle.cb_chain.proofs.SideNodes.{Grows, bad_on, bare_best, bare_node, block_free, grows_tree, told_broken, told_refused}
 use Rattle.cb_chain.proofs.Histories.{historic_block, historic_joined, history_block, history_joined}
@@ -18,6 +21,38 @@ use Rattle.cb_chain.proofs.Reached.{planted_after}
 use Rattle.cb_chain.proofs.Stays.{block_stays, join_leads, join_stays}
 use Rattle.cb_chain.proofs.Undos.{grows_chain}
 use Rattle.cb_chain.proofs.chain.Chain.accept_block.Goals as goal
+
+-- its header has no work
+pub returns-in_err-hash-clause-err : goal.returns-in_err-hash-clause-err
+returns-in_err-hash-clause-err c =
+    let header : c.block-2.result.now.header ≡ c.args.block.header = ap (λ (b : Block). b.header) c.block-2.ensures.same in
+    let p = err_from_is_err_and c.from_residual.result c.from_residual.ensures.1 in
+    let w = c.in_err-hash.ensures in
+    rw (p.1, p.2) (inr (without_work (λ has. w.1 (subst HasWork (sym header) has)) (ap Err w.0) refl))
+
+pub returns-in_err-hash-clause-history : goal.returns-in_err-hash-clause-history
+returns-in_err-hash-clause-history c =
+    let header : c.block-2.result.now.header ≡ c.args.block.header = ap (λ (b : Block). b.header) c.block-2.ensures.same in
+    let p = err_from_is_err_and c.from_residual.result c.from_residual.ensures.1 in
+    let w = c.in_err-hash.ensures in
+    history_block c.args.self.now c.args.block c.from_residual.result c.in_err-hash.field-0.0 (p.1 ∙ ap Err p.2) c.block-2.ensures.sound (without_work (λ has. w.1 (subst HasWork (sym header) has)) (ap Err w.0) refl)
+
+pub returns-in_err-hash-clause-unchanged : goal.returns-in_err-hash-clause-unchanged
+returns-in_err-hash-clause-unchanged c = λ _. refl
+
+pub returns-in_err-hash-clause-unpaid : goal.returns-in_err-hash-clause-unpaid
+returns-in_err-hash-clause-unpaid c = λ memory.
+    let p = err_from_is_err_and c.from_residual.result c.from_residual.ensures.1 in
+    absurd (let clash : BadWork ≡ Memory = cc (p.1, p.2, c.in_err-hash.ensures.0) in cc)
+
+-- something speaks against it, which isn't want of memory
+never_memory : (marked kept on_bad orphan full : Bool) → cond marked (Some BadParent) (cond kept (Some Known) (cond on_bad (Some BadParent) (cond orphan (Some NoParent) (cond full (Some TooMany) None)))) ≢ Some Memory
+never_memory true kept on_bad orphan full is = let clash : Some BadParent ≡ Some Memory = is in cc
+never_memory false true on_bad orphan full is = let clash : Some Known ≡ Some Memory = is in cc
+never_memory false false true orphan full is = let clash : Some BadParent ≡ Some Memory = is in cc
+never_memory false false false true full is = let clash : Some NoParent ≡ Some Memory = is in cc
+never_memory false false false false true is = let clash : Some TooMany ≡ Some Memory = is in cc
+never_memory false false false false false is = let clash : Some Memory ≡ None = sym is in cc
 
 pub returns-in_err-spot-clause-err : goal.returns-in_err-spot-clause-err
 returns-in_err-spot-clause-err c =
@@ -37,6 +72,18 @@ returns-in_err-spot-clause-history c =
     history_block c.args.self.now c.args.block c.from_residual-in_err-spot.result c.in_err-spot.field-0.0 (p.1 ∙ ap Err p.2) c.block-2.ensures.sound
     (refused (subst HasWork header has) c.in_err-spot.field-0.0 (subst (λ (h : Header). block_fault c.args.self.now h ≡ Some c.in_err-spot.field-0.0) header none) refl refl)
 
+pub returns-in_err-spot-clause-unchanged : goal.returns-in_err-spot-clause-unchanged
+returns-in_err-spot-clause-unchanged c = λ _. refl
+
+pub returns-in_err-spot-clause-unpaid : goal.returns-in_err-spot-clause-unpaid
+returns-in_err-spot-clause-unpaid c = λ memory.
+    let p = err_from_is_err_and c.from_residual-in_err-spot.result c.from_residual-in_err-spot.ensures.1 in
+    let same : c.in_err-spot.field-0.0 ≡ Memory = cc (p.1, p.2) in
+    let tree = c.args.self.now in
+    let header = c.block-2.result.now.header in
+    let hash = block_hash header in
+    absurd (never_memory (is_marked tree hash) (is_kept tree hash) (is_marked tree header.prev) (not (is_kept tree header.prev)) (is_full_under tree header.prev) (c.in_err-spot.ensures.err ∙ ap Some same))
+
 pub new-requires : goal.new-requires
 new-requires c = λ k d lt. few_outputs (slice_index_or c.args.block.txs k d) (c.in-Ok.ensures.exact.txs k d lt)
 
@@ -48,6 +95,47 @@ join-requires-clause-calls c =
     subst (λ (b : Block). IsHistoric (joined c.args.self.now b).1) (sym c.new.ensures)
     (historic_joined c.args.self.now c.args.block c.block-2.ensures.sound (subst HasWork header has) (subst (λ (h : Header). block_fault c.args.self.now h ≡ None) header none) c.in-Ok.ensures.exact
     (subst IsHistoric c.self.view_is c.self.invariant.1))
+
+-- what a block that joins is told
+joined_ok : (old new : Tree) (block : Block) (result : Result Change Fault) → HasWork block.header → block_fault old block.header ≡ None → MeetsBlockRules block → IfOk result (λ change. (Ok change, new) ≡ joined old block)
+    → IfOk result (λ change. AcceptsBlock old block (Ok change) new)
+joined_ok old new block (Ok change) work none rules ok = meets_rules work none rules ok
+joined_ok old new block (Err fault) work none rules ok = tt
+
+joined_err : (old new : Tree) (block : Block) (result : Result Change Fault) → HasWork block.header → block_fault old block.header ≡ None → MeetsBlockRules block
+    → IfErr result (λ fault. ((fault ≡ Memory) × (new ≡ old)) ⊎ ((Err fault, new) ≡ joined old block)) → IfErr result (λ fault. ((fault ≡ Memory) × (new ≡ old)) ⊎ AcceptsBlock old block (Err fault) new)
+joined_err old new block (Ok change) work none rules err = tt
+joined_err old new block (Err fault) work none rules (inl same) = inl same
+joined_err old new block (Err fault) work none rules (inr e) = inr (meets_rules work none rules e)
+
+pub returns-in-Ok-clause-ok : goal.returns-in-Ok-clause-ok
+returns-in-Ok-clause-ok c =
+    let header : c.block-2.result.now.header ≡ c.args.block.header = ap (λ (b : Block). b.header) c.block-2.ensures.same in
+    let has : HasWork c.block-2.result.now.header = c.in_ok-hash.ensures.1 in
+    let none : block_fault c.args.self.now c.block-2.result.now.header ≡ None = c.in_ok-spot.ensures.none in
+    joined_ok c.args.self.now c.join.new.self c.args.block c.join.result (subst HasWork header has) (subst (λ (h : Header). block_fault c.args.self.now h ≡ None) header none) c.in-Ok.ensures.exact
+    (subst (λ (b : Block). IfOk c.join.result (λ change. (Ok change, c.join.new.self) ≡ joined c.args.self.now b)) c.new.ensures c.join.ensures.ok)
+
+pub returns-in-Ok-clause-moves : goal.returns-in-Ok-clause-moves
+returns-in-Ok-clause-moves c = c.join.ensures.moves
+
+pub returns-in-Ok-clause-err : goal.returns-in-Ok-clause-err
+returns-in-Ok-clause-err c =
+    let header : c.block-2.result.now.header ≡ c.args.block.header = ap (λ (b : Block). b.header) c.block-2.ensures.same in
+    let has : HasWork c.block-2.result.now.header = c.in_ok-hash.ensures.1 in
+    let none : block_fault c.args.self.now c.block-2.result.now.header ≡ None = c.in_ok-spot.ensures.none in
+    joined_err c.args.self.now c.join.new.self c.args.block c.join.result (subst HasWork header has) (subst (λ (h : Header). block_fault c.args.self.now h ≡ None) header none) c.in-Ok.ensures.exact
+    (subst (λ (b : Block). IfErr c.join.result (λ fault. ((fault ≡ Memory) × (c.join.new.self ≡ c.args.self.now)) ⊎ ((Err fault, c.join.new.self) ≡ joined c.args.self.now b))) c.new.ensures c.join.ensures.err)
+
+pub returns-in-Ok-clause-unchanged : goal.returns-in-Ok-clause-unchanged
+returns-in-Ok-clause-unchanged c = c.join.ensures.unchanged
+
+pub returns-in-Ok-clause-unpaid : goal.returns-in-Ok-clause-unpaid
+returns-in-Ok-clause-unpaid c = λ _.
+    let header : c.block-2.result.now.header ≡ c.args.block.header = ap (λ (b : Block). b.header) c.block-2.ensures.same in
+    let has : HasWork c.block-2.result.now.header = c.in_ok-hash.ensures.1 in
+    let none : block_fault c.args.self.now c.block-2.result.now.header ≡ None = c.in_ok-spot.ensures.none in
+    (subst HasWork header has, subst (λ (h : Header). block_fault c.args.self.now h ≡ None) header none)
 
 pub returns-in-Ok-clause-history : goal.returns-in-Ok-clause-history
 returns-in-Ok-clause-history c =
@@ -76,6 +164,43 @@ returns-in-Ok-clause-stays c =
     let ok = subst (λ (b : Block). IfOk c.join.result (λ change. (Ok change, c.join.new.self) ≡ joined c.args.self.now b)) c.new.ensures c.join.ensures.ok in
     join_stays c.args.self.now c.join.new.self c.args.block c.join.result are (subst HasWork header has) (subst (λ (h : Header). block_fault c.args.self.now h ≡ None) header none) c.in-Ok.ensures.exact ok
     (subst (λ (b : Block). IfErr c.join.result (λ fault. ((fault ≡ Memory) × (c.join.new.self ≡ c.args.self.now)) ⊎ ((Err fault, c.join.new.self) ≡ joined c.args.self.now b))) c.new.ensures c.join.ensures.err) c.join.ensures.moves
+
+-- memory is wanting
+pub returns-in-Err-clause-err : goal.returns-in-Err-clause-err
+returns-in-Err-clause-err c = inl (search rules, refl)
+
+pub returns-in-Err-clause-history : goal.returns-in-Err-clause-history
+returns-in-Err-clause-history c = λ calls past. inl (search rules, past)
+
+pub returns-in-Err-clause-unchanged : goal.returns-in-Err-clause-unchanged
+returns-in-Err-clause-unchanged c = λ _. refl
+
+pub returns-in-Err-clause-unpaid : goal.returns-in-Err-clause-unpaid
+returns-in-Err-clause-unpaid c = λ _.
+    let header : c.block-2.result.now.header ≡ c.args.block.header = ap (λ (b : Block). b.header) c.block-2.ensures.same in
+    let has : HasWork c.block-2.result.now.header = c.in_ok-hash.ensures.1 in
+    let none : block_fault c.args.self.now c.block-2.result.now.header ≡ None = c.in_ok-spot.ensures.none in
+    (subst HasWork header has, subst (λ (h : Header). block_fault c.args.self.now h ≡ None) header none)
+
+pub returns-in_err-reserve-in-Err-2-clause-err : goal.returns-in_err-reserve-in-Err-2-clause-err
+returns-in_err-reserve-in-Err-2-clause-err c =
+    let p = err_from_is_err_and c.from_residual-in_err-reserve-in-Err-2.result c.from_residual-in_err-reserve-in-Err-2.ensures.1 in
+    rw (p.1, p.2) (inl (c.in_err-reserve-in-Err-2.ensures.memory, ap tree_of c.reserve.ensures.same ∙ c.self.view_is))
+
+pub returns-in_err-reserve-in-Err-2-clause-history : goal.returns-in_err-reserve-in-Err-2-clause-history
+returns-in_err-reserve-in-Err-2-clause-history c = λ calls past.
+    let p = err_from_is_err_and c.from_residual-in_err-reserve-in-Err-2.result c.from_residual-in_err-reserve-in-Err-2.ensures.1 in
+    rw (p.1, p.2) (inl (c.in_err-reserve-in-Err-2.ensures.memory, subst (IsHistory calls) (sym (ap tree_of c.reserve.ensures.same ∙ c.self.view_is)) past))
+
+pub returns-in_err-reserve-in-Err-2-clause-unchanged : goal.returns-in_err-reserve-in-Err-2-clause-unchanged
+returns-in_err-reserve-in-Err-2-clause-unchanged c = λ _. ap tree_of c.reserve.ensures.same ∙ c.self.view_is
+
+pub returns-in_err-reserve-in-Err-2-clause-unpaid : goal.returns-in_err-reserve-in-Err-2-clause-unpaid
+returns-in_err-reserve-in-Err-2-clause-unpaid c = λ _.
+    let header : c.block-2.result.now.header ≡ c.args.block.header = ap (λ (b : Block). b.header) c.block-2.ensures.same in
+    let has : HasWork c.block-2.result.now.header = c.in_ok-hash.ensures.1 in
+    let none : block_fault c.args.self.now c.block-2.result.now.header ≡ None = c.in_ok-spot.ensures.none in
+    (subst HasWork header has, subst (λ (h : Header). block_fault c.args.self.now h ≡ None) header none)
 
 pub invariant_of-self-in-Err-2 : goal.invariant_of-self-in-Err-2
 invariant_of-self-in-Err-2 c =

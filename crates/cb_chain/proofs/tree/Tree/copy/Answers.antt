@@ -1,4 +1,5 @@
-use Rattle.std.proofs.Common.{◌≡◌, ◌≤◌, length, ℕ, List, subst, sym, ◌∙◌, rules}
+use Rattle.std.proofs.Common.{◌≡◌, ◌≤◌, length, ℕ, List, subst, sym, ◌∙◌, rules, arith}
+use Rattle.std.proofs.lemmas.Grind.{common_steps}
 use Rattle.std.proofs.lemmas.List.{take_all}
 use Rattle.cb_chain.specs.declared.node.Node.{Node}
 use Rattle.cb_chain.specs.Keeping.{AreLinks, IsPlaced}
@@ -17,3 +18,6 @@ invariant_of-result c =
           (subst (AreLinks old c.self.inside.newest.items) (sym (c.in_ok-elder.ensures.items ∙ c.as_slice-2.ensures.value)) c.self.invariant.1)),
       search rules,
     )
+
+pub loop-node-preserved : goal.loop-node-preserved
+loop-node-preserved c = grind (arith, common_steps)

@@ -12,13 +12,13 @@ use Rattle.cb_chain.proofs.tree.Tree.new.Goals as goal
 pub invariant_of-result : goal.invariant_of-result
 invariant_of-result c =
     let first = c.in_ok-first.first in
-    let items = c.in_ok-push.ensures.items ∙ ap (λ (ns : List Node). ns ++ first ∷ []) c.in_ok-nodes.ensures.items in
+    let items = c.in_ok-push-4.ensures.items ∙ ap (λ (ns : List Node). ns ++ first ∷ []) c.in_ok-nodes.ensures.items in
     let updates = c.in_ok-insert.ensures.updates in (
       subst (λ (ns : List Node). IsPlaced ns c.insert.new.self.entries) (sym items)
           (placed_first first c.insert.new.self.entries c.in_ok-first.ensures.first
           (λ q. updates.0 q ∙ ap (λ es. cond (same first.hash q) (Some 0) (lookup {K = Hash256} {X = ℕ} (same q) es)) c.new-places.ensures.empty)),
-      subst (λ (ns : List Node). AreLinks ns c.push-2.new.self.items c.push-3.new.self.items) (sym items)
-          (subst (λ (ps : List ℕ). AreLinks (first ∷ []) ps c.push-3.new.self.items) (sym (c.in_ok-push-2.ensures.items ∙ ap (λ (ps : List ℕ). ps ++ 0 ∷ []) c.in_ok-newest.ensures.items))
-          (subst (AreLinks (first ∷ []) (0 ∷ [])) (sym (c.in_ok-push-3.ensures.items ∙ ap (λ (ps : List ℕ). ps ++ 0 ∷ []) c.in_ok-elder.ensures.items)) (links_first first))),
+      subst (λ (ns : List Node). AreLinks ns c.push.new.self.items c.push-2.new.self.items) (sym items)
+          (subst (λ (ps : List ℕ). AreLinks (first ∷ []) ps c.push-2.new.self.items) (sym (c.in_ok-push.ensures.items ∙ ap (λ (ps : List ℕ). ps ++ 0 ∷ []) c.in_ok-newest.ensures.items))
+          (subst (AreLinks (first ∷ []) (0 ∷ [])) (sym (c.in_ok-push-2.ensures.items ∙ ap (λ (ps : List ℕ). ps ++ 0 ∷ []) c.in_ok-elder.ensures.items)) (links_first first))),
       search rules,
     )
