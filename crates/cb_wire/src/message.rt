@@ -1,7 +1,8 @@
 //! The table of messages: each has one row in each function here, and a command of its name in command.rt.
 //!
 //! How a payload of several fields is read and written stands in cb_payload, and so does its grammar.
-ghost use Rattle.std.specs.Prelude.{◌≡◌, ◌≤◌, ◌⊎◌, ◌++◌, IsTrue, ◌↔◌, length, IfOk, IsOk, IsOkUnless, OnOk, Ok, Err, Some};
+ghost use Rattle.std.specs.Prelude.{◌≡◌, ◌^◌, ◌<◌, ◌≤◌, ◌⊎◌, ◌++◌, IsTrue, ◌↔◌, length, IfOk, IsOk, IsOkUnless, OnOk, Ok, Err, Some};
+ghost use Rattle.std.specs.Int.{w64, to_le_bytes};
 ghost use Rattle.cb_base.specs.declared.fault.Fault.{Fault};
 ghost use Rattle.cb_base.specs.declared.fault.Fault.TheVariants.{Memory};
 ghost use Rattle.cb_wire.specs.Command.{IsCommand, IsUnknownName};
@@ -127,23 +128,32 @@ pub fn put_payload(out: &mut Vec<u8>, message: &Message) -> Result<(), Fault>
     ensures kept { OnOk result (IsMessage message.now) }
 {
     match message {
-        Message::Version(version) => put_version(out, version)?,
-        Message::Verack | Message::SendHeaders => {}
-        Message::Ping(nonce) => out.extend_from_slice(&nonce.to_le_bytes())?,
-        Message::Pong(nonce) => out.extend_from_slice(&nonce.to_le_bytes())?,
-        Message::SendCmpct(relay) => put_compact_relay(out, relay)?,
-        Message::Inv(entries) => put_list(out, entries.as_slice())?,
-        Message::GetData(entries) => put_list(out, entries.as_slice())?,
-        Message::NotFound(entries) => put_list(out, entries.as_slice())?,
-        Message::Headers(headers) => put_list(out, headers.as_slice())?,
-        Message::GetHeaders(request) => put_request(out, request)?,
-        Message::Tx(tx) => write_tx(out, tx)?,
-        Message::Block(block) => write_block(out, block)?,
-        Message::CmpctBlock(block) => put_compact_block(out, block)?,
-        Message::GetBlockTxn(request) => put_txs_request(out, request)?,
-        Message::BlockTxn(txs) => put_block_txs(out, txs)?,
-        Message::Unknown(name, payload) => put_unknown(out, name, payload)?,
+        Message::Version(version) => put_version(out, version),
+        Message::Verack | Message::SendHeaders => Ok(()),
+        Message::Ping(nonce) => put_nonce(out, *nonce),
+        Message::Pong(nonce) => put_nonce(out, *nonce),
+        Message::SendCmpct(relay) => put_compact_relay(out, relay),
+        Message::Inv(entries) => put_list(out, entries.as_slice()),
+        Message::GetData(entries) => put_list(out, entries.as_slice()),
+        Message::NotFound(entries) => put_list(out, entries.as_slice()),
+        Message::Headers(headers) => put_list(out, headers.as_slice()),
+        Message::GetHeaders(request) => put_request(out, request),
+        Message::Tx(tx) => write_tx(out, tx),
+        Message::Block(block) => write_block(out, block),
+        Message::CmpctBlock(block) => put_compact_block(out, block),
+        Message::GetBlockTxn(request) => put_txs_request(out, request),
+        Message::BlockTxn(txs) => put_block_txs(out, txs),
+        Message::Unknown(name, payload) => put_unknown(out, name, payload),
     }
+}
+
+/// The nonce of a ping or a pong. The only error is `Fault::Memory`.
+fn put_nonce(out: &mut Vec<u8>, nonce: u64) -> Result<(), Fault>
+    ensures ok { OnOk result (out.new.items ≡ out.old.items ++ to_le_bytes w64 nonce) }
+    ensures memory { IsOkUnless result Memory }
+    ensures kept { nonce < 2 ^ 64 }
+{
+    out.extend_from_slice(&nonce.to_le_bytes())?;
     Ok(())
 }
 
