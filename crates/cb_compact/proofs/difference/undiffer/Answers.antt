@@ -27,3 +27,6 @@ loop-difference-preserved c =
           ∙ ap (λ list. c.loop-difference.indexes.items ++ list) (sym (sums_here c.loop-difference.least c.args.differences.now i c.loop-difference-test.true)) ∙ c.loop-difference.invariant.0,
       below.1,
     )
+
+pub returns-in_err-push-clause-unpaid : goal.returns-in_err-push-clause-unpaid
+returns-in_err-push-clause-unpaid c = λ none. absurd (omega (arith, none, c.loop-difference-test.true))
