@@ -6,7 +6,7 @@ use std::ops::Deref;
 use std::sync::Arc;
 
 /// A value on the heap with several owners, which lives as long as its last owner. It is seen as the value itself.
-#[derive(Debug, Drop)]
+#[derive(Drop)]
 pub struct Shared<T> {
     owner: Arc<T, Global>,
 }

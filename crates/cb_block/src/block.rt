@@ -6,7 +6,7 @@ use cb_tx::Tx;
 use std::marker::Model;
 
 /// The transactions of a block, each of which may have other owners. They are seen as their list.
-#[derive(Debug, Drop)]
+#[derive(Drop)]
 pub struct Txs {
     list: Vec<Shared<Tx>>,
 }
@@ -44,7 +44,7 @@ impl Txs {
 }
 
 /// A header and transactions. Nothing says yet that they belong together.
-#[derive(Debug, Drop)]
+#[derive(Drop)]
 pub struct Block {
     pub header: Header,
     pub txs: Txs,

@@ -18,7 +18,7 @@ use std::marker::Model;
 /// A block whose transactions are the only ones under its header, with their txids. It is seen as the block.
 ///
 /// It isn't empty, none of its transactions has 64 bytes, its tree isn't mutated, and its header has the tree's root.
-#[derive(Debug, Drop)]
+#[derive(Drop)]
 pub struct SoundBlock {
     block: Shared<Block>,
     txids: Shared<Vec<Hash256>>,

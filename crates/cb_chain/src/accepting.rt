@@ -20,7 +20,7 @@ use cb_block::{Header, SoundBlock, check_block, hash_with_work};
 pub const MOST_HEIGHT: u32 = 1_000_000_000;
 
 // Where a header will stand in the tree.
-#[derive(Clone, Copy, Debug)]
+#[derive(Clone, Copy)]
 pub(crate) struct Spot {
     pub(crate) header: Header,
     pub(crate) hash: Hash256,

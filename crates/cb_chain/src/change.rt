@@ -4,7 +4,7 @@ use cb_base::Hash256;
 use std::marker::Model;
 
 /// Hashes of blocks. They are seen as their list.
-#[derive(Debug, Drop)]
+#[derive(Drop)]
 pub struct Hashes {
     list: Vec<Hash256>,
 }
@@ -42,7 +42,7 @@ impl Hashes {
 }
 
 /// What a block changed of the active chain: nothing where both are empty.
-#[derive(Debug, Drop)]
+#[derive(Drop)]
 pub struct Change {
     /// The blocks that were put off, from the old tip down.
     pub off: Hashes,

@@ -14,7 +14,7 @@ use cb_base::{Fault, Hash256};
 use cb_block::{Header, hash_with_work};
 
 /// What headers met that were given in turn.
-#[derive(Debug, Drop)]
+#[derive(Drop)]
 pub struct Accepted {
     /// The hashes of those that were kept or known, in order.
     pub met: Hashes,

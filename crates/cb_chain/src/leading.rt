@@ -23,7 +23,7 @@ use cb_ledger::Ledger;
 use std::alloc::Global;
 
 // How a block becomes the tip.
-#[derive(Debug, Drop)]
+#[derive(Drop)]
 struct Plan {
     // The height at which its branch leaves the active chain.
     fork: usize,

@@ -5,7 +5,7 @@ use cb_block::{Header, SoundBlock};
 use std::marker::Model;
 
 // A block whose transactions have few outputs each, so that it may be connected. It is seen as the block.
-#[derive(Debug, Drop)]
+#[derive(Drop)]
 pub(crate) struct Kept {
     block: SoundBlock,
 }
@@ -38,7 +38,7 @@ impl Kept {
 }
 
 // A header in the tree.
-#[derive(Debug, Drop)]
+#[derive(Drop)]
 pub(crate) struct Node {
     pub(crate) header: Header,
     pub(crate) hash: Hash256,

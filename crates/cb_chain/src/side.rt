@@ -22,7 +22,7 @@ const DOUBLINGS: usize = 31;
 const MOST_BELOW: u32 = 1_000;
 
 // The place of the first block that can't be spent, and why.
-#[derive(Clone, Copy, Debug)]
+#[derive(Clone, Copy)]
 pub(crate) struct Stop {
     pub(crate) place: usize,
     pub(crate) fault: Fault,

@@ -24,7 +24,7 @@ use clap::error::ErrorKind;
 use std::alloc::{AllocError, Global};
 
 /// What a command line asks for.
-#[derive(Clone, Copy, Debug, PartialEq, Eq)]
+#[derive(Clone, Copy, PartialEq, Eq)]
 pub enum Task {
     /// Print the items of a stream.
     Decode,

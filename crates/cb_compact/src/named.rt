@@ -9,7 +9,7 @@ use std::alloc::{AllocError, Global};
 use std::marker::Model;
 
 /// A shared transaction with its txid, which was found once. It is seen as the transaction.
-#[derive(Debug, Drop)]
+#[derive(Drop)]
 pub struct NamedTx {
     txid: Hash256,
     tx: Shared<Tx>,
@@ -100,7 +100,7 @@ fn txid_of(alloc: Global, tx: &Tx) -> Result<Hash256, Fault>
 }
 
 /// A transaction that may stand in a compact block, with its short id under that block's key.
-#[derive(Debug, Drop)]
+#[derive(Drop)]
 pub struct Pair {
     pub id: u64,
     pub tx: NamedTx,

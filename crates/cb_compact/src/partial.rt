@@ -15,7 +15,7 @@ use std::alloc::Global;
 use std::marker::Model;
 
 /// What comes of a block all of whose transactions are there.
-#[derive(Debug, Drop)]
+#[derive(Drop)]
 pub enum Filled {
     /// The block, which is sound.
     Sound(SoundBlock),

@@ -13,7 +13,7 @@ use std::alloc::Global;
 use std::collections::HashMap;
 
 /// Which of the pairs have an id.
-#[derive(Debug, Drop)]
+#[derive(Drop)]
 pub enum Found {
     Nobody,
     One(NamedTx),

@@ -69,7 +69,7 @@ fn print_not_hex<W: Sink>(alloc: Global, number: u64, writer: &mut W) -> Result<
 
 /// A stream that is decoded piece by piece. It is seen as what is left over behind the last whole envelope, and the
 /// stream's fault.
-#[derive(Debug, Drop)]
+#[derive(Drop)]
 pub struct Decoding {
     alloc: Global,
     assembler: Assembler,

@@ -8,7 +8,7 @@ use std::alloc::Global;
 use std::marker::Model;
 
 /// The right of one connection to ask the hall. It counts the questions that were granted. It is seen as these.
-#[derive(Debug, Drop)]
+#[derive(Drop)]
 pub struct Badge {
     connection: Connection,
     count: u64,

@@ -5,7 +5,7 @@ use cb_base::Hash256;
 use cb_state::State;
 
 /// What a node's owner sees of it at a glance.
-#[derive(Clone, Copy, Debug, PartialEq, Eq)]
+#[derive(Clone, Copy, PartialEq, Eq)]
 pub struct Look {
     /// The height of the best chain's tip; that of the network's first block is 0.
     pub height: u32,

@@ -56,7 +56,7 @@ pub trait Sink {
 }
 
 /// A sink over any writer. A write that was interrupted is made again.
-#[derive(Debug, Drop)]
+#[derive(Drop)]
 pub struct Out<W> {
     writer: W,
     failure: Option<SinkFailure>,

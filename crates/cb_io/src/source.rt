@@ -25,7 +25,7 @@ pub trait Source {
 }
 
 /// A source over any reader. A read that was interrupted is made again.
-#[derive(Debug, Drop)]
+#[derive(Drop)]
 pub struct In<R> {
     reader: R,
     failed: bool,

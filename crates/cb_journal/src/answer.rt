@@ -5,7 +5,7 @@ use cb_state::{Excerpt, Heads, Need, News, Pieces, Taken};
 
 /// What a session is answered. A message can carry each of its lists, transactions and blocks, but for pairs: these are for
 /// the session itself.
-#[derive(Debug, Drop)]
+#[derive(Drop)]
 pub enum Answer {
     /// It may.
     Go,

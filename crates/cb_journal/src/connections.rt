@@ -11,7 +11,7 @@ use std::marker::Model;
 pub const PEERS: u16 = 64;
 
 /// What is known of a connection.
-#[derive(Clone, Copy, Debug, PartialEq, Eq)]
+#[derive(Clone, Copy, PartialEq, Eq)]
 pub struct Connected {
     /// How many of its questions stand in the journal.
     pub count: u64,
@@ -20,7 +20,7 @@ pub struct Connected {
 }
 
 // The connections of a peer, by their generations. They are seen as their list.
-#[derive(Debug, Drop)]
+#[derive(Drop)]
 struct Slot {
     list: Vec<Connected>,
 }
@@ -100,7 +100,7 @@ impl Slot {
 
 /// What is known of all connections of a node's peers. They are seen as a list for each peer, in which the first is of
 /// generation 1.
-#[derive(Debug, Drop)]
+#[derive(Drop)]
 pub struct Connections {
     slots: Vec<Slot>,
 }

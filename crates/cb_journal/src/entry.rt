@@ -11,7 +11,7 @@ use cb_tx::Tx;
 const WEIGHT: u64 = 64;
 
 /// What the node's own user hands in.
-#[derive(Debug, Drop)]
+#[derive(Drop)]
 pub enum Local {
     /// A transaction.
     Tx(Shared<Tx>),
@@ -32,7 +32,7 @@ impl Local {
 }
 
 /// A call that was granted, as a journal keeps it.
-#[derive(Debug, Drop)]
+#[derive(Drop)]
 pub enum Entry {
     /// A connection asked a question.
     Asked(Connection, Question),

@@ -12,7 +12,7 @@ use cb_tx::Tx;
 const ENTRY_WEIGHT: u64 = 40;
 
 /// A block that a peer gives.
-#[derive(Debug, Drop)]
+#[derive(Drop)]
 pub struct Given {
     /// The block.
     pub block: SoundBlock,
@@ -21,7 +21,7 @@ pub struct Given {
 }
 
 /// What the transactions of a compact block are looked for by (BIP 152).
-#[derive(Debug, Drop)]
+#[derive(Drop)]
 pub struct Sought {
     /// The block's header: it and the nonce make the key of the short ids.
     pub header: Header,
@@ -32,7 +32,7 @@ pub struct Sought {
 }
 
 /// What a peer asks to be served.
-#[derive(Debug, Drop)]
+#[derive(Drop)]
 pub enum Request {
     /// Transactions and blocks (Bitcoin's protocol, `getdata`).
     Items(Entries),
@@ -43,7 +43,7 @@ pub enum Request {
 }
 
 /// What a peer was told before.
-#[derive(Clone, Copy, Debug)]
+#[derive(Clone, Copy)]
 pub struct Told {
     /// The tip, if one was told.
     pub tip: Option<Hash256>,
@@ -54,7 +54,7 @@ pub struct Told {
 }
 
 /// What a session asks of its node.
-#[derive(Debug, Drop)]
+#[derive(Drop)]
 pub enum Question {
     /// May the next item or tick be processed?
     Admit,

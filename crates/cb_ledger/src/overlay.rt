@@ -20,7 +20,7 @@ use std::marker::Model;
 
 /// What blocks change over a ledger that stays as it is: each outpoint that they touch, with what it has after them. It is
 /// seen as the list of these changes.
-#[derive(Debug, Drop)]
+#[derive(Drop)]
 pub struct Overlay {
     touched: HashMap<OutPoint, Option<i64>>,
 }

@@ -14,7 +14,7 @@ pub struct CoinChange {
 }
 
 /// What a block's outpoints had before the block. It is seen as the list of them, each of which stands once.
-#[derive(Debug, Drop)]
+#[derive(Drop)]
 pub struct Undo {
     pub(crate) changes: Vec<CoinChange>,
 }

@@ -21,7 +21,7 @@ use std::alloc::Global;
 pub type Differences = Listed<u64, MOST_BLOCK_TXS>;
 
 /// A request for some of a block's transactions (BIP 152, BlockTransactionsRequest), as the message `getblocktxn` carries it.
-#[derive(Debug, Drop)]
+#[derive(Drop)]
 pub struct BlockTransactionsRequest {
     /// The block's hash.
     pub block: Hash256,
@@ -30,7 +30,7 @@ pub struct BlockTransactionsRequest {
 }
 
 /// Some of a block's transactions (BIP 152, BlockTransactions), as the message `blocktxn` carries them. Each may have other owners.
-#[derive(Debug, Drop)]
+#[derive(Drop)]
 pub struct BlockTransactions {
     /// The block's hash.
     pub block: Hash256,

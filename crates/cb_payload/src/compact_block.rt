@@ -13,7 +13,7 @@ use std::alloc::Global;
 
 /// A compact block (BIP 152, HeaderAndShortIDs), as the message `cmpctblock` carries it. Nothing says yet that its transactions
 /// belong to its header, or that its indexes lie within the block.
-#[derive(Debug, Drop)]
+#[derive(Drop)]
 pub struct HeaderAndShortIds {
     /// The block's header.
     pub header: Header,

@@ -4,7 +4,7 @@ use cb_block::Header;
 
 /// An entry of inventory: its type, of which any is carried, and a hash. 1 is a transaction, 2 a block, and 4 a block as a
 /// compact one (BIP 152).
-#[derive(Clone, Copy, Debug, PartialEq, Eq)]
+#[derive(Clone, Copy, PartialEq, Eq)]
 pub struct InvEntry {
     pub kind: u32,
     pub hash: Hash256,

@@ -6,7 +6,7 @@ use std::alloc::Global;
 use std::marker::Model;
 
 /// A list of a message, which is no longer than the number in its type. It is seen as the list.
-#[derive(Debug, Drop)]
+#[derive(Drop)]
 pub struct Listed<T, const MOST: usize> {
     list: Vec<T>,
 }

@@ -15,7 +15,7 @@ use cb_tx::read_hash;
 use std::alloc::Global;
 
 /// How a peer wants to be told of blocks (BIP 152, `sendcmpct`).
-#[derive(Clone, Copy, Debug, PartialEq, Eq)]
+#[derive(Clone, Copy, PartialEq, Eq)]
 pub struct CompactRelay {
     /// Whether it wants compact blocks at once, without being asked for them.
     pub high_bandwidth: bool,
@@ -24,7 +24,7 @@ pub struct CompactRelay {
 }
 
 /// A request for headers (`getheaders`).
-#[derive(Debug, Drop)]
+#[derive(Drop)]
 pub struct HeadersRequest {
     /// The version of the protocol.
     pub version: u32,

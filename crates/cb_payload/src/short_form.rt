@@ -18,7 +18,7 @@ pub const MOST_BLOCK_TXS: usize = 16_666;
 
 /// The transactions of a compact block (BIP 152): the short ids of those that it leaves out, and those that it carries whole. They
 /// are 1 to 16,666 together, and each id has six bytes.
-#[derive(Debug, Drop)]
+#[derive(Drop)]
 pub struct CompactTxs {
     ids: Vec<u64>,
     prefilled: Vec<PrefilledTransaction>,

@@ -16,7 +16,7 @@ use std::alloc::Global;
 pub type Agent = Listed<u8, 256>;
 
 /// A network address, as `version` has it: without a time.
-#[derive(Clone, Copy, Debug, PartialEq, Eq)]
+#[derive(Clone, Copy, PartialEq, Eq)]
 pub struct NetAddress {
     pub services: u64,
     /// An IPv6 address, or an IPv4 address in its last four bytes.
@@ -25,7 +25,7 @@ pub struct NetAddress {
 }
 
 /// How a node introduces itself.
-#[derive(Debug, Drop)]
+#[derive(Drop)]
 pub struct Version {
     /// The version of the protocol that it speaks.
     pub version: i32,

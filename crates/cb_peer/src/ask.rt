@@ -1,5 +1,5 @@
 /// How far a session is with an item or a tick: what it asks its hall for.
-#[derive(Clone, Copy, Debug, PartialEq, Eq)]
+#[derive(Clone, Copy, PartialEq, Eq)]
 pub enum Ask {
     /// Leave to process it.
     Admit,

@@ -11,7 +11,7 @@ use cb_wire::Item;
 const ENTRY_WEIGHT: u64 = 40;
 
 /// What comes to a session.
-#[derive(Debug, Drop)]
+#[derive(Drop)]
 pub enum Event {
     /// An item of the peer's stream; the session keeps it too while a question of it stands.
     Said(Shared<Item>),

@@ -10,7 +10,7 @@ use cb_wire::BoundedMessage;
 use std::alloc::Global;
 
 /// What a session asks its hall then.
-#[derive(Debug, Drop)]
+#[derive(Drop)]
 pub(crate) struct Next {
     pub ask: Ask,
     pub question: Question,
@@ -18,7 +18,7 @@ pub(crate) struct Next {
 
 /// What a session made of a message or an answer, beside what it keeps: the messages that it sends, in order, and what it asks
 /// then.
-#[derive(Debug, Drop)]
+#[derive(Drop)]
 pub(crate) struct Made {
     pub messages: Vec<BoundedMessage>,
     pub next: Option<Next>,

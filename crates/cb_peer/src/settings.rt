@@ -1,5 +1,5 @@
 /// What a session is given when it is made.
-#[derive(Clone, Copy, Debug, PartialEq, Eq)]
+#[derive(Clone, Copy, PartialEq, Eq)]
 pub struct Settings {
     /// Whether the peer made the connection.
     pub inbound: bool,

@@ -11,7 +11,7 @@ use cb_journal::Answer;
 use cb_wire::{Item, Message};
 
 /// What waits for the hall's answer.
-#[derive(Debug, Drop)]
+#[derive(Drop)]
 pub struct Standing {
     /// The item that came; None where it was a tick.
     pub item: Option<Shared<Item>>,

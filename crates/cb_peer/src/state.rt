@@ -4,7 +4,7 @@ use cb_base::Hash256;
 use std::fmt;
 
 /// How far the handshake of a session is, and whether it goes on.
-#[derive(Clone, Copy, Debug, PartialEq, Eq)]
+#[derive(Clone, Copy, PartialEq, Eq)]
 pub enum State {
     /// Nothing of the handshake has come.
     Start,
@@ -41,7 +41,7 @@ impl State {
 }
 
 /// Why a session is over.
-#[derive(Clone, Copy, Debug, PartialEq, Eq)]
+#[derive(Clone, Copy, PartialEq, Eq)]
 pub enum CloseReason {
     /// The peer ended the stream.
     Bye,
@@ -105,7 +105,7 @@ impl fmt::Display for CloseReason {
 }
 
 /// What a peer said of itself.
-#[derive(Clone, Copy, Debug, PartialEq, Eq)]
+#[derive(Clone, Copy, PartialEq, Eq)]
 pub struct Peer {
     /// The version of the protocol that it speaks.
     pub version: i32,
@@ -118,7 +118,7 @@ pub struct Peer {
 }
 
 /// What a session and its peer told each other.
-#[derive(Clone, Copy, Debug, PartialEq, Eq)]
+#[derive(Clone, Copy, PartialEq, Eq)]
 pub struct Marks {
     /// The last block that was heard of from the peer.
     pub heard: Option<Hash256>,

@@ -15,7 +15,7 @@ use std::marker::Model;
 /// transaction.
 ///
 /// It breaks no rule of transactions, is no coinbase, and hasn't 64 bytes.
-#[derive(Debug, Drop)]
+#[derive(Drop)]
 pub struct Candidate {
     txid: Hash256,
     tx: Shared<Tx>,

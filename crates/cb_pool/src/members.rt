@@ -24,7 +24,7 @@ use std::marker::Model;
 pub const MOST_TXS: usize = 10_000;
 
 /// A transaction of a pool, with the number of its arrival.
-#[derive(Debug, Drop)]
+#[derive(Drop)]
 pub struct Pooled {
     pub(crate) tx: Candidate,
     pub(crate) number: u64,

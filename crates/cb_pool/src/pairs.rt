@@ -21,7 +21,7 @@ pub type ShortIds = Listed<u64, MOST_BLOCK_TXS>;
 /// It shares the list of all the pool's transactions, and the ids: nothing is hashed, looked up or copied before `list`. So
 /// who has a pool under a lock makes one in no time, and the work is done without the lock. The list that it shares stays as it
 /// is, whatever becomes of the pool.
-#[derive(Debug, Drop)]
+#[derive(Drop)]
 pub struct Pairs {
     txs: Shared<Vec<NamedTx>>,
     key: (u64, u64),

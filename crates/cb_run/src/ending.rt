@@ -6,7 +6,7 @@ use cb_base::Fault;
 use std::alloc::{AllocError, AllocFailed};
 
 /// The exit statuses of the program.
-#[derive(Clone, Copy, Debug, PartialEq, Eq)]
+#[derive(Clone, Copy, PartialEq, Eq)]
 pub enum Status {
     /// All was done.
     Success,
@@ -38,7 +38,7 @@ impl Status {
 }
 
 /// Why a run ends before its input does.
-#[derive(Clone, Copy, Debug, PartialEq, Eq)]
+#[derive(Clone, Copy, PartialEq, Eq)]
 pub enum Halt {
     /// Memory ran out.
     Memory,

@@ -18,7 +18,7 @@ const BLOCK_LEN: usize = 65_536;
 /// Cuts what a source gives into lines. It reads whole blocks, and keeps what it read ahead.
 ///
 /// It is seen as the line that it found and what it read ahead.
-#[derive(Debug, Drop)]
+#[derive(Drop)]
 pub struct LineReader {
     line: Vec<u8>,
     block: Vec<u8>,

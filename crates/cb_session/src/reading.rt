@@ -15,7 +15,7 @@ use std::alloc::Global;
 const TURNS: u64 = 1 << 40;
 
 /// Why reading a stream ended.
-#[derive(Clone, Copy, Debug, PartialEq, Eq)]
+#[derive(Clone, Copy, PartialEq, Eq)]
 pub enum ReadEnd {
     /// The source was at its end.
     Eof,

@@ -9,7 +9,7 @@ use cb_chain::{Chain, kept_meet_rules};
 use std::marker::Model;
 
 /// A sound block that a message can carry: its text has at most 4,000,000 bytes (Bitcoin's protocol). It is seen as the block.
-#[derive(Debug, Drop)]
+#[derive(Drop)]
 pub struct BoundedBlock {
     block: SoundBlock,
 }

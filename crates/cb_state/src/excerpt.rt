@@ -21,7 +21,7 @@ const MOST_PART_DEPTH: u32 = 10;
 
 /// Transactions of a block that a message can carry: the block's hash, and they behind their count, have at most 4,000,000 bytes
 /// (Bitcoin's protocol; BIP 152, `blocktxn`). It is seen as the hash and their list.
-#[derive(Debug, Drop)]
+#[derive(Drop)]
 pub struct Part {
     hash: Hash256,
     txs: Txs,
@@ -75,7 +75,7 @@ impl Part {
 }
 
 /// What is served of places of a block (BIP 152, `getblocktxn`).
-#[derive(Debug, Drop)]
+#[derive(Drop)]
 pub enum Excerpt {
     /// The block isn't there.
     Absent,

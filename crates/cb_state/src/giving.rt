@@ -23,7 +23,7 @@ use cb_tx::Tx;
 use std::alloc::Global;
 
 /// What a block met.
-#[derive(Debug, Drop)]
+#[derive(Drop)]
 pub struct Taken {
     /// Why it was refused, if it was.
     pub refused: Option<Fault>,
@@ -32,7 +32,7 @@ pub struct Taken {
 }
 
 /// What headers met that were given in turn.
-#[derive(Debug, Drop)]
+#[derive(Drop)]
 pub struct Heads {
     /// Why one was refused, if one was.
     pub refused: Option<Fault>,

@@ -5,7 +5,7 @@ use cb_payload::Listed;
 pub const MOST_ENTRIES: usize = 50_000;
 
 /// An entry of inventory (Bitcoin's protocol, `inv` and `getdata`).
-#[derive(Clone, Copy, Debug, PartialEq, Eq)]
+#[derive(Clone, Copy, PartialEq, Eq)]
 pub enum Inventory {
     /// Type 1: a transaction, by its txid.
     Tx(Hash256),

@@ -24,7 +24,7 @@ pub type Announced = Listed<Header, MOST_ANNOUNCED>;
 pub type Txids = Listed<Hash256, MOST_ENTRIES>;
 
 /// What a peer is told of what it doesn't know yet.
-#[derive(Debug, Drop)]
+#[derive(Drop)]
 pub struct News {
     /// The tip.
     pub tip: Hash256,

@@ -17,7 +17,7 @@ use cb_pool::Candidate;
 const MOST_COMPACT_DEPTH: u32 = 5;
 
 /// What is served of an entry, which a message can carry.
-#[derive(Debug, Drop)]
+#[derive(Drop)]
 pub enum Piece {
     /// A transaction of the pool.
     Tx(Candidate),

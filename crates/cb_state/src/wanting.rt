@@ -16,7 +16,7 @@ use std::alloc::Global;
 use std::collections::HashSet;
 
 /// Which entries of inventory are wanted.
-#[derive(Debug, Drop)]
+#[derive(Drop)]
 pub struct Need {
     /// The wanted ones, each once, in order.
     pub entries: Entries,

@@ -24,7 +24,7 @@ const ENTRIES_KEPT: usize = 65_000;
 const BYTES_KEPT: u64 = 8_000_000;
 
 /// An event that a session was given, and whether it found no memory for it.
-#[derive(Debug, Drop)]
+#[derive(Drop)]
 pub struct TraceEntry {
     pub event: Event,
     pub starved: bool,
@@ -32,7 +32,7 @@ pub struct TraceEntry {
 
 /// How many entries there are, how many of them are inputs (items, a fault of the stream, its end), and how many are
 /// answers of the hall.
-#[derive(Clone, Copy, Debug, PartialEq, Eq)]
+#[derive(Clone, Copy, PartialEq, Eq)]
 pub struct Counts {
     pub entries: u64,
     pub items: u64,

@@ -6,7 +6,7 @@ use std::alloc::Global;
 use std::marker::Model;
 
 /// A script: bytes that nobody here runs. It is seen as their list.
-#[derive(Debug, Drop)]
+#[derive(Drop)]
 pub struct Script {
     bytes: Vec<u8>,
 }

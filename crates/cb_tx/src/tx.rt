@@ -12,7 +12,7 @@ pub struct OutPoint {
 }
 
 /// An input: the output that it spends, a script and a sequence number.
-#[derive(Debug, Drop)]
+#[derive(Drop)]
 pub struct TxIn {
     pub prev: OutPoint,
     pub script: Script,
@@ -20,14 +20,14 @@ pub struct TxIn {
 }
 
 /// An output: a value in hundred-millionths of a coin, and a script.
-#[derive(Debug, Drop)]
+#[derive(Drop)]
 pub struct TxOut {
     pub value: i64,
     pub script: Script,
 }
 
 /// The inputs of a transaction. They are seen as their list.
-#[derive(Debug, Drop)]
+#[derive(Drop)]
 pub struct Inputs {
     list: Vec<TxIn>,
 }
@@ -65,7 +65,7 @@ impl Inputs {
 }
 
 /// The outputs of a transaction. They are seen as their list.
-#[derive(Debug, Drop)]
+#[derive(Drop)]
 pub struct Outputs {
     list: Vec<TxOut>,
 }
@@ -103,7 +103,7 @@ impl Outputs {
 }
 
 /// A transaction.
-#[derive(Debug, Drop)]
+#[derive(Drop)]
 pub struct Tx {
     pub version: i32,
     pub inputs: Inputs,

@@ -14,7 +14,7 @@ use std::alloc::Global;
 use std::marker::Model;
 
 /// What a piece of a stream brought.
-#[derive(Debug, Drop)]
+#[derive(Drop)]
 pub struct Fed {
     /// The items that are whole now, in order.
     pub items: Vec<Item>,
@@ -25,7 +25,7 @@ pub struct Fed {
 /// Puts the pieces of a stream together and cuts them into items.
 ///
 /// It is seen as what is left over behind the last whole envelope, and the stream's fault.
-#[derive(Debug, Drop)]
+#[derive(Drop)]
 pub struct Assembler {
     alloc: Global,
     rest: BytesMut,

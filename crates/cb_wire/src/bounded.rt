@@ -7,7 +7,7 @@ use std::alloc::Global;
 use std::marker::Model;
 
 /// A message within the limits of the protocol. It is seen as that message.
-#[derive(Debug, Drop)]
+#[derive(Drop)]
 pub struct BoundedMessage {
     message: Message,
 }

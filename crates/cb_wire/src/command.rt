@@ -7,7 +7,7 @@ use std::alloc::Global;
 use std::marker::Model;
 
 /// The commands whose payloads are understood.
-#[derive(Clone, Copy, Debug, PartialEq, Eq)]
+#[derive(Clone, Copy, PartialEq, Eq)]
 pub enum Command {
     Version,
     Verack,
@@ -90,7 +90,7 @@ impl Command {
 /// The name of a command that isn't known: 1 to 12 bytes from the space to the tilde.
 ///
 /// It is seen as its bytes.
-#[derive(Debug, Drop)]
+#[derive(Drop)]
 pub struct UnknownName {
     text: String,
 }

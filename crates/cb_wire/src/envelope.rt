@@ -30,7 +30,7 @@ pub const COMMAND_LEN: usize = 12;
 pub const PAYLOAD_LIMIT: usize = 4_000_000;
 
 /// What stands at the front of a stream.
-#[derive(Clone, Copy, Debug, PartialEq, Eq)]
+#[derive(Clone, Copy, PartialEq, Eq)]
 pub enum Front {
     /// Less than an envelope.
     Partial,

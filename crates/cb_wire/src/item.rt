@@ -7,7 +7,7 @@ use cb_base::Fault;
 use std::alloc::Global;
 
 /// What an envelope held.
-#[derive(Debug, Drop)]
+#[derive(Drop)]
 pub enum Item {
     /// A message, within the limits of the protocol.
     Good(BoundedMessage),

@@ -24,7 +24,7 @@ use cb_tx::{Tx, read_tx, write_tx};
 use std::alloc::Global;
 
 /// A message of the protocol.
-#[derive(Debug, Drop)]
+#[derive(Drop)]
 pub enum Message {
     /// `version`: how the sender introduces itself.
     Version(Version),

@@ -6,7 +6,7 @@ ghost use Rattle.cb_sim.specs.SimLine.{TellsAct, TellsSizes, act_in, act_named, 
 use cb_sched::Act;
 
 /// The sizes of a crew.
-#[derive(Clone, Copy, Debug, PartialEq, Eq)]
+#[derive(Clone, Copy, PartialEq, Eq)]
 pub struct Sizes {
     pub peers: u16,
     pub handlers: u16,
