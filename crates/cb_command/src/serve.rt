@@ -1,7 +1,9 @@
 //! The command `serve`: one peer's connection over standard input and output.
 
-ghost use Rattle.std.specs.Prelude.{◌≡◌, ◌⊎◌, true, OnOk, OnErr, IsOkUnless};
+ghost use Rattle.std.specs.Prelude.{◌≡◌, ◌⊎◌, true, List, [], ◌∷◌, ◌++◌, OnOk, OnErr, IfSome, IsOkUnless};
 ghost use Rattle.std.specs.Io.KnownBytes.{Appends};
+ghost use Rattle.cb_journal.specs.Journal.{new_journal};
+ghost use Rattle.cb_hall.specs.Badge.{BadgeState, first_of, fresh_badge};
 ghost use Rattle.cb_peer.specs.State.{is_closed};
 ghost use Rattle.cb_peer.specs.declared.state.CloseReason.{CloseReason};
 ghost use Rattle.cb_peer.specs.declared.state.CloseReason.TheVariants as reasons;
@@ -11,7 +13,7 @@ ghost use Rattle.cb_command.specs.Peer.{WasServed, PeerEnds, closed_text, peer_e
 
 use cb_io::{Sink, Source};
 use cb_run::{Halt, Status, write_all};
-use cb_session::{CloseReason, Hall, Settings, State, serve};
+use cb_session::{Badge, CloseReason, Hall, Settings, State, serve};
 use std::alloc::Global;
 
 /// What the session is given: it is the peer's connection, and all else is fixed, so that a run can be made again.
@@ -48,13 +50,45 @@ fn connection<R: Source, W: Sink>(alloc: Global, reader: &mut R, writer: &mut W)
     ensures { WasServed (R.remaining reader.old) (R.remaining reader.new) (R.has_failed reader.new) (W.contents writer.old) (W.contents writer.new) (W.has_failed writer.old) (W.has_failed writer.new) result
         ⊎ ((result ≡ reasons.Memory) × (reader.new ≡ reader.old) × (writer.new ≡ writer.old)) }
 {
-    let Ok((mut hall, mut badges)) = Hall::new(alloc, 1) else {
+    let Some((mut hall, mut badge)) = new_node(alloc) else {
         return CloseReason::Memory;
     };
-    let Some(mut badge) = badges.pop() else {
-        return CloseReason::Memory;
+    converse(alloc, reader, writer, &mut hall, &mut badge)
+}
+
+/// A hall that nobody has asked anything, and the badge of its one peer. `None` is want of memory.
+fn new_node(alloc: Global) -> Option<(Hall, Badge)>
+    ensures hall { IfSome result (λ made. made.0 ≡ new_journal) }
+    ensures badge { IfSome result (λ made. made.1 ≡ fresh_badge (first_of 0)) }
+{
+    let Ok((hall, badges)) = Hall::new(alloc, 1) else {
+        return None;
     };
-    match serve(alloc, reader, writer, &mut hall, &mut badge, SETTINGS) {
+    let badge = last_of(badges)?;
+    Some((hall, badge))
+}
+
+/// The last of badges.
+fn last_of(mut badges: Vec<Badge>) -> Option<Badge>
+    ensures { IfSome result (λ badge. (front : List BadgeState) × (badges.items ≡ front ++ badge ∷ [])) }
+{
+    badges.pop()
+}
+
+/// Serves the connection with a new hall.
+fn converse<R: Source, W: Sink>(
+    alloc: Global,
+    reader: &mut R,
+    writer: &mut W,
+    hall: &mut Hall,
+    badge: &mut Badge,
+) -> CloseReason
+    requires hall { hall.old ≡ new_journal }
+    requires badge { badge.old ≡ fresh_badge (first_of 0) }
+    ensures { WasServed (R.remaining reader.old) (R.remaining reader.new) (R.has_failed reader.new) (W.contents writer.old) (W.contents writer.new) (W.has_failed writer.old) (W.has_failed writer.new) result
+        ⊎ ((result ≡ reasons.Memory) × (reader.new ≡ reader.old) × (writer.new ≡ writer.old)) }
+{
+    match serve(alloc, reader, writer, hall, badge, SETTINGS) {
         Ok(served) => reason_of(served.trace.state()),
         Err(_) => CloseReason::Memory,
     }
