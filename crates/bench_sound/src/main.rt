@@ -6,8 +6,9 @@ ghost use Rattle.cb_block.specs.Text.{block_text};
 ghost use Rattle.cb_block.specs.Blocks.{IsSoundBlock};
 ghost use Rattle.cb_block.specs.declared.block.Block.{Block};
 
-use cb_base::{Cursor, Fault, Shared};
-use cb_block::{read_block, sound};
+use bench_records::judge;
+use cb_base::{Cursor, Fault};
+use cb_block::read_block;
 use std::alloc::Global;
 use std::io::{ErrorKind, Read};
 use std::process::ExitCode;
@@ -21,10 +22,8 @@ fn count_sound(alloc: Global, bytes: &[u8]) -> Result<usize, Fault>
     if cursor.left() > 0 {
         return Err(Fault::Trailing);
     }
-    match sound(alloc, Shared::new(alloc, block)?) {
-        Ok(sound) => Ok(sound.block().txs.as_slice().len()),
-        Err((_, fault)) => Err(fault),
-    }
+    let sound = judge(alloc, block)?;
+    Ok(sound.block().txs.as_slice().len())
 }
 
 /// What is printed, and the exit status: 0 of a sound block, 4 of want of memory, else 3.
