@@ -1,9 +1,11 @@
-use crate::form::{Form, copied, numbers_of, pairs_at, txs_at};
-use crate::reading::{named_of, read_entries, read_named, read_numbers, read_sound};
-use crate::telling::{fault_line, filled_line, mixed, numbers_line, placed_line};
-use cb_base::{Cursor, Fault};
+use crate::form::Form;
+use crate::lines::{mixed, push_fault, push_filled, push_numbers, push_placed};
+use crate::lists::{copied, name_all, paired, read_named, read_pairs, read_txs};
+use bench_records::{Play, read_numbers, read_sound};
+use cb_base::{Cursor, Fault, Shared};
 use cb_block::{SoundBlock, genesis};
-use cb_compact::{NamedTx, Pair, Placed, key, short_id, undiffer};
+use cb_compact::{Filled, NamedTx, Pair, Placed, key, short_id, undiffer};
+use cb_tx::Tx;
 use std::alloc::Global;
 
 /// A compact block, what it is rebuilt from, and what was told so far.
@@ -21,29 +23,7 @@ pub struct Player {
     lines: String,
 }
 
-impl Player {
-    /// A player of the network's first block. The only error is `Fault::Memory`.
-    pub fn new(alloc: Global) -> Result<Player, Fault> {
-        let block = genesis(alloc)?;
-        let txs = named_of(alloc, &block)?;
-        let form = Form::empty(alloc, block.block().header);
-        Ok(Player {
-            alloc,
-            block,
-            nonce: 0,
-            txs,
-            form,
-            pairs: Vec::new(alloc),
-            placed: None,
-            lines: String::new(alloc),
-        })
-    }
-
-    /// All lines so far.
-    pub fn told(self) -> String {
-        self.lines
-    }
-
+impl Play for Player {
     /// Does what a record says. Numbers are of eight bytes, entries of a number and a transaction's number in four bytes, and
     /// how often something is done stands in four bytes. What is remembered:
     ///
@@ -56,7 +36,7 @@ impl Player {
     /// whole; `p` looks for its transactions among the pairs, so many times; `r` only copies the pairs as often; `l` hands in
     /// the transactions of these entries for the places that are missing; `s` tells the short ids of all transactions, so many
     /// times; `u` the indexes below a total of these differences; `j` reads and judges a block, so many times.
-    pub fn play(&mut self, kind: u8, payload: &[u8]) -> Result<(), Fault> {
+    fn play_record(&mut self, kind: u8, payload: &[u8]) -> Result<(), Fault> {
         let mut cursor = Cursor::new(payload);
         match kind {
             b'b' => self.take_block(&mut cursor),
@@ -66,95 +46,102 @@ impl Player {
             b'f' => self.take_whole(&mut cursor),
             b'q' => self.take_pairs(&mut cursor),
             b'a' => self.pair_all(),
-            _ => {
-                let line = self.line_of(kind, &mut cursor)?;
-                self.lines.push_str(line.as_str())?;
-                Ok(())
-            }
-        }
-    }
-
-    // Carries out an order, and tells its line.
-    fn line_of<'a>(&mut self, kind: u8, cursor: &mut Cursor<'a>) -> Result<String, Fault> {
-        match kind {
-            b'c' => self.compact(cursor),
-            b's' => self.short_ids(cursor.u32()?),
-            b'u' => self.undiffer(cursor),
-            b'p' => self.place(cursor.u32()?),
-            b'r' => self.copy_pairs(cursor.u32()?),
-            b'l' => self.fill(cursor),
-            b'j' => self.judge(cursor),
+            b'c' => self.compact(&mut cursor),
+            b's' => self.short_ids(&mut cursor),
+            b'u' => self.undiffer(&mut cursor),
+            b'p' => self.place(&mut cursor),
+            b'r' => self.copy_pairs(&mut cursor),
+            b'l' => self.fill(&mut cursor),
+            b'j' => self.judge(&mut cursor),
             _ => Err(Fault::NotEnabled),
         }
     }
 
-    fn take_block<'a>(&mut self, cursor: &mut Cursor<'a>) -> Result<(), Fault> {
-        let block = read_sound(self.alloc, cursor)?;
-        self.txs = named_of(self.alloc, &block)?;
-        self.form = Form::empty(self.alloc, block.block().header);
-        self.block = block;
-        Ok(())
+    /// All lines.
+    fn told(&self) -> Result<String, Fault> {
+        Ok(self.lines.clone()?)
+    }
+}
+
+impl Player {
+    /// A player of the network's first block. The only error is `Fault::Memory`.
+    pub fn new(alloc: Global) -> Result<Player, Fault> {
+        let block = genesis(alloc)?;
+        let mut txs = Vec::new(alloc);
+        name_all(alloc, &block, &mut txs)?;
+        Ok(Player {
+            alloc,
+            block,
+            nonce: 0,
+            txs,
+            form: Form::empty(alloc),
+            pairs: Vec::new(alloc),
+            placed: None,
+            lines: String::new(alloc),
+        })
     }
 
-    fn take_tx<'a>(&mut self, cursor: &mut Cursor<'a>) -> Result<(), Fault> {
+    fn take_block(&mut self, cursor: &mut Cursor) -> Result<(), Fault> {
+        self.form = Form::empty(self.alloc);
+        self.block = read_sound(self.alloc, cursor)?;
+        self.txs.clear();
+        name_all(self.alloc, &self.block, &mut self.txs)
+    }
+
+    fn take_tx(&mut self, cursor: &mut Cursor) -> Result<(), Fault> {
         let named = read_named(self.alloc, cursor)?;
         self.txs.push(named)?;
         Ok(())
     }
 
-    fn take_nonce<'a>(&mut self, cursor: &mut Cursor<'a>) -> Result<(), Fault> {
+    fn take_nonce(&mut self, cursor: &mut Cursor) -> Result<(), Fault> {
         self.nonce = cursor.u64()?;
         Ok(())
     }
 
-    fn take_ids<'a>(&mut self, cursor: &mut Cursor<'a>) -> Result<(), Fault> {
+    fn take_ids(&mut self, cursor: &mut Cursor) -> Result<(), Fault> {
         self.form.ids = read_numbers(self.alloc, cursor)?;
         Ok(())
     }
 
-    fn take_whole<'a>(&mut self, cursor: &mut Cursor<'a>) -> Result<(), Fault> {
-        let entries = read_entries(self.alloc, cursor)?;
-        self.form.whole = txs_at(self.alloc, self.txs.as_slice(), entries.as_slice())?;
-        self.form.differences = numbers_of(self.alloc, entries.as_slice())?;
-        Ok(())
+    fn take_whole(&mut self, cursor: &mut Cursor) -> Result<(), Fault> {
+        self.form.read_whole(cursor, self.txs.len())
     }
 
-    fn take_pairs<'a>(&mut self, cursor: &mut Cursor<'a>) -> Result<(), Fault> {
-        let entries = read_entries(self.alloc, cursor)?;
-        self.pairs = pairs_at(self.alloc, self.txs.as_slice(), entries.as_slice())?;
-        Ok(())
+    fn take_pairs(&mut self, cursor: &mut Cursor) -> Result<(), Fault> {
+        self.pairs.clear();
+        read_pairs(self.txs.as_slice(), cursor, &mut self.pairs)
     }
 
     // Pairs of all transactions under their short ids, the last first.
     fn pair_all(&mut self) -> Result<(), Fault> {
         let key = key(&self.block.block().header, self.nonce);
-        let mut pairs = Vec::with_capacity(self.alloc, self.txs.len())?;
+        self.pairs.clear();
         for named in self.txs.iter().rev() {
-            let id = short_id(key, &named.txid());
-            let tx = named.clone()?;
-            pairs.push(Pair { id, tx })?;
+            let pair = paired(short_id(key, &named.txid()), named)?;
+            self.pairs.push(pair)?;
         }
-        self.pairs = pairs;
         Ok(())
     }
 
-    fn compact<'a>(&mut self, cursor: &mut Cursor<'a>) -> Result<String, Fault> {
+    fn compact(&mut self, cursor: &mut Cursor) -> Result<(), Fault> {
         let differences = read_numbers(self.alloc, cursor)?;
-        match Form::of_block(self.alloc, &self.block, self.nonce, differences) {
-            Ok(form) => {
-                self.form = form;
-                numbers_line(self.alloc, "ids", self.form.ids.as_slice())
-            }
-            Err(fault) => fault_line(self.alloc, fault),
+        if let Err(fault) = self
+            .form
+            .take_block(self.alloc, &self.block, self.nonce, differences)
+        {
+            return push_fault(&mut self.lines, fault);
         }
+        push_numbers(&mut self.lines, "ids", self.form.ids.as_slice())
     }
 
-    fn short_ids(&self, count: u32) -> Result<String, Fault> {
+    fn short_ids(&mut self, cursor: &mut Cursor) -> Result<(), Fault> {
+        let count = cursor.u32()?;
         let mut sum = 0;
         for _ in 0..count {
             sum = mixed(sum, self.mixed_ids());
         }
-        numbers_line(self.alloc, "short ids", &[sum])
+        push_numbers(&mut self.lines, "short ids", &[sum])
     }
 
     // The short ids of all transactions, mixed.
@@ -167,63 +154,80 @@ impl Player {
         sum
     }
 
-    fn undiffer<'a>(&self, cursor: &mut Cursor<'a>) -> Result<String, Fault> {
+    fn undiffer(&mut self, cursor: &mut Cursor) -> Result<(), Fault> {
         let total = cursor.u64()?;
         let differences = read_numbers(self.alloc, cursor)?;
         match undiffer(self.alloc, differences.as_slice(), total) {
-            Ok(indexes) => numbers_line(self.alloc, "indexes", indexes.as_slice()),
-            Err(fault) => fault_line(self.alloc, fault),
+            Ok(indexes) => push_numbers(&mut self.lines, "indexes", indexes.as_slice()),
+            Err(fault) => push_fault(&mut self.lines, fault),
         }
     }
 
-    // Looks for the transactions so many times, and keeps what came of it last.
+    // Looks for the transactions, and keeps what came of it.
+    fn place_once(&mut self) -> Result<(), Fault> {
+        let header = self.block.block().header;
+        let (txs, pairs) = (self.txs.as_slice(), self.pairs.as_slice());
+        self.placed = Some(self.form.rebuild(self.alloc, header, txs, pairs)?);
+        Ok(())
+    }
+
     fn place_often(&mut self, count: u32) -> Result<(), Fault> {
         for _ in 0..count {
-            let pairs = copied(self.alloc, self.pairs.as_slice())?;
-            let placed = self.form.rebuild(self.alloc, pairs)?;
-            self.placed = Some(placed);
+            self.place_once()?;
         }
         Ok(())
     }
 
-    fn place(&mut self, count: u32) -> Result<String, Fault> {
+    fn place(&mut self, cursor: &mut Cursor) -> Result<(), Fault> {
+        let count = cursor.u32()?;
         if let Err(fault) = self.place_often(count) {
-            return fault_line(self.alloc, fault);
+            return push_fault(&mut self.lines, fault);
         }
         match &self.placed {
-            Some(placed) => placed_line(self.alloc, placed),
-            None => numbers_line(self.alloc, "nothing", &[]),
+            Some(placed) => push_placed(&mut self.lines, placed),
+            None => push_numbers(&mut self.lines, "nothing", &[]),
         }
     }
 
-    fn copy_pairs(&self, count: u32) -> Result<String, Fault> {
+    fn copy_pairs(&mut self, cursor: &mut Cursor) -> Result<(), Fault> {
+        let count = cursor.u32()?;
         for _ in 0..count {
             drop(copied(self.alloc, self.pairs.as_slice())?);
         }
-        numbers_line(self.alloc, "pairs", &[self.pairs.len() as u64])
+        push_numbers(&mut self.lines, "pairs", &[self.pairs.len() as u64])
     }
 
-    fn fill<'a>(&mut self, cursor: &mut Cursor<'a>) -> Result<String, Fault> {
-        let entries = read_entries(self.alloc, cursor)?;
-        let txs = txs_at(self.alloc, self.txs.as_slice(), entries.as_slice())?;
-        let Some(Placed::Missing(_, partial)) = self.placed.take() else {
-            return fault_line(self.alloc, Fault::NotEnabled);
-        };
-        match partial.fill(txs) {
-            Ok(filled) => Ok(String::from_str(self.alloc, filled_line(&filled))?),
-            Err(fault) => fault_line(self.alloc, fault),
+    fn fill(&mut self, cursor: &mut Cursor) -> Result<(), Fault> {
+        let mut txs = Vec::new(self.alloc);
+        read_txs(self.txs.as_slice(), cursor, &mut txs)?;
+        match filled(self.placed.take(), txs) {
+            Ok(filled) => push_filled(&mut self.lines, &filled),
+            Err(fault) => push_fault(&mut self.lines, fault),
         }
     }
 
-    // Reads and judges the block that is left, so many times.
-    fn judge<'a>(&mut self, cursor: &mut Cursor<'a>) -> Result<String, Fault> {
+    fn judge(&mut self, cursor: &mut Cursor) -> Result<(), Fault> {
         let count = cursor.u32()?;
         let text = cursor.take(cursor.left())?;
-        for _ in 0..count {
-            if let Err(fault) = read_sound(self.alloc, &mut Cursor::new(text)) {
-                return fault_line(self.alloc, fault);
-            }
+        match judge_often(self.alloc, text, count) {
+            Ok(()) => push_numbers(&mut self.lines, "judged", &[u64::from(count)]),
+            Err(fault) => push_fault(&mut self.lines, fault),
         }
-        numbers_line(self.alloc, "judged", &[u64::from(count)])
     }
+}
+
+// The block with these transactions at the places that were missing.
+fn filled(placed: Option<Placed>, txs: Vec<Shared<Tx>>) -> Result<Filled, Fault> {
+    match placed {
+        Some(Placed::Missing(_, partial)) => partial.fill(txs),
+        _ => Err(Fault::NotEnabled),
+    }
+}
+
+// Reads and judges a block, so many times.
+fn judge_often(alloc: Global, text: &[u8], count: u32) -> Result<(), Fault> {
+    for _ in 0..count {
+        drop(read_sound(alloc, &mut Cursor::new(text))?);
+    }
+    Ok(())
 }
