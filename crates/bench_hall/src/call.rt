@@ -1,12 +1,8 @@
-ghost use Rattle.std.specs.Prelude.{◌≡◌, IfOk};
-
-use cb_base::Fault;
 use cb_journal::{Answer, Local, Question};
 use cb_state::Connection;
-use std::alloc::Global;
 
 /// What is looked at in a hall, which stays as it is.
-#[derive(Clone, Copy, Debug)]
+#[derive(Clone, Copy)]
 pub enum Sight {
     /// How it stands.
     Look,
@@ -38,30 +34,11 @@ pub enum Call {
 /// How a call ended.
 #[derive(Drop)]
 pub enum Reply {
-    /// A question was answered.
-    Told(Answer),
-    /// What was handed in met this.
-    Taken(Answer),
+    /// What a question was answered, or what was handed in met.
+    Answered(Answer),
     Opened(Connection),
     Kicked(u16),
     Checkpoint,
     /// What was looked at, in a line.
     Seen(String),
-}
-
-impl Call {
-    /// The same call once more. The only error is `Fault::Memory`.
-    pub fn copy(&self, alloc: Global) -> Result<Call, Fault>
-        ensures same { IfOk result (λ copy. copy ≡ self.now) }
-    {
-        Ok(match self {
-            Call::Ask(connection, question) => Call::Ask(*connection, question.copy(alloc)?),
-            Call::Open(peer) => Call::Open(*peer),
-            Call::Kick(peer) => Call::Kick(*peer),
-            Call::Submit(local) => Call::Submit(local.copy()?),
-            Call::Extend(mark) => Call::Extend(*mark),
-            Call::Checkpoint => Call::Checkpoint,
-            Call::See(sight) => Call::See(*sight),
-        })
-    }
 }

@@ -4,42 +4,31 @@
 #![tactic(auto)]
 
 mod call;
-mod log;
 mod node;
+mod notes;
 mod player;
 mod reading;
-mod records;
 mod replaying;
 mod seeing;
 mod telling;
 
-use cb_base::Fault;
+use bench_records::{Stop, end, play_all};
 use player::Player;
-use records::{fault_of, read_record};
 use std::alloc::Global;
-use std::io::{BufReader, Read};
+use std::io::{Read, writer};
 use std::process::ExitCode;
 
 /// Plays all records, and tells how each ended.
-fn play<R: Read + Drop>(alloc: Global, reader: R) -> Result<String, Fault> {
-    let mut reader = BufReader::new(alloc, reader).map_err(fault_of)?;
-    let mut payload = Vec::new(alloc);
+fn play<R: Read + Drop>(alloc: Global, reader: R) -> Result<String, Stop> {
     let mut player = Player::new(alloc)?;
-    for _ in 0..u64::MAX {
-        let Some(kind) = read_record(&mut reader, &mut payload)? else {
-            break;
-        };
-        player.play(kind, payload.as_slice())?;
-    }
-    player.told()
+    let told = play_all(alloc, reader, &mut player);
+    // By a call: as it went out of scope its drop would be unrolled here, and be dear to prove.
+    drop(player);
+    told
 }
 
 /// What is printed, and the exit status: 0, 4 of want of memory, else 3.
 fn main(rt: HostRuntime) -> ExitCode {
-    let (printed, status) = match play(rt.alloc(), rt.reader()) {
-        Ok(text) => (print!(rt; "{text}"), 0),
-        Err(Fault::Memory) => (Ok(()), 4),
-        Err(fault) => (println!(rt; "{fault}"), 3),
-    };
-    ExitCode::from(if printed.is_ok() { status } else { 3 })
+    let told = play(rt.alloc(), rt.reader());
+    ExitCode::from(end(&mut writer(&rt), told, "F2 Truncated"))
 }

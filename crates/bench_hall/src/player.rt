@@ -1,26 +1,33 @@
 ghost use Rattle.std.specs.Prelude.{◌≡◌, IfOk, MatchResult, OnOk};
 ghost use Rattle.bench_hall.specs.Playing.{IsNew, Makes, MakesOften, Plays};
+ghost use Rattle.bench_hall.specs.declared.call.Call.TheVariants as calls;
 
-use crate::call::{Call, Reply};
+use crate::call::{Call, Reply, Sight};
 use crate::node::Node;
+use crate::notes::Notes;
 use crate::reading::read_call;
-use crate::telling::{reply_line, reply_size};
+use crate::seeing::{see, view};
+use bench_records::Play;
 use cb_base::{Cursor, Fault};
 use std::alloc::Global;
+use std::mem;
 
 /// A node, and what was told of the calls that were played into it.
 #[derive(Drop)]
 pub struct Player {
-    alloc: Global,
     node: Node,
-    // Where memory runs out the node is looked at, and the call is made again.
-    careful: bool,
-    // A refused call left another node than it found.
-    changed: bool,
-    // Calls were made of which no line is printed, and they told so much.
-    repeated: bool,
-    sum: u64,
-    lines: String,
+    notes: Notes,
+}
+
+impl Play for Player {
+    fn play_record(&mut self, kind: u8, payload: &[u8]) -> Result<(), Fault> {
+        self.play(kind, payload)
+    }
+
+    /// The lines of all calls.
+    fn told(&self) -> Result<String, Fault> {
+        self.notes.told()
+    }
 }
 
 impl Player {
@@ -29,13 +36,8 @@ impl Player {
         ensures { IfOk result (λ player. IsNew player.node.hall) }
     {
         Ok(Player {
-            alloc,
             node: Node::new(alloc)?,
-            careful: false,
-            changed: false,
-            repeated: false,
-            sum: 0,
-            lines: String::new(alloc),
+            notes: Notes::new(alloc),
         })
     }
 
@@ -48,48 +50,44 @@ impl Player {
         let mut cursor = Cursor::new(payload);
         match kind {
             b'x' => self.repeat(&mut cursor),
-            b'z' => {
-                self.node = Node::new(self.alloc)?;
-                Ok(())
-            }
+            b'z' => self.begin(),
             b'c' => {
-                self.careful = true;
+                self.notes.careful = true;
                 Ok(())
             }
-            _ => {
-                let call = read_call(self.alloc, kind, &mut cursor)?;
-                self.tell(call)
-            }
+            _ => self.play_call(kind, &mut cursor),
         }
     }
 
-    // Makes a call, and prints its line.
-    fn tell(&mut self, call: Call) -> Result<(), Fault>
-        ensures { OnOk result (Makes call self.old.node.hall self.new.node.hall) }
+    // Calls are made of a new hall from now on.
+    fn begin(&mut self) -> Result<(), Fault>
+        ensures { OnOk result (IsNew self.new.node.hall) }
     {
-        let had = self.node.entries();
-        let reply = self.perform(call)?;
-        self.print(had, &reply)
-    }
-
-    // Prints the line of what a call told, and notes it.
-    fn print(&mut self, had: usize, reply: &Reply) -> Result<(), Fault>
-        ensures { self.new.node.hall ≡ self.old.node.hall }
-    {
-        let line = reply_line(self.alloc, reply)?;
-        self.node.remember(had, reply, Some(line.as_str()))?;
-        self.lines.push_str(line.as_str())?;
+        let node = Node::new(self.notes.alloc)?;
+        drop(mem::replace(&mut self.node, node));
+        self.notes.begin_hall();
         Ok(())
     }
 
-    // Makes a call, and adds up how much it told.
-    fn pass(&mut self, call: Call) -> Result<(), Fault>
-        ensures { OnOk result (Makes call self.old.node.hall self.new.node.hall) }
+    // Makes a call of this kind, and prints its line.
+    fn play_call<'a>(&mut self, kind: u8, cursor: &mut Cursor<'a>) -> Result<(), Fault>
+        ensures { OnOk result (Plays kind self.old.node.hall self.new.node.hall) }
+    {
+        let call = read_call(self.notes.alloc, kind, cursor)?;
+        let told = self.tell(&call, true);
+        drop(call);
+        told
+    }
+
+    // Makes a call, and notes how it ended.
+    fn tell(&mut self, call: &Call, printed: bool) -> Result<(), Fault>
+        ensures { OnOk result (Makes call.now self.old.node.hall self.new.node.hall) }
     {
         let had = self.node.entries();
         let reply = self.perform(call)?;
-        self.sum = self.sum.wrapping_add(reply_size(&reply) as u64);
-        self.node.remember(had, &reply, None)
+        let noted = self.notes.note(&self.node, call, had, &reply, printed);
+        drop(reply);
+        noted
     }
 
     // Makes a call so often, and prints nothing.
@@ -98,50 +96,70 @@ impl Player {
     {
         let count = cursor.u32()?;
         let kind = cursor.u8()?;
-        let call = read_call(self.alloc, kind, cursor)?;
-        self.repeated = true;
+        let call = read_call(self.notes.alloc, kind, cursor)?;
+        self.notes.repeated = true;
+        let told = self.tell_often(&call, count);
+        drop(call);
+        told
+    }
+
+    fn tell_often(&mut self, call: &Call, count: u32) -> Result<(), Fault>
+        ensures { OnOk result (MakesOften self.old.node.hall self.new.node.hall) }
+    {
         for _ in 0..count {
-            self.pass(call.copy(self.alloc)?)?;
+            self.tell(call, false)?;
         }
         Ok(())
     }
 
     // Makes a call. A refused one changes nothing.
-    fn perform(&mut self, call: Call) -> Result<Reply, Fault>
-        ensures { MatchResult result (λ reply. Makes call self.old.node.hall self.new.node.hall) (λ fault. self.new.node.hall ≡ self.old.node.hall) }
+    fn perform(&mut self, call: &Call) -> Result<Reply, Fault>
+        ensures { MatchResult result (λ reply. Makes call.now self.old.node.hall self.new.node.hall) (λ fault. self.new.node.hall ≡ self.old.node.hall) }
     {
-        if self.careful {
-            return self.perform_with_care(call);
+        if self.notes.careful {
+            let before = view(&self.node, &self.notes)?;
+            return self.perform_beside(call, before.as_str());
         }
-        self.node.make(call)
+        self.make(call)
     }
 
-    // Where memory runs out the node must be as it was, and the call is made again.
-    fn perform_with_care(&mut self, call: Call) -> Result<Reply, Fault>
-        ensures { MatchResult result (λ reply. Makes call self.old.node.hall self.new.node.hall) (λ fault. self.new.node.hall ≡ self.old.node.hall) }
+    // Where memory runs out the hall must be as it was, and the call is made again.
+    fn perform_beside(&mut self, call: &Call, before: &str) -> Result<Reply, Fault>
+        ensures { MatchResult result (λ reply. Makes call.now self.old.node.hall self.new.node.hall) (λ fault. self.new.node.hall ≡ self.old.node.hall) }
     {
-        let again = call.copy(self.alloc)?;
-        let before = self.node.view()?;
-        match self.node.make(call) {
-            Err(fault) if fault == Fault::Memory => (),
-            ended => return ended,
+        match self.make(call) {
+            Err(fault) if fault == Fault::Memory => self.make_again(call, before),
+            ended => ended,
         }
-        let after = self.node.view()?;
-        self.changed |= after.as_str() != before.as_str();
-        self.node.make(again)
     }
 
-    /// The lines of all calls. Behind them stand how much those told of which none was printed, and whether a refused call
-    /// changed the hall.
-    pub fn told(&self) -> Result<String, Fault> {
-        let mut text = self.lines.clone()?;
-        if self.repeated {
-            let sum = self.sum;
-            writeln!(text, "sum {sum}")?;
+    fn make_again(&mut self, call: &Call, before: &str) -> Result<Reply, Fault>
+        ensures { MatchResult result (λ reply. Makes call.now self.old.node.hall self.new.node.hall) (λ fault. self.new.node.hall ≡ self.old.node.hall) }
+    {
+        let after = view(&self.node, &self.notes)?;
+        self.notes.changed |= after.as_str() != before;
+        self.make(call)
+    }
+
+    fn make(&mut self, call: &Call) -> Result<Reply, Fault>
+        ensures { MatchResult result (λ reply. Makes call.now self.old.node.hall self.new.node.hall) (λ fault. self.new.node.hall ≡ self.old.node.hall) }
+    {
+        match call {
+            Call::Ask(connection, question) => self.node.ask(*connection, question),
+            Call::Open(peer) => self.node.open(*peer),
+            Call::Kick(peer) => self.node.kick(*peer),
+            Call::Submit(local) => self.node.submit(local),
+            Call::Extend(mark) => self.node.extend(*mark),
+            Call::Checkpoint => self.node.checkpoint(),
+            Call::See(sight) => self.look_at(*sight),
         }
-        if self.changed {
-            writeln!(text, "a refused call changed the hall")?;
-        }
-        Ok(text)
+    }
+
+    // Looking changes nothing.
+    #[tactic(auto, unfolding(crate::specs::Playing::Makes))]
+    fn look_at(&mut self, sight: Sight) -> Result<Reply, Fault>
+        ensures { MatchResult result (λ reply. Makes (calls.See sight) self.old.node.hall self.new.node.hall) (λ fault. self.new.node.hall ≡ self.old.node.hall) }
+    {
+        Ok(Reply::Seen(see(&self.node, &self.notes, sight)?))
     }
 }

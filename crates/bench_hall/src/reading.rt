@@ -2,8 +2,9 @@ ghost use Rattle.std.specs.Prelude.{◌≡◌, IfOk};
 ghost use Rattle.bench_hall.specs.Playing.{call_kind, question_kind};
 
 use crate::call::{Call, Sight};
-use cb_base::{Cursor, Fault, Hash256, Shared};
-use cb_block::{Header, SoundBlock, read_block, read_header, sound};
+use bench_records::{read_hashes, read_numbers, read_sound};
+use cb_base::{Cursor, Fault, Shared};
+use cb_block::{Header, read_header};
 use cb_journal::{Given, Local, Question, Request, Sought, Told};
 use cb_payload::{HeaderList, Listed, Locator};
 use cb_state::{Connection, Entries, Inventory};
@@ -37,12 +38,8 @@ fn read_entries(alloc: Global, cursor: &mut Cursor) -> Result<Entries, Fault> {
     as_listed(entries)
 }
 
-fn read_hashes(alloc: Global, cursor: &mut Cursor) -> Result<Locator, Fault> {
-    let mut hashes = Vec::new(alloc);
-    for _ in 0..cursor.left() / 32 {
-        hashes.push(read_hash(cursor)?)?;
-    }
-    as_listed(hashes)
+fn read_locator(alloc: Global, cursor: &mut Cursor) -> Result<Locator, Fault> {
+    as_listed(read_hashes(alloc, cursor)?)
 }
 
 fn read_headers(alloc: Global, cursor: &mut Cursor) -> Result<HeaderList, Fault> {
@@ -54,22 +51,18 @@ fn read_headers(alloc: Global, cursor: &mut Cursor) -> Result<HeaderList, Fault>
 }
 
 // Short ids, or differences of places, each in eight bytes.
-fn read_numbers<const MOST: usize>(
+fn read_listed<const MOST: usize>(
     alloc: Global,
     cursor: &mut Cursor,
 ) -> Result<Listed<u64, MOST>, Fault> {
-    let mut numbers = Vec::new(alloc);
-    for _ in 0..cursor.left() / 8 {
-        numbers.push(cursor.u64()?)?;
-    }
-    as_listed(numbers)
+    as_listed(read_numbers(alloc, cursor)?)
 }
 
 // A header, a nonce, and short ids.
 fn read_sought<'a>(alloc: Global, cursor: &mut Cursor<'a>) -> Result<Sought, Fault> {
     let header = read_header(cursor)?;
     let nonce = cursor.u64()?;
-    let ids = Shared::new(alloc, read_numbers(alloc, cursor)?)?;
+    let ids = Shared::new(alloc, read_listed(alloc, cursor)?)?;
     Ok(Sought { header, nonce, ids })
 }
 
@@ -84,15 +77,6 @@ fn as_listed<T: Drop, const MOST: usize>(list: Vec<T>) -> Result<Listed<T, MOST>
 fn read_shared_tx<'a>(alloc: Global, cursor: &mut Cursor<'a>) -> Result<Shared<Tx>, Fault> {
     let tx = read_tx(alloc, cursor)?;
     Ok(Shared::new(alloc, tx)?)
-}
-
-// A block, which must be sound.
-fn read_sound<'a>(alloc: Global, cursor: &mut Cursor<'a>) -> Result<SoundBlock, Fault> {
-    let block = read_block(alloc, cursor)?;
-    match sound(alloc, Shared::new(alloc, block)?) {
-        Ok(block) => Ok(block),
-        Err((_, fault)) => Err(fault),
-    }
 }
 
 // Whether the peer knows compact blocks in a byte, and the block.
@@ -128,14 +112,14 @@ fn read_question<'a>(alloc: Global, kind: u8, cursor: &mut Cursor<'a>) -> Result
         b's' => Ok(Question::Serve(Request::Items(read_entries(alloc, cursor)?))),
         b'f' => {
             let stop = read_hash(cursor)?;
-            let locator = read_hashes(alloc, cursor)?;
+            let locator = read_locator(alloc, cursor)?;
             Ok(Question::Serve(Request::After(locator, stop)))
         }
         b'n' => Ok(Question::News(read_told(cursor)?)),
         b'd' => Ok(Question::Match(Shared::new(alloc, read_sought(alloc, cursor)?)?)),
         b'e' => {
             let hash = read_hash(cursor)?;
-            let differences = read_numbers(alloc, cursor)?;
+            let differences = read_listed(alloc, cursor)?;
             Ok(Question::Serve(Request::Places(hash, differences)))
         }
         _ => Err(Fault::NotEnabled),

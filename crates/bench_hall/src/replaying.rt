@@ -1,7 +1,7 @@
 ghost use Rattle.std.specs.Prelude.{◌≡◌, ℕ, ◌<◌, true};
 ghost use Rattle.cb_journal.specs.Connections.{latest_of};
 
-use crate::seeing::look_line;
+use crate::seeing::push_look;
 use cb_base::Fault;
 use cb_hall::Hall;
 use cb_journal::{Connections, PEERS};
@@ -19,22 +19,35 @@ fn are_first(connections: &Connections) -> bool
     true
 }
 
-// The line of a hall that was made of a journal.
-fn replayed_line(alloc: Global, other: &Hall) -> Result<String, Fault> {
+// The line of a hall that was made of a journal: how long its journal is, and how it is seen at a glance.
+fn push_replayed(alloc: Global, lines: &mut String, other: &Hall) -> Result<(), Fault> {
     let length = other.journal().len();
-    let mut line = String::new(alloc);
-    write!(line, "replay journal {length} ")?;
-    line.push_str(look_line(alloc, other)?.as_str())?;
-    Ok(line)
+    write!(lines, "replay journal {length} ")?;
+    push_look(alloc, lines, other)
 }
 
-/// The line of the hall to which a journal leads that has all calls: how it is seen at a glance, and how long its journal is.
-/// There is none where a connection was opened before the journal began.
-pub fn replay_line(alloc: Global, hall: &Hall) -> Result<String, Fault> {
+// The line of the hall to which a journal leads. There is none where a connection was opened before the journal began.
+fn push_led_to(alloc: Global, lines: &mut String, hall: &Hall) -> Result<(), Fault> {
     let calls = hall.journal();
     if !are_first(hall.kept()) {
-        return Ok(String::new(alloc));
+        return Ok(());
     }
     let other = Hall::replay(alloc, calls)?;
-    replayed_line(alloc, &other)
+    let pushed = push_replayed(alloc, lines, &other);
+    drop(other);
+    pushed
+}
+
+/// The line of the hall to which a journal leads that has all calls.
+pub fn push_replay(
+    alloc: Global,
+    lines: &mut String,
+    hall: &Hall,
+    anew: bool,
+) -> Result<(), Fault> {
+    if anew {
+        lines.push_str("replay of a part\n")?;
+        return Ok(());
+    }
+    push_led_to(alloc, lines, hall)
 }

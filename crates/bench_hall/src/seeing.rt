@@ -1,10 +1,15 @@
-use crate::node::new_hall;
-use crate::telling::{Line, answer_line};
+use crate::call::Sight;
+use crate::node::{Node, new_hall};
+use crate::notes::Notes;
+use crate::replaying::push_replay;
+use crate::telling::{push_answer, push_pairs};
+use bench_records::push_hash;
 use cb_base::Fault;
-use cb_block::SoundBlock;
-use cb_hall::{Badge, Hall, Look};
+use cb_block::{Block, SoundBlock};
+use cb_hall::{Badge, Hall};
 use cb_journal::{Answer, Connections, Question, Told};
 use cb_state::Connection;
+use cb_tx::TxIn;
 use std::alloc::Global;
 
 // How many peers ask a hall that was computed again.
@@ -17,19 +22,14 @@ const ALL: Told = Told {
     whole: false,
 };
 
-// The line of a look.
-fn at_a_glance(alloc: Global, look: Look) -> Result<String, Fault> {
-    let (height, pool) = (look.height, look.pool);
-    let mut line = Line::new(alloc);
-    write!(line.text, "look height {height} pool {pool} tip")?;
-    line.hash(&look.tip)?;
-    line.text.push('\n')?;
-    Ok(line.text)
-}
-
 /// The line of what is seen of a hall at a glance.
-pub fn look_line(alloc: Global, hall: &Hall) -> Result<String, Fault> {
-    at_a_glance(alloc, hall.look())
+pub fn push_look(alloc: Global, lines: &mut String, hall: &Hall) -> Result<(), Fault> {
+    let look = hall.look();
+    let (height, pool) = (look.height, look.pool);
+    write!(lines, "look height {height} pool {pool} tip")?;
+    push_hash(alloc, lines, &look.tip)?;
+    lines.push('\n')?;
+    Ok(())
 }
 
 // How often a connection has asked, 0 where there is no such one.
@@ -41,105 +41,217 @@ fn count_of(connections: &Connections, connection: Connection) -> u64 {
 }
 
 // Of a connection that has asked: how often before the journal, by now, and by its badge, and whether it was kicked.
-fn push_badge(line: &mut String, hall: &Hall, badge: &Badge) -> Result<(), Fault> {
+fn push_badge(lines: &mut String, hall: &Hall, badge: &Badge) -> Result<(), Fault> {
     let (connection, count) = (badge.connection(), badge.count());
     if count > 0 {
         let (peer, generation) = (connection.peer, connection.generation);
         let before = count_of(hall.kept(), connection);
         let now = count_of(hall.connections(), connection);
         let kicked = hall.connections().is_kicked(connection);
-        write!(line, " {peer}.{generation} {before} {now} {count} {kicked}")?;
+        write!(
+            lines,
+            " {peer}.{generation} {before} {now} {count} {kicked}"
+        )?;
     }
     Ok(())
 }
 
-/// The line of how many entries the journal has, and how often the holders of these badges have asked.
-pub fn counts_line(alloc: Global, hall: &Hall, badges: &[Badge]) -> Result<String, Fault> {
-    let mut line = String::new(alloc);
+// The line of how many entries the journal has, and how often the holders of these badges have asked.
+fn push_counts(lines: &mut String, hall: &Hall, badges: &[Badge]) -> Result<(), Fault> {
     let length = hall.journal().len();
-    write!(line, "journal {length}")?;
+    write!(lines, "journal {length}")?;
     for badge in badges {
-        push_badge(&mut line, hall, badge)?;
+        push_badge(lines, hall, badge)?;
     }
+    lines.push('\n')?;
+    Ok(())
+}
+
+// The lines of `push_look` and `push_counts`.
+fn push_standing(
+    alloc: Global,
+    lines: &mut String,
+    hall: &Hall,
+    badges: &[Badge],
+) -> Result<(), Fault> {
+    push_look(alloc, lines, hall)?;
+    push_counts(lines, hall, badges)
+}
+
+fn push_script(alloc: Global, line: &mut String, input: &TxIn) -> Result<(), Fault> {
+    let Ok(script) = hex::encode(alloc, input.script.as_slice()) else {
+        return Err(Fault::Memory);
+    };
+    write!(line, " script {script}")?;
+    Ok(())
+}
+
+// A coinbase's script and size.
+fn push_coinbase(alloc: Global, line: &mut String, block: &Block) -> Result<(), Fault> {
+    let Some(coinbase) = block.txs.as_slice().first() else {
+        return Ok(());
+    };
+    for input in coinbase.inputs.as_slice() {
+        push_script(alloc, line, input)?;
+    }
+    let size = coinbase.size();
+    write!(line, " size {size}")?;
+    Ok(())
+}
+
+// A block that was made: its hash, its size, how many transactions it has, its time, and its coinbase's script and size.
+fn push_block(alloc: Global, line: &mut String, block: &Block) -> Result<(), Fault> {
+    line.push_str("mined")?;
+    push_hash(alloc, line, &block.header.hash())?;
+    let (size, count, time) = (block.size(), block.txs.as_slice().len(), block.header.time);
+    write!(line, " {size} txs {count} time {time}")?;
+    push_coinbase(alloc, line, block)?;
     line.push('\n')?;
-    Ok(line)
+    Ok(())
 }
 
-// The line of a block that was made.
-fn block_line(alloc: Global, block: &SoundBlock) -> Result<String, Fault> {
-    let mut line = Line::new(alloc);
-    line.mined(block)?;
-    line.text.push('\n')?;
-    Ok(line.text)
+// The line of the block that is made with this mark.
+fn push_mined(alloc: Global, lines: &mut String, hall: &Hall, mark: u8) -> Result<(), Fault> {
+    let block: SoundBlock = hall.mine(mark)?;
+    push_block(alloc, lines, block.block())
 }
 
-/// The line of the block that is made with this mark.
-pub fn mined_line(alloc: Global, hall: &Hall, mark: u8) -> Result<String, Fault> {
-    let block = hall.mine(mark)?;
-    block_line(alloc, &block)
+// Asks a question.
+fn push_asked(
+    alloc: Global,
+    lines: &mut String,
+    hall: &mut Hall,
+    badge: &mut Badge,
+    question: Question,
+) -> Result<(), Fault> {
+    let answer = hall.call(badge, question)?;
+    let pushed = push_answer(alloc, lines, &answer);
+    drop(answer);
+    pushed
 }
 
-/// The lines of `look_line` and `counts_line`.
-pub fn standing_lines(alloc: Global, hall: &Hall, badges: &[Badge]) -> Result<String, Fault> {
-    let mut lines = look_line(alloc, hall)?;
-    lines.push_str(counts_line(alloc, hall, badges)?.as_str())?;
-    Ok(lines)
+// What the holders of these badges are answered of the locator and of all that waits.
+fn push_all_asked(
+    alloc: Global,
+    lines: &mut String,
+    hall: &mut Hall,
+    badges: &mut [Badge],
+) -> Result<(), Fault> {
+    for badge in badges.iter_mut() {
+        push_asked(alloc, lines, hall, badge, Question::Locator)?;
+        push_asked(alloc, lines, hall, badge, Question::News(ALL))?;
+    }
+    Ok(())
 }
 
 // The badges of a few peers' first connections.
 fn watchers(alloc: Global) -> Result<Vec<Badge>, Fault> {
-    let (_hall, badges) = new_hall(alloc, WATCHERS)?;
+    let (hall, badges) = new_hall(alloc, WATCHERS)?;
+    drop(hall);
     Ok(badges)
 }
 
-// The line of an answer more.
-fn push_line(alloc: Global, answer: &Answer, lines: &mut String) -> Result<(), Fault> {
-    lines.push_str(answer_line(alloc, answer)?.as_str())?;
-    Ok(())
-}
-
-// Asks a question.
-fn push_answer(
-    alloc: Global,
-    hall: &mut Hall,
-    badge: &mut Badge,
-    question: Question,
-    lines: &mut String,
-) -> Result<(), Fault> {
-    let answer = hall.call(badge, question)?;
-    push_line(alloc, &answer, lines)
-}
-
-// What the holders of these badges are answered.
-fn push_all_answers(
-    alloc: Global,
-    hall: &mut Hall,
-    badges: &mut [Badge],
-    lines: &mut String,
-) -> Result<(), Fault> {
-    for badge in badges.iter_mut() {
-        push_answer(alloc, hall, badge, Question::Locator, lines)?;
-        push_answer(alloc, hall, badge, Question::News(ALL), lines)?;
-    }
-    Ok(())
-}
-
-// What the holders of these badges are answered by the hall that is computed again.
-fn push_again(
-    alloc: Global,
-    hall: &Hall,
-    badges: &mut [Badge],
-    lines: &mut String,
-) -> Result<(), Fault> {
-    let (mut again, _answers) = hall.again()?;
-    push_all_answers(alloc, &mut again, badges, lines)
-}
-
-/// The same, and what the first connections of a few peers are answered of the locator and of all that waits, by the hall that is
-/// computed again.
-pub fn view_lines(alloc: Global, hall: &Hall, badges: &[Badge]) -> Result<String, Fault> {
-    let mut lines = standing_lines(alloc, hall, badges)?;
+// What the first connections of a few peers are answered.
+fn push_watched(alloc: Global, lines: &mut String, hall: &mut Hall) -> Result<(), Fault> {
     let mut watchers = watchers(alloc)?;
-    push_again(alloc, hall, watchers.as_mut_slice(), &mut lines)?;
+    push_all_asked(alloc, lines, hall, watchers.as_mut_slice())
+}
+
+// What is told of the hall that is computed again: what is answered by it, or whether it is the same (`push_same`).
+#[derive(Clone, Copy)]
+enum Again {
+    Asked,
+    Compared,
+}
+
+fn push_of_again(
+    lines: &mut String,
+    node: &Node,
+    notes: &Notes,
+    again: &mut Hall,
+    answers: &[Answer],
+    told: Again,
+) -> Result<(), Fault> {
+    match told {
+        Again::Asked => push_watched(node.alloc, lines, again),
+        Again::Compared => push_same(lines, node, notes, again, answers),
+    }
+}
+
+// Computes all again.
+fn push_again(lines: &mut String, node: &Node, notes: &Notes, told: Again) -> Result<(), Fault> {
+    let (mut again, answers) = node.hall.again()?;
+    let pushed = push_of_again(lines, node, notes, &mut again, answers.as_slice(), told);
+    drop(again);
+    pushed
+}
+
+/// What is seen of a hall, in lines: how it stands, how often who has asked, and what the first connections of a few peers are
+/// answered by the hall that is computed again.
+pub fn view(node: &Node, notes: &Notes) -> Result<String, Fault> {
+    let mut lines = String::new(node.alloc);
+    push_view(&mut lines, node, notes)?;
     Ok(lines)
+}
+
+fn push_view(lines: &mut String, node: &Node, notes: &Notes) -> Result<(), Fault> {
+    push_standing(node.alloc, lines, &node.hall, node.badges.as_slice())?;
+    push_again(lines, node, notes, Again::Asked)
+}
+
+// How a hall stands.
+fn standing(alloc: Global, hall: &Hall, badges: &[Badge]) -> Result<String, Fault> {
+    let mut lines = String::new(alloc);
+    push_standing(alloc, &mut lines, hall, badges)?;
+    Ok(lines)
+}
+
+// Whether another hall stands as this one.
+fn stands_as(node: &Node, other: &Hall) -> Result<bool, Fault> {
+    let badges = node.badges.as_slice();
+    let here = standing(node.alloc, &node.hall, badges)?;
+    let there = standing(node.alloc, other, badges)?;
+    Ok(here.as_str() == there.as_str())
+}
+
+// The line of what was computed again: how it stands, and whether the hall and the answers are those that were told.
+fn push_same(
+    lines: &mut String,
+    node: &Node,
+    notes: &Notes,
+    other: &Hall,
+    answers: &[Answer],
+) -> Result<(), Fault> {
+    let same = stands_as(node, other)? && notes.is_told_by(answers)?;
+    let (length, count) = (other.journal().len(), answers.len());
+    writeln!(lines, "again journal {length} answers {count} same {same}")?;
+    Ok(())
+}
+
+// The pairs that were told last, in a list.
+fn push_last_pairs(lines: &mut String, notes: &Notes) -> Result<(), Fault> {
+    match &notes.pairs {
+        Some(pairs) => push_pairs(notes.alloc, lines, pairs)?,
+        None => lines.push_str("no pairs")?,
+    }
+    lines.push('\n')?;
+    Ok(())
+}
+
+fn push_sight(lines: &mut String, node: &Node, notes: &Notes, sight: Sight) -> Result<(), Fault> {
+    match sight {
+        Sight::Look => push_look(node.alloc, lines, &node.hall),
+        Sight::Counts => push_counts(lines, &node.hall, node.badges.as_slice()),
+        Sight::Again => push_again(lines, node, notes, Again::Compared),
+        Sight::Replay => push_replay(node.alloc, lines, &node.hall, notes.anew),
+        Sight::Mine(mark) => push_mined(node.alloc, lines, &node.hall, mark),
+        Sight::Pairs => push_last_pairs(lines, notes),
+    }
+}
+
+/// What is looked at, in a line.
+pub fn see(node: &Node, notes: &Notes, sight: Sight) -> Result<String, Fault> {
+    let mut line = String::new(node.alloc);
+    push_sight(&mut line, node, notes, sight)?;
+    Ok(line)
 }

@@ -3,7 +3,7 @@ use Rattle.cb_journal.specs.declared.entry.Entry.{Entry}
 use Rattle.cb_journal.specs.Connections.{Slots, first_slots, latest_of}
 use Rattle.cb_journal.specs.Replica.{AreFit}
 use Rattle.bench_hall.proofs.Fitness.{fits_first}
-use Rattle.bench_hall.proofs.replaying.replay_line.Goals as goal
+use Rattle.bench_hall.proofs.replaying.push_led_to.Goals as goal
 
 pub replay-requires : goal.replay-requires
 replay-requires c =

@@ -1,9 +1,9 @@
 use Rattle.std.proofs.Common.{refl}
 use Rattle.bench_hall.specs.Playing.{made_more, made_none}
-use Rattle.bench_hall.proofs.player.Player.repeat.Goals as goal
+use Rattle.bench_hall.proofs.player.Player.tell_often.Goals as goal
 
 pub loop-init : goal.loop-init
 loop-init c = made_none c.args.self.now.node.hall refl
 
 pub loop-preserved : goal.loop-preserved
-loop-preserved c = made_more c.in_ok-copy.field-0 c.loop.self.node.hall c.pass.new.self.node.hall c.loop.invariant c.in_ok-pass.ensures
+loop-preserved c = made_more c.args.call.now c.loop.self.node.hall c.tell.new.self.node.hall c.loop.invariant c.in_ok-tell.ensures

@@ -1,0 +1,133 @@
+use crate::call::{Call, Reply};
+use crate::node::Node;
+use crate::telling::{answer_size, push_answer, push_reply};
+use cb_base::Fault;
+use cb_journal::Answer;
+use cb_pool::Pairs;
+use std::alloc::Global;
+
+/// What was told of the calls of a hall.
+#[derive(Drop)]
+pub struct Notes {
+    pub alloc: Global,
+    /// Where memory runs out the hall is looked at, and the call is made again.
+    pub careful: bool,
+    /// A refused call left another hall than it found.
+    pub changed: bool,
+    /// Calls are made of which no line is printed.
+    pub repeated: bool,
+    // How much these told.
+    sum: u64,
+    // The lines of all calls.
+    lines: String,
+    /// Whether the hall's journal ever began anew.
+    pub anew: bool,
+    // How many answers there were since, the lines that were printed of them, and how many answers stood before each line.
+    answers: usize,
+    answer_lines: String,
+    places: Vec<usize>,
+    /// The pairs that were told last.
+    pub pairs: Option<Pairs>,
+}
+
+impl Notes {
+    pub fn new(alloc: Global) -> Notes {
+        Notes {
+            alloc,
+            careful: false,
+            changed: false,
+            repeated: false,
+            sum: 0,
+            lines: String::new(alloc),
+            anew: false,
+            answers: 0,
+            answer_lines: String::new(alloc),
+            places: Vec::new(alloc),
+            pairs: None,
+        }
+    }
+
+    fn forget_answers(&mut self) {
+        self.answers = 0;
+        self.answer_lines.clear();
+        self.places.clear();
+    }
+
+    /// Calls are made of a new hall.
+    pub fn begin_hall(&mut self) {
+        self.forget_answers();
+        self.anew = false;
+        self.pairs = None;
+    }
+
+    /// Notes how a call ended before which the node's journal had so many entries. Its line is printed, or its answer's size is
+    /// added up.
+    pub fn note(
+        &mut self,
+        node: &Node,
+        call: &Call,
+        had: usize,
+        reply: &Reply,
+        printed: bool,
+    ) -> Result<(), Fault> {
+        if printed {
+            push_reply(self.alloc, &mut self.lines, reply)?;
+        }
+        match call {
+            Call::See(_) => return Ok(()),
+            _ => self.note_entries(had, node.entries()),
+        }
+        match (call, reply) {
+            (Call::Ask(_, _), Reply::Answered(answer)) => self.note_answer(answer, printed),
+            _ => Ok(()),
+        }
+    }
+
+    // The journal begins anew where it doesn't have one entry more.
+    fn note_entries(&mut self, had: usize, has: usize) {
+        if had > 0 && has != had.wrapping_add(1) {
+            self.anew = true;
+            self.forget_answers();
+        }
+    }
+
+    // One answer more. Pairs are kept.
+    fn note_answer(&mut self, answer: &Answer, printed: bool) -> Result<(), Fault> {
+        if printed {
+            push_answer(self.alloc, &mut self.answer_lines, answer)?;
+            self.places.push(self.answers)?;
+        } else {
+            self.sum = self.sum.wrapping_add(answer_size(answer) as u64);
+        }
+        self.answers = self.answers.wrapping_add(1);
+        if let Answer::Pairs(pairs) = answer {
+            self.pairs = Some(pairs.copy()?);
+        }
+        Ok(())
+    }
+
+    /// Whether these answers are as many as there were, and those whose lines were printed have these lines.
+    pub fn is_told_by(&self, answers: &[Answer]) -> Result<bool, Fault> {
+        let mut lines = String::new(self.alloc);
+        for place in &self.places {
+            if let Some(answer) = answers.get(*place) {
+                push_answer(self.alloc, &mut lines, answer)?;
+            }
+        }
+        Ok(answers.len() == self.answers && lines.as_str() == self.answer_lines.as_str())
+    }
+
+    /// The lines of all calls. Behind them stand how much those told of which none was printed, and whether a refused call
+    /// changed the hall.
+    pub fn told(&self) -> Result<String, Fault> {
+        let mut text = self.lines.clone()?;
+        if self.repeated {
+            let sum = self.sum;
+            writeln!(text, "sum {sum}")?;
+        }
+        if self.changed {
+            writeln!(text, "a refused call changed the hall")?;
+        }
+        Ok(text)
+    }
+}
