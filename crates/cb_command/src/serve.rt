@@ -53,7 +53,9 @@ fn connection<R: Source, W: Sink>(alloc: Global, reader: &mut R, writer: &mut W)
     let Some((mut hall, mut badge)) = new_node(alloc) else {
         return CloseReason::Memory;
     };
-    converse(alloc, reader, writer, &mut hall, &mut badge)
+    let reason = converse(alloc, reader, writer, &mut hall, &mut badge);
+    drop(hall);
+    reason
 }
 
 /// A hall that nobody has asked anything, and the badge of its one peer. `None` is want of memory.
@@ -64,7 +66,10 @@ fn new_node(alloc: Global) -> Option<(Hall, Badge)>
     let Ok((hall, badges)) = Hall::new(alloc, 1) else {
         return None;
     };
-    let badge = last_of(badges)?;
+    let Some(badge) = last_of(badges) else {
+        drop(hall);
+        return None;
+    };
     Some((hall, badge))
 }
 
