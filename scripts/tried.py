@@ -1,25 +1,17 @@
-"""Which crates' wrong bodies were all refused when they were last tried, as the file attacks.tried notes it."""
+"""Which wrong bodies were refused when they were last tried, as the file attacks.tried notes it, and which are known to be proved."""
 
 import hashlib
 import re
 import subprocess
 
-from reach import Library, Reach
-from wrong_bodies import FUNCTION
+from reach import File, Reach, is_test, without_comments
+from wrong_bodies import answer_folders, functions_of
 
-FILE = "attacks.tried"
-HEAD = "# Crates whose wrong bodies were all refused: how many, and the SHA-256 of all that a check of them reads. Written by ./attack --note.\n"
-# what a check of a crate reads of it, and of a crate below
-OWN, BELOW = ("src", "specs", "proofs", "attacks"), ("src", "specs", "proofs")
-# where a crate names its tests
-NAMES_TESTS = re.compile(r"#\[cfg\(test\)\]\n *mod \w+;\n")
-# the head of a block whose functions are a trait's, and that of a public function
-OF_TRAIT = re.compile(r"^(?:pub(?:\([^)]*\))? )?(?:unsafe )?(?:trait\b|impl\b.* for\b|impl\b[^{]*$)")
-PUBLIC = re.compile(r"^\s*pub\s+(?!\()")
-# an import: its path, and the names in braces behind it
-IMPORTS = re.compile(r"^((?:ghost )?use [^;{]*)(?:\{([^}]*)\})?;\n", re.M)
-# files of proofs that speak of the goals of one function, which no other crate can name
-OF_GOALS = ("Answers.antt", "Invariants.antt")
+FILE, KNOWN = "attacks.tried", "attacks.known"
+HEAD = "# Wrong bodies that were refused: a sum of all that a check of the function can be told, and the landing. Written by ./attack --note.\n"
+# a note of one of the last so many landings isn't old
+LANDINGS = 10
+CYCLE = re.compile(r"#\[cycle\(\w+\)\]")
 
 
 def logic_of(version):
@@ -27,135 +19,103 @@ def logic_of(version):
     return version[version.index(b"logic ") :]
 
 
-def is_test(path):
-    """Whether a source file is read by tests alone."""
-    return path.name == "tests.rt" or path.name.endswith("_tests.rt") or "tests" in path.parts
+def lines_of(path):
+    """Returns the lines of a file that aren't remarks; none where there is no file."""
+    lines = path.read_text(encoding="utf-8").splitlines() if path.is_file() else []
+    return [line for line in lines if line.strip() and not line.startswith("#")]
 
 
-def without_tests(text):
-    """Returns a source as a check reads it that isn't of tests, without empty lines."""
-    return "\n".join(line for line in NAMES_TESTS.sub("", text).split("\n") if line.strip())
+def git(root, *words):
+    ran = subprocess.run(["git", *words], cwd=root, capture_output=True, text=True, check=False)
+    return ran.stdout.strip() if ran.returncode == 0 else ""
 
 
-def depth_of(line):
-    """Returns how many brackets a line opens and doesn't close; a comment opens none."""
-    text = "" if line.lstrip().startswith("//") else line
-    return sum((it in "({[") - (it in ")}]") for it in text)
-
-
-def opens_body(line, indent, lines, kept):
-    """Keeps the lines of a function's header from its first on, and returns whether a body follows."""
-    depth = depth_of(line)
-    while True:
-        is_own, end = bool(line[len(indent) :][:1].strip()), line.rstrip()[-1:]
-        if depth == 0 and (end == ";" or (end == "}" and is_own)):
-            return False
-        if depth == 1 and end == "{" and is_own:
-            return True
-        line = next(lines)
-        kept.append(line)
-        depth += depth_of(line)
-
-
-def without_private(text):
-    """Returns a source, as rt fmt lays it out, without what a crate above is told nothing of: comments, the bodies of functions, and
-    functions that aren't public, with their contracts. A method of a trait is public."""
-    kept, of_trait = [], False
-    lines = iter([line for line in text.split("\n") if not line.lstrip().startswith("//")])
-    for line in lines:
-        of_trait = line != "}" and (of_trait or bool(OF_TRAIT.match(line)))
-        found = FUNCTION.match(line)
-        if not found:
-            kept.append(line)
-            continue
-        own = [line]
-        if opens_body(line, found[1], lines, own):
-            own.append(next(it for it in lines if it == found[1] + "}"))
-        if of_trait or PUBLIC.match(line):
-            kept += own
-            continue
-        while kept and kept[-1].lstrip().startswith("#["):
-            kept.pop()
-    return "\n".join(kept)
-
-
-def is_used(name, text):
-    """Whether a text uses an imported name: a word, or the signs of an operator."""
-    words = [it for it in name.split("◌") if it]
-    return all(re.search(rf"(?<!\w){re.escape(it)}(?!\w)" if re.fullmatch(r"\w+", it) else re.escape(it), text) for it in words)
-
-
-def without_imports(text):
-    """Returns a source without the imports of names that nothing else in it uses. What it brings out to others stays."""
-    others = IMPORTS.sub("", text)
-
-    def kept(found):
-        head, names = found[1], found[2]
-        if names is None:
-            last = re.split(r"::|\.| as ", head)[-1]
-            return found[0] if last == "*" or is_used(last, others) else ""
-        used = [it for it in re.split(r",\s*", names.strip().rstrip(",")) if is_used(it.split(" as ")[-1].strip(), others)]
-        return f"{head}{{{', '.join(used)}}};\n" if used else ""
-
-    return IMPORTS.sub(kept, text)
+def landings(root):
+    """Returns how many landings led here, the commits of HEAD's first-parent history; None where git doesn't have them all."""
+    count = git(root, "rev-list", "--count", "--first-parent", "HEAD")
+    return int(count) if count and git(root, "rev-parse", "--is-shallow-repository") == "false" else None
 
 
 class Tried:
-    """The file's lines, by the names of crates, and what they would be now."""
+    """The notes, by `CRATE/EDIT`, and what they would be now."""
 
     def __init__(self, repository):
         self.repository, self.path = repository, repository.root / FILE
         self.logic = logic_of(subprocess.run(["rt", "--version"], capture_output=True, check=True).stdout)
-        lines = self.path.read_text(encoding="utf-8").splitlines() if self.path.is_file() else []
-        self.noted = {line.split()[0]: line for line in lines if line and not line.startswith("#")}
-        self.libraries = {}
+        self.noted = {line.split()[0]: line.split()[1:] for line in lines_of(self.path)}
+        self.known = dict(line.split(": ", 1) for line in lines_of(repository.root / KNOWN))
+        self.reach, self.sums, self.landings = Reach(repository), {}, landings(repository.root)
 
-    def texts(self, crate, parts, is_own):
-        """Returns what a check reads of a crate that is its own, or stands below it, by the part and path of each file."""
-        found = {}
-        for part in parts:
-            for file in sorted(path for path in (crate.folder / part).rglob("*") if path.is_file()):
-                name = file.relative_to(crate.folder)
-                if is_test(name) or (not is_own and name.name in OF_GOALS):
-                    continue
-                text = file.read_text(encoding="utf-8")
-                if file.suffix == ".rt":
-                    text = without_tests(text) if is_own else without_imports(without_private(without_tests(text)))
-                found[part, file.relative_to(crate.folder / part).as_posix()] = text
-        return found
+    def sum(self, crate, edit):
+        """Returns a sum of the logic's name, the edit, and each of its functions with all that a check of it can be told, as they were at first."""
+        if edit.path not in self.sums:
+            found = hashlib.sha256(self.logic + edit.path.read_bytes())
+            for part in sorted(self.function_sum(crate, *it) for it in self.functions(crate, edit)):
+                found.update(part)
+            self.sums[edit.path] = found.hexdigest()[:16]
+        return self.sums[edit.path]
 
-    def library(self, crate):
-        if crate.name not in self.libraries:
-            self.libraries[crate.name] = Library(crate, self.texts(crate, BELOW, is_own=False))
-        return self.libraries[crate.name]
+    def functions(self, crate, edit):
+        """Returns the functions of an edit with their files; None in their place for one that changes something between functions."""
+        if not edit.is_within_functions:
+            return [(None, None)]
+        found = [(file, it) for file in {it.file for it in edit.hunks} for it in functions_of(file, self.text(crate, file))]
+        return [(file, it) for file, it in found if it.key in edit.functions]
 
-    def digest(self, crate):
-        """Returns the SHA-256 of the logic's name and of all that a check of the crate's wrong bodies reads, with its path.
+    def text(self, crate, file):
+        return (crate.folder / file).read_text(encoding="utf-8")
 
-        That is each of its own files but its tests. Of a crate below it is what that one's library tells and names lead to:
-        definitions, lemmas, and each public function with its contract, but neither its body nor how that was proved.
-        """
-        own, libraries = self.texts(crate, OWN, is_own=True), [self.library(it) for it in self.repository.below(crate)]
-        reach = Reach(own.values(), libraries)
-        told = [(crate.name, part, path, text) for (part, path), text in own.items()]
-        for it in libraries:
-            told += [(it.name, part, path, reach.told(it, part, path, text)) for (part, path), text in it.texts.items()]
-        found = hashlib.sha256(self.logic)
-        for name, part, path, text in told:
-            if text is not None:
-                data = text.encode()
-                found.update(f"{name} {part}/{path} {len(data)}\n".encode() + data)
-        return found.hexdigest()
+    def function_sum(self, crate, file, function):
+        """Returns a sum of a function, its answers, and what these lead to; with no function, of all that the crate has."""
+        key = crate.name, file, function
+        if key not in self.sums:
+            texts = self.own_texts(crate, file, function) if function else self.all_texts(crate)
+            found = {item for own, text in texts for item in self.reach.from_text(own, text)}
+            told = sorted([it.sum for it in found] + [own.sum(text) for own, text in texts])
+            self.sums[key] = hashlib.sha256(b"".join(told)).digest()
+        return self.sums[key]
 
-    def line(self, crate, count):
-        return f"{crate.name} {count} {self.digest(crate)}"
+    def own_texts(self, crate, file, function):
+        """Returns a function's text, under the header of its `impl`, with those of its cycle, and its answers, each with its file."""
+        lines, header = self.text(crate, file).split("\n"), []
+        if function.owner:
+            above = next(it for it in range(function.first, -1, -1) if lines[it].startswith(("impl", "unsafe impl")))
+            header = lines[above : next(it for it in range(above, function.first) if lines[it].rstrip().endswith("{")) + 1]
+        own = without_comments("\n".join([*header, *lines[function.first : function.end]]))
+        texts = [(self.reach.file(crate.name, file), own)]
+        if CYCLE.search(own):
+            texts += [it for it in self.all_texts(crate) if CYCLE.search(own)[0] in it[1]]
+        folders = [it for it, _ in answer_folders(crate.folder, function)] or self.folders_named(crate, function)
+        return texts + [it for folder in folders if folder.is_dir() for it in self.texts_below(crate, folder)]
 
-    def stands(self, crate, count):
-        """Whether so many wrong bodies were refused, and nothing has changed since that a check of them reads."""
-        return self.noted.get(crate.name) == self.line(crate, count)
+    def folders_named(self, crate, function):
+        """Returns the folders of answers that can be a function's whose path isn't plain, as that of a trait's method."""
+        return [it for it in sorted((crate.folder / "proofs").rglob(function.name)) if function.owner in it.parts]
 
-    def note(self, crates):
-        """Writes what was refused of these crates, each with how many; what was noted of others stays as long as they are there."""
-        self.noted |= {crate.name: self.line(crate, count) for crate, count in crates}
-        lines = [f"{self.noted[name]}\n" for name in self.repository.crates if name in self.noted]
+    def texts_below(self, crate, folder):
+        """Returns the files of a folder of the crate, without comments, each with what it imports."""
+        part = folder.relative_to(crate.folder).parts[0]
+        paths = [it for it in sorted(folder.rglob("*")) if it.suffix in (".rt", ".antt") and not is_test(it.relative_to(crate.folder))]
+        files = [(it.relative_to(crate.folder / part), it.read_text(encoding="utf-8")) for it in paths]
+        return [(File(crate.name, part, path, text), without_comments(text)) for path, text in files]
+
+    def all_texts(self, crate):
+        return [it for part in ("src", "specs", "proofs") for it in self.texts_below(crate, crate.folder / part)]
+
+    def stands(self, crate, edit):
+        """Whether the edit was refused, and nothing has changed since that a check of it can be told."""
+        return self.noted.get(f"{crate.name}/{edit.name}", [None])[0] == self.sum(crate, edit)
+
+    def note(self, refused, failed):
+        """Notes edits that were refused, and takes the notes of those away that failed or that aren't there any more."""
+        landing = str((self.landings or 0) + 1)
+        self.noted |= {f"{crate.name}/{edit.name}": [self.sum(crate, edit), landing] for crate, edit in refused}
+        there = {f"{crate.name}/{it.name}" for crate in self.repository.crates.values() for it in (crate.folder / "attacks").glob("*.edit")}
+        lines = [" ".join([name, *self.noted[name]]) + "\n" for name in sorted(there - set(failed)) if name in self.noted]
         self.path.write_text(HEAD + "".join(lines), encoding="utf-8")
+
+    def old(self):
+        """Returns how many notes are older than the last landings, or None where that can't be told."""
+        if self.landings is None:
+            return None
+        return sum(int(landing) + LANDINGS <= self.landings for _, landing in self.noted.values())

@@ -3,6 +3,9 @@
 An edit stands in its function's place, or in a twin beside it: a copy of the function under another name, with the same
 contract and the same answers, which nothing calls. So a twin is refused where the function itself would be, and no other
 function waits for it.
+
+Answers are written for the function as it is. One that no longer applies to a wrong body says nothing of its contract, so it is
+left out, and its goal left to the prover's search.
 """
 
 import difflib
@@ -13,6 +16,8 @@ from dataclasses import dataclass, field
 from enum import Enum
 from pathlib import Path
 
+# the first line of a definition, a lemma or an answer
+LEMMA = re.compile(r"^(?:(?:pub|abbrev|unfoldable|opaque|private) )*(?:(record|data) )?([^\s:(){},]+)[^=]*?:(?=\s|$)")
 FUNCTION = re.compile(r"^(\s*)(?:pub(?:\([^)]*\))?\s+)?(?:(?:const|unsafe)\s+)*fn\s+(\w+)")
 IMPL = re.compile(r"^(?:unsafe\s+)?impl\b(.*)")
 TYPE = re.compile(r"^(?:pub(?:\([^)]*\))?\s+)?(?:struct|enum)\s+(\w+)", re.M)
@@ -63,6 +68,7 @@ def owner_of(header):
     return "".join(words)
 
 
+@functools.cache
 def functions_of(file, text):
     """Returns a source file's functions, by the layout that rt fmt gives it: a body ends at a brace as far in as its `fn`."""
     found, owner, is_of_trait, lines = [], "", False, text.split("\n")
@@ -129,20 +135,25 @@ class Edit:
     """
 
     path: Path
+    folder: Path
     hunks: list = field(default_factory=list)
     functions: set = field(default_factory=set)
     is_within_functions: bool = True
-    # the function that it is of, where a twin of it may stand beside it
-    twinned: Function | None = None
     # the functions that it stands in where it is tried: its own, or a twin
     standing: set = field(default_factory=set)
-    # what the checks told so far: the functions' paths, and how often no verdict came
+    # what the checks told so far: the functions' paths, how often no verdict came, and answers that don't apply to it, by files
     paths: set = field(default_factory=set)
     tries: int = 0
+    left_out: dict = field(default_factory=dict)
 
     @property
     def name(self):
         return self.path.name
+
+    @functools.cached_property
+    def twinned(self):
+        """The function that it is of, where a twin of it may stand beside it."""
+        return twinned(self, self.folder) if self.is_within_functions else None
 
 
 def read_edit(path, folder):
@@ -164,7 +175,7 @@ def read_edit(path, folder):
             if times != 1:
                 raise BadEdit(f"its old text stands {times} times in {file}, and not once: {old}")
             made[file], old = made[file].replace(old, line[len("new:") :].removeprefix(" ")), None
-    edit = Edit(path)
+    edit = Edit(path, folder)
     for file, text in texts.items():
         functions = functions_of(file, text)
         for hunk in hunks_of(file, text.split("\n"), made[file].split("\n")):
@@ -174,13 +185,15 @@ def read_edit(path, folder):
             edit.is_within_functions &= bool(around)
     if not edit.hunks:
         raise BadEdit("it changes nothing")
-    edit.twinned = twinned(edit, folder) if edit.is_within_functions else None
     return edit
 
 
 def hunks_of(file, old, new):
-    matcher = difflib.SequenceMatcher(None, old, new, autojunk=False)
-    return [Hunk(file, i, j, tuple(new[k:m])) for tag, i, j, k, m in matcher.get_opcodes() if tag != "equal"]
+    """Returns where the lines differ, looked for between the first and the last that do."""
+    alike = [next((it for it, (a, b) in enumerate(zip(*pair)) if a != b), min(len(old), len(new))) for pair in ((old, new), (old[::-1], new[::-1]))]
+    first, last = alike[0], min(alike[1], min(len(old), len(new)) - alike[0])
+    matcher = difflib.SequenceMatcher(None, old[first : len(old) - last], new[first : len(new) - last], autojunk=False)
+    return [Hunk(file, i + first, j + first, tuple(new[k + first : m + first])) for tag, i, j, k, m in matcher.get_opcodes() if tag != "equal"]
 
 
 def applied(edits, folder):
@@ -252,7 +265,7 @@ def with_twins(edits, folder):
         edit.standing = {(function.module, function.owner, name)}
         for place, path in answer_folders(folder, function):
             words = re.compile(rf"(\bproofs|\bspecs\.contracts)\.{re.escape(path)}(?!\w)"), rf"\1.{path[: -len(function.name)]}{name}"
-            answers += [(place, place.with_name(name), words)] if place.is_dir() else []
+            answers += [(place, place.with_name(name), words, edit.left_out)] if place.is_dir() else []
     for file, twins in beside.items():
         lines = (folder / file).read_text(encoding="utf-8").split("\n")
         for end, twin in sorted(twins, key=lambda it: -it[0]):
@@ -269,33 +282,68 @@ def untouched(edits, folder):
         if function and function.key not in found:
             line = (folder / file).read_text(encoding="utf-8").split("\n")[function.first]
             hunk = Hunk(file, function.first, function.first + 1, (line,))
-            found[function.key] = Edit(Path("::".join((*function.module, function.owner, function.name))), [hunk], {function.key}, twinned=function)
+            found[function.key] = Edit(Path("::".join((*function.module, function.owner, function.name))), folder, [hunk], {function.key})
     return [*found.values()]
+
+
+def answers_of(text):
+    """Returns the lines of a file of answers in parts, each with its name: one for each answer, and before them one of the imports, named None."""
+    parts = [(None, [])]
+    for line in text.split("\n"):
+        found = LEMMA.match(line)
+        if found and found[2] != parts[-1][0]:
+            parts.append((found[2], []))
+        parts[-1][1].append(line)
+    return parts
+
+
+def answer_at(text, line):
+    """Returns the name of the answer that stands on a line of a file of answers, None where it is an import."""
+    for name, lines in answers_of(text):
+        line -= len(lines)
+        if line < 0:
+            return name
+    return None
+
+
+def without_answers(text, names):
+    """Returns a file of answers without those with these names, or None where none is left."""
+    left = [(name, lines) for name, lines in answers_of(text) if name not in names]
+    return "\n".join(line for _, lines in left for line in lines) + "\n" if len(left) > 1 else None
 
 
 def copy_answers(answers, folder, room):
     """Copies the answers of functions for their twins into a room, and returns the folders made."""
     made = []
-    for old, new, (words, twin) in answers:
+    for old, new, (words, twin), left_out in answers:
         to = room / new.relative_to(folder)
         shutil.copytree(old, to)
         for file in to.rglob("*.antt"):
-            file.write_text(words.sub(twin, file.read_text(encoding="utf-8")), encoding="utf-8")
+            names = left_out.get((old / file.relative_to(to)).relative_to(folder).as_posix(), ())
+            write_answers(file, words.sub(twin, file.read_text(encoding="utf-8")), names)
         made.append(to)
     return made
+
+
+def write_answers(file, text, names):
+    """Writes a file of answers without those with these names; it goes where none is left."""
+    text = without_answers(text, names) if names else text
+    if text is None:
+        file.unlink()
+    else:
+        file.write_text(text, encoding="utf-8")
 
 
 class Verdict(Enum):
     REFUSED = "refused"
     PROVED = "still proved"
-    NAMES = "refused only because a proof file names what it took away"
+    STALE = "refused only because proofs no longer apply to it"
     UNREAD = "the prover can't read it"
     SILENT = "its own function isn't refused"
 
 
 # An error at a place of a file; the label, where there is one, is the declaration that antt refused.
 PLACED = re.compile(r"^(?P<note>note: )?(?:\./)?(?P<file>\S+?):(?P<line>\d+):\d+: (?P<said>.*)")
-NAMES = re.compile(r"has no field|is not in scope|has no `|was not admitted")
 UNREAD = re.compile(r"is not in scope|has no field|is no name|operand is missing|expected the end|cannot continue")
 WAITS = re.compile(r"it calls (.*), which (?:is|are) not proved")
 
@@ -303,8 +351,9 @@ WAITS = re.compile(r"it calls (.*), which (?:is|are) not proved")
 class Outcome:
     """What one check said: of each function, and at which places."""
 
-    def __init__(self, said, texts):
-        self.texts = texts
+    def __init__(self, said, texts, answers=None):
+        # the texts of sources and of answers that were checked in place of the crate's own
+        self.texts, self.answers = texts, answers or {}
         lines = said.split("\n")
         self.functions = dict(re.findall(r"^fn \w+::(\S+): (.*)$", said, re.M))
         self.placed = [found.groupdict() for found in map(PLACED.match, lines) if found]
@@ -334,18 +383,35 @@ class Outcome:
         """Returns the paths under which the prover names the edit's functions."""
         return {path for path in self.functions if any(span.is_at(path) for _, span in self.spans(edit))}
 
-    def goals_in(self, spans, paths):
-        """Returns what the check names within these functions: goals in the source, and refusals in the functions' own files of proofs/."""
-        goals = [
+    def goals_in(self, spans):
+        """Returns what the check says of goals within these functions that it left open."""
+        return [
             it["said"]
             for it in self.placed
             if it["note"] and "it is not proved" in it["said"]
             if any(file == it["file"] and span.first < int(it["line"]) <= span.end for file, span in spans)
         ]
-        answers = [
-            it["said"] for it in self.placed if not it["note"] and it["said"].startswith("error") and "::".join(Path(it["file"]).parts[1:-1]) in paths
-        ]
-        return goals, answers
+
+    def refusals(self, paths):
+        """Returns what the check refused in the functions' own files of proofs/: each file, line and what was said."""
+        errors = [it for it in self.placed if not it["note"] and it["said"].startswith("error")]
+        return [(it["file"], int(it["line"]) - 1, it["said"]) for it in errors if "::".join(Path(it["file"]).parts[1:-1]) in paths]
+
+    def leave_out(self, edit):
+        """Notes the edit's answers that the check refused, to be left out. Returns whether there are any that weren't left out before."""
+        more = False
+        for file, line, _ in self.refusals(self.paths(edit)):
+            name, own = answer_at(self.answers.get(file, ""), line), self.own_file(edit, file)
+            if name and name not in edit.left_out.get(own, ()):
+                edit.left_out.setdefault(own, set()).add(name)
+                more = True
+        return more
+
+    def own_file(self, edit, file):
+        """Returns the file of the function's own answers that one of its twin's is a copy of."""
+        for _, _, name in edit.standing - edit.functions:
+            file = file.replace(f"/{name}/", f"/{edit.twinned.name}/")
+        return file
 
     def judge(self, edit):
         """Returns the verdict on an edit of this check, and words on it."""
@@ -354,19 +420,24 @@ class Outcome:
             return Verdict.UNREAD, where[0][2]
         if not self.has_verdict:
             return Verdict.SILENT, f"the check gave no verdict: {self.last}"
-        spans = self.spans(edit)
         paths = self.paths(edit)
-        goals, answers = self.goals_in(spans, paths)
-        told = [it for it in answers if not NAMES.search(it)]
         said = [self.functions[path] for path in paths]
-        waits = any(WAITS.search(text) for text in said)
-        goals += [it for it in said if "did not prove" in it]
-        if goals or (told and not waits):
-            return Verdict.REFUSED, (goals or told)[0]
+        goals = self.goals_in(self.spans(edit)) + [it for it in said if "did not prove" in it]
+        if goals:
+            return Verdict.REFUSED, goals[0]
+        refusals, waits = self.refusals(paths), any(WAITS.search(text) for text in said)
+        if refusals and not waits:
+            file, line, words = refusals[0]
+            return Verdict.STALE, f"{file}:{line + 1}: {words}"
+        lacking = [it for it in said if "expected a measure" in it]
+        if lacking and not waits:
+            return Verdict.STALE, lacking[0]
         if not edit.functions and not self.is_proved:
             return Verdict.REFUSED, "it lies in no function"
-        if answers and not told and not waits:
-            return Verdict.NAMES, answers[0]
         if self.is_proved or (said and all(text.startswith("proved") for text in said)):
-            return Verdict.PROVED, ""
+            return Verdict.PROVED, f"once these answers are left out: {told_answers(edit.left_out)}" if edit.left_out else ""
         return Verdict.SILENT, said[0] if said else "the check doesn't name it"
+
+
+def told_answers(left_out):
+    return ", ".join(f"{file} {' '.join(sorted(names))}" for file, names in sorted(left_out.items()))
