@@ -1,12 +1,20 @@
-"""Proving and building crates side by side, over the work that earlier checks kept."""
+"""Proving and building crates side by side, over the work that earlier checks kept, or over the libraries that the gate built.
+
+The gate `rt ci` leaves its libraries in crates/NAME/out/rlib, unless it puts a session's own back there. They hold what others
+can cite and no proofs, and `rt check` would build its own in their place, so `rattle check` is called over them.
+"""
 
 import fcntl
 import os
 import shutil
 import sys
 import time
+from pathlib import Path
 
 from repository import run_in_lanes
+
+# what a library is made of
+MADE_OF = ("src", "specs", "proofs")
 
 
 def keep_work(room, crate):
@@ -19,6 +27,45 @@ def keep_work(room, crate):
         shutil.move(room / "out", crate.folder / "out")
     finally:
         os.close(held)
+
+
+def is_of_gate(crate):
+    """Whether the gate proved the crate's files as they are: what it built is younger. A session's own library has a stamp."""
+    made = crate.folder / "out" / (crate.name if crate.is_program else f"rlib/{crate.name}.rlib")
+    if not made.exists() or (made.parent / "stamp").exists():
+        return False
+    made_of = [it for part in MADE_OF for it in [crate.folder / part, *(crate.folder / part).rglob("*")] if it.exists()]
+    return made.stat().st_mtime >= max(it.stat().st_mtime for it in made_of)
+
+
+def stands_on_gate(repository, crate):
+    """Whether a check of the crate can take all that it stands on from the gate."""
+    return all(is_of_gate(it) for it in repository.below(crate) or [crate])
+
+
+def check_over_gate(repository, crate, room, jobs):
+    """Returns the command for a check of a crate in a room over the gate's libraries."""
+    kit, below = Path(shutil.which("rt")).resolve().parent.parent, repository.below(crate)
+    of_kit = ["std", *(it for it in crate.line.partition(":")[2].split("#")[0].split() if it not in repository.crates)]
+    rlibs = {it.name: room.parent / it.name / "out" / "rlib" for it in below}
+    words = [kit / "bin" / "rattle", "check", "--crate-name", crate.name, "src/main.rt" if crate.is_program else "src/lib.rt"]
+    words += [word for it in of_kit for word in ("--extern", f"{it}={kit}/rlibs/{it}.rlib")]
+    words += [word for it in crate.uses for word in ("--extern", f"{it}={rlibs[it]}/{it}.rlib")]
+    words += [word for it in [kit / "rlibs", *rlibs.values()] for word in ("-L", f"dependency={it}")]
+    words += ["--antt-project", kit / "rattle" / "logic" / "antt-project.json", "--logic-built", kit / "logic_built"]
+    return [*words, "--incremental", "out/incremental", "--jobs", str(jobs)]
+
+
+def prove_over_gate(workshop, crate, jobs):
+    """Checks a crate over the gate's libraries, and keeps its work. Returns whether it is proved, as True or None."""
+    began = time.monotonic()
+    with workshop.room(crate) as room:
+        status, said = workshop.call(check_over_gate(workshop.repository, crate, room, jobs), room)
+        keep_work(room, crate)
+    if status:
+        print(said, file=sys.stderr)
+    print(f"build: {crate.name}: {'NOT PROVED' if status else 'proved'} in {time.monotonic() - began:.0f} s, over the gate's libraries", file=sys.stderr, flush=True)
+    return None if status else True
 
 
 def prove(workshop, crate, jobs):

@@ -12,6 +12,8 @@ from concurrent.futures import FIRST_COMPLETED, ThreadPoolExecutor, wait
 from dataclasses import dataclass
 from pathlib import Path
 
+from cost import TICKS, spent
+
 # What one check of a crate may take, in bytes: most take 1 to 2 GB, each further job of a check another half.
 MEMORY_OF_A_CHECK = 3_000_000_000
 PARTS = ("src", "specs", "proofs", "stdin", "stdout", "args", "status", "data")
@@ -114,6 +116,15 @@ class Workshop:
         if not self.is_open:
             raise Stopped
         return process.returncode, said
+
+    def seconds(self):
+        """Returns the processor seconds of all commands that this script has run, with those that are running."""
+        sessions, ticks = {it.pid for it in self.running}, 0
+        for path in Path("/proc").glob("[0-9]*/stat"):
+            with contextlib.suppress(OSError):
+                fields = path.read_text(encoding="utf-8", errors="replace").rpartition(")")[2].split()
+                ticks += sum(map(int, fields[11:15])) if int(fields[3]) in sessions else 0
+        return spent() + ticks / TICKS
 
     @contextlib.contextmanager
     def room(self, crate):

@@ -36,6 +36,11 @@ def landings(root):
     return int(count) if count and git(root, "rev-parse", "--is-shallow-repository") == "false" else None
 
 
+def place_of(root):
+    """Returns a number that each landing has its own of: how many led here, or one made of HEAD's name where git doesn't have them all."""
+    return landings(root) or int(git(root, "rev-parse", "HEAD")[:8] or "0", 16)
+
+
 class Tried:
     """The notes, by `CRATE/EDIT`, and what they would be now."""
 
