@@ -1,405 +1,322 @@
-use super::texts::{PAYMENT, SIZE_64, read};
-use cb_base::{Cursor, Fault, Hash256, Shared, TxRule, dsha};
+use super::texts::{COINBASE, PAYMENT, SIZE_64, bytes_of, stretched};
+use cb_base::{Cursor, Fault, Hash256, Shared, dsha};
 use cb_block::{
-    BITS, Block, Header, SoundBlock, Txs, check_block, check_header, genesis, mutated, read_block,
-    read_header, root, sound, write_block,
+    Block, SoundBlock, check_block, check_header, genesis, mutated, read_block, root, sound,
+    write_block,
 };
-use cb_tx::{Tx, read_tx};
-use hex::{FromHex, FromHexError};
 use std::alloc::Global;
-use std::process::Abort;
 use std::test::*;
 
-// One input, and no output.
-const NO_OUTPUTS: &str =
-    "010000000111111111111111111111111111111111111111111111111111111111111111110000000000ffffffff0000000000";
+// A header of the regression test network up to its root, and what stands behind that.
+const FRONT: &str = "010000000000000000000000000000000000000000000000000000000000000000000000";
+
+const BEHIND: &str = "00000000ffff7f2000000000";
+
+// The header of block 170 of the main network.
+const HEADER_170: &str =
+    "0100000055bd840a78798ad0da853f68974f3d183e2bd1db6a842c1feecf222a00000000ff104ccb05421ab93e63f8c3ce5c2c2e9dbb37de2764b3a3175c8166562cac7d51b96a49ffff001d283e9e70";
+
+// The payment, but that it spends the next output.
+const OTHER_PAYMENT: &str =
+    "0100000001c997a5e56e104102fa209c6a852dd90660a20b2d9c352423edce25857fcd3704010000004847304402204e45e16932b8af514961a1d3a1a25fdf3f4f7732e9d624c6c61548ab5fb8cd410220181522ec8eca07de4860a4acdd12909d831cc56cbbac4622082221a8768d1d0901ffffffff0200ca9a3b00000000434104ae1a62fe09c5f51b13905f07f06b99a2f7159b2225f374cd378d71302fa28414e7aab37397f554a7df5f142c21c1b7303b8a0626f1baded5c72a704f7e6cd84cac00286bee0000000043410411db93e1dcdb8a016b49840f8c53bc1eb68a382e97b1482ecad7b148a6909a5cb2e0eaddfb84ccf9744464f82e160bfa9b8b64f9d4c03f999b8643f656b412a3ac00000000";
+
+// The txids of the coinbase and of the two payments, as they are sent.
+const A: &str = "82501c1178fa0b222c1f3d474ec726b832013f0a532b44bb620cce8624a5feb1";
+
+const B: &str = "169e1e83e930853391bc6f35f605c6754cfead57cf8387639d3b4096c54f18f4";
+
+const C: &str = "886caeb511acde2abe598d55dd82b16cbca5dd3d5e77b690cbc17ed6125dc42d";
+
+// The hash above A and B, that above C and C, and the root over A, B and C.
+const AB: &str = "ff104ccb05421ab93e63f8c3ce5c2c2e9dbb37de2764b3a3175c8166562cac7d";
+
+const CC: &str = "cca6ff521f0f470d0184c49301f1d7b797c00af6bb2e272dfc807ed8803d4207";
+
+const ABC: &str = "d275208ced95ab21f6d5b3e2465dc143994e0a054f29d51c31712b4197469579";
 
 // One input, and one output with a script of 1,000,000 bytes, up to the script.
 const LARGE: &str =
     "010000000111111111111111111111111111111111111111111111111111111111111111110000000000ffffffff010100000000000000fe40420f00";
 
-// The coinbase of block 170 of the main network.
-const COINBASE: &str =
-    "01000000010000000000000000000000000000000000000000000000000000000000000000ffffffff0704ffff001d0102ffffffff0100f2052a01000000434104d46c4968bde02899d2aa0963367c7a6ce34eec332b32e42e5f3407e052d64ac625da6f0718e7b302140434bd725706957c092db53805b821a85b23a7ac61725bac00000000";
-
-// A hash as people write it, with its bytes reversed.
-fn hash_of(text: &str) -> Result<Hash256, FromHexError> {
-    let mut bytes = <[u8; 32] as FromHex>::from_hex(text)?;
-    bytes.reverse();
-    Ok(Hash256(bytes))
+// The block of a text.
+fn block_of(alloc: Global, text: &[u8]) -> Result<Shared<Block>, Fault> {
+    let mut cursor = Cursor::new(text);
+    let block = read_block(alloc, &mut cursor)?;
+    Ok(Shared::new(alloc, block)?)
 }
 
-fn is_named(hash: &Hash256, text: &str) -> bool {
-    hash_of(text).is_ok_and(|it| it == *hash)
-}
-
-fn header_with(root: Hash256) -> Header {
-    Header {
-        version: 1,
-        prev: Hash256([0; 32]),
-        root,
-        time: 0,
-        bits: BITS,
-        nonce: 0,
-    }
-}
-
-fn block_with(root: Hash256, txs: Vec<Shared<Tx>>) -> Block {
-    Block {
-        header: header_with(root),
-        txs: Txs::new(txs),
-    }
-}
-
-// Why a block isn't sound. The block comes back with the root that it had.
-fn refusal(rt: &impl Abort, alloc: Global, root: Hash256, txs: Vec<Shared<Tx>>) -> Option<Fault> {
-    let Ok(block) = Shared::new(alloc, block_with(root, txs)) else {
-        return Some(Fault::Memory);
-    };
+// Why a block isn't sound, or the first rule that it breaks.
+fn broken_by(alloc: Global, block: Shared<Block>) -> Option<Fault> {
     match sound(alloc, block) {
-        Ok(_) => None,
-        Err((block, fault)) => {
-            assert_eq!(rt; block.header, header_with(root));
-            Some(fault)
-        }
+        Ok(whole) => check_block(alloc, &whole).err(),
+        Err((_, fault)) => Some(fault),
     }
 }
 
-// The payment, but that it spends the output of this number.
-fn spend(alloc: Global, index: u8) -> Result<Tx, Fail> {
-    let mut bytes = hex::decode(alloc, PAYMENT)?;
-    if let Some(place) = bytes.get_mut(37) {
-        *place = index;
-    }
-    let mut cursor = Cursor::new(bytes.as_slice());
-    Ok(read_tx(alloc, &mut cursor)?)
+// The same of the block of these texts.
+fn judged(alloc: Global, texts: &[&str]) -> Result<Option<Fault>, Fail> {
+    let text = bytes_of(alloc, texts)?;
+    let block = block_of(alloc, text.as_slice())?;
+    Ok(broken_by(alloc, block))
 }
 
-// Payments that spend the outputs of these numbers.
-fn payments(alloc: Global, indexes: &[u8]) -> Result<Vec<Shared<Tx>>, Fail> {
-    let mut txs = Vec::new(alloc);
-    for index in indexes {
-        let tx = spend(alloc, *index)?;
-        txs.push(Shared::new(alloc, tx)?)?;
-    }
-    Ok(txs)
-}
-
-// The transactions of these texts.
-fn txs_of(alloc: Global, texts: &[&str]) -> Result<Vec<Shared<Tx>>, Fail> {
-    let mut txs = Vec::new(alloc);
-    for text in texts {
-        let tx = read(alloc, text)?;
-        txs.push(Shared::new(alloc, tx)?)?;
-    }
-    Ok(txs)
-}
-
-fn txid(alloc: Global, index: u8) -> Result<Hash256, Fail> {
-    Ok(spend(alloc, index)?.txid(alloc)?)
-}
-
-fn pair(left: &Hash256, right: &Hash256) -> Hash256 {
-    let mut text = [0u8; 64];
-    let (front, back) = text.split_at_mut(32);
-    front.copy_from_slice(&left.0);
-    back.copy_from_slice(&right.0);
-    dsha(&text)
-}
-
-// Whether the first block has its one transaction, its own name and its size.
-fn is_first(first: &SoundBlock) -> bool {
-    let header = first.block().header;
-    let [txid] = first.txids() else {
+// Whether this block has this hash and one transaction, with this txid, and meets all rules.
+fn is_first(alloc: Global, first: &SoundBlock, txid: &[u8], hash: &[u8]) -> bool {
+    let [only] = first.txids() else {
         return false;
     };
-    header.root == *txid
-        && is_named(
-            txid,
-            "4a5e1e4baab89f3a32518a88c31bc87f618f76673e2cc77ab2127b7afdeda33b",
-        )
-        && is_named(
-            &header.hash(),
-            "0f9188f13cb7b2c71f2a335e3a4fc328bf5beb436012afca590b1a11466e2206",
-        )
+    let header = first.block().header;
+    only.0.as_slice() == txid
+        && header.root == *only
+        && header.hash().0.as_slice() == hash
         && first.block().size() == 285
+        && check_header(&header).is_ok()
+        && check_block(alloc, first).is_ok()
 }
 
-fn meets_rules(alloc: Global, block: &SoundBlock) -> bool {
-    check_header(&block.block().header).is_ok() && check_block(alloc, block).is_ok()
+// The same of the network's first block, which is found sound once more.
+fn is_genesis(alloc: Global, txid: &[u8], hash: &[u8]) -> bool {
+    match genesis(alloc) {
+        Ok(first) => {
+            let same = is_first(alloc, &first, txid, hash);
+            let again = broken_by(alloc, first.into_block());
+            same && again.is_none()
+        }
+        Err(_) => false,
+    }
 }
+
+// The txid of the network's first transaction and the hash of its first block, as they are sent.
+const FIRST_TXID: &str = "3ba3edfd7a7b12b27ac72c3e67768f617fc81bc3888a51323a9fb8aa4b1e5e4a";
+
+const FIRST_HASH: &str = "06226e46111a0b59caaf126043eb5bbf28c34f3a5e332a1fc7b2b73cf188910f";
 
 #[test]
 fn row_6(rt: HostRuntime) -> Result<(), Fail> {
-    let first = genesis(rt.alloc())?;
-    assert!(rt; is_first(&first));
-    assert!(rt; meets_rules(rt.alloc(), &first));
-    assert!(rt; sound(rt.alloc(), first.into_block()).is_ok());
+    let txid = bytes_of(rt.alloc(), &[FIRST_TXID])?;
+    let hash = bytes_of(rt.alloc(), &[FIRST_HASH])?;
+    assert!(rt; is_genesis(rt.alloc(), txid.as_slice(), hash.as_slice()));
     Ok(())
 }
 
-// Whether this is the root over these txids.
-fn has_root(alloc: Global, txids: &[Hash256], expected: Hash256) -> bool {
-    !txids.is_empty() && root(alloc, txids).is_ok_and(|it| it == expected)
+// The hashes that texts of hex stand for.
+fn hashes_of(alloc: Global, texts: &[&str]) -> Result<Vec<Hash256>, Fail> {
+    let bytes = bytes_of(alloc, texts)?;
+    let (arrays, _) = bytes.as_slice().as_chunks::<32>();
+    let mut hashes = Vec::new(alloc);
+    for array in arrays {
+        hashes.push(Hash256(*array))?;
+    }
+    Ok(hashes)
 }
 
-// Why the block of payments that spend the outputs of these numbers isn't sound.
-fn paid(
-    rt: &impl Abort,
-    alloc: Global,
-    root: Hash256,
-    indexes: &[u8],
-) -> Result<Option<Fault>, Fail> {
-    let txs = payments(alloc, indexes)?;
-    Ok(refusal(rt, alloc, root, txs))
+// Whether this is the hash above two hashes.
+fn is_above(alloc: Global, pair: &[&str], above: &str) -> Result<bool, Fail> {
+    let text = bytes_of(alloc, pair)?;
+    let expected = bytes_of(alloc, &[above])?;
+    Ok(dsha(text.as_slice()).0.as_slice() == expected.as_slice())
 }
 
-// Why the block of the transactions of these texts isn't sound.
-fn refused(
-    rt: &impl Abort,
-    alloc: Global,
-    root: Hash256,
-    texts: &[&str],
-) -> Result<Option<Fault>, Fail> {
-    let txs = txs_of(alloc, texts)?;
-    Ok(refusal(rt, alloc, root, txs))
+// Whether this is the root over hashes.
+fn is_root(alloc: Global, leaves: &[Hash256], expected: &[u8]) -> bool {
+    if leaves.is_empty() {
+        return false;
+    }
+    match root(alloc, leaves) {
+        Ok(root) => root.0.as_slice() == expected,
+        Err(_) => false,
+    }
 }
+
+// The same of texts of hex.
+fn has_root(alloc: Global, leaves: &[&str], expected: &str) -> Result<bool, Fail> {
+    let leaves = hashes_of(alloc, leaves)?;
+    let expected = bytes_of(alloc, &[expected])?;
+    Ok(is_root(alloc, leaves.as_slice(), expected.as_slice()))
+}
+
+// Two hashes and the hash above them.
+const LEVELS: &[(&[&str], &str)] = &[(&[A, B], AB), (&[C, C], CC), (&[AB, CC], ABC)];
+
+// Leaves and their root.
+const ROOTS: &[(&[&str], &str)] = &[(&[A, B, C], ABC), (&[A, B, C, C], ABC), (&[A], A)];
+
+// Blocks under that root, and what is wrong with them.
+const UNDER_ABC: &[(&[&str], Option<Fault>)] = &[
+    (
+        &[FRONT, ABC, BEHIND, "03", COINBASE, PAYMENT, OTHER_PAYMENT],
+        None,
+    ),
+    (
+        &[
+            FRONT,
+            ABC,
+            BEHIND,
+            "04",
+            COINBASE,
+            PAYMENT,
+            OTHER_PAYMENT,
+            OTHER_PAYMENT,
+        ],
+        Some(Fault::Mutated),
+    ),
+];
 
 #[test]
 fn row_7(rt: HostRuntime) -> Result<(), Fail> {
-    let alloc = rt.alloc();
-    let a = txid(alloc, 0)?;
-    let b = txid(alloc, 1)?;
-    let c = txid(alloc, 2)?;
-    let expected = pair(&pair(&a, &b), &pair(&c, &c));
-    assert!(rt; has_root(alloc, &[a, b, c], expected));
-    assert!(rt; has_root(alloc, &[a, b, c, c], expected));
-    assert!(rt; has_root(alloc, &[a], a));
-    assert!(rt; paid(&rt, alloc, expected, &[0, 1, 2])? == None);
-    assert!(rt; paid(&rt, alloc, expected, &[0, 1, 2, 2])? == Some(Fault::Mutated));
-    Ok(())
-}
-
-#[test]
-fn row_7_equal_neighbours(rt: HostRuntime) -> Result<(), Fail> {
-    let alloc = rt.alloc();
-    let a = Hash256([1; 32]);
-    let b = Hash256([2; 32]);
-    let c = Hash256([3; 32]);
-    assert!(rt; mutated(alloc, [a, a].as_slice())?);
-    assert!(rt; !mutated(alloc, [a].as_slice())?);
-    assert!(rt; !mutated(alloc, [].as_slice())?);
-    assert!(rt; !mutated(alloc, [a, b, c].as_slice())?);
-    assert!(rt; mutated(alloc, [a, b, c, c].as_slice())?);
-    Ok(())
-}
-
-// No leaves are equal, but two neighbours are in the level below the root.
-#[test]
-fn equal_nodes_above_the_leaves(rt: HostRuntime) -> Result<(), Fail> {
-    let alloc = rt.alloc();
-    let a = txid(alloc, 0)?;
-    let b = txid(alloc, 1)?;
-    assert!(rt; mutated(alloc, [a, b, a, b].as_slice())?);
-    let root = root(alloc, [a, b, a, b].as_slice())?;
-    assert!(rt; paid(&rt, alloc, root, &[0, 1, 0, 1])? == Some(Fault::Mutated));
-    Ok(())
-}
-
-#[test]
-fn row_8_in_a_block(rt: HostRuntime) -> Result<(), Fail> {
-    let alloc = rt.alloc();
-    let txid = read(alloc, SIZE_64)?.txid(alloc)?;
-    for root in [txid, Hash256([0; 32])] {
-        assert!(rt; refused(&rt, alloc, root, &[SIZE_64])? == Some(Fault::Size64));
+    for (pair, above) in LEVELS {
+        assert!(rt; is_above(rt.alloc(), pair, above)?);
+    }
+    for (leaves, expected) in ROOTS {
+        assert!(rt; has_root(rt.alloc(), leaves, expected)?);
+    }
+    for (texts, fault) in UNDER_ABC {
+        assert!(rt; judged(rt.alloc(), texts)? == *fault);
     }
     Ok(())
 }
 
+// Whether some level over these hashes has two equal neighbours.
+fn is_mutated(alloc: Global, leaves: &[&str]) -> Result<bool, Fail> {
+    let leaves = hashes_of(alloc, leaves)?;
+    Ok(mutated(alloc, leaves.as_slice())?)
+}
+
+// Leaves, and whether their tree is mutated. Of the last ones no two are equal, but the two hashes above them are.
+const TREES: &[(&[&str], bool)] = &[
+    (&[A, A], true),
+    (&[A], false),
+    (&[], false),
+    (&[A, B, C], false),
+    (&[A, B, C, C], true),
+    (&[A, B, A, B], true),
+];
+
 #[test]
-fn refusals_in_their_order(rt: HostRuntime) -> Result<(), Fail> {
-    let alloc = rt.alloc();
-    let zero = Hash256([0; 32]);
-    assert!(rt; paid(&rt, alloc, zero, &[])? == Some(Fault::Empty));
-    assert!(rt; paid(&rt, alloc, zero, &[0])? == Some(Fault::BadRoot));
-    assert!(rt; paid(&rt, alloc, zero, &[0, 0])? == Some(Fault::Mutated));
-    assert!(rt; refused(&rt, alloc, zero, &[SIZE_64, SIZE_64])? == Some(Fault::Size64));
+fn row_7_equal_neighbours(rt: HostRuntime) -> Result<(), Fail> {
+    for (leaves, expected) in TREES {
+        assert!(rt; is_mutated(rt.alloc(), leaves)? == *expected);
+    }
     Ok(())
 }
 
-// The root of block 100,000 of the main network, over its four txids.
+// The four txids of block 100,000 of the main network, and the root over them.
+const BLOCK_100_000: &[&str] = &[
+    "876dd0a3ef4a2816ffd1c12ab649825a958b0ff3bb3d6f3e1250f13ddbf0148c",
+    "c40297f730dd7b5a99567eb8d27b78758f607507c52292d02d4031895b52f2ff",
+    "c46e239ab7d28e2c019b6d66ad8fae98a56ef1f21aeecb94d1b1718186f05963",
+    "1d0cb83721529a062d9675b98d6e5c587e4a770fc84ed00abc5a5de04568a6e9",
+];
+
+const ROOT_100_000: &str = "6657a9252aacd5c0b2940996ecff952228c3067cc38d4885efb5a4ac4247e9f3";
+
 #[test]
 fn published_root(rt: HostRuntime) -> Result<(), Fail> {
-    let txids = [
-        hash_of("8c14f0db3df150123e6f3dbbf30f8b955a8249b62ac1d1ff16284aefa3d06d87")?,
-        hash_of("fff2525b8931402dd09222c50775608f75787bd2b87e56995a7bdd30f79702c4")?,
-        hash_of("6359f0868171b1d194cbee1af2f16ea598ae8fad666d9b012c8ed2b79a236ec4")?,
-        hash_of("e9a66845e05d5abc0ad04ec80f774a7e585c6e8db975962d069a522137b80c1d")?,
-    ];
-    let expected = hash_of("f3e94742aca4b5ef85488dc37c06c3282295ffec960994b2c0d5ac2a25a95766")?;
-    assert!(rt; has_root(rt.alloc(), &txids, expected));
+    assert!(rt; has_root(rt.alloc(), BLOCK_100_000, ROOT_100_000)?);
+    Ok(())
+}
+
+// A transaction of 64 bytes alone, under its txid as the root and under zeros.
+const ALONE: &[&[&str]] = &[
+    &[
+        FRONT,
+        "b18f9f906d026df4958b1f9ca28822d6e9e2351aa7c258ea38fd79ba663ef0d9",
+        BEHIND,
+        "01",
+        SIZE_64,
+    ],
+    &[
+        FRONT,
+        "0000000000000000000000000000000000000000000000000000000000000000",
+        BEHIND,
+        "01",
+        SIZE_64,
+    ],
+];
+
+#[test]
+fn row_8_in_a_block(rt: HostRuntime) -> Result<(), Fail> {
+    for texts in ALONE {
+        assert!(rt; judged(rt.alloc(), texts)? == Some(Fault::Size64));
+    }
     Ok(())
 }
 
 // Block 170 of the main network.
-fn payment_block(alloc: Global) -> Result<Block, Fail> {
-    let header = Header {
-        version: 1,
-        prev: hash_of("000000002a22cfee1f2c846adbd12b3e183d4f97683f85dad08a79780a84bd55")?,
-        root: hash_of("7dac2c5666815c17a3b36427de37bb9d2e2c5ccec3f8633eb91a4205cb4c10ff")?,
-        time: 1_231_731_025,
-        bits: 0x1d00_ffff,
-        nonce: 1_889_418_792,
-    };
-    let txs = txs_of(alloc, [COINBASE, PAYMENT].as_slice())?;
-    Ok(Block {
-        header,
-        txs: Txs::new(txs),
-    })
-}
-
-// Whether that block is sound and meets the rules for its transactions.
-fn is_good(alloc: Global, block: Block) -> Result<bool, Fault> {
-    Ok(match sound(alloc, Shared::new(alloc, block)?) {
-        Ok(whole) => check_block(alloc, &whole).is_ok(),
-        Err(_back) => false,
-    })
-}
+const BLOCK_170: &[&str] = &[HEADER_170, "02", COINBASE, PAYMENT];
 
 #[test]
 fn published_block(rt: HostRuntime) -> Result<(), Fail> {
-    let block = payment_block(rt.alloc())?;
-    let name = "00000000d1145790a8694403d4063f323d499e655c83426834d4ce2f8dd4a2ee";
-    assert!(rt; is_named(&block.header.hash(), name));
-    assert!(rt; check_header(&block.header) == Err(Fault::BadWork));
-    assert!(rt; is_good(rt.alloc(), block)?);
+    assert!(rt; judged(rt.alloc(), BLOCK_170)?.is_none());
     Ok(())
 }
 
-// Whether a text is read as a block with this header, to its end.
-fn is_block(alloc: Global, text: &[u8], header: &Header) -> bool {
-    let mut cursor = Cursor::new(text);
-    let block = read_block(alloc, &mut cursor);
-    block.is_ok_and(|it| it.header == *header) && cursor.left() == 0
-}
+// A transaction of 1,000,064 bytes alone, up to its script's zeros.
+const TOO_LONG: &[&str] = &[
+    FRONT,
+    "8ccca51b2b7cd9455d2044a78ad1f3cda162d98bb2afd681ee846f329ac74c55",
+    BEHIND,
+    "01",
+    LARGE,
+];
 
-// Whether a text begins with this header, and so many bytes stand behind it.
-fn is_header(text: &[u8], header: &Header, left: usize) -> bool {
-    let mut cursor = Cursor::new(text);
-    let read = read_header(&mut cursor);
-    read.is_ok_and(|it| it == *header) && cursor.left() == left
-}
-
-fn written(alloc: Global, block: &Block) -> Result<Vec<u8>, Fault> {
-    let mut text = Vec::new(alloc);
-    write_block(&mut text, block)?;
-    Ok(text)
-}
-
-// Whether a block of 490 bytes is written and read again.
-fn is_read_again(alloc: Global, block: &Block) -> Result<bool, Fault> {
-    let text = written(alloc, block)?;
-    let (text, header) = (text.as_slice(), &block.header);
-    Ok(text.len() == 490 && is_block(alloc, text, header) && is_header(text, header, 410))
-}
-
+// The size is told before anything of the transaction is looked at.
 #[test]
-fn published_block_is_read_again(rt: HostRuntime) -> Result<(), Fail> {
-    let block = payment_block(rt.alloc())?;
-    assert!(rt; block.size() == 490);
-    assert!(rt; is_read_again(rt.alloc(), &block)?);
+fn a_block_of_more_than_a_million_bytes(rt: HostRuntime) -> Result<(), Fail> {
+    let text = stretched(rt.alloc(), TOO_LONG, 1_000_145)?;
+    let block = block_of(rt.alloc(), text.as_slice())?;
+    assert!(rt; broken_by(rt.alloc(), block) == Some(Fault::Oversize));
     Ok(())
+}
+
+// Whether the block is written as this text.
+fn is_written(alloc: Global, block: &Block, text: &[u8]) -> bool {
+    let mut out = Vec::new(alloc);
+    write_block(&mut out, block).is_ok() && out.as_slice() == text
+}
+
+// Whether the block and a copy of it are written as this text.
+fn is_copied(alloc: Global, block: &Block, text: &[u8]) -> bool {
+    match block.copy(alloc) {
+        Ok(copy) => is_written(alloc, block, text) && is_written(alloc, &copy, text),
+        Err(_) => false,
+    }
 }
 
 #[test]
 fn copies(rt: HostRuntime) -> Result<(), Fail> {
-    let alloc = rt.alloc();
-    let block = payment_block(alloc)?;
-    let text = written(alloc, &block)?;
-    let copied = written(alloc, &block.copy(alloc)?)?;
-    assert!(rt; copied.as_slice() == text.as_slice());
+    let text = bytes_of(rt.alloc(), BLOCK_170)?;
+    let block = block_of(rt.alloc(), text.as_slice())?;
+    assert!(rt; is_copied(rt.alloc(), &block, text.as_slice()));
     Ok(())
+}
+
+// Whether a block of one transaction is given out once its other owner is gone, and not before.
+fn is_given_out(block: Shared<Block>, other: SoundBlock) -> bool {
+    let Err(block) = block.into_value() else {
+        return false;
+    };
+    drop(other);
+    match block.into_value() {
+        Ok(block) => block.txs.into_vec().len() == 1,
+        Err(_) => false,
+    }
+}
+
+// Whether a copy has the same txids and header, and the same block.
+fn is_shared(first: SoundBlock) -> bool {
+    match first.copy() {
+        Ok(copy) => {
+            let same = copy.txids() == first.txids() && copy.block().header == first.block().header;
+            is_given_out(copy.into_block(), first) && same
+        }
+        Err(_) => false,
+    }
 }
 
 #[test]
 fn copies_of_a_sound_block(rt: HostRuntime) -> Result<(), Fail> {
-    let alloc = rt.alloc();
-    let first = genesis(alloc)?;
-    let copy = first.copy()?;
-    assert_eq!(rt; copy.txids(), first.txids());
-    assert_eq!(rt; copy.block().header, first.block().header);
-    // The first is an owner too, until it is dropped.
-    let Err(block) = copy.into_block().into_value() else {
-        return Err(Fail::from("the block has one owner"));
-    };
-    drop(first);
-    let Ok(block) = block.into_value() else {
-        return Err(Fail::from("the block has two owners"));
-    };
-    assert_eq!(rt; block.txs.into_vec().len(), 1);
-    Ok(())
-}
-
-// The root over transactions.
-fn root_of(alloc: Global, txs: &[Shared<Tx>]) -> Result<Hash256, Fail> {
-    let mut txids = Vec::new(alloc);
-    for tx in txs {
-        txids.push(tx.txid(alloc)?)?;
-    }
-    if txids.is_empty() {
-        return Err(Fail::from("no transactions"));
-    }
-    Ok(root(alloc, txids.as_slice())?)
-}
-
-// What `check_block` says of the sound block of these transactions.
-fn verdict(alloc: Global, txs: Vec<Shared<Tx>>) -> Result<Option<Fault>, Fail> {
-    let root = root_of(alloc, txs.as_slice())?;
-    let block = Shared::new(alloc, block_with(root, txs))?;
-    match sound(alloc, block) {
-        Ok(block) => Ok(check_block(alloc, &block).err()),
-        Err(_back) => Err(Fail::from("the block isn't sound")),
-    }
-}
-
-// The same of the transactions of these texts.
-fn judged(alloc: Global, texts: &[&str]) -> Result<Option<Fault>, Fail> {
-    verdict(alloc, txs_of(alloc, texts)?)
-}
-
-// A transaction of 1,000,000 bytes and more.
-fn large(alloc: Global) -> Result<Vec<Shared<Tx>>, Fail> {
-    let mut bytes = hex::decode(alloc, LARGE)?;
-    let len = bytes.len();
-    bytes.resize(len + 1_000_004, 0)?;
-    let mut cursor = Cursor::new(bytes.as_slice());
-    let tx = read_tx(alloc, &mut cursor)?;
-    let mut txs = Vec::new(alloc);
-    txs.push(Shared::new(alloc, tx)?)?;
-    Ok(txs)
-}
-
-#[test]
-fn rules_of_a_block(rt: HostRuntime) -> Result<(), Fail> {
-    let alloc = rt.alloc();
-    assert!(rt; judged(alloc, &[PAYMENT])? == Some(Fault::BadCoinbase));
-    assert!(rt; judged(alloc, &[PAYMENT, COINBASE])? == Some(Fault::BadCoinbase));
-    let broken = judged(alloc, &[COINBASE, PAYMENT, NO_OUTPUTS])?;
-    assert!(rt; broken == Some(Fault::BadTx(TxRule::NoOutputs)));
-    assert!(rt; judged(alloc, &[COINBASE, PAYMENT])? == None);
-    assert!(rt; verdict(alloc, large(alloc)?)? == Some(Fault::Oversize));
-    Ok(())
-}
-
-#[test]
-fn work_needs_the_bits(rt: HostRuntime) -> Result<(), Fail> {
     let first = genesis(rt.alloc())?;
-    let other = Header {
-        bits: 0x207f_fffe,
-        ..first.block().header
-    };
-    assert!(rt; check_header(&other) == Err(Fault::BadWork));
-    let text = first.block().header.text();
-    assert!(rt; dsha(&text) == first.block().header.hash());
+    assert!(rt; is_shared(first));
     Ok(())
 }
