@@ -15,6 +15,7 @@ pub record Shown : Type 0 where
 
 -- what a hand remembers of the desk that it gave back last
 pub record Last : Type 0 where
+  pub gives : ℕ  -- how often it gave one back
   pub peer : ℕ
   pub grew : ℕ  -- how much was taken while the hand held it
   pub closed : Bool  -- its work took nothing more then
@@ -78,16 +79,16 @@ pub record HoldsInTurn (hand : HandState) : Type 0 where
 -- ---- hands, call by call
 
 abbrev pub no_last : Last
-no_last = record { peer = 0; grew = 0; closed = false; taken = 0; told = 0 }
+no_last = record { gives = 0; peer = 0; grew = 0; closed = false; taken = 0; told = 0 }
 
 -- how much had been taken of the desk when it was claimed
 abbrev pub taken_before : List Shown → ℕ
 taken_before [] = 0
 taken_before (s ∷ rest) = s.taken
 
--- what is remembered of a desk that was held so and is given back
-abbrev pub last_of : List Shown → Shown → Last
-last_of held s = record { peer = s.peer; grew = s.taken - taken_before held; closed = s.closed; taken = s.taken; told = s.told }
+-- what is remembered, beside what was before, of a desk that was held so and is given back
+abbrev pub last_of : Last → List Shown → Shown → Last
+last_of last held s = record { gives = last.gives + 1; peer = s.peer; grew = s.taken - taken_before held; closed = s.closed; taken = s.taken; told = s.told }
 
 -- the one hand of a new ring
 abbrev pub opening_hand : TableId → ℕ → HandState
@@ -113,7 +114,7 @@ abbrev pub claimed_hand : HandState → Shown → HandState
 claimed_hand h s = record { ring = h.ring; hands = h.hands; names = h.names; handlers = h.handlers; stage = h.stage; held = s ∷ []; last = h.last }
 
 abbrev pub given_hand : HandState → Shown → HandState
-given_hand h s = record { ring = h.ring; hands = h.hands; names = h.names; handlers = h.handlers; stage = h.stage; held = []; last = last_of h.held s }
+given_hand h s = record { ring = h.ring; hands = h.hands; names = h.names; handlers = h.handlers; stage = h.stage; held = []; last = last_of h.last h.held s }
 
 -- after another one's handlers came to it
 abbrev pub joined_hand : HandState → HandState → HandState

@@ -119,7 +119,7 @@ abbrev pub claimed_view : HandView → Shown → HandView
 claimed_view v s = with_held v (s ∷ [])
 
 abbrev pub given_view : HandView → Shown → HandView
-given_view v s = record { crew = v.crew; numbers = v.numbers; held = []; last = last_of v.held s }
+given_view v s = record { crew = v.crew; numbers = v.numbers; held = []; last = last_of v.last v.held s }
 
 abbrev pub joined_view : HandView → HandView → HandView
 joined_view v w = with_numbers v (v.numbers ++ w.numbers)

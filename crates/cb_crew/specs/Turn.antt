@@ -20,10 +20,12 @@ pub record HandlerState : Type 0 where
   pub turns : ℕ  -- how many turns it made
   pub room : ℕ  -- for how many desks its list has room
 
--- The desk that was given back last is this peer's, and so many marks were taken from its inbox in that turn.
-pub record GaveBack (hand : HandState) (peer taken : ℕ) : Type 0 where
-  pub peer_is : hand.last.peer ≡ peer
-  pub taken_is : hand.last.grew ≡ taken
+-- One desk was given back, of this peer, and so many marks were taken from its inbox in that turn.
+pub record GaveBack (old new : HandState) (peer taken : ℕ) : Type 0 where
+  pub exists : peer < length old.names
+  pub one : new.last.gives ≡ old.last.gives + 1
+  pub peer_is : new.last.peer ≡ peer
+  pub taken_is : new.last.grew ≡ taken
 
 -- nothing that its seat was told of was left
 abbrev pub NoneLeft : HandState → Type 0
@@ -32,9 +34,9 @@ NoneLeft hand = hand.last.told ≤ hand.last.taken
 -- A turn takes up to so many marks, and fewer only where nothing is left, or a work closed on what it was given. It takes none
 -- only where nothing is left. Where there was no desk in the ring, all were held, and there are fewer than handlers.
 abbrev pub Turned : HandState → HandState → ℕ → Turn → Type 0
-Turned old new budget (turn.Served peer worked passed) = GaveBack new peer (worked + passed) × (1 ≤ worked + passed) × (worked + passed ≤ budget) × (worked + passed < budget → NoneLeft new ⊎ ((1 ≤ worked) × (new.last.closed ≡ true)))
-Turned old new budget (turn.Idle peer) = GaveBack new peer 0 × NoneLeft new × (new.last.closed ≡ false)
-Turned old new budget (turn.Shut peer) = GaveBack new peer 0 × NoneLeft new × (new.last.closed ≡ true)
+Turned old new budget (turn.Served peer worked passed) = GaveBack old new peer (worked + passed) × (1 ≤ worked + passed) × (worked + passed ≤ budget) × (worked + passed < budget → NoneLeft new ⊎ ((1 ≤ worked) × (new.last.closed ≡ true)))
+Turned old new budget (turn.Idle peer) = GaveBack old new peer 0 × NoneLeft new × (new.last.closed ≡ false)
+Turned old new budget (turn.Shut peer) = GaveBack old new peer 0 × NoneLeft new × (new.last.closed ≡ true)
 Turned old new budget turn.NoDesk = (new ≡ old) × (length old.names < old.handlers)
 Turned old new budget turn.Spent = new ≡ old
 

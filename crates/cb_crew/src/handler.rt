@@ -88,6 +88,7 @@ impl<W: Work> Handler<W> {
         ensures turned { Turned self.old.hand self.new.hand budget result }
         ensures spent { (result ≡ Spent) ↔ (self.old.turns ≡ 2 ^ 40) }
         ensures turns { result ≢ Spent → self.new.turns ≡ self.old.turns + 1 }
+        ensures stays { result ≡ Spent → self.new ≡ self.old }
         ensures same { IsHandlerOf crew.now self.new × (self.new.room ≡ self.old.room) }
         ensures ticks { Ticks W.given W.ticked W.is_closed self.old.hand self.new.hand result }
     {
@@ -113,6 +114,7 @@ impl<W: Work> Handler<W> {
         ensures turned { Turned self.old.hand self.new.hand budget result.0 }
         ensures spent { (result.0 ≡ Spent) ↔ (self.old.turns ≡ 2 ^ 40) }
         ensures turns { result.0 ≢ Spent → self.new.turns ≡ self.old.turns + 1 }
+        ensures stays { result.0 ≡ Spent → self.new ≡ self.old }
         ensures same { IsHandlerOf crew.now self.new × (self.new.room ≡ self.old.room) }
         ensures brings { Brings self.new.hand result.0 peer note result.1 }
         ensures ticks { Ticks W.given W.ticked W.is_closed self.old.hand self.new.hand result.0 }
