@@ -2,7 +2,8 @@
 //! them to works that hash, and in the end the crew finishes and what was served is printed.
 #![tactic(auto)]
 
-ghost use Rattle.std.specs.Prelude.{◌≡◌, ◌≤◌};
+ghost use Rattle.cb_crew.specs.Crew.{AreHandlersOf, AreOpeningSeats};
+ghost use Rattle.bench_crew.specs.Settings.{IsWithin};
 
 mod plain;
 mod settings;
@@ -11,11 +12,11 @@ mod work;
 
 use crate::plain::{run_loop, run_mutex, tally_of};
 use crate::settings::{Mode, Settings, read_settings};
-use crate::tally::Tally;
+use crate::tally::Served;
 use crate::work::HashWork;
 use cb_base::Fault;
 use cb_crew::{Crew, Desk, Fresh, NewCrew};
-use cb_service::{Orders, Refusal, Signals, serve};
+use cb_service::{Orders, Readers, Refusal, Signals, Staff, serve};
 use std::alloc::Global;
 use std::io::{ErrorKind, Read};
 use std::marker::Sync;
@@ -26,27 +27,9 @@ use std::time::{Clock, Instant};
 
 /// The works of the later connections of each peer, which its reader opens one after another.
 fn later_works(alloc: Global, settings: &Settings) -> Result<Vec<Vec<Fresh<HashWork>>>, Fault> {
-    let mut all = Vec::new(alloc);
-    for _ in 0..settings.peers {
-        let mut works = Vec::new(alloc);
-        for _ in 1..settings.connections {
-            works.push(HashWork::fresh(settings.rounds))?;
-        }
-        all.push(works)?;
-    }
-    Ok(all)
-}
-
-/// What each work of each peer keeps, the first connection's first.
-fn tallies_of(alloc: Global, desks: Vec<Desk<HashWork>>) -> Result<Vec<Vec<Tally>>, Fault> {
-    let mut all = Vec::new(alloc);
-    for desk in desks {
-        let mut tallies = Vec::new(alloc);
-        for work in desk.past() {
-            tallies.push(work.tally())?;
-        }
-        tallies.push(desk.work().tally())?;
-        all.push(tallies)?;
+    let mut all = Vec::with_capacity(alloc, usize::from(settings.peers))?;
+    for peer in 0..settings.peers {
+        all.push(HashWork::later(alloc, peer, settings.connections, settings.rounds)?)?;
     }
     Ok(all)
 }
@@ -56,74 +39,103 @@ fn run_crew<R: Threads + Wait + Clock + Sync>(
     rt: &R,
     alloc: Global,
     settings: &Settings,
-) -> Result<Vec<Vec<Tally>>, Refusal>
-    requires peers { (1 ≤ settings.now.peers) × (settings.now.peers ≤ 64) }
-    requires handlers { (1 ≤ settings.now.handlers) × (settings.now.handlers ≤ 16) }
-    requires capacity { (1 ≤ settings.now.capacity) × (settings.now.capacity ≤ 1024) }
-    requires budget { (1 ≤ settings.now.budget) × (settings.now.budget ≤ 64) }
+) -> Result<Vec<Served>, Refusal>
+    requires { IsWithin settings.now }
 {
-    let later = later_works(alloc, settings)?;
     let signals = Signals::new(alloc, settings.peers)?;
-    let works = HashWork::all(alloc, settings.peers, settings.rounds)?;
-    let made = match Crew::new(rt, alloc, works, settings.handlers, settings.capacity) {
-        Ok(made) => made,
-        Err(_) => return Err(Refusal::Memory),
-    };
+    let later = later_works(alloc, settings)?;
+    let works = HashWork::first(alloc, settings.peers, settings.rounds)?;
+    match Crew::new(rt, alloc, works, settings.handlers, settings.capacity) {
+        Ok(made) => match serve_crew(rt, alloc, settings, &signals, made, later) {
+            Ok(desks) => Ok(tallies_of(alloc, desks.as_slice())?),
+            Err(refusal) => Err(refusal),
+        },
+        Err(_) => Err(Refusal::Memory),
+    }
+}
+
+/// Serves a new crew to its end.
+fn serve_crew<R: Threads + Wait + Clock + Sync>(
+    rt: &R,
+    alloc: Global,
+    settings: &Settings,
+    signals: &Signals,
+    made: NewCrew<HashWork>,
+    later: Vec<Vec<Fresh<HashWork>>>,
+) -> Result<Vec<Desk<HashWork>>, Refusal>
+    requires settings { IsWithin settings.now }
+    requires seats { AreOpeningSeats made.crew made.readers.items }
+    requires handlers { AreHandlersOf made.crew made.handlers.items }
+{
     let orders = Orders {
         items: settings.items,
         budget: settings.budget,
         pause: settings.pause,
     };
-    let NewCrew {
-        crew,
-        readers,
-        handlers,
-    } = made;
-    let desks = serve(rt, alloc, &crew, &signals, orders, readers, later, handlers)?;
-    Ok(tallies_of(alloc, desks)?)
+    let crew = made.crew;
+    let staff = Staff {
+        readers: Readers {
+            seats: made.readers,
+            later,
+        },
+        handlers: made.handlers,
+    };
+    serve(rt, alloc, &crew, signals, orders, staff)
 }
 
-/// Whether these are the tallies of all connections of a peer.
-fn is_right(settings: &Settings, peer: u16, tallies: &[Tally]) -> bool {
-    if tallies.len() != usize::from(settings.connections) {
-        return false;
-    }
-    let mut connection = 0u16;
-    for tally in tallies {
-        if *tally != tally_of(settings, peer, connection) {
-            return false;
+/// What each work of each peer keeps, the first connection's first.
+fn tallies_of(alloc: Global, desks: &[Desk<HashWork>]) -> Result<Vec<Served>, Fault> {
+    let mut all = Vec::new(alloc);
+    for desk in desks {
+        for work in desk.past() {
+            all.push(served_by(desk, work))?;
         }
-        connection = connection.saturating_add(1);
+        all.push(served_by(desk, desk.work()))?;
     }
-    true
+    Ok(all)
+}
+
+/// What a work of a desk keeps.
+fn served_by(desk: &Desk<HashWork>, work: &HashWork) -> Served {
+    Served {
+        peer: desk.peer(),
+        tally: work.tally(),
+    }
 }
 
 /// Adds what was served of each peer to the output: its connections, the items, and whether each list was right.
-fn report(settings: &Settings, all: &[Vec<Tally>], out: &mut String) -> Result<bool, Fault> {
+fn report(settings: &Settings, all: &[Served], out: &mut String) -> Result<bool, Fault> {
     let mut right = true;
-    let mut peer = 0u16;
-    for tallies in all {
-        let holds = is_right(settings, peer, tallies.as_slice());
-        let connections = tallies.len();
-        let items: u64 = count_items(tallies.as_slice());
-        let word = if holds { "right" } else { "wrong" };
-        writeln!(
-            out,
-            "peer {peer} connections {connections} items {items} {word}"
-        )?;
-        right &= holds;
-        peer = peer.saturating_add(1);
+    for peer in 0..settings.peers {
+        right &= report_peer(settings, peer, all, out)?;
     }
-    Ok(right && usize::from(peer) == usize::from(settings.peers))
+    Ok(right)
 }
 
-/// How many items these are of.
-fn count_items(tallies: &[Tally]) -> u64 {
+/// The same of one peer.
+fn report_peer(
+    settings: &Settings,
+    peer: u16,
+    all: &[Served],
+    out: &mut String,
+) -> Result<bool, Fault> {
+    let mut right = true;
+    let mut connections = 0u16;
     let mut items = 0u64;
-    for tally in tallies {
-        items = items.saturating_add(tally.count);
+    for served in all {
+        if served.peer == peer {
+            right &= served.tally == tally_of(settings, peer, connections);
+            connections = connections.saturating_add(1);
+            items = items.saturating_add(served.tally.count);
+        }
     }
-    items
+    right &= connections == settings.connections;
+    let word = if right { "right" } else { "wrong" };
+    writeln!(
+        out,
+        "peer {peer} connections {connections} items {items} {word}"
+    )?;
+    Ok(right)
 }
 
 /// What each connection's items made, as a line's settings have it.
@@ -131,11 +143,8 @@ fn run<R: Threads + Wait + Clock + Sync>(
     rt: &R,
     alloc: Global,
     settings: &Settings,
-) -> Result<Vec<Vec<Tally>>, Refusal>
-    requires peers { (1 ≤ settings.now.peers) × (settings.now.peers ≤ 64) }
-    requires handlers { (1 ≤ settings.now.handlers) × (settings.now.handlers ≤ 16) }
-    requires capacity { (1 ≤ settings.now.capacity) × (settings.now.capacity ≤ 1024) }
-    requires budget { (1 ≤ settings.now.budget) × (settings.now.budget ≤ 64) }
+) -> Result<Vec<Served>, Refusal>
+    requires { IsWithin settings.now }
 {
     match settings.mode {
         Mode::Crew => run_crew(rt, alloc, settings),

@@ -1,7 +1,5 @@
-ghost use Rattle.std.specs.Prelude.{◌≡◌, ◌≤◌};
-
 use crate::settings::Settings;
-use crate::tally::Tally;
+use crate::tally::{Served, Tally};
 use cb_base::Fault;
 use cb_service::item_at;
 use std::alloc::Global;
@@ -11,11 +9,10 @@ use std::sync::{Condvar, Mutex, Wait};
 use std::thread;
 use std::thread::Threads;
 
-/// An item of a peer's connection.
+/// An item, and the place of its connection among all connections of all peers.
 #[derive(Clone, Copy)]
 struct Parcel {
-    peer: u16,
-    connection: u16,
+    place: usize,
     item: u64,
 }
 
@@ -23,7 +20,7 @@ struct Parcel {
 #[derive(Drop)]
 struct Bench {
     queue: VecDeque<Parcel>,
-    tallies: Vec<Vec<Tally>>,
+    served: Vec<Served>,
     /// How many readers have more to queue.
     readers: u16,
 }
@@ -37,24 +34,23 @@ struct Hall {
 }
 
 /// What is kept of each connection of each peer, before its first item.
-fn new_tallies(alloc: Global, settings: &Settings) -> Result<Vec<Vec<Tally>>, Fault> {
-    let mut tallies = Vec::new(alloc);
-    for _ in 0..settings.peers {
-        let mut of_peer = Vec::new(alloc);
+fn none_served(alloc: Global, settings: &Settings) -> Result<Vec<Served>, Fault> {
+    let mut all = Vec::new(alloc);
+    for peer in 0..settings.peers {
         for _ in 0..settings.connections {
-            of_peer.push(Tally::new())?;
+            all.push(Served {
+                peer,
+                tally: Tally::new(),
+            })?;
         }
-        tallies.push(of_peer)?;
     }
-    Ok(tallies)
+    Ok(all)
 }
 
 /// Adds an item to what is kept of its connection.
-fn add(tallies: &mut Vec<Vec<Tally>>, parcel: Parcel, rounds: u32) {
-    if let Some(of_peer) = tallies.get_mut(usize::from(parcel.peer)) {
-        if let Some(tally) = of_peer.get_mut(usize::from(parcel.connection)) {
-            *tally = tally.with(parcel.item, rounds);
-        }
+fn add(all: &mut Vec<Served>, parcel: Parcel, rounds: u32) {
+    if let Some(served) = all.get_mut(parcel.place) {
+        served.tally = served.tally.with(parcel.item, rounds);
     }
 }
 
@@ -68,16 +64,17 @@ pub fn tally_of(settings: &Settings, peer: u16, connection: u16) -> Tally {
 }
 
 /// All items in one loop on one thread.
-pub fn run_loop(alloc: Global, settings: &Settings) -> Result<Vec<Vec<Tally>>, Fault> {
-    let mut tallies = Vec::new(alloc);
+pub fn run_loop(alloc: Global, settings: &Settings) -> Result<Vec<Served>, Fault> {
+    let mut all = Vec::new(alloc);
     for peer in 0..settings.peers {
-        let mut of_peer = Vec::new(alloc);
         for connection in 0..settings.connections {
-            of_peer.push(tally_of(settings, peer, connection))?;
+            all.push(Served {
+                peer,
+                tally: tally_of(settings, peer, connection),
+            })?;
         }
-        tallies.push(of_peer)?;
     }
-    Ok(tallies)
+    Ok(all)
 }
 
 /// All items through one queue under one lock. Each is hashed under the lock, since that is what keeps a peer's order here.
@@ -85,14 +82,14 @@ pub fn run_mutex<R: Threads + Wait + Sync>(
     rt: &R,
     alloc: Global,
     settings: &Settings,
-) -> Result<Vec<Vec<Tally>>, Fault> {
+) -> Result<Vec<Served>, Fault> {
     let most = settings
         .capacity
         .saturating_mul(usize::from(settings.peers));
     let hall = Hall {
         bench: Mutex::new(Bench {
             queue: VecDeque::with_capacity(alloc, most)?,
-            tallies: new_tallies(alloc, settings)?,
+            served: none_served(alloc, settings)?,
             readers: settings.peers,
         }),
         arrived: Condvar::new(),
@@ -111,7 +108,7 @@ pub fn run_mutex<R: Threads + Wait + Sync>(
             }
         },
     )?;
-    Ok(hall.bench.into_inner().tallies)
+    Ok(hall.bench.into_inner().served)
 }
 
 impl Hall {
@@ -124,7 +121,7 @@ impl Hall {
             let Some(parcel) = bench.queue.pop_front() else {
                 return;
             };
-            add(&mut bench.tallies, parcel, rounds);
+            add(&mut bench.served, parcel, rounds);
             self.room.notify_one();
         }
     }
@@ -132,16 +129,13 @@ impl Hall {
     /// What a reader's thread does. A full queue makes it wait.
     fn read<R: Wait>(&self, rt: &R, settings: &Settings, peer: u16, most: usize) {
         for connection in 0..settings.connections {
-            for place in 0..settings.items {
-                let item = item_at(peer, connection, place);
+            let place = settings.place(peer, connection);
+            for number in 0..settings.items {
+                let item = item_at(peer, connection, number);
                 let mut bench = self.room.wait_while(rt, self.bench.lock(rt), |bench| {
                     bench.queue.len() >= most
                 });
-                let _ = bench.queue.push_back(Parcel {
-                    peer,
-                    connection,
-                    item,
-                });
+                let _ = bench.queue.push_back(Parcel { place, item });
                 self.arrived.notify_one();
             }
         }

@@ -1,4 +1,7 @@
-ghost use Rattle.std.specs.Prelude.{◌≤◌, IfSome};
+ghost use Rattle.std.specs.Prelude.{◌≡◌, ◌≤◌, true, IfSome};
+ghost use Rattle.bench_crew.specs.Settings.{IsWithin};
+
+use std::str::SplitWhitespace;
 
 /// How the items of all peers come to their works.
 #[derive(Clone, Copy)]
@@ -33,26 +36,78 @@ pub struct Settings {
     pub pause: u32,
 }
 
+impl Settings {
+    /// The place of a peer's connection among all connections of all peers.
+    pub fn place(&self, peer: u16, connection: u16) -> usize {
+        usize::from(peer)
+            .saturating_mul(usize::from(self.connections))
+            .saturating_add(usize::from(connection))
+    }
+}
+
+/// The numbers of a line where it leaves the last two out: of peers, handlers, places of an inbox, items, connections, rounds,
+/// the budget and the pause.
+const NUMBERS: [u32; 8] = [0, 0, 0, 0, 0, 0, 64, 0];
+
+/// How many numbers a line has at least.
+const FEWEST_NUMBERS: usize = 6;
+
 /// The settings of a line: `MODE PEERS HANDLERS CAPACITY ITEMS CONNECTIONS ROUNDS [BUDGET [PAUSE]]`, with `crew`, `mutex` or
 /// `loop` for the mode, a budget of 64 and no pause where these are left out. Words are parted by spaces.
 pub fn read_settings(line: &str) -> Option<Settings>
-    ensures peers { IfSome result (λ settings. (1 ≤ settings.peers) × (settings.peers ≤ 64)) }
-    ensures handlers { IfSome result (λ settings. (1 ≤ settings.handlers) × (settings.handlers ≤ 16)) }
-    ensures capacity { IfSome result (λ settings. (1 ≤ settings.capacity) × (settings.capacity ≤ 1024)) }
-    ensures connections { IfSome result (λ settings. (1 ≤ settings.connections) × (settings.connections ≤ 256)) }
-    ensures budget { IfSome result (λ settings. (1 ≤ settings.budget) × (settings.budget ≤ 64)) }
+    ensures { IfSome result (λ settings. IsWithin settings) }
 {
     let mut words = line.split_whitespace();
     let mode = mode_of(words.next()?)?;
-    let peers = number(words.next()?, 1, 64)?;
-    let handlers = number(words.next()?, 1, 16)?;
-    let capacity = number(words.next()?, 1, 1024)?;
-    let items = number(words.next()?, 0, u32::MAX)?;
-    let connections = number(words.next()?, 1, 256)?;
-    let rounds = number(words.next()?, 0, u32::MAX)?;
-    let budget = number(words.next().unwrap_or("64"), 1, 64)?;
-    let pause = number(words.next().unwrap_or("0"), 0, 60_000)?;
-    if words.next().is_some() {
+    settings_of(mode, read_numbers(words)?)
+}
+
+/// The mode of this name.
+fn mode_of(name: &str) -> Option<Mode> {
+    match name {
+        "crew" => Some(Mode::Crew),
+        "mutex" => Some(Mode::Mutex),
+        "loop" => Some(Mode::Loop),
+        _ => None,
+    }
+}
+
+/// The numbers that these words are.
+fn read_numbers(words: SplitWhitespace) -> Option<[u32; 8]> {
+    let mut numbers = NUMBERS;
+    let mut count = 0usize;
+    for word in words {
+        let number: u32 = word.parse().ok()?;
+        *numbers.get_mut(count)? = number;
+        count = count.saturating_add(1);
+    }
+    if count < FEWEST_NUMBERS {
+        return None;
+    }
+    Some(numbers)
+}
+
+/// The settings of these numbers, if each is within its bounds.
+fn settings_of(mode: Mode, numbers: [u32; 8]) -> Option<Settings>
+    ensures { IfSome result (λ settings. IsWithin settings) }
+{
+    let [
+        peers,
+        handlers,
+        capacity,
+        items,
+        connections,
+        rounds,
+        budget,
+        pause,
+    ] = numbers;
+    if !is_between(peers, 1, 64)
+        || !is_between(handlers, 1, 16)
+        || !is_between(capacity, 1, 1024)
+        || !is_between(connections, 1, 256)
+        || !is_between(budget, 1, 64)
+        || pause > 60_000
+    {
         return None;
     }
     Some(Settings {
@@ -68,23 +123,9 @@ pub fn read_settings(line: &str) -> Option<Settings>
     })
 }
 
-/// The mode of this name.
-fn mode_of(name: &str) -> Option<Mode> {
-    match name {
-        "crew" => Some(Mode::Crew),
-        "mutex" => Some(Mode::Mutex),
-        "loop" => Some(Mode::Loop),
-        _ => None,
-    }
-}
-
-/// A number between two others.
-fn number(word: &str, least: u32, most: u32) -> Option<u32>
-    ensures { IfSome result (λ number. (least ≤ number) × (number ≤ most)) }
+/// Whether a number lies between two others, or is one of them.
+fn is_between(number: u32, least: u32, most: u32) -> bool
+    ensures { result ≡ true → (least ≤ number) × (number ≤ most) }
 {
-    let number: u32 = word.parse().ok()?;
-    if number < least || most < number {
-        return None;
-    }
-    Some(number)
+    least <= number && number <= most
 }

@@ -19,6 +19,13 @@ pub struct Tally {
     pub digest: [u8; 32],
 }
 
+/// What was served in one connection of a peer.
+#[derive(Clone, Copy)]
+pub struct Served {
+    pub peer: u16,
+    pub tally: Tally,
+}
+
 impl Tally {
     /// Of no items.
     pub fn new() -> Tally

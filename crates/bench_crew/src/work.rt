@@ -12,30 +12,46 @@ use std::sync::Wait;
 /// A work that hashes its items, and keeps how many they were and a running hash of them.
 #[derive(Drop)]
 pub struct HashWork {
+    peer: u16,
     rounds: u32,
     tally: Tally,
     ended: bool,
 }
 
 impl HashWork {
-    /// A work that may begin a connection, and hashes each item so many times.
-    pub fn fresh(rounds: u32) -> Fresh<HashWork>
-        ensures { result.rounds ≡ rounds }
+    /// A work that may begin a connection of this peer, and hashes each item so many times.
+    fn fresh(peer: u16, rounds: u32) -> Fresh<HashWork>
+        ensures { (result.peer ≡ peer) × (result.rounds ≡ rounds) }
     {
         Fresh::new(HashWork {
+            peer,
             rounds,
             tally: Tally::new(),
             ended: false,
         })
     }
 
-    /// So many works, each of which may begin a connection.
-    pub fn all(alloc: Global, count: u16, rounds: u32) -> Result<Vec<HashWork>, Fault>
+    /// The works of a peer's connections behind the first.
+    pub fn later(
+        alloc: Global,
+        peer: u16,
+        connections: u16,
+        rounds: u32,
+    ) -> Result<Vec<Fresh<HashWork>>, Fault> {
+        let mut works = Vec::new(alloc);
+        for _ in 1..connections {
+            works.push(HashWork::fresh(peer, rounds))?;
+        }
+        Ok(works)
+    }
+
+    /// The works of so many peers' first connections, in the peers' order.
+    pub fn first(alloc: Global, count: u16, rounds: u32) -> Result<Vec<HashWork>, Fault>
         ensures { IfOk result (λ works. (length works.items ≡ count) × All (IsFresh was_given (λ work at. Unit {0}) is_over) works.items) }
     {
         let mut works = Vec::new(alloc);
-        for _ in 0..count {
-            works.push(HashWork::fresh(rounds).into_work())?;
+        for peer in 0..count {
+            works.push(HashWork::fresh(peer, rounds).into_work())?;
         }
         Ok(works)
     }
@@ -53,12 +69,18 @@ impl Work for HashWork {
 
     ghost given = { was_given };
 
-    // A tick does nothing to it.
+    // A tick does nothing to it, and it doesn't count them.
     ghost ticked = { λ work at. Unit {0} };
 
     ghost primed = { λ work. ⊤ };
 
     ghost is_closed = { is_over };
+
+    ghost label = { λ work. work.peer };
+
+    fn whose(&self) -> u64 {
+        u64::from(self.peer)
+    }
 
     fn closed(&self) -> bool {
         self.ended
@@ -72,6 +94,7 @@ impl Work for HashWork {
         requires open { self.old.ended ≡ false }
         ensures given { (items : List (Given ℕ)) → was_given self.old items → was_given self.new (items ++ item ∷ []) }
         ensures end { IsEnd item → self.new.ended ≡ true }
+        ensures label { self.new.peer ≡ self.old.peer }
     {
         match item {
             Given::Item(item) => self.tally = self.tally.with(item, self.rounds),

@@ -1,10 +1,11 @@
 -- A desk keeps what its type says, over each thing that is done with it.
-use Rattle.std.proofs.Common.{◌≡◌, ℕ, inl, inr, ◌+◌, ◌<◌, ◌≤◌, Bool, true, false, cond, List, [], ◌∷◌, ◌++◌, length, refl, sym, ap, subst, ◌∙◌, arith}
-use Rattle.std.specs.List.{AllZip}
-use Rattle.std.proofs.lemmas.Bool.{false≢true}
-use Rattle.std.proofs.lemmas.List.{append-nil, append_assoc, length-append}
+use Rattle.std.proofs.Common.{◌≡◌, ◌⊎◌, ℕ, inl, inr, ◌+◌, ◌<◌, ◌≤◌, Bool, true, false, cond, List, [], ◌∷◌, ◌++◌, length, map, refl, sym, ap, subst, ◌∙◌, arith}
+use Rattle.std.specs.List.{AllZip, count_by}
+use Rattle.std.proofs.lemmas.Bool.{false≢true, cases_lt}
+use Rattle.std.proofs.lemmas.List.{append-nil, append_assoc, length-append, map-append}
 use Rattle.std.proofs.lemmas.List.Elements.{All-push}
-use Rattle.std.proofs.lemmas.List.Sums.{sum_by-append}
+use Rattle.std.proofs.lemmas.List.Sums.{sum_by-append, sum_by_push}
+use Rattle.std.proofs.lemmas.Grind.{flat_map-append}
 use Rattle.cb_sched.specs.Line.{connections}
 use Rattle.cb_sched.specs.Laws.{IsBeginning, OpensFollowEnds}
 use Rattle.cb_sched.proofs.LineLaws.{queued_parts, follows, few, connections_push}
@@ -17,8 +18,8 @@ use Rattle.cb_inbox.proofs.Seats.{ended_now}
 use Rattle.cb_crew.specs.declared.work.Given.{Given}
 use Rattle.cb_crew.specs.declared.desk.Step.{Step}
 use Rattle.cb_crew.specs.declared.desk.Step.TheVariants as step
-use Rattle.cb_crew.specs.Work.{IsEnd, IsFresh, WorksOn, given_by, connections_of}
-use Rattle.cb_crew.specs.Desk.{DeskState, HasServed, IsDesk, IsSameDesk, IsSameLine, IsServed, Stepped, desk_state}
+use Rattle.cb_crew.specs.Work.{AreWorksOf, IsEnd, IsFresh, WorksOn, brought_by, connections_of, first_of, given_by, openings_of}
+use Rattle.cb_crew.specs.Desk.{DeskState, HasServed, HasTaken, IsDesk, IsSameDesk, IsSameLine, IsServed, Stepped, desk_state}
 use Rattle.cb_crew.proofs.Works.{onto_last, connections_more, connections_again, zip_push, zip_last, zip_swap, follows_front, opens_last, works_more, works_passed, works_kept, works_fresh, works_count}
 
 -- what is closed where it isn't open
@@ -32,10 +33,52 @@ no_end (queued.Item item) opens = refl
 no_end queued.End opens = absurd (false≢true opens)
 no_end (queued.Open opening) opens = refl
 
-module _ {W M : Type 0} (given : W → List (Given M) → Type 0) (is_closed : W → Bool) where
+-- ---- whose works they are
+
+-- one work more leaves the first
+first_stays : {W : Type 0} (past : List W) (old new : W) → first_of (past ++ old ∷ []) new ≡ first_of past old
+first_stays [] old new = refl
+first_stays (first ∷ past) old new = refl
+
+module _ {W : Type 0} (label : W → ℕ) where
+  -- the latest became another value of one label
+  same_first : (past : List W) (old new : W) → label new ≡ label old → label (first_of past new) ≡ label (first_of past old)
+  same_first [] old new same = same
+  same_first (first ∷ past) old new same = refl
+
+  same_labels : (past : List W) (old new : W) → label new ≡ label old → map label (past ++ new ∷ []) ≡ map label (past ++ old ∷ [])
+  same_labels past old new same = map-append label past (new ∷ []) ∙ (ap (λ l. map label past ++ l ∷ []) same ∙ sym (map-append label past (old ∷ [])))
+
+-- a mark that is no open mark brings no work
+none_brought : {W M : Type 0} (mark : Queued M W) → is_open mark ≡ false → brought_by mark ≡ []
+none_brought (queued.Item item) stays = refl
+none_brought queued.End stays = refl
+none_brought (queued.Open opening) stays = absurd (false≢true (sym stays))
+
+same_openings : {W M : Type 0} (taken : List (Queued M W)) (mark : Queued M W) → is_open mark ≡ false → openings_of (taken ++ mark ∷ []) ≡ openings_of taken
+same_openings {W} taken mark stays = flat_map-append brought_by taken (mark ∷ []) ∙ (ap (λ (ws : List W). openings_of taken ++ (ws ++ [])) (none_brought mark stays) ∙ append-nil (openings_of taken))
+
+module _ {W M : Type 0} (label : W → ℕ) where
+  -- the latest is another value of the same work, and none came
+  whose_kept : (taken now : List (Queued M W)) (past : List W) (old new : W) → label new ≡ label old → openings_of now ≡ openings_of taken → AreWorksOf label (label (first_of past old)) taken (past ++ old ∷ []) → AreWorksOf label (label (first_of past new)) now (past ++ new ∷ [])
+  whose_kept taken now past old new same none was =
+      same_labels label past old new same ∙ (was ∙ (ap (λ l. l ∷ map label (openings_of taken)) (sym (same_first label past old new same)) ∙ ap (λ ws. label (first_of past new) ∷ map label ws) (sym none)))
+
+  -- an open mark brought one
+  whose_opened : (taken : List (Queued M W)) (past : List W) (old new opening : W) → label new ≡ label opening → AreWorksOf label (label (first_of past old)) taken (past ++ old ∷ []) → AreWorksOf label (label (first_of (past ++ old ∷ []) new)) (taken ++ queued.Open opening ∷ []) ((past ++ old ∷ []) ++ new ∷ [])
+  whose_opened taken past old new opening same was =
+      let more : openings_of (taken ++ queued.Open opening ∷ []) ≡ openings_of taken ++ opening ∷ [] = flat_map-append brought_by taken (queued.Open opening ∷ []) in
+      map-append label (past ++ old ∷ []) (new ∷ [])
+      ∙ (ap (λ ls. ls ++ label new ∷ []) was
+      ∙ (ap (λ l. label (first_of past old) ∷ (map label (openings_of taken) ++ l ∷ [])) same
+      ∙ (ap (λ ls. label (first_of past old) ∷ ls) (sym (map-append label (openings_of taken) (opening ∷ [])) ∙ ap (map label) (sym more))
+      ∙ ap (λ w. label w ∷ map label (openings_of (taken ++ queued.Open opening ∷ []))) (sym (first_stays past old new)))))
+
+module _ {W M : Type 0} (label : W → ℕ) (given : W → List (Given M) → Type 0) (is_closed : W → Bool) where
   -- its work was given nothing, and if it is open it was so before
-  pub desk_kept : (inbox : InboxState) (seat now : SeatState (Queued M W)) (old new : W) (past : List W) → now.taken ≡ seat.taken → (is_closed new ≡ false → is_closed old ≡ false) → ((items : List (Given M)) → given old items → given new items) → IsDesk given is_closed (desk_state inbox seat old past) → IsDesk given is_closed (desk_state inbox now new past)
-  desk_kept inbox seat now old new past same live step d = record {
+  pub desk_kept : (inbox : InboxState) (seat now : SeatState (Queued M W)) (old new : W) (past : List W) → now.taken ≡ seat.taken → label new ≡ label old → (is_closed new ≡ false → is_closed old ≡ false) → ((items : List (Given M)) → given old items → given new items) → IsDesk label given is_closed (desk_state inbox seat old past) → IsDesk label given is_closed (desk_state inbox now new past)
+  desk_kept inbox seat now old new past same labelled live step d = record {
+    whose = whose_kept label seat.taken now.taken past old new labelled (ap openings_of same) d.whose;
     works = subst (λ ms. AllZip (WorksOn given is_closed) (past ++ new ∷ []) (connections_of ms)) (sym same)
         (zip_swap (WorksOn given is_closed) past old new (connections_of seat.taken) d.works (λ c w. works_kept given is_closed old new c live step w));
     past_closed = d.past_closed;
@@ -44,17 +87,19 @@ module _ {W M : Type 0} (given : W → List (Given M) → Type 0) (is_closed : W
 
   -- a mark that is no open mark was taken, and given to its work if that was ready, and else passed over
   pub desk_given : (inbox : InboxState) (seat now : SeatState (Queued M W)) (old new : W) (past : List W) (mark : Queued M W) (item : Given M) (ready : Bool) → now ≡ taken_more seat mark → is_open mark ≡ false → given_by mark ≡ item ∷ [] → (is_end mark ≡ true → IsEnd item)
-      → (ready ≡ true → is_closed old ≡ false) → (ready ≡ false → is_closed old ≡ true)
+      → label new ≡ label old → (ready ≡ true → is_closed old ≡ false) → (ready ≡ false → is_closed old ≡ true)
       → (ready ≡ true → (items : List (Given M)) → given old items → given new (items ++ item ∷ [])) → (ready ≡ true → IsEnd item → is_closed new ≡ true) → (ready ≡ false → new ≡ old)
-      → IsDesk given is_closed (desk_state inbox seat old past) → IsDesk given is_closed (desk_state inbox now new past)
-  desk_given inbox seat now old new past mark item true took stays gives ends live closed step last same d = record {
+      → IsDesk label given is_closed (desk_state inbox seat old past) → IsDesk label given is_closed (desk_state inbox now new past)
+  desk_given inbox seat now old new past mark item true took stays gives ends labelled live closed step last same d = record {
+    whose = whose_kept label seat.taken now.taken past old new labelled (ap (λ (s : SeatState (Queued M W)). openings_of s.taken) took ∙ same_openings seat.taken mark stays) d.whose;
     works = subst (λ (s : SeatState (Queued M W)). AllZip (WorksOn given is_closed) (past ++ new ∷ []) (connections_of s.taken)) (sym took)
         (subst (AllZip (WorksOn given is_closed) (past ++ new ∷ [])) (sym (connections_more seat.taken mark stays ∙ ap (λ (gs : List (Given M)). onto_last (connections_of seat.taken) (gs ++ [])) gives))
         (zip_last (WorksOn given is_closed) past old new (connections_of seat.taken) (item ∷ []) d.works (λ c w. works_more given is_closed old new (item ∷ []) c (live refl) (step refl) w)));
     past_closed = d.past_closed;
     ended = λ e. last refl (ends (sym (ap (λ (s : SeatState (Queued M W)). has_ended s.taken) took ∙ ended_now seat.taken mark) ∙ e));
   }
-  desk_given inbox seat now old new past mark item false took stays gives ends live closed step last same d = record {
+  desk_given inbox seat now old new past mark item false took stays gives ends labelled live closed step last same d = record {
+    whose = whose_kept label seat.taken now.taken past old new labelled (ap (λ (s : SeatState (Queued M W)). openings_of s.taken) took ∙ same_openings seat.taken mark stays) d.whose;
     works = subst (λ (s : SeatState (Queued M W)). AllZip (WorksOn given is_closed) (past ++ new ∷ []) (connections_of s.taken)) (sym took)
         (subst (AllZip (WorksOn given is_closed) (past ++ new ∷ [])) (sym (connections_more seat.taken mark stays ∙ ap (λ (gs : List (Given M)). onto_last (connections_of seat.taken) (gs ++ [])) gives))
         (subst (λ (w : W). AllZip (WorksOn given is_closed) (past ++ w ∷ []) (onto_last (connections_of seat.taken) (item ∷ []))) (sym (same refl))
@@ -73,8 +118,9 @@ module _ {W M : Type 0} (given : W → List (Given M) → Type 0) (is_closed : W
       (sym (opens_last is_end is_open false taken mark front) ∙ opens, omega (arith, few s.reached, ap (connections is_open) (whole ∙ ap (λ ms. ms ++ s.line.inbox) (sym all)), sum_by-append {X = Queued M W} (λ m. cond (is_open m) 1 0) (taken ++ mark ∷ []) s.line.inbox, connections_push is_open taken mark, ap {B = ℕ} (λ (b : Bool). cond b 1 0) opens))
 
   -- an open mark was taken: the work is past, and the next connection's work takes its place
-  pub desk_opened : (ticked : W → List ℕ → Type 0) (inbox : InboxState) (seat now : SeatState (Queued M W)) (old new : W) (past : List W) (mark : Queued M W) → now ≡ taken_more seat mark → is_open mark ≡ true → has_ended seat.taken ≡ true → IsFresh given ticked is_closed new → IsDesk given is_closed (desk_state inbox seat old past) → IsDesk given is_closed (desk_state inbox now new (past ++ old ∷ []))
-  desk_opened ticked inbox seat now old new past mark took opens behind fresh d = record {
+  pub desk_opened : (ticked : W → List ℕ → Type 0) (inbox : InboxState) (seat now : SeatState (Queued M W)) (old new opening : W) (past : List W) (mark : Queued M W) → mark ≡ queued.Open opening → label new ≡ label opening → now ≡ taken_more seat mark → is_open mark ≡ true → has_ended seat.taken ≡ true → IsFresh given ticked is_closed new → IsDesk label given is_closed (desk_state inbox seat old past) → IsDesk label given is_closed (desk_state inbox now new (past ++ old ∷ []))
+  desk_opened ticked inbox seat now old new opening past mark brings labelled took opens behind fresh d = record {
+    whose = subst (λ ms. AreWorksOf label (label (first_of (past ++ old ∷ []) new)) ms ((past ++ old ∷ []) ++ new ∷ [])) (ap (λ m. seat.taken ++ m ∷ []) (sym brings) ∙ sym (ap (λ (s : SeatState (Queued M W)). s.taken) took)) (whose_opened label seat.taken past old new opening labelled d.whose);
     works = subst (λ (s : SeatState (Queued M W)). AllZip (WorksOn given is_closed) ((past ++ old ∷ []) ++ new ∷ []) (connections_of s.taken)) (sym took)
         (subst (AllZip (WorksOn given is_closed) ((past ++ old ∷ []) ++ new ∷ [])) (sym (connections_again seat.taken mark opens))
         (zip_push (WorksOn given is_closed) (past ++ old ∷ []) (connections_of seat.taken) new [] d.works (works_fresh given is_closed ticked new fresh)));
@@ -83,50 +129,112 @@ module _ {W M : Type 0} (given : W → List (Given M) → Type 0) (is_closed : W
   }
 
   -- there is room for one more past work
-  pub past_room : (inbox : InboxState) (seat : SeatState (Queued M W)) (work : W) (past : List W) → connections is_open seat.taken < 256 → IsDesk given is_closed (desk_state inbox seat work past) → length past < 255
+  pub past_room : (inbox : InboxState) (seat : SeatState (Queued M W)) (work : W) (past : List W) → connections is_open seat.taken < 256 → IsDesk label given is_closed (desk_state inbox seat work past) → length past < 255
   past_room inbox seat work past few_ d = omega (arith, works_count given is_closed (past ++ work ∷ []) seat.taken d.works, length-append past (work ∷ []), few_)
 
 -- ---- serving, mark by mark
 
-pub served_none : {W M : Type 0} (old new : DeskState W M) → IsSameLine old new → HasServed old new 0 0
-served_none old new same = record { same = same.0; marks = []; taken = same.1 ∙ sym (append-nil old.taken); count = refl }
+opens_push : {M O : Type 0} (marks : List (Queued M O)) (mark : Queued M O) → count_by is_open (marks ++ mark ∷ []) ≡ count_by is_open marks + cond (is_open mark) 1 0
+opens_push marks mark = sum_by_push (λ m. cond (is_open m) 1 0) marks mark
 
-served_one : {W M : Type 0} (old mid new : DeskState W M) (worked passed worked_now passed_now : ℕ) (mark : Queued M W) → worked + passed + 1 ≡ worked_now + passed_now → HasServed old mid worked passed → IsSameDesk mid new → new.taken ≡ mid.taken ++ mark ∷ [] → HasServed old new worked_now passed_now
-served_one old mid new worked passed worked_now passed_now mark sum h same took = record {
-  same = (same.0 ∙ h.same.0, same.1 ∙ h.same.1);
-  marks = h.marks ++ mark ∷ [];
-  taken = took ∙ (ap (λ ms. ms ++ mark ∷ []) h.taken ∙ append_assoc old.taken h.marks (mark ∷ []));
-  count = omega (arith, h.count, length-append h.marks (mark ∷ []), sum);
-}
+opens_same : {M O : Type 0} (marks : List (Queued M O)) (mark : Queued M O) → is_open mark ≡ false → count_by is_open (marks ++ mark ∷ []) ≡ count_by is_open marks
+opens_same marks mark stays = omega (arith, opens_push marks mark, ap {B = ℕ} (λ (b : Bool). cond b 1 0) stays)
 
-pub served_worked : {W M : Type 0} (is_closed : W → Bool) (old mid new : DeskState W M) (worked passed : ℕ) → HasServed old mid worked passed → Stepped is_closed mid new step.Worked → HasServed old new (worked + 1) passed
-served_worked is_closed old mid new worked passed h s = served_one old mid new worked passed (worked + 1) passed s.1.0 (omega arith) h s.0 s.1.1
+at_most_one : (b : Bool) → cond b 1 0 ≤ 1
+at_most_one true = omega arith
+at_most_one false = omega arith
 
-pub served_passed : {W M : Type 0} (is_closed : W → Bool) (old mid new : DeskState W M) (worked passed : ℕ) → HasServed old mid worked passed → Stepped is_closed mid new step.Passed → HasServed old new worked (passed + 1)
-served_passed is_closed old mid new worked passed h s = served_one old mid new worked passed worked (passed + 1) s.1.0 (omega arith) h s.0 s.1.1
+module _ {W M : Type 0} (is_closed : W → Bool) where
+  pub taken_none : (old new : DeskState W M) → new.taken ≡ old.taken → (is_closed old.work ≡ true → is_closed new.work ≡ true) → HasTaken is_closed old new 0 0
+  taken_none old new same stays = record {
+    marks = [];
+    taken = same ∙ sym (append-nil old.taken);
+    count = refl;
+    opens = omega arith;
+    behind = λ _ one. absurd (omega (arith, one));
+    stays = λ closed _. stays closed;
+  }
 
--- nothing was left
-pub served_empty : {W M : Type 0} (is_closed : W → Bool) (old mid new : DeskState W M) (budget worked passed : ℕ) → HasServed old mid worked passed → worked + passed ≤ budget → Stepped is_closed mid new step.Empty → IsServed is_closed old new budget worked passed
-served_empty is_closed old mid new budget worked passed h within s = record {
-  has = record { same = (s.0.0.0 ∙ h.same.0, s.0.0.1 ∙ h.same.1); marks = h.marks; taken = s.0.1 ∙ h.taken; count = h.count };
-  within = within;
-  all_told = λ _. inl (subst (λ ms. IsBeginning ms new.taken) (sym s.0.0.1) (subst (IsBeginning mid.queued) (sym s.0.1) s.1));
-}
+  pub served_none : (old new : DeskState W M) → IsSameLine old new → (is_closed old.work ≡ true → is_closed new.work ≡ true) → HasServed is_closed old new 0 0
+  served_none old new same stays = record { same = same.0; has = taken_none old new same.1 stays }
 
--- the work closed
-pub served_closed : {W M : Type 0} (is_closed : W → Bool) (old mid new : DeskState W M) (budget worked passed : ℕ) → HasServed old mid worked passed → worked + passed < budget → Stepped is_closed mid new step.Worked → is_closed new.work ≡ true → IsServed is_closed old new budget (worked + 1) passed
-served_closed is_closed old mid new budget worked passed h within s closed = record {
-  has = served_worked is_closed old mid new worked passed h s;
-  within = omega (arith, within);
-  all_told = λ _. inr (omega arith, closed);
-}
+  same_more : (old mid new : DeskState W M) → IsSameDesk old mid → IsSameDesk mid new → IsSameDesk old new
+  same_more old mid new a b = (b.0 ∙ a.0, b.1 ∙ a.1)
 
--- the budget is spent
-pub served_whole : {W M : Type 0} (is_closed : W → Bool) (old new : DeskState W M) (budget worked passed : ℕ) → HasServed old new worked passed → worked + passed ≡ budget → IsServed is_closed old new budget worked passed
-served_whole is_closed old new budget worked passed h all = record { has = h; within = omega (arith, all); all_told = λ less. absurd (omega (arith, all, less)) }
+  more_taken : (old mid new : DeskState W M) (marks : List (Queued M W)) (mark : Queued M W) → mid.taken ≡ old.taken ++ marks → new.taken ≡ mid.taken ++ mark ∷ [] → new.taken ≡ old.taken ++ (marks ++ mark ∷ [])
+  more_taken old mid new marks mark was took = took ∙ (ap (λ ms. ms ++ mark ∷ []) was ∙ append_assoc old.taken marks (mark ∷ []))
 
--- what a step took comes to what was taken
-pub stepped_on : {W M : Type 0} (is_closed : W → Bool) (old mid new : DeskState W M) (done : Step) → IsSameDesk old mid → IsBeginning old.taken mid.taken → Stepped is_closed mid new done → IsSameDesk old new × IsBeginning old.taken new.taken
-stepped_on is_closed old mid new step.Worked same begin s = ((s.0.0 ∙ same.0, s.0.1 ∙ same.1), (begin.0 ++ s.1.0 ∷ [], s.1.1 ∙ (ap (λ ms. ms ++ s.1.0 ∷ []) begin.1 ∙ append_assoc old.taken begin.0 (s.1.0 ∷ []))))
-stepped_on is_closed old mid new step.Passed same begin s = ((s.0.0 ∙ same.0, s.0.1 ∙ same.1), (begin.0 ++ s.1.0 ∷ [], s.1.1 ∙ (ap (λ ms. ms ++ s.1.0 ∷ []) begin.1 ∙ append_assoc old.taken begin.0 (s.1.0 ∷ []))))
-stepped_on is_closed old mid new step.Empty same begin s = ((s.0.0.0 ∙ same.0, s.0.0.1 ∙ same.1), (begin.0, s.0.1 ∙ begin.1))
+  -- a mark was given to the work, which was open
+  taken_worked : (old mid new : DeskState W M) (worked passed : ℕ) (mark : Queued M W) → new.taken ≡ mid.taken ++ mark ∷ [] → is_open mark ≡ false → is_closed mid.work ≡ false → HasTaken is_closed old mid worked passed → HasTaken is_closed old new (worked + 1) passed
+  taken_worked old mid new worked passed mark took shut live h =
+      let same = opens_same h.marks mark shut in
+      let some : is_closed old.work ≡ true → 1 ≤ count_by is_open h.marks = λ closed. elim (cases_lt 0 (count_by is_open h.marks)) [
+        | inl lt ↦ omega (arith, lt)
+        | inr le ↦ absurd (false≢true (sym live ∙ h.stays closed (omega (arith, le))))
+      ] in
+      record {
+        marks = h.marks ++ mark ∷ [];
+        taken = more_taken old mid new h.marks mark h.taken took;
+        count = omega (arith, h.count, length-append h.marks (mark ∷ []));
+        opens = omega (arith, h.opens, same, length-append h.marks (mark ∷ []));
+        behind = λ closed _. omega (arith, some closed, same);
+        stays = λ closed none. absurd (omega (arith, some closed, same, none));
+      }
+
+  -- a mark was passed over
+  taken_passed : (old mid new : DeskState W M) (worked passed : ℕ) (mark : Queued M W) → new.taken ≡ mid.taken ++ mark ∷ [] → (is_open mark ≡ true) ⊎ (is_closed new.work ≡ true) → HasTaken is_closed old mid worked passed → HasTaken is_closed old new worked (passed + 1)
+  taken_passed old mid new worked passed mark took why h =
+      let more = opens_push h.marks mark in
+      record {
+        marks = h.marks ++ mark ∷ [];
+        taken = more_taken old mid new h.marks mark h.taken took;
+        count = omega (arith, h.count, length-append h.marks (mark ∷ []));
+        opens = omega (arith, h.opens, more, at_most_one (is_open mark), length-append h.marks (mark ∷ []));
+        behind = λ closed one. omega (arith, h.behind closed one, more);
+        stays = λ _ none. elim why [
+          | inl opens ↦ absurd (omega (arith, none, more, ap {B = ℕ} (λ (b : Bool). cond b 1 0) opens))
+          | inr closed ↦ closed
+        ];
+      }
+
+  pub served_worked : (old mid new : DeskState W M) (worked passed : ℕ) → HasServed is_closed old mid worked passed → Stepped is_closed mid new step.Worked → HasServed is_closed old new (worked + 1) passed
+  served_worked old mid new worked passed h s = record { same = same_more old mid new h.same s.0; has = taken_worked old mid new worked passed s.1.0 s.1.1 s.1.2 s.1.3 h.has }
+
+  pub served_passed : (old mid new : DeskState W M) (worked passed : ℕ) → HasServed is_closed old mid worked passed → Stepped is_closed mid new step.Passed → HasServed is_closed old new worked (passed + 1)
+  served_passed old mid new worked passed h s = record { same = same_more old mid new h.same s.0; has = taken_passed old mid new worked passed s.1.0 s.1.1 s.1.2 h.has }
+
+  -- nothing was left
+  pub served_empty : (old mid new : DeskState W M) (budget worked passed : ℕ) → HasServed is_closed old mid worked passed → worked + passed ≤ budget → Stepped is_closed mid new step.Empty → IsServed is_closed old new budget worked passed
+  served_empty old mid new budget worked passed h within s = record {
+    has = record {
+      same = same_more old mid new h.same s.0.0;
+      has = record {
+        marks = h.has.marks;
+        taken = s.0.1 ∙ h.has.taken;
+        count = h.has.count;
+        opens = h.has.opens;
+        behind = h.has.behind;
+        stays = λ closed none. s.2 (h.has.stays closed none);
+      };
+    };
+    within = within;
+    all_told = λ _. inl (subst (λ ms. IsBeginning ms new.taken) (sym s.0.0.1) (subst (IsBeginning mid.queued) (sym s.0.1) s.1));
+  }
+
+  -- the work closed
+  pub served_closed : (old mid new : DeskState W M) (budget worked passed : ℕ) → HasServed is_closed old mid worked passed → worked + passed < budget → Stepped is_closed mid new step.Worked → is_closed new.work ≡ true → IsServed is_closed old new budget (worked + 1) passed
+  served_closed old mid new budget worked passed h within s closed = record {
+    has = served_worked old mid new worked passed h s;
+    within = omega (arith, within);
+    all_told = λ _. inr (omega arith, closed);
+  }
+
+  -- the budget is spent
+  pub served_whole : (old new : DeskState W M) (budget worked passed : ℕ) → HasServed is_closed old new worked passed → worked + passed ≡ budget → IsServed is_closed old new budget worked passed
+  served_whole old new budget worked passed h all = record { has = h; within = omega (arith, all); all_told = λ less. absurd (omega (arith, all, less)) }
+
+  -- what a step took comes to what was taken
+  pub stepped_on : (old mid new : DeskState W M) (done : Step) → IsSameDesk old mid → IsBeginning old.taken mid.taken → Stepped is_closed mid new done → IsSameDesk old new × IsBeginning old.taken new.taken
+  stepped_on old mid new step.Worked same begin s = (same_more old mid new same s.0, (begin.0 ++ s.1.0 ∷ [], s.1.1 ∙ (ap (λ ms. ms ++ s.1.0 ∷ []) begin.1 ∙ append_assoc old.taken begin.0 (s.1.0 ∷ []))))
+  stepped_on old mid new step.Passed same begin s = (same_more old mid new same s.0, (begin.0 ++ s.1.0 ∷ [], s.1.1 ∙ (ap (λ ms. ms ++ s.1.0 ∷ []) begin.1 ∙ append_assoc old.taken begin.0 (s.1.0 ∷ []))))
+  stepped_on old mid new step.Empty same begin s = (same_more old mid new same s.0.0, (begin.0, s.0.1 ∙ begin.1))

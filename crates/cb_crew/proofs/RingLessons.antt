@@ -15,22 +15,22 @@ use Rattle.cb_crew.proofs.RingSums.{ones, one_below, sum_alone, first_below, alo
 use Rattle.cb_crew.proofs.RingMoves.{stage_is}
 
 -- while desks are made, as many wait as there are names
-pub all_wait : (seat : ℕ) (v : HandView) → v.crew.stage ≡ making → 0 < length v.numbers → Learns IsRing seat v (λ waiting. length waiting ≡ length v.crew.names)
-all_wait seat v stage live waiting views r at =
+pub all_wait : {X : Type 0} (seat : ℕ) (v : HandView X) → v.crew.stage ≡ making → 0 < length v.numbers → Learns IsRing seat v (λ waiting. length waiting ≡ length v.crew.names)
+all_wait {X} seat v stage live waiting views r at =
     let knows = (r.hands seat v at).knows live in
     let in_order : peers_of waiting ≡ range_with_len 0 (length r.crew.names) = subst (λ (t : Stage). AtStage t r.crew waiting views) (stage_is r.crew v making knows stage) r.moves in
     let same : length v.crew.names ≡ length r.crew.names = ap (λ (c : RingCrew). length c.names) knows in
     let count : length (peers_of waiting) ≡ length (range_with_len 0 (length r.crew.names)) = ap (length {A = ℕ}) in_order in
-    omega (arith, same, count, length-map waiting (λ (t : Shown). t.peer), length-range_with_len 0 (length r.crew.names))
+    omega (arith, same, count, length-map waiting (λ (t : Shown X). t.peer), length-range_with_len 0 (length r.crew.names))
 
 -- while a hand holds a desk, fewer wait than there are peers
-pub has_room : (seat : ℕ) (v : HandView) (s : Shown) → 0 < length v.numbers → IsHeld v.held s → Learns IsRing seat v (λ waiting. length waiting < length v.crew.names)
-has_room seat v s live held waiting views r at =
+pub has_room : {X : Type 0} (seat : ℕ) (v : HandView X) (s : Shown X) → 0 < length v.numbers → IsHeld v.held s → Learns IsRing seat v (λ waiting. length waiting < length v.crew.names)
+has_room {X} seat v s live held waiting views r at =
     let knows = (r.hands seat v at).knows live in
     let same : length v.crew.names ≡ length r.crew.names = ap (λ (c : RingCrew). length c.names) knows in
-    let weighed : sum_by (λ (_ : ℕ). 1) (peers_of waiting) + sum_by (λ (u : HandView). sum_by (λ (_ : ℕ). 1) (peers_of u.held)) views ≡ sum_by (λ (_ : ℕ). 1) (range_with_len 0 (length r.crew.names)) = r.each_desk (λ _. 1) in
-    let below : sum_by (λ (_ : ℕ). 1) (peers_of v.held) ≤ sum_by (λ (u : HandView). sum_by (λ (_ : ℕ). 1) (peers_of u.held)) views = one_below (λ (u : HandView). sum_by (λ (_ : ℕ). 1) (peers_of u.held)) views seat v at in
-    let one : length v.held ≡ 1 = ap (length {A = Shown}) held.only in
+    let weighed : sum_by (λ (_ : ℕ). 1) (peers_of waiting) + sum_by (λ (u : HandView X). sum_by (λ (_ : ℕ). 1) (peers_of u.held)) views ≡ sum_by (λ (_ : ℕ). 1) (range_with_len 0 (length r.crew.names)) = r.each_desk (λ _. 1) in
+    let below : sum_by (λ (_ : ℕ). 1) (peers_of v.held) ≤ sum_by (λ (u : HandView X). sum_by (λ (_ : ℕ). 1) (peers_of u.held)) views = one_below (λ (u : HandView X). sum_by (λ (_ : ℕ). 1) (peers_of u.held)) views seat v at in
+    let one : length v.held ≡ 1 = ap (length {A = Shown X}) held.only in
     omega (
       arith,
       same,
@@ -40,8 +40,8 @@ has_room seat v s live held waiting views r at =
       ones (peers_of v.held),
       ones (peers_of waiting),
       ones (range_with_len 0 (length r.crew.names)),
-      length-map v.held (λ (t : Shown). t.peer),
-      length-map waiting (λ (t : Shown). t.peer),
+      length-map v.held (λ (t : Shown X). t.peer),
+      length-map waiting (λ (t : Shown X). t.peer),
       length-range_with_len 0 (length r.crew.names),
     )
 
@@ -63,8 +63,8 @@ short (x ∷ held) (suc a) lt free one =
     omega (arith, first, sum_by-cons (length {A = ℕ}) x held, short held a (omega arith) free (λ j. one (suc j)))
 
 -- while a hand holds none, fewer desks are held than there are handlers
-pub few_held : (seat : ℕ) (v : HandView) → v.crew.stage ≡ running → 0 < length v.numbers → v.held ≡ [] → Learns IsRing seat v (λ waiting. length v.crew.names < length waiting + v.crew.handlers)
-few_held seat v stage live free waiting views r at =
+pub few_held : {X : Type 0} (seat : ℕ) (v : HandView X) → v.crew.stage ≡ running → 0 < length v.numbers → v.held ≡ [] → Learns IsRing seat v (λ waiting. length v.crew.names < length waiting + v.crew.handlers)
+few_held {X} seat v stage live free waiting views r at =
     let knows = (r.hands seat v at).knows live in
     let d : AreDesks r.crew waiting views = subst (λ (t : Stage). AtStage t r.crew waiting views) (stage_is r.crew v running knows stage) r.moves in
     let a : ℕ = get_or v.numbers 0 0 in
@@ -76,23 +76,23 @@ few_held seat v stage live free waiting views r at =
     let fewer : sum_by (length {A = ℕ}) d.desks.held < length d.desks.held = short d.desks.held a exists none (at_most_one d.reached) in
     let counted : length d.desks.ring + sum_by (length {A = ℕ}) d.desks.held ≡ length r.crew.names = desks_count d.reached in
     let ring_length : length d.desks.ring ≡ length (peers_of waiting) = ap (length {A = ℕ}) d.ring_is in
-    omega (arith, names_same, handlers_same, stays, fewer, counted, ring_length, length-map waiting (λ (t : Shown). t.peer))
+    omega (arith, names_same, handlers_same, stays, fewer, counted, ring_length, length-map waiting (λ (t : Shown X). t.peer))
 
 -- a hand that stands for all handlers knows what is left: all that it doesn't hold
-pub left_over : (seat : ℕ) (v : HandView) → 0 < length v.numbers → length v.numbers ≡ v.crew.handlers → Learns IsRing seat v (λ waiting. (h : ℕ → ℕ) → sum_by h (peers_of waiting) + sum_by h (peers_of v.held) ≡ sum_by h (range_with_len 0 (length v.crew.names)))
-left_over seat v live all waiting views r at h =
+pub left_over : {X : Type 0} (seat : ℕ) (v : HandView X) → 0 < length v.numbers → length v.numbers ≡ v.crew.handlers → Learns IsRing seat v (λ waiting. (h : ℕ → ℕ) → sum_by h (peers_of waiting) + sum_by h (peers_of v.held) ≡ sum_by h (range_with_len 0 (length v.crew.names)))
+left_over {X} seat v live all waiting views r at h =
     let knows = (r.hands seat v at).knows live in
     let everyone : length v.numbers ≡ r.crew.handlers = all ∙ ap (λ (c : RingCrew). c.handlers) knows in
     let same : sum_by h (range_with_len 0 (length v.crew.names)) ≡ sum_by h (range_with_len 0 (length r.crew.names)) = ap (λ (c : RingCrew). sum_by h (range_with_len 0 (length c.names))) knows in
-    let mine : sum_by (λ (u : HandView). sum_by h (peers_of u.held)) views ≡ sum_by h (peers_of v.held) =
-    sum_alone (λ (u : HandView). sum_by h (peers_of u.held)) views seat v at
-    (λ j u apart e. ap (λ (ds : List Shown). sum_by h (peers_of ds)) ((r.hands j u e).idle (alone views r.crew.handlers seat j v u r.each_handler at everyone apart e)))
+    let mine : sum_by (λ (u : HandView X). sum_by h (peers_of u.held)) views ≡ sum_by h (peers_of v.held) =
+    sum_alone (λ (u : HandView X). sum_by h (peers_of u.held)) views seat v at
+    (λ j u apart e. ap (λ (ds : List (Shown X)). sum_by h (peers_of ds)) ((r.hands j u e).idle (alone views r.crew.handlers seat j v u r.each_handler at everyone apart e)))
     in
-    let weighed : sum_by h (peers_of waiting) + sum_by (λ (u : HandView). sum_by h (peers_of u.held)) views ≡ sum_by h (range_with_len 0 (length r.crew.names)) = r.each_desk h in
+    let weighed : sum_by h (peers_of waiting) + sum_by (λ (u : HandView X). sum_by h (peers_of u.held)) views ≡ sum_by h (range_with_len 0 (length r.crew.names)) = r.each_desk h in
     omega (arith, same, mine, weighed)
 
 -- while the crew runs, what a hand holds a handler holds of desks that move as the crew's core has it
-pub in_turn : (seat : ℕ) (v : HandView) → v.crew.stage ≡ running → 0 < length v.numbers → Learns IsRing seat v (λ waiting. (ring : TableId) → HoldsInTurn (state_of ring v))
+pub in_turn : {X : Type 0} (seat : ℕ) (v : HandView X) → v.crew.stage ≡ running → 0 < length v.numbers → Learns IsRing seat v (λ waiting. (ring : TableId) → HoldsInTurn (state_of ring v))
 in_turn seat v stage live waiting views r at ring =
     let knows = (r.hands seat v at).knows live in
     let d : AreDesks r.crew waiting views = subst (λ (t : Stage). AtStage t r.crew waiting views) (stage_is r.crew v running knows stage) r.moves in

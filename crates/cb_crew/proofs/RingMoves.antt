@@ -8,73 +8,72 @@ use Rattle.std.proofs.lemmas.List.FromFn.{length-range_with_len}
 use Rattle.std.proofs.lemmas.List.Elements.{All-nil, All-cons, All-head, All-tail, All-same, All-push, All-append, All-drop, All-weaker}
 use mathlib.Core.Option.{some, some-ne-none}
 use lib.ListN.{get_elem?}
-use Rattle.atomic_table.specs.Seated.{TableId}
 use Rattle.crossbeam_queue.specs.Fifo.{Pushes, Pops, Forks, Merges}
 use Rattle.crossbeam_queue.proofs.Lists.{at_set, at_snoc}
 use Rattle.cb_sched.specs.Desks.{Desks, DesksReached, opening_desks, held_by, claimed, given}
 use Rattle.cb_sched.specs.Desks as places
 use Rattle.cb_sched.proofs.DesksLaws.{handlers_stay}
-use Rattle.cb_crew.specs.Ring.{Shown, Stage, making, running, finishing, IsOfCrew, IsHeld, peers_of}
+use Rattle.cb_crew.specs.Ring.{DeskName, Shown, Stage, making, running, finishing, IsOfCrew, IsHeld, peers_of}
 use Rattle.cb_crew.specs.RingRule.{RingCrew, HandView, numbers_of, held_peers, EachOnce, IsHandOfCrew, Holds, AreDesks, AtStage, IsRing, idle_view, first_view, grown_crew, grown_view, made_crew, made_view, at_stage, running_view, hired_view, hiring_view, claimed_view, given_view, joined_view, kept_view}
 use Rattle.cb_crew.proofs.RingSums.{ones, range_push, range_weighs, one_below, once_moved, once_forked, once_merged, parts_of, first_below, own_numbers, other_numbers, alone}
 
 -- ---- a fact of each hand
 
-abbrev pub EachHand : (HandView → Type 0) → List HandView → Type 0
-EachHand F views = (seat : ℕ) (v : HandView) → get_elem? views seat ≡ some v → F v
+abbrev pub EachHand : {X : Type 0} → (HandView X → Type 0) → List (HandView X) → Type 0
+EachHand {X} F views = (seat : ℕ) (v : HandView X) → get_elem? views seat ≡ some v → F v
 
 -- one hand's view changed
-each_set : (F : HandView → Type 0) (views : List HandView) (seat : ℕ) (w : HandView) → F w → ((j : ℕ) (u : HandView) → j ≢ seat → get_elem? views j ≡ some u → F u) → EachHand F (set views seat w)
+each_set : {X : Type 0} (F : HandView X → Type 0) (views : List (HandView X)) (seat : ℕ) (w : HandView X) → F w → ((j : ℕ) (u : HandView X) → j ≢ seat → get_elem? views j ≡ some u → F u) → EachHand F (set views seat w)
 each_set F views seat w mine others j u e =
     ⊎_elim (λ (x : (j ≡ seat) × (w ≡ u)). subst F x.1 mine) (λ (x : (j ≢ seat) × (get_elem? views j ≡ some u)). others j u x.0 x.1) (at_set views seat j w u e)
 
 -- a hand came
-each_new : (F : HandView → Type 0) (views : List HandView) (new : HandView) → EachHand F views → F new → EachHand F (views ++ new ∷ [])
+each_new : {X : Type 0} (F : HandView X → Type 0) (views : List (HandView X)) (new : HandView X) → EachHand F views → F new → EachHand F (views ++ new ∷ [])
 each_new F views new old mine j u e =
     ⊎_elim (λ (x : get_elem? views j ≡ some u). old j u x) (λ (x : new ≡ u). subst F x mine) (at_snoc views new u j e)
 
 -- one hand took in another, which is spent
-each_merged : (F : HandView → Type 0) (views : List HandView) (seat other : ℕ) (both spent : HandView) → EachHand F views → F both → F spent → EachHand F (set (set views seat both) other spent)
+each_merged : {X : Type 0} (F : HandView X → Type 0) (views : List (HandView X)) (seat other : ℕ) (both spent : HandView X) → EachHand F views → F both → F spent → EachHand F (set (set views seat both) other spent)
 each_merged F views seat other both spent old mine none =
     each_set F (set views seat both) other spent none (λ j u apart e. each_set F views seat both mine (λ i w far at. old i w at) j u e)
 
 -- ---- what a hand is to its crew
 
 -- it knows the crew, and holds what is the crew's
-live_hand : (crew : RingCrew) (v : HandView) → v.crew ≡ crew → 0 < length v.numbers → All (IsOfCrew crew.names) v.held → IsHandOfCrew crew v
+live_hand : {X : Type 0} (crew : RingCrew) (v : HandView X) → v.crew ≡ crew → 0 < length v.numbers → All (IsOfCrew crew.names) v.held → IsHandOfCrew crew v
 live_hand crew v knows live named = record { knows = λ _. knows; idle = λ (none : length v.numbers ≡ 0). absurd (omega arith); named = named }
 
 -- one that stands for none is so in any crew
-idle_hand : (crew next : RingCrew) (u : HandView) → length u.numbers ≡ 0 → IsHandOfCrew crew u → IsHandOfCrew next u
+idle_hand : {X : Type 0} (crew next : RingCrew) (u : HandView X) → length u.numbers ≡ 0 → IsHandOfCrew crew u → IsHandOfCrew next u
 idle_hand crew next u none h = record {
   knows = λ (live : 0 < length u.numbers). absurd (omega arith);
   idle = h.idle;
   named = All-same (IsOfCrew next.names) u.held [] (h.idle none) (All-nil (IsOfCrew next.names));
 }
 
-spent_hand : (crew : RingCrew) → IsHandOfCrew crew idle_view
+spent_hand : {X : Type 0} (crew : RingCrew) → IsHandOfCrew {X = X} crew idle_view
 spent_hand crew = record { knows = λ (live : 0 < 0). absurd (omega arith); idle = λ _. refl; named = All-nil (IsOfCrew crew.names) }
 
 -- the stage of a crew that a hand knows
-pub stage_is : (crew : RingCrew) (v : HandView) (t : Stage) → v.crew ≡ crew → v.crew.stage ≡ t → crew.stage ≡ t
+pub stage_is : {X : Type 0} (crew : RingCrew) (v : HandView X) (t : Stage) → v.crew ≡ crew → v.crew.stage ≡ t → crew.stage ≡ t
 stage_is crew v t knows is = ap (λ (c : RingCrew). c.stage) (sym knows) ∙ is
 
--- the desk is another value now, of one peer and one inbox
-same_desk : (names : List TableId) (b s : Shown) → s.peer ≡ b.peer → s.name ≡ b.name → IsOfCrew names b → IsOfCrew names s
-same_desk names b s same_peer same_name of = record {
+-- the desk is another value now, of one peer and one name
+same_desk : {X : Type 0} (names : List DeskName) (b s : Shown X) → s.peer ≡ b.peer → s.name.inbox ≡ b.name.inbox → s.name.label ≡ b.name.label → IsOfCrew names b → IsOfCrew names s
+same_desk names b s same_peer same_inbox same_label of = record {
   exists = subst (λ p. p < length names) (sym same_peer) of.exists;
-  named = subst (λ (x : ℕ × TableId). get_or names x.0 x.1 ≡ x.1) (λ i. (sym same_peer i, sym same_name i)) of.named;
+  named = subst (λ (x : ℕ × DeskName). get_or names x.0 x.1 ≡ x.1) (λ i. (sym same_peer i, record { inbox = sym same_inbox i; label = sym same_label i })) of.named;
 }
 
 -- it is the crew's once there are more
-of_more : (names : List TableId) (name : TableId) (s : Shown) → IsOfCrew names s → IsOfCrew (names ++ name ∷ []) s
+of_more : {X : Type 0} (names : List DeskName) (name : DeskName) (s : Shown X) → IsOfCrew names s → IsOfCrew (names ++ name ∷ []) s
 of_more names name s of = record {
   exists = omega (arith, of.exists, length_push names name);
   named = get_or_append_left names (name ∷ []) s.name s.peer of.exists ∙ of.named;
 }
 
 -- the newest is the crew's
-of_new : (names : List TableId) (s : Shown) → s.peer ≡ length names → IsOfCrew (names ++ s.name ∷ []) s
+of_new : {X : Type 0} (names : List DeskName) (s : Shown X) → s.peer ≡ length names → IsOfCrew (names ++ s.name ∷ []) s
 of_new names s next = record {
   exists = omega (arith, next, length_push names s.name);
   named = get_or_push names s.name s.name s.peer (sym next);
@@ -82,25 +81,25 @@ of_new names s next = record {
 
 -- ---- the weights of desks
 
-peers_push : (desks : List Shown) (s : Shown) → peers_of (desks ++ s ∷ []) ≡ peers_of desks ++ s.peer ∷ []
-peers_push desks s = map-append (λ (t : Shown). t.peer) desks (s ∷ [])
+peers_push : {X : Type 0} (desks : List (Shown X)) (s : Shown X) → peers_of (desks ++ s ∷ []) ≡ peers_of desks ++ s.peer ∷ []
+peers_push {X} desks s = map-append (λ (t : Shown X). t.peer) desks (s ∷ [])
 
-push_weighs : (h : ℕ → ℕ) (desks : List Shown) (s : Shown) → sum_by h (peers_of (desks ++ s ∷ [])) ≡ sum_by h (peers_of desks) + h s.peer
+push_weighs : {X : Type 0} (h : ℕ → ℕ) (desks : List (Shown X)) (s : Shown X) → sum_by h (peers_of (desks ++ s ∷ [])) ≡ sum_by h (peers_of desks) + h s.peer
 push_weighs h desks s = ap (sum_by h) (peers_push desks s) ∙ sum_by_push h (peers_of desks) s.peer
 
-none_weighs : (h : ℕ → ℕ) (desks : List Shown) → desks ≡ [] → sum_by h (peers_of desks) ≡ 0
+none_weighs : {X : Type 0} (h : ℕ → ℕ) (desks : List (Shown X)) → desks ≡ [] → sum_by h (peers_of desks) ≡ 0
 none_weighs h desks none = ap (λ ds. sum_by h (peers_of ds)) none
 
 one_weighs : (h : ℕ → ℕ) (p : ℕ) → sum_by h (p ∷ []) ≡ h p
 one_weighs h p = omega (arith, sum_by-cons h p [])
 
-held_weighs : (h : ℕ → ℕ) (desks : List Shown) (b : Shown) → desks ≡ b ∷ [] → sum_by h (peers_of desks) ≡ h b.peer
+held_weighs : {X : Type 0} (h : ℕ → ℕ) (desks : List (Shown X)) (b : Shown X) → desks ≡ b ∷ [] → sum_by h (peers_of desks) ≡ h b.peer
 held_weighs h desks b only = ap (λ ds. sum_by h (peers_of ds)) only ∙ one_weighs h b.peer
 
 -- ---- what hands hold, after one handler holds something else
 
 -- the hand itself
-holds_own : (d : Desks) (ring x : List ℕ) (w : HandView) → get_or w.numbers 0 0 < length d.held → All (λ k. k ≢ get_or w.numbers 0 0) (drop 1 w.numbers) → All (λ k. held_by d k ≡ []) (drop 1 w.numbers) → x ≡ peers_of w.held
+holds_own : {X : Type 0} (d : Desks) (ring x : List ℕ) (w : HandView X) → get_or w.numbers 0 0 < length d.held → All (λ k. k ≢ get_or w.numbers 0 0) (drop 1 w.numbers) → All (λ k. held_by d k ≡ []) (drop 1 w.numbers) → x ≡ peers_of w.held
     → Holds (record { ring = ring; held = set d.held (get_or w.numbers 0 0) x }) w
 holds_own d ring x w exists apart free is = record {
   first = get_or-set_same d.held (get_or w.numbers 0 0) x [] exists ∙ is;
@@ -108,7 +107,7 @@ holds_own d ring x w exists apart free is = record {
 }
 
 -- another one
-holds_else : (d : Desks) (ring x : List ℕ) (a : ℕ) (u : HandView) → 0 < length u.numbers → All (λ k. k ≢ a) u.numbers → Holds d u → Holds (record { ring = ring; held = set d.held a x }) u
+holds_else : {X : Type 0} (d : Desks) (ring x : List ℕ) (a : ℕ) (u : HandView X) → 0 < length u.numbers → All (λ k. k ≢ a) u.numbers → Holds d u → Holds (record { ring = ring; held = set d.held a x }) u
 holds_else d ring x a u live apart h = record {
   first = get_or-set_other d.held a (get_or u.numbers 0 0) x [] (apart 0 0 live) ∙ h.first;
   others = λ i e lt. get_or-set_other d.held a (get_or (drop 1 u.numbers) i e) x [] (All-drop (λ k. k ≢ a) 1 u.numbers apart i e lt) ∙ h.others i e lt;
@@ -117,18 +116,18 @@ holds_else d ring x a u live apart h = record {
 -- ---- the first hand
 
 -- a ring in which nothing waits, with one hand
-pub begins : IsRing [] (first_view ∷ [])
-begins = record {
-  crew = first_view.crew;
-  hands = each_new (IsHandOfCrew first_view.crew) [] first_view (λ j u e. absurd (some-ne-none u (sym e))) (live_hand first_view.crew first_view refl (omega arith) (All-nil (IsOfCrew [])));
+pub begins : {X : Type 0} → IsRing {X = X} [] (first_view ∷ [])
+begins {X} = record {
+  crew = (first_view {X = X}).crew;
+  hands = each_new (IsHandOfCrew (first_view {X = X}).crew) [] first_view (λ j u e. absurd (some-ne-none u (sym e))) (live_hand (first_view {X = X}).crew first_view refl (omega arith) (All-nil (IsOfCrew [])));
   waiting_named = All-nil (IsOfCrew []);
-  each_handler = λ h. omega (arith, sum_by-cons (λ (v : HandView). sum_by h v.numbers) first_view []);
-  each_desk = λ h. omega (arith, sum_by-cons (λ (v : HandView). sum_by h (peers_of v.held)) first_view []);
+  each_handler = λ h. omega (arith, sum_by-cons (λ (v : HandView X). sum_by h v.numbers) first_view []);
+  each_desk = λ h. omega (arith, sum_by-cons (λ (v : HandView X). sum_by h (peers_of v.held)) first_view []);
   moves = refl;
 }
 
 -- the crew grows by a handler
-pub grows : (seat : ℕ) (v : HandView) → v.crew.stage ≡ making → 0 < length v.numbers → length v.numbers ≡ v.crew.handlers → Forks IsRing seat v (grown_view v) idle_view
+pub grows : {X : Type 0} (seat : ℕ) (v : HandView X) → v.crew.stage ≡ making → 0 < length v.numbers → length v.numbers ≡ v.crew.handlers → Forks IsRing seat v (grown_view v) idle_view
 grows seat v stage live all waiting views r at =
     let hand = r.hands seat v at in
     let knows = hand.knows live in
@@ -157,7 +156,7 @@ grows seat v stage live all waiting views r at =
     nothing_new h a b = omega arith
 
 -- a desk is made
-pub makes : (n seat : ℕ) (v : HandView) (s : Shown) → v.crew.stage ≡ making → 0 < length v.numbers → length v.numbers ≡ v.crew.handlers → s.peer ≡ length v.crew.names → Pushes IsRing n seat v s (λ w. w ≡ made_view v s)
+pub makes : {X : Type 0} (n seat : ℕ) (v : HandView X) (s : Shown X) → v.crew.stage ≡ making → 0 < length v.numbers → length v.numbers ≡ v.crew.handlers → s.peer ≡ length v.crew.names → Pushes IsRing n seat v s (λ w. w ≡ made_view v s)
 makes n seat v s stage live all next_peer waiting views room r at =
     let hand = r.hands seat v at in
     let knows = hand.knows live in
@@ -194,22 +193,22 @@ free_at_first n k =
       | inr le ↦ get_or_past {X = List ℕ} (replicate n []) k [] (omega (arith, length-replicate {A = List ℕ} n []))
     ]
 
-opening_holds : (peers handlers : ℕ) (v : HandView) → v.held ≡ [] → Holds (opening_desks peers handlers) v
+opening_holds : {X : Type 0} (peers handlers : ℕ) (v : HandView X) → v.held ≡ [] → Holds (opening_desks peers handlers) v
 opening_holds peers handlers v none = record {
   first = free_at_first handlers (get_or v.numbers 0 0) ∙ ap peers_of (sym none);
   others = λ i e lt. free_at_first handlers (get_or (drop 1 v.numbers) i e);
 }
 
 -- where all desks wait, no hand holds one
-none_held : (waiting : List Shown) (views : List HandView) (n seat : ℕ) (v : HandView) → EachOnce (peers_of waiting) held_peers views n → peers_of waiting ≡ range_with_len 0 n → get_elem? views seat ≡ some v → v.held ≡ []
-none_held waiting views n seat v once in_order at =
-    let weighed : sum_by (λ (_ : ℕ). 1) (peers_of waiting) + sum_by (λ (u : HandView). sum_by (λ (_ : ℕ). 1) (peers_of u.held)) views ≡ sum_by (λ (_ : ℕ). 1) (range_with_len 0 n) = once (λ _. 1) in
-    let below : sum_by (λ (_ : ℕ). 1) (peers_of v.held) ≤ sum_by (λ (u : HandView). sum_by (λ (_ : ℕ). 1) (peers_of u.held)) views = one_below (λ (u : HandView). sum_by (λ (_ : ℕ). 1) (peers_of u.held)) views seat v at in
+none_held : {X : Type 0} (waiting : List (Shown X)) (views : List (HandView X)) (n seat : ℕ) (v : HandView X) → EachOnce (peers_of waiting) held_peers views n → peers_of waiting ≡ range_with_len 0 n → get_elem? views seat ≡ some v → v.held ≡ []
+none_held {X} waiting views n seat v once in_order at =
+    let weighed : sum_by (λ (_ : ℕ). 1) (peers_of waiting) + sum_by (λ (u : HandView X). sum_by (λ (_ : ℕ). 1) (peers_of u.held)) views ≡ sum_by (λ (_ : ℕ). 1) (range_with_len 0 n) = once (λ _. 1) in
+    let below : sum_by (λ (_ : ℕ). 1) (peers_of v.held) ≤ sum_by (λ (u : HandView X). sum_by (λ (_ : ℕ). 1) (peers_of u.held)) views = one_below (λ (u : HandView X). sum_by (λ (_ : ℕ). 1) (peers_of u.held)) views seat v at in
     let all_wait : sum_by (λ (_ : ℕ). 1) (peers_of waiting) ≡ sum_by (λ (_ : ℕ). 1) (range_with_len 0 n) = ap (sum_by (λ (_ : ℕ). 1)) in_order in
-    nil_from_length v.held (omega (arith, weighed, below, all_wait, ones (peers_of v.held), length-map v.held (λ (t : Shown). t.peer)))
+    nil_from_length v.held (omega (arith, weighed, below, all_wait, ones (peers_of v.held), length-map v.held (λ (t : Shown X). t.peer)))
 
-pub starts : (seat : ℕ) (v : HandView) → v.crew.stage ≡ making → 0 < length v.numbers → length v.numbers ≡ v.crew.handlers → Forks IsRing seat v (running_view v) idle_view
-starts seat v stage live all waiting views r at =
+pub starts : {X : Type 0} (seat : ℕ) (v : HandView X) → v.crew.stage ≡ making → 0 < length v.numbers → length v.numbers ≡ v.crew.handlers → Forks IsRing seat v (running_view v) idle_view
+starts {X} seat v stage live all waiting views r at =
     let hand = r.hands seat v at in
     let knows = hand.knows live in
     let next = at_stage r.crew running in
@@ -232,8 +231,8 @@ starts seat v stage live all waiting views r at =
         desks = desks;
         reached = places.opening;
         ring_is = sym in_order;
-        holds = each_new (λ (u : HandView). 0 < length u.numbers → Holds desks u) (set views seat w) idle_view
-            (each_set (λ (u : HandView). 0 < length u.numbers → Holds desks u) views seat w (λ _. opening_holds (length r.crew.names) r.crew.handlers w none)
+        holds = each_new (λ (u : HandView X). 0 < length u.numbers → Holds desks u) (set views seat w) idle_view
+            (each_set (λ (u : HandView X). 0 < length u.numbers → Holds desks u) views seat w (λ _. opening_holds (length r.crew.names) r.crew.handlers w none)
             (λ j u apart e live_u. let idle = alone views r.crew.handlers seat j v u r.each_handler at everyone apart e in absurd (omega (arith, idle, live_u))))
             (λ (live_u : 0 < 0). absurd (omega arith));
       };
@@ -257,29 +256,29 @@ hired_count (a ∷ []) two = absurd (omega arith)
 hired_count (a ∷ b ∷ ns) two = refl
 
 -- what a hand that stands for these handlers holds
-abbrev HoldsFor : Desks → List ℕ → List Shown → Type 0
+abbrev HoldsFor : {X : Type 0} → Desks → List ℕ → List (Shown X) → Type 0
 HoldsFor d ns held = (held_by d (get_or ns 0 0) ≡ peers_of held) × All (λ k. held_by d k ≡ []) (drop 1 ns)
 
-hiring_holds : (d : Desks) (ns : List ℕ) (held : List Shown) → 2 ≤ length ns → HoldsFor d ns held → HoldsFor d (take 1 ns ++ drop 2 ns) held × HoldsFor d (take 1 (drop 1 ns)) []
+hiring_holds : {X : Type 0} (d : Desks) (ns : List ℕ) (held : List (Shown X)) → 2 ≤ length ns → HoldsFor d ns held → HoldsFor d (take 1 ns ++ drop 2 ns) held × HoldsFor {X = X} d (take 1 (drop 1 ns)) []
 hiring_holds d [] held two h = absurd (omega arith)
 hiring_holds d (a ∷ []) held two h = absurd (omega arith)
 hiring_holds d (a ∷ b ∷ ns) held two h =
     ((h.0, All-tail (λ k. held_by d k ≡ []) b ns h.1), (All-head (λ k. held_by d k ≡ []) b ns h.1, All-nil (λ k. held_by d k ≡ [])))
 
-hired_desks : (crew : RingCrew) (waiting : List Shown) (views : List HandView) (seat : ℕ) (v : HandView) → get_elem? views seat ≡ some v → 2 ≤ length v.numbers → AreDesks crew waiting views → AreDesks crew waiting (set views seat (hiring_view v) ++ hired_view v ∷ [])
-hired_desks crew waiting views seat v at two d =
+hired_desks : {X : Type 0} (crew : RingCrew) (waiting : List (Shown X)) (views : List (HandView X)) (seat : ℕ) (v : HandView X) → get_elem? views seat ≡ some v → 2 ≤ length v.numbers → AreDesks crew waiting views → AreDesks crew waiting (set views seat (hiring_view v) ++ hired_view v ∷ [])
+hired_desks {X} crew waiting views seat v at two d =
     let mine = d.holds seat v at (omega (arith, two)) in
     let both = hiring_holds d.desks v.numbers v.held two (mine.first, mine.others) in
     record {
       desks = d.desks;
       reached = d.reached;
       ring_is = d.ring_is;
-      holds = each_new (λ (u : HandView). 0 < length u.numbers → Holds d.desks u) (set views seat (hiring_view v)) (hired_view v)
-          (each_set (λ (u : HandView). 0 < length u.numbers → Holds d.desks u) views seat (hiring_view v) (λ _. record { first = both.0.0; others = both.0.1 }) (λ j u apart e. d.holds j u e))
+      holds = each_new (λ (u : HandView X). 0 < length u.numbers → Holds d.desks u) (set views seat (hiring_view v)) (hired_view v)
+          (each_set (λ (u : HandView X). 0 < length u.numbers → Holds d.desks u) views seat (hiring_view v) (λ _. record { first = both.0.0; others = both.0.1 }) (λ j u apart e. d.holds j u e))
           (λ _. record { first = both.1.0; others = both.1.1 });
     }
 
-pub hires : (seat : ℕ) (v : HandView) → v.crew.stage ≡ running → 2 ≤ length v.numbers → Forks IsRing seat v (hiring_view v) (hired_view v)
+pub hires : {X : Type 0} (seat : ℕ) (v : HandView X) → v.crew.stage ≡ running → 2 ≤ length v.numbers → Forks IsRing seat v (hiring_view v) (hired_view v)
 hires seat v stage two waiting views r at =
     let hand = r.hands seat v at in
     let knows = hand.knows (omega (arith, two)) in
@@ -298,8 +297,8 @@ hires seat v stage two waiting views r at =
 
 -- ---- a desk is claimed
 
-claimed_desks : (crew : RingCrew) (s : Shown) (waiting : List Shown) (views : List HandView) (seat : ℕ) (v : HandView) → EachOnce [] numbers_of views crew.handlers → get_elem? views seat ≡ some v → 0 < length v.numbers → v.held ≡ [] → AreDesks crew (s ∷ waiting) views → AreDesks crew waiting (set views seat (claimed_view v s))
-claimed_desks crew s waiting views seat v once at live free d =
+claimed_desks : {X : Type 0} (crew : RingCrew) (s : Shown X) (waiting : List (Shown X)) (views : List (HandView X)) (seat : ℕ) (v : HandView X) → EachOnce [] numbers_of views crew.handlers → get_elem? views seat ≡ some v → 0 < length v.numbers → v.held ≡ [] → AreDesks crew (s ∷ waiting) views → AreDesks crew waiting (set views seat (claimed_view v s))
+claimed_desks {X} crew s waiting views seat v once at live free d =
     let a : ℕ = get_or v.numbers 0 0 in
     let mine = d.holds seat v at live in
     let exists : a < length d.desks.held = omega (arith, first_below views crew.handlers seat v once at live, handlers_stay d.reached) in
@@ -309,12 +308,12 @@ claimed_desks crew s waiting views seat v once at live free d =
       desks = claimed d.desks a;
       reached = places.claim d.desks a s.peer (peers_of waiting) d.reached exists held_none d.ring_is;
       ring_is = ap (drop 1) d.ring_is;
-      holds = each_set (λ (u : HandView). 0 < length u.numbers → Holds (claimed d.desks a) u) views seat (claimed_view v s)
+      holds = each_set (λ (u : HandView X). 0 < length u.numbers → Holds (claimed d.desks a) u) views seat (claimed_view v s)
           (λ _. holds_own d.desks (drop 1 d.desks.ring) (take 1 d.desks.ring) (claimed_view v s) exists (own_numbers views crew.handlers seat v once at live) mine.others front)
           (λ j u apart e live_u. holds_else d.desks (drop 1 d.desks.ring) (take 1 d.desks.ring) a u live_u (other_numbers views crew.handlers seat j v u once at live apart e) (d.holds j u e live_u));
     }
 
-pub claims : (seat : ℕ) (v : HandView) → v.crew.stage ≡ running → 0 < length v.numbers → v.held ≡ [] → Pops IsRing seat v (λ s w. (w ≡ claimed_view v s) × IsOfCrew v.crew.names s)
+pub claims : {X : Type 0} (seat : ℕ) (v : HandView X) → v.crew.stage ≡ running → 0 < length v.numbers → v.held ≡ [] → Pops IsRing seat v (λ s w. (w ≡ claimed_view v s) × IsOfCrew v.crew.names s)
 claims seat v stage live free s waiting views r at =
     let hand = r.hands seat v at in
     let knows = hand.knows live in
@@ -337,8 +336,8 @@ claims seat v stage live free s waiting views r at =
 
 -- ---- a desk is given back
 
-given_desks : (crew : RingCrew) (s : Shown) (waiting : List Shown) (views : List HandView) (seat : ℕ) (v : HandView) → EachOnce [] numbers_of views crew.handlers → get_elem? views seat ≡ some v → 0 < length v.numbers → IsHeld v.held s → AreDesks crew waiting views → AreDesks crew (waiting ++ s ∷ []) (set views seat (given_view v s))
-given_desks crew s waiting views seat v once at live held d =
+given_desks : {X : Type 0} (crew : RingCrew) (s : Shown X) (waiting : List (Shown X)) (views : List (HandView X)) (seat : ℕ) (v : HandView X) → EachOnce [] numbers_of views crew.handlers → get_elem? views seat ≡ some v → 0 < length v.numbers → IsHeld v.held s → AreDesks crew waiting views → AreDesks crew (waiting ++ s ∷ []) (set views seat (given_view v s))
+given_desks {X} crew s waiting views seat v once at live held d =
     let a : ℕ = get_or v.numbers 0 0 in
     let mine = d.holds seat v at live in
     let exists : a < length d.desks.held = omega (arith, first_below views crew.handlers seat v once at live, handlers_stay d.reached) in
@@ -348,12 +347,12 @@ given_desks crew s waiting views seat v once at live held d =
       desks = given d.desks a;
       reached = places.give d.desks a held.before.peer d.reached exists holds_one;
       ring_is = ap₂ (λ (xs ys : List ℕ). xs ++ ys) d.ring_is back ∙ sym (peers_push waiting s);
-      holds = each_set (λ (u : HandView). 0 < length u.numbers → Holds (given d.desks a) u) views seat (given_view v s)
+      holds = each_set (λ (u : HandView X). 0 < length u.numbers → Holds (given d.desks a) u) views seat (given_view v s)
           (λ _. holds_own d.desks (d.desks.ring ++ held_by d.desks a) [] (given_view v s) exists (own_numbers views crew.handlers seat v once at live) mine.others refl)
           (λ j u apart e live_u. holds_else d.desks (d.desks.ring ++ held_by d.desks a) [] a u live_u (other_numbers views crew.handlers seat j v u once at live apart e) (d.holds j u e live_u));
     }
 
-pub gives : (n seat : ℕ) (v : HandView) (s : Shown) → v.crew.stage ≡ running → 0 < length v.numbers → IsHeld v.held s → Pushes IsRing n seat v s (λ w. w ≡ given_view v s)
+pub gives : {X : Type 0} (n seat : ℕ) (v : HandView X) (s : Shown X) → v.crew.stage ≡ running → 0 < length v.numbers → IsHeld v.held s → Pushes IsRing n seat v s (λ w. w ≡ given_view v s)
 gives n seat v s stage live held waiting views room r at =
     let hand = r.hands seat v at in
     let knows = hand.knows live in
@@ -361,7 +360,7 @@ gives n seat v s stage live held waiting views room r at =
     let is_running = stage_is r.crew v running knows stage in
     let d : AreDesks r.crew waiting views = subst (λ (t : Stage). AtStage t r.crew waiting views) is_running r.moves in
     let was : All (IsOfCrew r.crew.names) (held.before ∷ []) = subst (All (IsOfCrew r.crew.names)) held.only hand.named in
-    let back : IsOfCrew r.crew.names s = same_desk r.crew.names held.before s held.same_peer held.same_name (All-head (IsOfCrew r.crew.names) held.before [] was) in (
+    let back : IsOfCrew r.crew.names s = same_desk r.crew.names held.before s held.same_peer held.same_inbox held.same_label (All-head (IsOfCrew r.crew.names) held.before [] was) in (
       w,
       record {
         crew = r.crew;
@@ -377,7 +376,7 @@ gives n seat v s stage live held waiting views room r at =
 
 -- ---- a hand takes in another
 
-joined_holds : (d : Desks) (ns : List ℕ) (held : List Shown) (w : HandView) → 0 < length ns → 0 < length w.numbers → w.held ≡ [] → HoldsFor d ns held → Holds d w → HoldsFor d (ns ++ w.numbers) held
+joined_holds : {X : Type 0} (d : Desks) (ns : List ℕ) (held : List (Shown X)) (w : HandView X) → 0 < length ns → 0 < length w.numbers → w.held ≡ [] → HoldsFor d ns held → Holds d w → HoldsFor d (ns ++ w.numbers) held
 joined_holds d [] held w live live_w free h hw = absurd (omega arith)
 joined_holds d (a ∷ ns) held w live live_w free h hw =
     let theirs : All (λ k. held_by d k ≡ []) w.numbers =
@@ -385,24 +384,24 @@ joined_holds d (a ∷ ns) held w live live_w free h hw =
     (All-cons (λ k. held_by d k ≡ []) (get_or w.numbers 0 0) (drop 1 w.numbers) (hw.first ∙ ap peers_of free) hw.others)
     in (h.0, All-append (λ k. held_by d k ≡ []) ns w.numbers h.1 theirs)
 
-joined_desks : (crew : RingCrew) (waiting : List Shown) (views : List HandView) (seat other : ℕ) (v w : HandView) → get_elem? views seat ≡ some v → get_elem? views other ≡ some w → 0 < length v.numbers → 0 < length w.numbers → w.held ≡ [] → AreDesks crew waiting views → AreDesks crew waiting (set (set views seat (joined_view v w)) other idle_view)
-joined_desks crew waiting views seat other v w at at' live live_w free d =
+joined_desks : {X : Type 0} (crew : RingCrew) (waiting : List (Shown X)) (views : List (HandView X)) (seat other : ℕ) (v w : HandView X) → get_elem? views seat ≡ some v → get_elem? views other ≡ some w → 0 < length v.numbers → 0 < length w.numbers → w.held ≡ [] → AreDesks crew waiting views → AreDesks crew waiting (set (set views seat (joined_view v w)) other idle_view)
+joined_desks {X} crew waiting views seat other v w at at' live live_w free d =
     let mine = d.holds seat v at live in
     let both = joined_holds d.desks v.numbers v.held w live live_w free (mine.first, mine.others) (d.holds other w at' live_w) in
     record {
       desks = d.desks;
       reached = d.reached;
       ring_is = d.ring_is;
-      holds = each_merged (λ (u : HandView). 0 < length u.numbers → Holds d.desks u) views seat other (joined_view v w) idle_view d.holds (λ _. record { first = both.0; others = both.1 })
+      holds = each_merged (λ (u : HandView X). 0 < length u.numbers → Holds d.desks u) views seat other (joined_view v w) idle_view d.holds (λ _. record { first = both.0; others = both.1 })
           (λ (live_u : 0 < 0). absurd (omega arith));
     }
 
-joined_moves : (t : Stage) (crew : RingCrew) (waiting : List Shown) (views : List HandView) (seat other : ℕ) (v w : HandView) → get_elem? views seat ≡ some v → get_elem? views other ≡ some w → 0 < length v.numbers → 0 < length w.numbers → w.held ≡ [] → AtStage t crew waiting views → AtStage t crew waiting (set (set views seat (joined_view v w)) other idle_view)
+joined_moves : {X : Type 0} (t : Stage) (crew : RingCrew) (waiting : List (Shown X)) (views : List (HandView X)) (seat other : ℕ) (v w : HandView X) → get_elem? views seat ≡ some v → get_elem? views other ≡ some w → 0 < length v.numbers → 0 < length w.numbers → w.held ≡ [] → AtStage t crew waiting views → AtStage t crew waiting (set (set views seat (joined_view v w)) other idle_view)
 joined_moves making crew waiting views seat other v w at at' live live_w free was = was
 joined_moves running crew waiting views seat other v w at at' live live_w free was = joined_desks crew waiting views seat other v w at at' live live_w free was
 joined_moves finishing crew waiting views seat other v w at at' live live_w free was = tt
 
-pub joins : (seat : ℕ) (v : HandView) (other : ℕ) (w : HandView) → 0 < length v.numbers → 0 < length w.numbers → w.held ≡ [] → Merges IsRing seat v other w (joined_view v w) idle_view
+pub joins : {X : Type 0} (seat : ℕ) (v : HandView X) (other : ℕ) (w : HandView X) → 0 < length v.numbers → 0 < length w.numbers → w.held ≡ [] → Merges IsRing seat v other w (joined_view v w) idle_view
 joins seat v other w live live_w free waiting views r at apart at_other =
     let hand = r.hands seat v at in
     let knows = hand.knows live in
@@ -421,21 +420,21 @@ joins seat v other w live live_w free waiting views r at apart at_other =
 
 -- ---- a desk is kept
 
-pub keeps : (seat : ℕ) (v : HandView) → 0 < length v.numbers → length v.numbers ≡ v.crew.handlers → Pops IsRing seat v (λ s w. (w ≡ kept_view v s) × IsOfCrew v.crew.names s × (length v.held < length v.crew.names))
-keeps seat v live all s waiting views r at =
+pub keeps : {X : Type 0} (seat : ℕ) (v : HandView X) → 0 < length v.numbers → length v.numbers ≡ v.crew.handlers → Pops IsRing seat v (λ s w. (w ≡ kept_view v s) × IsOfCrew v.crew.names s × (length v.held < length v.crew.names))
+keeps {X} seat v live all s waiting views r at =
     let hand = r.hands seat v at in
     let knows = hand.knows live in
     let next = at_stage r.crew finishing in
     let w = kept_view v s in
     let everyone : length v.numbers ≡ r.crew.handlers = all ∙ ap (λ (c : RingCrew). c.handlers) knows in
-    let weighed : sum_by (λ (_ : ℕ). 1) (peers_of (s ∷ waiting)) + sum_by (λ (u : HandView). sum_by (λ (_ : ℕ). 1) (peers_of u.held)) views ≡ sum_by (λ (_ : ℕ). 1) (range_with_len 0 (length r.crew.names)) = r.each_desk (λ _. 1) in
-    let below : sum_by (λ (_ : ℕ). 1) (peers_of v.held) ≤ sum_by (λ (u : HandView). sum_by (λ (_ : ℕ). 1) (peers_of u.held)) views = one_below (λ (u : HandView). sum_by (λ (_ : ℕ). 1) (peers_of u.held)) views seat v at in
+    let weighed : sum_by (λ (_ : ℕ). 1) (peers_of (s ∷ waiting)) + sum_by (λ (u : HandView X). sum_by (λ (_ : ℕ). 1) (peers_of u.held)) views ≡ sum_by (λ (_ : ℕ). 1) (range_with_len 0 (length r.crew.names)) = r.each_desk (λ _. 1) in
+    let below : sum_by (λ (_ : ℕ). 1) (peers_of v.held) ≤ sum_by (λ (u : HandView X). sum_by (λ (_ : ℕ). 1) (peers_of u.held)) views = one_below (λ (u : HandView X). sum_by (λ (_ : ℕ). 1) (peers_of u.held)) views seat v at in
     let room : length v.held < length v.crew.names = omega (
       arith,
       weighed,
       below,
       ones (peers_of v.held),
-      length-map v.held (λ (t : Shown). t.peer),
+      length-map v.held (λ (t : Shown X). t.peer),
       sum_by-cons (λ (_ : ℕ). 1) s.peer (peers_of waiting),
       ones (range_with_len 0 (length r.crew.names)),
       length-range_with_len 0 (length r.crew.names),

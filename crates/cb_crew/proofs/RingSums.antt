@@ -83,23 +83,23 @@ range_weighs h n m more =
 
 -- ---- each number once, move by move
 
-module _ (has : HandView → List ℕ) where
+module _ {X : Type 0} (has : HandView X → List ℕ) where
   -- one hand's view changed
-  pub once_moved : (before after : List ℕ) (views : List HandView) (seat n m : ℕ) (v w : HandView) → EachOnce before has views n → get_elem? views seat ≡ some v
+  pub once_moved : (before after : List ℕ) (views : List (HandView X)) (seat n m : ℕ) (v w : HandView X) → EachOnce before has views n → get_elem? views seat ≡ some v
       → ((h : ℕ → ℕ) → sum_by h after + sum_by h (has w) + sum_by h (range_with_len 0 n) ≡ sum_by h before + sum_by h (has v) + sum_by h (range_with_len 0 m))
       → EachOnce after has (set views seat w) m
   once_moved before after views seat n m v w once at same h =
-      omega (arith, once h, same h, sum_set (λ (u : HandView). sum_by h (has u)) views seat v w at)
+      omega (arith, once h, same h, sum_set (λ (u : HandView X). sum_by h (has u)) views seat v w at)
 
   -- a hand was cut in two
-  pub once_forked : (waiting : List ℕ) (views : List HandView) (seat n m : ℕ) (v left right : HandView) → EachOnce waiting has views n → get_elem? views seat ≡ some v
+  pub once_forked : (waiting : List ℕ) (views : List (HandView X)) (seat n m : ℕ) (v left right : HandView X) → EachOnce waiting has views n → get_elem? views seat ≡ some v
       → ((h : ℕ → ℕ) → sum_by h (has left) + sum_by h (has right) + sum_by h (range_with_len 0 n) ≡ sum_by h (has v) + sum_by h (range_with_len 0 m))
       → EachOnce waiting has (set views seat left ++ right ∷ []) m
   once_forked waiting views seat n m v left right once at same h =
-      omega (arith, once h, same h, sum_set (λ (u : HandView). sum_by h (has u)) views seat v left at, sum_by_push (λ (u : HandView). sum_by h (has u)) (set views seat left) right)
+      omega (arith, once h, same h, sum_set (λ (u : HandView X). sum_by h (has u)) views seat v left at, sum_by_push (λ (u : HandView X). sum_by h (has u)) (set views seat left) right)
 
   -- a hand took in another
-  pub once_merged : (waiting : List ℕ) (views : List HandView) (seat other n : ℕ) (v w both spent : HandView) → EachOnce waiting has views n → get_elem? views seat ≡ some v → get_elem? (set views seat both) other ≡ some w
+  pub once_merged : (waiting : List ℕ) (views : List (HandView X)) (seat other n : ℕ) (v w both spent : HandView X) → EachOnce waiting has views n → get_elem? views seat ≡ some v → get_elem? (set views seat both) other ≡ some w
       → ((h : ℕ → ℕ) → sum_by h (has both) + sum_by h (has spent) ≡ sum_by h (has v) + sum_by h (has w))
       → EachOnce waiting has (set (set views seat both) other spent) n
   once_merged waiting views seat other n v w both spent once at at' same h =
@@ -107,8 +107,8 @@ module _ (has : HandView → List ℕ) where
         arith,
         once h,
         same h,
-        sum_set (λ (u : HandView). sum_by h (has u)) views seat v both at,
-        sum_set (λ (u : HandView). sum_by h (has u)) (set views seat both) other w spent at',
+        sum_set (λ (u : HandView X). sum_by h (has u)) views seat v both at,
+        sum_set (λ (u : HandView X). sum_by h (has u)) (set views seat both) other w spent at',
       )
 
 -- ---- the numbers of hands
@@ -143,10 +143,10 @@ not_there a (k ∷ ks) none =
     (not_there a ks (omega (arith, none, count_cons a k ks)))
 
 -- how often a hand has a number
-abbrev counted_in : ℕ → HandView → ℕ
+abbrev counted_in : {X : Type 0} → ℕ → HandView X → ℕ
 counted_in a v = count_by (eqb a) v.numbers
 
-all_counted : (views : List HandView) (n a : ℕ) → EachOnce [] numbers_of views n → sum_by (counted_in a) views ≡ cond (ltb a n) 1 0
+all_counted : {X : Type 0} (views : List (HandView X)) (n a : ℕ) → EachOnce [] numbers_of views n → sum_by (counted_in a) views ≡ cond (ltb a n) 1 0
 all_counted views n a once =
     let weighed : sum_by (λ (x : ℕ). cond (eqb a x) 1 0) [] + sum_by (counted_in a) views ≡ count_by (eqb a) (range_with_len 0 n) = once (λ x. cond (eqb a x) 1 0) in
     let none : sum_by (λ (x : ℕ). cond (eqb a x) 1 0) [] ≡ 0 = refl in
@@ -157,11 +157,11 @@ pub parts_of : (xs : List ℕ) → 0 < length xs → xs ≡ get_or xs 0 0 ∷ dr
 parts_of [] live = absurd (omega arith)
 parts_of (x ∷ xs) live = refl
 
-first_counted : (v : HandView) → 0 < length v.numbers → counted_in (get_or v.numbers 0 0) v ≡ 1 + count_by (eqb (get_or v.numbers 0 0)) (drop 1 v.numbers)
+first_counted : {X : Type 0} (v : HandView X) → 0 < length v.numbers → counted_in (get_or v.numbers 0 0) v ≡ 1 + count_by (eqb (get_or v.numbers 0 0)) (drop 1 v.numbers)
 first_counted v live = ap (count_by (eqb (get_or v.numbers 0 0))) (parts_of v.numbers live) ∙ count_first (get_or v.numbers 0 0) (drop 1 v.numbers)
 
 -- a hand acts as a handler that there is
-pub first_below : (views : List HandView) (n seat : ℕ) (v : HandView) → EachOnce [] numbers_of views n → get_elem? views seat ≡ some v → 0 < length v.numbers → get_or v.numbers 0 0 < n
+pub first_below : {X : Type 0} (views : List (HandView X)) (n seat : ℕ) (v : HandView X) → EachOnce [] numbers_of views n → get_elem? views seat ≡ some v → 0 < length v.numbers → get_or v.numbers 0 0 < n
 first_below views n seat v once at live =
     let a : ℕ = get_or v.numbers 0 0 in
     elim (cases_lt a n) [
@@ -170,21 +170,21 @@ first_below views n seat v once at live =
     ]
 
 -- it stands for none but once
-pub own_numbers : (views : List HandView) (n seat : ℕ) (v : HandView) → EachOnce [] numbers_of views n → get_elem? views seat ≡ some v → 0 < length v.numbers → All (λ k. k ≢ get_or v.numbers 0 0) (drop 1 v.numbers)
+pub own_numbers : {X : Type 0} (views : List (HandView X)) (n seat : ℕ) (v : HandView X) → EachOnce [] numbers_of views n → get_elem? views seat ≡ some v → 0 < length v.numbers → All (λ k. k ≢ get_or v.numbers 0 0) (drop 1 v.numbers)
 own_numbers views n seat v once at live =
     let a : ℕ = get_or v.numbers 0 0 in
     not_there a (drop 1 v.numbers) (omega (arith, first_counted v live, one_below (counted_in a) views seat v at, all_counted views n a once, at_most_one_if (ltb a n)))
 
 -- and no other hand acts as that handler
-pub other_numbers : (views : List HandView) (n seat other : ℕ) (v u : HandView) → EachOnce [] numbers_of views n → get_elem? views seat ≡ some v → 0 < length v.numbers → other ≢ seat → get_elem? views other ≡ some u → All (λ k. k ≢ get_or v.numbers 0 0) u.numbers
+pub other_numbers : {X : Type 0} (views : List (HandView X)) (n seat other : ℕ) (v u : HandView X) → EachOnce [] numbers_of views n → get_elem? views seat ≡ some v → 0 < length v.numbers → other ≢ seat → get_elem? views other ≡ some u → All (λ k. k ≢ get_or v.numbers 0 0) u.numbers
 other_numbers views n seat other v u once at live apart at' =
     let a : ℕ = get_or v.numbers 0 0 in
     not_there a u.numbers (omega (arith, first_counted v live, two_below (counted_in a) views seat other v u apart at at', all_counted views n a once, at_most_one_if (ltb a n)))
 
 -- where one hand stands for all handlers, no other stands for one
-pub alone : (views : List HandView) (n seat other : ℕ) (v u : HandView) → EachOnce [] numbers_of views n → get_elem? views seat ≡ some v → length v.numbers ≡ n → other ≢ seat → get_elem? views other ≡ some u → length u.numbers ≡ 0
-alone views n seat other v u once at all apart at' =
-    let weighed : sum_by (λ (x : ℕ). 1) [] + sum_by (λ (x : HandView). sum_by (λ (_ : ℕ). 1) x.numbers) views ≡ sum_by (λ (x : ℕ). 1) (range_with_len 0 n) = once (λ x. 1) in
+pub alone : {X : Type 0} (views : List (HandView X)) (n seat other : ℕ) (v u : HandView X) → EachOnce [] numbers_of views n → get_elem? views seat ≡ some v → length v.numbers ≡ n → other ≢ seat → get_elem? views other ≡ some u → length u.numbers ≡ 0
+alone {X} views n seat other v u once at all apart at' =
+    let weighed : sum_by (λ (x : ℕ). 1) [] + sum_by (λ (x : HandView X). sum_by (λ (_ : ℕ). 1) x.numbers) views ≡ sum_by (λ (x : ℕ). 1) (range_with_len 0 n) = once (λ x. 1) in
     let none : sum_by (λ (x : ℕ). 1) [] ≡ 0 = refl in
     omega (
       arith,
@@ -195,5 +195,5 @@ alone views n seat other v u once at all apart at' =
       ones u.numbers,
       ones (range_with_len 0 n),
       length-range_with_len 0 n,
-      two_below (λ (x : HandView). sum_by (λ (_ : ℕ). 1) x.numbers) views seat other v u apart at at',
+      two_below (λ (x : HandView X). sum_by (λ (_ : ℕ). 1) x.numbers) views seat other v u apart at at',
     )

@@ -12,9 +12,9 @@ use Rattle.cb_inbox.specs.Queued.{is_end, is_open, has_ended}
 use Rattle.cb_inbox.specs.Rule.{IsOfALine, longer}
 use Rattle.cb_crew.specs.declared.work.Given.{Given}
 use Rattle.cb_crew.specs.declared.work.Given.TheVariants as given
-use Rattle.cb_crew.specs.Work.{WorksOn, given_by, connections_of}
+use Rattle.cb_crew.specs.Work.{AreWorksOf, WorksOn, given_by, connections_of}
 use Rattle.cb_inbox.specs.Seat.{SeatState, IsFullBy, told_of_taken}
-use Rattle.cb_crew.specs.Desk.{DeskState, HasServedAll, IsDesk, desk_note, desk_told}
+use Rattle.cb_crew.specs.Desk.{DeskState, first_label, HasServedAll, IsDesk, desk_note, desk_told}
 use Rattle.cb_crew.specs.Headline.{NothingAfterEnd, InOrder, IsSettled, works_of}
 use Rattle.cb_crew.proofs.Works.{split_some}
 
@@ -107,7 +107,7 @@ front_whole (given.Item item ∷ front) rest n (zero, lt, is) = absurd (false≢
 front_whole (given.Item item ∷ front) rest n (suc k, lt, is) = ap (λ gs. given.Item item ∷ gs) (front_whole front rest n (k, omega (arith, lt), is))
 front_whole (given.End ∷ front) rest n c = ap (λ gs. given.End ∷ gs) (nil_from_length front (omega (arith, ap length n, length-append front rest)) ∙ sym n)
 
-module _ {W M : Type 0} (was_given : W → List (Given M) → Type 0) (is_closed : W → Bool) where
+module _ {W M : Type 0} (label : W → ℕ) (was_given : W → List (Given M) → Type 0) (is_closed : W → Bool) where
   in_order : (work : W) (connection : List (Given M)) → NothingAfterEnd connection → WorksOn was_given is_closed work connection → InOrder was_given work connection
   in_order work connection once w = record {
     items = w.items;
@@ -124,13 +124,14 @@ module _ {W M : Type 0} (was_given : W → List (Given M) → Type 0) (is_closed
   all_in_order (work ∷ works) (cs ∷ css) once all = (in_order work cs once.0 all.0, all_in_order works css once.1 all.1)
 
   -- a desk is settled where all was taken that its reader queued, whose last mark is an end mark
-  pub settled : (queued told known : List (Queued M W)) (desk : DeskState W M) → has_ended queued ≡ true → IsBeginning (longer told queued) desk.taken → IsOfALine true false queued (longer known desk.taken) → IsDesk was_given is_closed desk → IsSettled was_given is_closed queued desk
+  pub settled : (queued told known : List (Queued M W)) (desk : DeskState W M) → has_ended queued ≡ true → IsBeginning (longer told queued) desk.taken → IsOfALine true false queued (longer known desk.taken) → IsDesk label was_given is_closed desk → IsSettled label was_given is_closed queued desk
   settled queued told known desk ended served seen d =
       let all : desk.taken ≡ queued = all_taken told queued known desk.taken served seen in
       let once = (each_ends_once false queued (marks_follow queued (longer known desk.taken) seen)).0 in
       record {
         taken = all;
         served = record {
+          whose = subst (λ ms. AreWorksOf label (first_label label desk) ms (works_of desk)) all d.whose;
           each = all_in_order (works_of desk) (connections_of queued) once (subst (λ ms. AllZip (WorksOn was_given is_closed) (works_of desk) (connections_of ms)) all d.works);
           closed = All-push (λ work. is_closed work ≡ true) desk.past desk.work d.past_closed (d.ended (ap has_ended all ∙ ended));
         };
@@ -138,7 +139,7 @@ module _ {W M : Type 0} (was_given : W → List (Given M) → Type 0) (is_closed
 
   -- the same, call by call
   pub settled_by : (desk told served noted : DeskState W M) (ended seat last note taken : SeatState (Queued M W)) → (note ≡ ended) × (seat ≡ ended) → told ≡ desk_told desk note → HasServedAll told served → (taken ≡ desk_note served) × (noted ≡ served) → last ≡ told_of_taken seat taken
-      → IsOfALine true false last.queued last.taken → has_ended last.queued ≡ true → IsDesk was_given is_closed noted → IsSettled was_given is_closed ended.queued noted
+      → IsOfALine true false last.queued last.taken → has_ended last.queued ≡ true → IsDesk label was_given is_closed noted → IsSettled label was_given is_closed ended.queued noted
   settled_by desk told served noted ended seat last note taken same learnt all noted_is last_is seen is_last d =
       let same_last : last ≡ told_of_taken ended (desk_note noted) = last_is ∙ (ap (λ (s : SeatState _). told_of_taken s taken) same.1 ∙ ap (told_of_taken ended) (noted_is.0 ∙ ap desk_note (sym noted_is.1))) in
       let begins : IsBeginning (longer desk.queued ended.queued) served.taken = subst (λ ms. IsBeginning ms served.taken) (all.same.1 ∙ ap (λ (s : DeskState W M). s.queued) (learnt ∙ ap (desk_told desk) same.0)) all.all_told in

@@ -1,16 +1,16 @@
 -- Desks that were sorted by their peers stand in the peers' order.
-use Rattle.std.proofs.Common.{◌≡◌, ℕ, zero, suc, inl, inr, ◌+◌, ◌<◌, ◌≤◌, Bool, false, cond, ltb, List, [], ◌∷◌, length, map, get_or, refl, sym, ap, subst, ◌∙◌, arith}
+use Rattle.std.proofs.Common.{◌≡◌, ℕ, zero, suc, inl, inr, ◌+◌, ◌<◌, ◌≤◌, Bool, cond, ltb, List, [], ◌∷◌, length, map, get_or, refl, sym, ap, subst, ◌∙◌, arith}
 use Rattle.std.specs.List.{All, sum_by, range_with_len}
 use Rattle.std.specs.List.Sorted.{IsNonDecreasing, IsNonDecreasingBy, IsPermutation}
 use Rattle.std.proofs.lemmas.Bool.{cases_lt, lt-ltb, le-ltb}
-use Rattle.std.proofs.lemmas.List.{ext_get_or, get_or_default, get_or-map, length-map}
+use Rattle.std.proofs.lemmas.List.{ext_get_or, get_or_default, get_or-map, length-map, nil_from_length}
 use Rattle.std.proofs.lemmas.List.FromFn.{get_or-range_with_len, length-range_with_len}
 use Rattle.std.proofs.lemmas.List.Sorted.{All-permutation, IsPermutation-map, sum_by-IsPermutation}
 use Rattle.std.proofs.lemmas.List.Sums.{sum_by-cons}
 use Rattle.std.proofs.lemmas.Simd.{map-map}
-use Rattle.cb_inbox.specs.Seat.{InboxState}
-use Rattle.cb_crew.specs.Ring.{Shown, IsOfCrew, peers_of}
-use Rattle.cb_crew.specs.Crew.{CrewState, AreAllDesks, AreInOrder, names_of}
+use Rattle.cb_crew.specs.Ring.{DeskName, Shown, IsOfCrew, peers_of}
+use Rattle.cb_crew.specs.Crew.{CrewState, AreAllDesks, AreDeskNames, AreInOrder}
+use Rattle.cb_crew.proofs.Crews.{names_count}
 
 -- ---- numbers in order, of which each stands once
 
@@ -57,22 +57,25 @@ map_up n (x ∷ xs) up i j d le lt =
     omega (arith, up i j x le within, get_or-map n (x ∷ xs) i x d (omega (arith, within, le)), get_or-map n (x ∷ xs) j x d within)
 
 -- desks in their peers' order have the peers' names
-named_in_order : (crew : CrewState) (desks : List Shown) → peers_of desks ≡ range_with_len 0 (length crew.inboxes) → All (IsOfCrew (names_of crew)) desks → map (λ (desk : Shown). desk.name) desks ≡ names_of crew
-named_in_order crew desks order named =
-    let none : Shown = record { peer = 0; name = crew.ring.name; taken = 0; closed = false; told = 0 } in
-    let count : length desks ≡ length (names_of crew) = omega (arith, ap length order, length-map desks (λ (s : Shown). s.peer), length-range_with_len 0 (length crew.inboxes), length-map crew.inboxes (λ (i : InboxState). i.name)) in
-    ext_get_or crew.ring.name (map (λ (s : Shown). s.name) desks) (names_of crew) (length-map desks (λ (s : Shown). s.name) ∙ count) (λ k lt.
-    let within : k < length desks = omega (arith, lt, length-map desks (λ (s : Shown). s.name)) in
-    let s : Shown = get_or desks k none in
-    let of : IsOfCrew (names_of crew) s = named k none within in
-    let peer : s.peer ≡ k = sym (get_or-map (λ (t : Shown). t.peer) desks k none 0 within) ∙ (ap (λ ns. get_or ns k 0) order ∙ (get_or-range_with_len 0 (length crew.inboxes) k 0 (omega (arith, within, count, length-map crew.inboxes (λ (i : InboxState). i.name))) ∙ omega arith)) in
-    let name : get_or (names_of crew) k s.name ≡ s.name = ap (λ i. get_or (names_of crew) i s.name) (sym peer) ∙ of.named in
-    get_or-map (λ (t : Shown). t.name) desks k none crew.ring.name within ∙ (sym name ∙ get_or_default (names_of crew) k s.name crew.ring.name (omega (arith, within, count))))
+named_in_order : {X : Type 0} (names : List DeskName) (desks : List (Shown X)) → peers_of desks ≡ range_with_len 0 (length names) → All (IsOfCrew names) desks → map (λ (desk : Shown X). desk.name) desks ≡ names
+named_in_order names [] order named = sym (nil_from_length names (omega (arith, ap length order, length-range_with_len 0 (length names))))
+named_in_order {X} names (first ∷ rest) order named =
+    let desks : List (Shown X) = first ∷ rest in
+    let count : length desks ≡ length names = omega (arith, ap length order, length-map desks (λ (s : Shown X). s.peer), length-range_with_len 0 (length names)) in
+    ext_get_or first.name (map (λ (s : Shown X). s.name) desks) names (length-map desks (λ (s : Shown X). s.name) ∙ count) (λ k lt.
+    let within : k < length desks = omega (arith, lt, length-map desks (λ (s : Shown X). s.name)) in
+    let s : Shown X = get_or desks k first in
+    let of : IsOfCrew names s = named k first within in
+    let peer : s.peer ≡ k = sym (get_or-map (λ (t : Shown X). t.peer) desks k first 0 within) ∙ (ap (λ ns. get_or ns k 0) order ∙ (get_or-range_with_len 0 (length names) k 0 (omega (arith, within, count)) ∙ omega arith)) in
+    let name : get_or names k s.name ≡ s.name = ap (λ i. get_or names i s.name) (sym peer) ∙ of.named in
+    get_or-map (λ (t : Shown X). t.name) desks k first first.name within ∙ (sym name ∙ get_or_default names k s.name first.name (omega (arith, within, count))))
 
-pub sorted_in_order : {D : Type 0} (shown : D → Shown) (crew : CrewState) (desks sorted : List D) → IsPermutation desks sorted → IsNonDecreasingBy (λ desk. (shown desk).peer) sorted → AreAllDesks crew (map shown desks) → AreInOrder crew (map shown sorted)
-sorted_in_order shown crew desks sorted perm up all =
+pub sorted_in_order : {X D : Type 0} (shown : D → Shown X) (crew : CrewState) (desks sorted : List D) → IsPermutation desks sorted → IsNonDecreasingBy (λ desk. (shown desk).peer) sorted → AreAllDesks crew (map shown desks) → AreInOrder crew (map shown sorted)
+sorted_in_order {X} shown crew desks sorted perm up all =
     let moved : IsPermutation (map shown desks) (map shown sorted) = IsPermutation-map shown desks sorted perm in
     let order : peers_of (map shown sorted) ≡ range_with_len 0 (length crew.inboxes) = range_in_order (peers_of (map shown sorted)) 0 (length crew.inboxes)
-    (subst IsNonDecreasing (sym (map-map (λ (s : Shown). s.peer) shown sorted)) (map_up (λ desk. (shown desk).peer) sorted up))
-    (λ w. sum_by-IsPermutation w (peers_of (map shown desks)) (peers_of (map shown sorted)) (IsPermutation-map (λ (s : Shown). s.peer) (map shown desks) (map shown sorted) moved) ∙ all.each w) in
-    record { peers = order; names = named_in_order crew (map shown sorted) order (All-permutation (IsOfCrew (names_of crew)) (map shown desks) (map shown sorted) moved all.named) }
+    (subst IsNonDecreasing (sym (map-map (λ (s : Shown X). s.peer) shown sorted)) (map_up (λ desk. (shown desk).peer) sorted up))
+    (λ w. sum_by-IsPermutation w (peers_of (map shown desks)) (peers_of (map shown sorted)) (IsPermutation-map (λ (s : Shown X). s.peer) (map shown desks) (map shown sorted) moved) ∙ all.each w) in
+    let count : length crew.inboxes ≡ length all.names = sym (names_count crew all.names all.names_is) in
+    let named = named_in_order all.names (map shown sorted) (order ∙ ap (range_with_len 0) count) (All-permutation (IsOfCrew all.names) (map shown desks) (map shown sorted) moved all.named) in
+    record { peers = order; names = subst (AreDeskNames crew) (sym named) all.names_is }

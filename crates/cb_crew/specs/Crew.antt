@@ -7,13 +7,14 @@ use Rattle.cb_inbox.specs.declared.queued.Queued.TheVariants as queued
 use Rattle.cb_inbox.specs.Seat.{InboxState, SeatState, opening_seat}
 use Rattle.cb_crew.specs.declared.side.ReaderSide.{ReaderSide}
 use Rattle.cb_crew.specs.declared.side.ReaderSide.TheVariants as side
-use Rattle.cb_crew.specs.Ring.{RingState, HandState, Shown, running, IsOfCrew, peers_of}
+use Rattle.cb_crew.specs.Ring.{DeskName, RingState, HandState, Shown, running, IsOfCrew, peers_of}
 use Rattle.cb_crew.specs.Turn.{HandlerState}
 
 pub record CrewState : Type 0 where
   pub ring : RingState
   pub inboxes : List InboxState  -- one for each peer, in their order
   pub handlers : ℕ  -- how many it has
+  pub labels : List ℕ  -- of the works with which it was made, one for each peer, in their order
 
 abbrev pub names_of : CrewState → List TableId
 names_of crew = map (λ (inbox : InboxState). inbox.name) crew.inboxes
@@ -26,25 +27,30 @@ pub record IsCrew (crew : CrewState) : Type 0 where
   pub working : 1 ≤ crew.handlers
   pub room : length crew.inboxes ≤ crew.ring.capacity
 
+-- these are the names of its desks, in the order of their peers
+pub record AreDeskNames (crew : CrewState) (names : List DeskName) : Type 0 where
+  pub inboxes : map (λ (name : DeskName). name.inbox) names ≡ names_of crew
+  pub labels : map (λ (name : DeskName). name.label) names ≡ crew.labels
+
 -- a hand of this crew while it runs, which holds no desk
-pub record IsFreeHandOf (crew : CrewState) (hand : HandState) : Type 0 where
+pub record IsFreeHandOf {X : Type 0} (crew : CrewState) (hand : HandState X) : Type 0 where
   pub ring_is : hand.ring ≡ crew.ring.name
-  pub names_is : hand.names ≡ names_of crew
+  pub names_is : AreDeskNames crew hand.names
   pub handlers_is : hand.handlers ≡ crew.handlers
   pub stage_is : hand.stage ≡ running
   pub free : hand.held ≡ []
 
 -- one of the crew's handlers
-abbrev pub IsHandlerOf : CrewState → HandlerState → Type 0
+abbrev pub IsHandlerOf : {X : Type 0} → CrewState → HandlerState X → Type 0
 IsHandlerOf crew handler = IsFreeHandOf crew handler.hand × (handler.hand.hands ≡ 1)
 
 -- the first one's list has room for the desks of all peers
-abbrev pub FirstHasRoom : CrewState → List HandlerState → Type 0
+abbrev pub FirstHasRoom : {X : Type 0} → CrewState → List (HandlerState X) → Type 0
 FirstHasRoom crew [] = length crew.inboxes ≤ 0
 FirstHasRoom crew (first ∷ others) = length crew.inboxes ≤ first.room
 
 -- all handlers of the crew, the first of them first
-pub record AreHandlersOf (crew : CrewState) (handlers : List HandlerState) : Type 0 where
+pub record AreHandlersOf {X : Type 0} (crew : CrewState) (handlers : List (HandlerState X)) : Type 0 where
   pub each : All (IsHandlerOf crew) handlers
   pub all : length handlers ≡ crew.handlers
   pub first : FirstHasRoom crew handlers
@@ -83,17 +89,19 @@ abbrev pub AreOpeningSeats : {Q : Type 0} → CrewState → List (SeatState Q) �
 AreOpeningSeats crew seats = seats ≡ map opening_seat (names_of crew)
 
 -- none of them made a turn
-abbrev pub MadeNoTurn : List HandlerState → Type 0
-MadeNoTurn handlers = All (λ (handler : HandlerState). handler.turns ≡ 0) handlers
+abbrev pub MadeNoTurn : {X : Type 0} → List (HandlerState X) → Type 0
+MadeNoTurn {X} handlers = All (λ (handler : HandlerState X). handler.turns ≡ 0) handlers
 
 -- ---- a crew that finishes
 
 -- these are the desks of all peers, each once
-pub record AreAllDesks (crew : CrewState) (desks : List Shown) : Type 0 where
+pub record AreAllDesks {X : Type 0} (crew : CrewState) (desks : List (Shown X)) : Type 0 where
+  pub names : List DeskName
+  pub names_is : AreDeskNames crew names
   pub each : (weight : ℕ → ℕ) → sum_by weight (peers_of desks) ≡ sum_by weight (range_with_len 0 (length crew.inboxes))
-  pub named : All (IsOfCrew (names_of crew)) desks
+  pub named : All (IsOfCrew names) desks
 
 -- and they stand in the order of their peers
-pub record AreInOrder (crew : CrewState) (desks : List Shown) : Type 0 where
+pub record AreInOrder {X : Type 0} (crew : CrewState) (desks : List (Shown X)) : Type 0 where
   pub peers : peers_of desks ≡ range_with_len 0 (length crew.inboxes)
-  pub names : map (λ (desk : Shown). desk.name) desks ≡ names_of crew
+  pub names : AreDeskNames crew (map (λ (desk : Shown X). desk.name) desks)

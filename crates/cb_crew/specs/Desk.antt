@@ -1,6 +1,6 @@
 -- A peer's desk: what was taken from its inbox, and what the works of its connections were given of it.
 use Rattle.std.specs.Prelude.{◌≡◌, ℕ, ◌+◌, ◌<◌, ◌≤◌, ◌⊎◌, Bool, true, false, List, [], ◌∷◌, ◌++◌, length, All}
-use Rattle.std.specs.List.{AllZip}
+use Rattle.std.specs.List.{AllZip, count_by}
 use Rattle.cb_sched.specs.Laws.{IsBeginning}
 use Rattle.cb_inbox.specs.declared.queued.Queued.{Queued}
 use Rattle.cb_inbox.specs.Queued.{is_open, has_ended}
@@ -9,7 +9,7 @@ use Rattle.cb_inbox.specs.Seat.{InboxState, SeatState}
 use Rattle.cb_crew.specs.declared.work.Given.{Given}
 use Rattle.cb_crew.specs.declared.desk.Step.{Step}
 use Rattle.cb_crew.specs.declared.desk.Step.TheVariants as step
-use Rattle.cb_crew.specs.Work.{IsTicked, IsUnticked, WorksOn, connections_of}
+use Rattle.cb_crew.specs.Work.{AreWorksOf, IsTicked, IsUnticked, WorksOn, connections_of, first_of}
 
 pub record DeskState (W M : Type 0) : Type 0 where
   pub inbox : InboxState
@@ -29,9 +29,14 @@ desk_told d note = record { inbox = d.inbox; queued = longer d.queued note.queue
 abbrev pub desk_note : {W M : Type 0} → DeskState W M → SeatState (Queued M W)
 desk_note d = record { inbox = d.inbox.name; queued = d.queued; taken = d.taken }
 
--- Each work was given a beginning of its connection as it was taken, and all of it while it is open. Works of earlier
--- connections are closed, and so is one whose connection's end was taken.
-pub record IsDesk {W M : Type 0} (given : W → List (Given M) → Type 0) (is_closed : W → Bool) (d : DeskState W M) : Type 0 where
+-- the label of the work of its first connection
+abbrev pub first_label : {W M : Type 0} → (W → ℕ) → DeskState W M → ℕ
+first_label label d = label (first_of d.past d.work)
+
+-- Each work was given a beginning of its connection as it was taken, and all of it while it is open, and it is that
+-- connection's. Works of earlier connections are closed, and so is one whose connection's end was taken.
+pub record IsDesk {W M : Type 0} (label : W → ℕ) (given : W → List (Given M) → Type 0) (is_closed : W → Bool) (d : DeskState W M) : Type 0 where
+  pub whose : AreWorksOf label (first_label label d) d.taken (d.past ++ d.work ∷ [])
   pub works : AllZip (WorksOn given is_closed) (d.past ++ d.work ∷ []) (connections_of d.taken)
   pub past_closed : All (λ work. is_closed work ≡ true) d.past
   pub ended : has_ended d.taken ≡ true → is_closed d.work ≡ true
@@ -49,19 +54,27 @@ IsSameLine old new = IsSameDesk old new × (new.taken ≡ old.taken)
 abbrev pub Stepped : {W M : Type 0} → (W → Bool) → DeskState W M → DeskState W M → Step → Type 0
 Stepped {W} {M} is_closed old new step.Worked = IsSameDesk old new × ((mark : Queued M W) × (new.taken ≡ old.taken ++ mark ∷ []) × (is_open mark ≡ false) × (is_closed old.work ≡ false))
 Stepped {W} {M} is_closed old new step.Passed = IsSameDesk old new × ((mark : Queued M W) × (new.taken ≡ old.taken ++ mark ∷ []) × ((is_open mark ≡ true) ⊎ (is_closed new.work ≡ true)))
-Stepped {W} {M} is_closed old new step.Empty = IsSameLine old new × IsBeginning old.queued old.taken
+Stepped {W} {M} is_closed old new step.Empty = IsSameLine old new × IsBeginning old.queued old.taken × (is_closed old.work ≡ true → is_closed new.work ≡ true)
 
--- So many marks were taken, in their order, some given to works and some passed over.
-pub record HasServed {W M : Type 0} (old new : DeskState W M) (worked passed : ℕ) : Type 0 where
-  pub same : IsSameDesk old new
+-- So many marks were taken, in their order, some given to works and some passed over. Open marks were passed over. Where the
+-- work was closed, something was given to a work only behind an open mark, and with no open mark it is closed still.
+pub record HasTaken {W M : Type 0} (is_closed : W → Bool) (old new : DeskState W M) (worked passed : ℕ) : Type 0 where
   pub marks : List (Queued M W)
   pub taken : new.taken ≡ old.taken ++ marks
   pub count : length marks ≡ worked + passed
+  pub opens : worked + count_by is_open marks ≤ length marks
+  pub behind : is_closed old.work ≡ true → 1 ≤ worked → 1 ≤ count_by is_open marks
+  pub stays : is_closed old.work ≡ true → count_by is_open marks ≡ 0 → is_closed new.work ≡ true
+
+-- The same of one inbox, and the seat was told nothing.
+pub record HasServed {W M : Type 0} (is_closed : W → Bool) (old new : DeskState W M) (worked passed : ℕ) : Type 0 where
+  pub same : IsSameDesk old new
+  pub has : HasTaken is_closed old new worked passed
 
 -- The same within a budget, and fewer only where all that the seat was told of had been taken, or something was given to a
 -- work and the work is closed now.
 pub record IsServed {W M : Type 0} (is_closed : W → Bool) (old new : DeskState W M) (budget worked passed : ℕ) : Type 0 where
-  pub has : HasServed old new worked passed
+  pub has : HasServed is_closed old new worked passed
   pub within : worked + passed ≤ budget
   pub all_told : worked + passed < budget → IsBeginning new.queued new.taken ⊎ ((1 ≤ worked) × (is_closed new.work ≡ true))
 

@@ -11,7 +11,7 @@ abbrev pub ring_state : {T V R A : Type 0} → Slotted (Option T) (Doing T V) R 
 ring_state queue = record { name = queue.table.shared.table_id; capacity = ruled_capacity queue }
 
 -- a hand of the ring of this name, with this view
-abbrev pub state_of : TableId → HandView → HandState
+abbrev pub state_of : {X : Type 0} → TableId → HandView X → HandState X
 state_of ring v = record {
   ring = ring;
   hands = length v.numbers;
@@ -22,16 +22,16 @@ state_of ring v = record {
   last = v.last;
 }
 
-abbrev pub hand_state : {D : Type 0} → Pass D HandView → HandState
+abbrev pub hand_state : {X D : Type 0} → Pass D (HandView X) → HandState X
 hand_state pass = state_of pass.table_id (view pass)
 
 -- it stands for a handler, and its queue has nothing out
-pub record IsHand {D : Type 0} (pass : Pass D HandView) : Type 0 where
+pub record IsHand {X D : Type 0} (pass : Pass D (HandView X)) : Type 0 where
   pub at_rest : pass.me.1 ≡ []
   pub live : 0 < length (view pass).numbers
 
 -- the one hand of a crew of so many handlers, before its first desk
-pub record IsOpening (handlers : ℕ) (v : HandView) : Type 0 where
+pub record IsOpening {X : Type 0} (handlers : ℕ) (v : HandView X) : Type 0 where
   pub stands : length v.numbers ≡ handlers
   pub handlers_is : v.crew.handlers ≡ handlers
   pub names_is : v.crew.names ≡ []

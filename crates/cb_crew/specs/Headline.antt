@@ -1,13 +1,13 @@
 -- What a crew promises of each peer: what its works were given of what its reader queued.
-use Rattle.std.specs.Prelude.{◌≡◌, Bool, true, List, [], ◌∷◌, ◌++◌, length, map, All, Contains}
+use Rattle.std.specs.Prelude.{◌≡◌, ℕ, Bool, true, List, [], ◌∷◌, ◌++◌, length, map, All, Contains}
 use Rattle.std.specs.List.{AllZip, range_with_len}
 use Rattle.cb_sched.specs.Laws.{IsBeginning}
 use Rattle.cb_inbox.specs.declared.queued.Queued.{Queued}
 use Rattle.cb_crew.specs.declared.work.Given.{Given}
 use Rattle.cb_crew.specs.declared.work.Given.TheVariants as given
 use Rattle.cb_crew.specs.declared.side.ReaderSide.{ReaderSide}
-use Rattle.cb_crew.specs.Work.{connections_of}
-use Rattle.cb_crew.specs.Desk.{DeskState}
+use Rattle.cb_crew.specs.Work.{AreWorksOf, connections_of}
+use Rattle.cb_crew.specs.Desk.{DeskState, first_label}
 use Rattle.cb_crew.specs.Crew.{CrewState, names_of, all_queued}
 
 -- nothing stands behind an end
@@ -25,8 +25,10 @@ pub record InOrder {W M : Type 0} (was_given : W → List (Given M) → Type 0) 
   pub none_after : NothingAfterEnd items
   pub whole : Contains items given.End → items ≡ connection
 
--- Of a peer: each of its connections was served by a work of its own, the first by the first, and each work is closed.
-pub record IsServedInOrder {W M O : Type 0} (was_given : W → List (Given M) → Type 0) (is_closed : W → Bool) (queued : List (Queued M O)) (works : List W) : Type 0 where
+-- Of a peer: each of its connections was served by a work of its own, the first by the crew's work of this label and each
+-- later one by the work that its open mark brought, and each work is closed.
+pub record IsServedInOrder {W M : Type 0} (label : W → ℕ) (was_given : W → List (Given M) → Type 0) (is_closed : W → Bool) (first : ℕ) (queued : List (Queued M W)) (works : List W) : Type 0 where
+  pub whose : AreWorksOf label first queued works
   pub each : AllZip (InOrder was_given) works (connections_of queued)
   pub closed : All (λ work. is_closed work ≡ true) works
 
@@ -35,12 +37,14 @@ abbrev pub works_of : {W M : Type 0} → DeskState W M → List W
 works_of desk = desk.past ++ desk.work ∷ []
 
 -- Of a desk: all that was queued was taken, and its works are those of it.
-pub record IsSettled {W M : Type 0} (was_given : W → List (Given M) → Type 0) (is_closed : W → Bool) (queued : List (Queued M W)) (desk : DeskState W M) : Type 0 where
+pub record IsSettled {W M : Type 0} (label : W → ℕ) (was_given : W → List (Given M) → Type 0) (is_closed : W → Bool) (queued : List (Queued M W)) (desk : DeskState W M) : Type 0 where
   pub taken : desk.taken ≡ queued
-  pub served : IsServedInOrder was_given is_closed queued (works_of desk)
+  pub served : IsServedInOrder label was_given is_closed (first_label label desk) queued (works_of desk)
 
--- All peers: their desks, in their order, each with the works of all that the peer's reader queued.
-pub record IsFinished {W M : Type 0} (was_given : W → List (Given M) → Type 0) (is_closed : W → Bool) (crew : CrewState) (sides : List (ReaderSide M W)) (desks : List (DeskState W M)) : Type 0 where
+-- All peers: their desks, in their order, each with the works of all that the peer's reader queued, of which the first is the
+-- work with which the crew was made for this peer.
+pub record IsFinished {W M : Type 0} (label : W → ℕ) (was_given : W → List (Given M) → Type 0) (is_closed : W → Bool) (crew : CrewState) (sides : List (ReaderSide M W)) (desks : List (DeskState W M)) : Type 0 where
   pub peers : map (λ desk. desk.inbox.peer) desks ≡ range_with_len 0 (length crew.inboxes)
   pub names : map (λ desk. desk.inbox.name) desks ≡ names_of crew
-  pub settled : AllZip (λ side desk. IsSettled was_given is_closed (all_queued side) desk) sides desks
+  pub labels : map (first_label label) desks ≡ crew.labels
+  pub settled : AllZip (λ side desk. IsSettled label was_given is_closed (all_queued side) desk) sides desks

@@ -5,22 +5,30 @@ use Rattle.std.specs.List.{sum_by, range_with_len}
 use Rattle.atomic_table.specs.Seated.{TableId}
 use Rattle.cb_sched.specs.Desks.{Desks, DesksReached, held_by}
 
+-- what a desk goes by, as long as its crew lasts
+pub record DeskName : Type 0 where
+  pub inbox : TableId  -- its inbox's name
+  pub label : ℕ  -- the label of the work of its first connection
+
 -- what the ring sees of a desk
-pub record Shown : Type 0 where
+pub record Shown (X : Type 0) : Type 0 where
   pub peer : ℕ
-  pub name : TableId  -- its inbox's
-  pub taken : ℕ  -- how much was taken from that inbox
+  pub name : DeskName
+  pub taken : ℕ  -- how much was taken from its inbox
   pub closed : Bool  -- its work takes nothing more
   pub told : ℕ  -- how much its seat was told was queued there
+  pub whole : X  -- the desk itself
 
 -- what a hand remembers of the desk that it gave back last
-pub record Last : Type 0 where
+pub record Last (X : Type 0) : Type 0 where
   pub gives : ℕ  -- how often it gave one back
   pub peer : ℕ
   pub grew : ℕ  -- how much was taken while the hand held it
   pub closed : Bool  -- its work took nothing more then
   pub taken : ℕ  -- how much was taken from its inbox then, in all
   pub told : ℕ  -- how much its seat was told then was queued there
+  pub claimed : List X  -- the desk as it was claimed
+  pub gave : List X  -- and as it was given back
 
 -- The times of a crew: its desks are made, its hands claim and give them, one hand keeps them all.
 pub data Stage : Type 0 where
@@ -32,44 +40,45 @@ pub record RingState : Type 0 where
   pub name : TableId  -- which ring it is: no other has this name
   pub capacity : ℕ  -- how many desks it has room for
 
-pub record HandState : Type 0 where
+pub record HandState (X : Type 0) : Type 0 where
   pub ring : TableId  -- the name of its ring
   pub hands : ℕ  -- for how many handlers it stands
-  pub names : List TableId  -- the names of the crew's inboxes, one for each peer, in their order
+  pub names : List DeskName  -- the names of the crew's desks, one for each peer, in their order
   pub handlers : ℕ  -- how many the crew has
   pub stage : Stage
-  pub held : List Shown  -- the desks that it holds
-  pub last : Last
+  pub held : List (Shown X)  -- the desks that it holds
+  pub last : Last X
 
-abbrev pub peers_of : List Shown → List ℕ
-peers_of desks = map (λ (s : Shown). s.peer) desks
+abbrev pub peers_of : {X : Type 0} → List (Shown X) → List ℕ
+peers_of {X} desks = map (λ (s : Shown X). s.peer) desks
 
--- the crew's desk of this peer: its inbox has the name that the crew made for it
-pub record IsOfCrew (names : List TableId) (s : Shown) : Type 0 where
+-- the crew's desk of this peer: it has the name that the crew made for it
+pub record IsOfCrew {X : Type 0} (names : List DeskName) (s : Shown X) : Type 0 where
   pub exists : s.peer < length names
   pub named : slice_index_or names s.peer s.name ≡ s.name
 
 -- the hand is one of this ring, which has room for all desks of its crew
-abbrev pub IsHandOf : RingState → HandState → Type 0
+abbrev pub IsHandOf : {X : Type 0} → RingState → HandState X → Type 0
 IsHandOf ring hand = (hand.ring ≡ ring.name) × (length hand.names ≤ ring.capacity)
 
 -- no other hand stands for a handler, so no other holds a desk
-abbrev pub StandsForAll : HandState → Type 0
+abbrev pub StandsForAll : {X : Type 0} → HandState X → Type 0
 StandsForAll hand = hand.hands ≡ hand.handlers
 
--- the one desk that is held, as its peer and its inbox's name tell
-pub record IsHeld (held : List Shown) (s : Shown) : Type 0 where
-  pub before : Shown  -- as it was claimed
+-- the one desk that is held, as its peer and its name tell
+pub record IsHeld {X : Type 0} (held : List (Shown X)) (s : Shown X) : Type 0 where
+  pub before : Shown X  -- as it was claimed
   pub only : held ≡ before ∷ []
   pub same_peer : s.peer ≡ before.peer
-  pub same_name : s.name ≡ before.name
+  pub same_inbox : s.name.inbox ≡ before.name.inbox
+  pub same_label : s.name.label ≡ before.name.label
 
 -- The hand holds the desks of all peers, each once: whatever peers weigh, those of its desks weigh as much as all.
-abbrev pub HoldsAll : HandState → Type 0
+abbrev pub HoldsAll : {X : Type 0} → HandState X → Type 0
 HoldsAll hand = (weight : ℕ → ℕ) → sum_by weight (peers_of hand.held) ≡ sum_by weight (range_with_len 0 (length hand.names))
 
 -- The hand holds what one handler holds, with all desks at places to which acts of the crew's core lead.
-pub record HoldsInTurn (hand : HandState) : Type 0 where
+pub record HoldsInTurn {X : Type 0} (hand : HandState X) : Type 0 where
   pub desks : Desks
   pub reached : DesksReached (length hand.names) hand.handlers desks
   pub handler : ℕ
@@ -78,48 +87,48 @@ pub record HoldsInTurn (hand : HandState) : Type 0 where
 
 -- ---- hands, call by call
 
-abbrev pub no_last : Last
-no_last = record { gives = 0; peer = 0; grew = 0; closed = false; taken = 0; told = 0 }
+abbrev pub no_last : {X : Type 0} → Last X
+no_last = record { gives = 0; peer = 0; grew = 0; closed = false; taken = 0; told = 0; claimed = []; gave = [] }
 
 -- how much had been taken of the desk when it was claimed
-abbrev pub taken_before : List Shown → ℕ
+abbrev pub taken_before : {X : Type 0} → List (Shown X) → ℕ
 taken_before [] = 0
 taken_before (s ∷ rest) = s.taken
 
 -- what is remembered, beside what was before, of a desk that was held so and is given back
-abbrev pub last_of : Last → List Shown → Shown → Last
-last_of last held s = record { gives = last.gives + 1; peer = s.peer; grew = s.taken - taken_before held; closed = s.closed; taken = s.taken; told = s.told }
+abbrev pub last_of : {X : Type 0} → Last X → List (Shown X) → Shown X → Last X
+last_of {X} last held s = record { gives = last.gives + 1; peer = s.peer; grew = s.taken - taken_before held; closed = s.closed; taken = s.taken; told = s.told; claimed = map (λ (t : Shown X). t.whole) held; gave = s.whole ∷ [] }
 
 -- the one hand of a new ring
-abbrev pub opening_hand : TableId → ℕ → HandState
+abbrev pub opening_hand : {X : Type 0} → TableId → ℕ → HandState X
 opening_hand ring handlers = record { ring = ring; hands = handlers; names = []; handlers = handlers; stage = making; held = []; last = no_last }
 
 -- the hand after it put this new desk into the ring
-abbrev pub made_hand : HandState → Shown → HandState
+abbrev pub made_hand : {X : Type 0} → HandState X → Shown X → HandState X
 made_hand h s = record { ring = h.ring; hands = h.hands; names = h.names ++ s.name ∷ []; handlers = h.handlers; stage = h.stage; held = h.held; last = h.last }
 
 -- after all desks were made
-abbrev pub running_hand : HandState → HandState
+abbrev pub running_hand : {X : Type 0} → HandState X → HandState X
 running_hand h = record { ring = h.ring; hands = h.hands; names = h.names; handlers = h.handlers; stage = running; held = h.held; last = h.last }
 
 -- a hand that stands for one handler, and the hand that stood for it before
-abbrev pub hired_hand : HandState → HandState
+abbrev pub hired_hand : {X : Type 0} → HandState X → HandState X
 hired_hand h = record { ring = h.ring; hands = 1; names = h.names; handlers = h.handlers; stage = h.stage; held = []; last = no_last }
 
-abbrev pub hiring_hand : HandState → HandState
+abbrev pub hiring_hand : {X : Type 0} → HandState X → HandState X
 hiring_hand h = record { ring = h.ring; hands = h.hands - 1; names = h.names; handlers = h.handlers; stage = h.stage; held = h.held; last = h.last }
 
 -- after it claimed this desk, or gave it back
-abbrev pub claimed_hand : HandState → Shown → HandState
+abbrev pub claimed_hand : {X : Type 0} → HandState X → Shown X → HandState X
 claimed_hand h s = record { ring = h.ring; hands = h.hands; names = h.names; handlers = h.handlers; stage = h.stage; held = s ∷ []; last = h.last }
 
-abbrev pub given_hand : HandState → Shown → HandState
+abbrev pub given_hand : {X : Type 0} → HandState X → Shown X → HandState X
 given_hand h s = record { ring = h.ring; hands = h.hands; names = h.names; handlers = h.handlers; stage = h.stage; held = []; last = last_of h.last h.held s }
 
 -- after another one's handlers came to it
-abbrev pub joined_hand : HandState → HandState → HandState
+abbrev pub joined_hand : {X : Type 0} → HandState X → HandState X → HandState X
 joined_hand h other = record { ring = h.ring; hands = h.hands + other.hands; names = h.names; handlers = h.handlers; stage = h.stage; held = h.held; last = h.last }
 
 -- after it claimed this desk to keep it
-abbrev pub kept_hand : HandState → Shown → HandState
+abbrev pub kept_hand : {X : Type 0} → HandState X → Shown X → HandState X
 kept_hand h s = record { ring = h.ring; hands = h.hands; names = h.names; handlers = h.handlers; stage = finishing; held = h.held ++ s ∷ []; last = h.last }

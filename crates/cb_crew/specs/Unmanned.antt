@@ -13,5 +13,5 @@ pub record AreLines {Q : Type 0} (peers capacity : ℕ) (inboxes : List InboxSta
   pub vacancies_are : vacancies ≡ inboxes
 
 -- the one hand of a crew whose ring is empty
-abbrev pub IsOpeningHandOf : CrewState → HandState → Type 0
+abbrev pub IsOpeningHandOf : {X : Type 0} → CrewState → HandState X → Type 0
 IsOpeningHandOf crew hand = hand ≡ opening_hand crew.ring.name crew.handlers

@@ -30,6 +30,26 @@ given_by (queued.Open opening) = []
 abbrev pub connections_of : {M O : Type 0} → List (Queued M O) → List (List (Given M))
 connections_of marks = map (flat_map given_by) (parts is_open marks)
 
+-- the work that an open mark brings
+abbrev pub brought_by : {M O : Type 0} → Queued M O → List O
+brought_by (queued.Item item) = []
+brought_by queued.End = []
+brought_by (queued.Open opening) = opening ∷ []
+
+-- the works of a peer's connections but the first, one after another
+abbrev pub openings_of : {M O : Type 0} → List (Queued M O) → List O
+openings_of marks = flat_map brought_by marks
+
+-- the work of the first connection: the first that is past, or the latest
+abbrev pub first_of : {W : Type 0} → List W → W → W
+first_of [] work = work
+first_of (first ∷ later) work = first
+
+-- The works are those of a peer's connections: the first has the label of the crew's work for that peer, and each later one
+-- the label of the work that its open mark brought.
+abbrev pub AreWorksOf : {W M : Type 0} → (W → ℕ) → ℕ → List (Queued M W) → List W → Type 0
+AreWorksOf label first marks works = map label works ≡ first ∷ map label (openings_of marks)
+
 -- The work was given a beginning of its connection, in order and each once, and all of it while it is open.
 pub record WorksOn {W M : Type 0} (was_given : W → List (Given M) → Type 0) (is_closed : W → Bool) (work : W) (connection : List (Given M)) : Type 0 where
   pub items : List (Given M)

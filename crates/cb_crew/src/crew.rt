@@ -21,6 +21,8 @@ pub struct Crew<W: Work> {
     pub(crate) ring: Ring<Desk<W>>,
     pub(crate) inboxes: Vec<Shared<Inbox<W::Item, Fresh<W>>>>,
     pub(crate) handlers: u16,
+    /// The labels of the works with which it was made, one for each peer in their order.
+    pub(crate) labels: Vec<u64>,
 }
 
 impl<W: Work> Model for Crew<W> {
@@ -28,9 +30,9 @@ impl<W: Work> Model for Crew<W> {
 
     ghost Value = { CrewState };
 
-    ghost view = { λ a. record { ring = a.ring; inboxes = a.inboxes.items; handlers = a.handlers } };
+    ghost view = { λ a. record { ring = a.ring; inboxes = a.inboxes.items; handlers = a.handlers; labels = a.labels.items } };
 
-    ghost invariant = { λ a. IsCrew record { ring = a.ring; inboxes = a.inboxes.items; handlers = a.handlers } };
+    ghost invariant = { λ a. IsCrew record { ring = a.ring; inboxes = a.inboxes.items; handlers = a.handlers; labels = a.labels.items } };
 }
 
 impl<W: Work> Crew<W> {

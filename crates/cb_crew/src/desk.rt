@@ -3,7 +3,7 @@ ghost use Rattle.cb_inbox.specs.Seat.{opening_seat};
 ghost use Rattle.cb_crew.specs.declared.desk.Step.TheVariants.{Worked, Passed};
 ghost use Rattle.cb_crew.specs.declared.work.Given.{Given};
 ghost use Rattle.cb_crew.specs.Work.{IsEnd, IsTicked, IsUnticked};
-ghost use Rattle.cb_crew.specs.Desk.{IsDesk, IsSameLine, IsServed, HasServedAll, NotTicked, Stepped, TickedOnce, desk_note, desk_state, desk_told};
+ghost use Rattle.cb_crew.specs.Desk.{IsDesk, IsSameLine, IsServed, HasServedAll, NotTicked, Stepped, TickedOnce, desk_note, desk_state, desk_told, first_label};
 
 use crate::ring_rule::Travels;
 use crate::work::{Fresh, Given, Work};
@@ -35,8 +35,9 @@ pub struct Count {
 
 /// A peer's desk: its inbox with the one seat that takes from it, the work of its connection, and the works of those before.
 ///
-/// Each work was given a beginning of its connection as it was taken, in order and each once, and all of it while the work is
-/// open. The works of earlier connections are closed.
+/// Each work is its connection's: the first has kept its label, and each later one that of the work that its open mark brought.
+/// It was given a beginning of its connection as it was taken, in order and each once, and all of it while it is open. The works
+/// of earlier connections are closed.
 #[derive(Drop)]
 pub struct Desk<W: Work> {
     inbox: Shared<Inbox<W::Item, Fresh<W>>>,
@@ -53,13 +54,13 @@ impl<W: Work> Model for Desk<W> {
 
     ghost view = { λ a. desk_state a.inbox a.seat a.work a.past.items };
 
-    ghost invariant = { λ a. IsDesk W.given W.is_closed (desk_state a.inbox a.seat a.work a.past.items) × (a.seat.inbox ≡ a.inbox.name) × (255 ≤ vec_capacity a.past) };
+    ghost invariant = { λ a. IsDesk W.label W.given W.is_closed (desk_state a.inbox a.seat a.work a.past.items) × (a.seat.inbox ≡ a.inbox.name) × (255 ≤ vec_capacity a.past) };
 }
 
 impl<W: Work> Travels for Desk<W> {
     ghost use Rattle.cb_crew.specs.Turn.{shown_desk};
 
-    ghost shown = { λ desk. shown_desk W.is_closed desk };
+    ghost shown = { λ desk. shown_desk W.label W.is_closed desk };
 }
 
 impl<W: Work> Desk<W> {
@@ -113,7 +114,7 @@ impl<W: Work> Desk<W> {
 
     /// Tells what the works of this desk were given of what was taken from its inbox.
     pub fn served(&self)
-        ensures { IsDesk W.given W.is_closed self.now }
+        ensures { IsDesk W.label W.given W.is_closed self.now }
     {
         let _ = &self.seat;
     }
@@ -139,6 +140,7 @@ impl<W: Work> Desk<W> {
         requires { budget ≤ 64 }
         ensures served { IsServed W.is_closed self.old self.new budget result.worked result.passed }
         ensures ticks { TickedOnce W.given W.ticked W.is_closed self.old self.new }
+        ensures label { first_label W.label self.new ≡ first_label W.label self.old }
     {
         self.tick(rt);
         let mut count = Count {
@@ -164,6 +166,7 @@ impl<W: Work> Desk<W> {
     pub fn serve_all<R: Wait>(&mut self, rt: &R)
         ensures served { HasServedAll self.old self.new }
         ensures ticks { NotTicked W.ticked self.old self.new }
+        ensures label { first_label W.label self.new ≡ first_label W.label self.old }
     {
         for _ in rt.forever() {
             if let Step::Empty = self.advance(rt) {
@@ -184,6 +187,8 @@ impl<W: Work> Desk<W> {
     fn tick<R: Wait>(&mut self, rt: &R)
         ensures line { IsSameLine self.old self.new }
         ensures past { self.new.past ≡ self.old.past }
+        ensures label { W.label self.new.work ≡ W.label self.old.work }
+        ensures closed { W.is_closed self.old.work ≡ true → W.is_closed self.new.work ≡ true }
         ensures ticked { IsTicked W.given W.ticked W.is_closed self.old.work self.new.work }
     {
         if !self.work.closed() {
@@ -195,6 +200,7 @@ impl<W: Work> Desk<W> {
     fn advance<R: Wait>(&mut self, rt: &R) -> Step
         ensures stepped { Stepped W.is_closed self.old self.new result }
         ensures ticks { NotTicked W.ticked self.old self.new }
+        ensures label { first_label W.label self.new ≡ first_label W.label self.old }
     {
         let ready = make_ready(&mut self.work);
         match self.seat.take(rt, &self.inbox) {
@@ -217,6 +223,7 @@ fn make_ready<W: Work>(work: &mut W) -> bool
     ensures closed { result ≡ false → W.is_closed work.new ≡ true }
     ensures live { W.is_closed work.new ≡ false → W.is_closed work.old ≡ false }
     ensures given { (items : List (Given W.Item)) → W.given work.old items → W.given work.new items }
+    ensures label { W.label work.new ≡ W.label work.old }
     ensures ticked { IsUnticked W.ticked work.old work.new }
 {
     !work.closed() && work.ready()
@@ -227,6 +234,7 @@ fn give<W: Work, R: Wait>(rt: &R, work: &mut W, ready: bool, item: Given<W::Item
     requires { ready ≡ true → (W.is_closed work.old ≡ false) × W.primed work.old }
     ensures worked { ready ≡ true → (result ≡ Worked) × ((items : List (Given W.Item)) → W.given work.old items → W.given work.new (items ++ item ∷ [])) × (IsEnd item → W.is_closed work.new ≡ true) }
     ensures passed { ready ≡ false → (result ≡ Passed) × (work.new ≡ work.old) }
+    ensures label { W.label work.new ≡ W.label work.old }
     ensures ticked { IsUnticked W.ticked work.old work.new }
 {
     if !ready {

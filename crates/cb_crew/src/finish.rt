@@ -1,5 +1,6 @@
 ghost use Rattle.std.specs.Prelude.{◌≡◌, ◌<◌, ◌≤◌, ◌^◌, true, [], length, map, slice_index_or, vec_capacity};
 ghost use Rattle.cb_inbox.specs.Queued.{has_ended};
+ghost use Rattle.cb_crew.specs.Desk.{first_label};
 ghost use Rattle.cb_crew.specs.Turn.{shown_desk};
 ghost use Rattle.cb_crew.specs.Ring.{StandsForAll};
 ghost use Rattle.cb_crew.specs.Crew.{AreAllDesks, AreHandlersOf, AreInOrder, AreSidesOf, HasPlace, IsFreeHandOf, all_queued, inbox_of};
@@ -27,7 +28,7 @@ impl<W: Work> Crew<W> {
     ) -> Vec<Desk<W>>
         requires sides { AreSidesOf self.now sides.items }
         requires handlers { AreHandlersOf self.now handlers.items }
-        ensures { IsFinished W.given W.is_closed self.now sides.items result.items }
+        ensures { IsFinished W.label W.given W.is_closed self.now sides.items result.items }
     {
         let (hand, desks) = self.gather(handlers);
         let mut desks = self.keep_all(rt, hand, desks);
@@ -63,7 +64,7 @@ impl<W: Work> Crew<W> {
     ) -> Vec<Desk<W>>
         requires hand { IsFreeHandOf self.now hand × StandsForAll hand }
         requires desks { (desks.items ≡ []) × (length self.now.inboxes ≤ vec_capacity desks) }
-        ensures { AreAllDesks self.now (map (shown_desk W.is_closed) result.items) }
+        ensures { AreAllDesks self.now (map (shown_desk W.label W.is_closed) result.items) }
     {
         for _ in rt.forever() {
             let Some(desk) = self.ring.keep(rt, &mut hand) else {
@@ -82,8 +83,8 @@ impl<W: Work> Crew<W> {
         mut desks: Vec<Desk<W>>,
     ) -> Vec<Desk<W>>
         requires sides { AreSidesOf self.now sides.items }
-        requires desks { AreInOrder self.now (map (shown_desk W.is_closed) desks.items) }
-        ensures { IsFinished W.given W.is_closed self.now sides.items result.items }
+        requires desks { AreInOrder self.now (map (shown_desk W.label W.is_closed) desks.items) }
+        ensures { IsFinished W.label W.given W.is_closed self.now sides.items result.items }
     {
         for (peer, side) in sides.into_iter().enumerate() {
             settle(rt, &self.inboxes[peer], side, &mut desks[peer]);
@@ -102,7 +103,8 @@ fn settle<W: Work, R: Wait>(
     requires inbox { (inbox_of side ≡ inbox.now.name) × (desk.old.inbox.name ≡ inbox.now.name) }
     requires place { HasPlace side }
     ensures same { desk.new.inbox ≡ desk.old.inbox }
-    ensures settled { IsSettled W.given W.is_closed (all_queued side) desk.new }
+    ensures label { first_label W.label desk.new ≡ first_label W.label desk.old }
+    ensures settled { IsSettled W.label W.given W.is_closed (all_queued side) desk.new }
 {
     match side {
         ReaderSide::Live(mut reader) => {
@@ -128,7 +130,8 @@ fn settle_ended<W: Work, R: Wait>(
 )
     requires inbox { (ended.inbox ≡ inbox.now.name) × (desk.old.inbox.name ≡ inbox.now.name) }
     ensures same { desk.new.inbox ≡ desk.old.inbox }
-    ensures settled { IsSettled W.given W.is_closed ended.queued desk.new }
+    ensures label { first_label W.label desk.new ≡ first_label W.label desk.old }
+    ensures settled { IsSettled W.label W.given W.is_closed ended.queued desk.new }
 {
     desk.learn(ended.note(inbox));
     desk.serve_all(rt);

@@ -3,7 +3,7 @@ ghost use Rattle.cb_crew.specs.declared.handler.Turn.TheVariants.{Spent};
 ghost use Rattle.cb_crew.specs.Crew.{IsHandlerOf};
 ghost use Rattle.cb_crew.specs.Ring.{IsHandOf, running};
 ghost use Rattle.cb_crew.specs.Desk.{TickedOnce};
-ghost use Rattle.cb_crew.specs.Turn.{Begins, Brings, GivesTicked, Hears, IsClaimed, IsNoteOf, Serves, Ticks, Turned, TurnsDesk};
+ghost use Rattle.cb_crew.specs.Turn.{Begins, Brings, Counts, GivesTicked, Hears, IsClaimed, IsNoteOf, Serves, Ticks, Turned, TurnsDesk};
 
 use crate::crew::Crew;
 use crate::desk::Desk;
@@ -43,9 +43,10 @@ pub struct Handler<W: Work> {
 
 impl<W: Work> Model for Handler<W> {
     ghost use Rattle.std.specs.Prelude.{◌≡◌, ◌≤◌, ◌^◌, [], vec_capacity, IfOk};
+    ghost use Rattle.cb_crew.specs.Desk.{DeskState};
     ghost use Rattle.cb_crew.specs.Turn.{HandlerState};
 
-    ghost Value = { HandlerState };
+    ghost Value = { HandlerState (DeskState W W.Item) };
 
     ghost view = { λ a. record { hand = a.hand; turns = a.turns; room = vec_capacity a.desks } };
 
@@ -90,7 +91,8 @@ impl<W: Work> Handler<W> {
         ensures turns { result ≢ Spent → self.new.turns ≡ self.old.turns + 1 }
         ensures stays { result ≡ Spent → self.new ≡ self.old }
         ensures same { IsHandlerOf crew.now self.new × (self.new.room ≡ self.old.room) }
-        ensures ticks { Ticks W.given W.ticked W.is_closed self.old.hand self.new.hand result }
+        ensures ticks { Ticks W.label W.given W.ticked W.is_closed self.old.hand self.new.hand result }
+        ensures counts { Counts W.label W.is_closed self.old.hand self.new.hand result }
     {
         match self.begin(rt, crew) {
             Ok(desk) => self.complete(rt, crew, desk, budget),
@@ -117,7 +119,8 @@ impl<W: Work> Handler<W> {
         ensures stays { result.0 ≡ Spent → self.new ≡ self.old }
         ensures same { IsHandlerOf crew.now self.new × (self.new.room ≡ self.old.room) }
         ensures brings { Brings self.new.hand result.0 peer note result.1 }
-        ensures ticks { Ticks W.given W.ticked W.is_closed self.old.hand self.new.hand result.0 }
+        ensures ticks { Ticks W.label W.given W.ticked W.is_closed self.old.hand self.new.hand result.0 }
+        ensures counts { Counts W.label W.is_closed self.old.hand self.new.hand result.0 }
     {
         match self.begin(rt, crew) {
             Ok(mut desk) => {
@@ -131,7 +134,7 @@ impl<W: Work> Handler<W> {
     /// Claims the desk at the ring's front for a turn.
     fn begin<R: Wait>(&mut self, rt: &R, crew: &Crew<W>) -> Result<Desk<W>, Turn>
         requires { IsHandlerOf crew.now self.old }
-        ensures begins { Begins W.is_closed self.old self.new result }
+        ensures begins { Begins W.label W.is_closed self.old self.new result }
         ensures hand { IfOk result (λ _. IsHandOf crew.now.ring self.new.hand × (self.new.hand.stage ≡ running)) }
         ensures room { self.new.room ≡ self.old.room }
     {
@@ -145,10 +148,10 @@ impl<W: Work> Handler<W> {
     /// Serves a desk that the hand holds, gives it back, and tells what was done.
     fn complete<R: Wait>(&mut self, rt: &R, crew: &Crew<W>, mut desk: Desk<W>, budget: u32) -> Turn
         requires hand { IsHandOf crew.now.ring self.old.hand × (self.old.hand.stage ≡ running) }
-        requires desk { IsClaimed self.old.hand desk }
+        requires desk { IsClaimed W.label self.old.hand desk }
         requires budget { (1 ≤ budget) × (budget ≤ 64) }
-        ensures serves { Serves W.is_closed self.old.hand self.new.hand desk budget result }
-        ensures ticks { GivesTicked W.given W.ticked W.is_closed self.old.hand self.new.hand desk }
+        ensures serves { Serves W.label W.is_closed self.old.hand self.new.hand desk budget result }
+        ensures ticks { GivesTicked W.label W.given W.ticked W.is_closed self.old.hand self.new.hand desk }
         ensures same { (self.new.turns ≡ self.old.turns) × (self.new.room ≡ self.old.room) }
     {
         let turn = serve(rt, &mut desk, budget);
@@ -176,7 +179,7 @@ fn hear<W: Work>(
 /// Serves a desk, and tells what was done.
 fn serve<W: Work, R: Wait>(rt: &R, desk: &mut Desk<W>, budget: u32) -> Turn
     requires { (1 ≤ budget) × (budget ≤ 64) }
-    ensures turns { TurnsDesk W.is_closed desk.old desk.new budget result }
+    ensures turns { TurnsDesk W.label W.is_closed desk.old desk.new budget result }
     ensures ticks { TickedOnce W.given W.ticked W.is_closed desk.old desk.new }
 {
     let peer = desk.peer();

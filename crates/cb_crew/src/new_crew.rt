@@ -1,4 +1,4 @@
-ghost use Rattle.std.specs.Prelude.{◌≡◌, ◌≤◌, [], length, vec_capacity, All, IfOk, IfErr, IsOkUnless};
+ghost use Rattle.std.specs.Prelude.{◌≡◌, ◌≤◌, [], length, map, vec_capacity, All, IfOk, IfErr, IsOkUnless};
 ghost use Rattle.cb_base.specs.declared.fault.Fault.TheVariants.{Memory};
 ghost use Rattle.cb_crew.specs.Work.{IsFresh};
 ghost use Rattle.cb_inbox.specs.Seat.{opening_seat};
@@ -100,11 +100,12 @@ impl<W: Work> Crew<W> {
         requires handlers { (1 ≤ handlers) × (handlers ≤ 16) }
         requires capacity { (1 ≤ capacity) × (capacity ≤ 1024) }
         ensures crew { IfOk result (λ made. IsNewCrew (length works.items) handlers capacity made.crew) }
+        ensures labels { IfOk result (λ made. made.crew.labels ≡ map W.label works.items) }
         ensures seats { IfOk result (λ made. AreOpeningSeats made.crew made.readers.items) }
         ensures handlers { IfOk result (λ made. AreHandlersOf made.crew made.handlers.items × MadeNoTurn made.handlers.items) }
         ensures refused { IfErr result (λ back. (back.0.items ≡ works.items) × (back.1 ≡ Memory)) }
     {
-        match Unmanned::new(alloc, works.len() as u16, handlers, capacity) {
+        match Unmanned::new(alloc, &works, handlers, capacity) {
             Ok(unmanned) => Ok(unmanned.man(rt, alloc, works)),
             Err(fault) => Err((works, fault)),
         }
@@ -121,6 +122,7 @@ impl<W: Work> Crew<W> {
         requires hand { IsOpeningHandOf self.now hand.old }
         requires vacancies { vacancies.items ≡ self.now.inboxes }
         requires works { (length works.items ≡ length self.now.inboxes) × All (IsFresh W.given W.ticked W.is_closed) works.items }
+        requires labels { map W.label works.items ≡ self.now.labels }
         ensures { IsFreeHandOf self.now hand.new × StandsForAll hand.new }
     {
         for (vacancy, work) in vacancies.into_iter().zip(works) {
@@ -190,17 +192,37 @@ impl<W: Work> Lines<W> {
     }
 }
 
+/// The labels of works.
+fn labels_of<W: Work>(alloc: Global, works: &[W]) -> Result<Vec<u64>, Fault>
+    ensures labels { IfOk result (λ labels. labels.items ≡ map W.label works.now) }
+    ensures memory { IsOkUnless result Memory }
+{
+    let mut labels = Vec::new(alloc);
+    for work in works {
+        labels.push(work.whose())?;
+    }
+    Ok(labels)
+}
+
 impl<W: Work> Unmanned<W> {
-    /// A crew of so many peers and handlers, with inboxes of this capacity.
+    /// A crew for these works, one for each peer, of so many handlers, with inboxes of this capacity.
     ///
     /// The only error is `Fault::Memory`.
-    fn new(alloc: Global, peers: u16, handlers: u16, capacity: usize) -> Result<Unmanned<W>, Fault>
-        requires peers { (1 ≤ peers) × (peers ≤ 64) }
+    fn new(
+        alloc: Global,
+        works: &Vec<W>,
+        handlers: u16,
+        capacity: usize,
+    ) -> Result<Unmanned<W>, Fault>
+        requires peers { (1 ≤ length works.now.items) × (length works.now.items ≤ 64) }
         requires handlers { (1 ≤ handlers) × (handlers ≤ 16) }
         requires capacity { (1 ≤ capacity) × (capacity ≤ 1024) }
-        ensures crew { IfOk result (λ made. IsNewCrew peers handlers capacity made) }
+        ensures crew { IfOk result (λ made. IsNewCrew (length works.now.items) handlers capacity made) }
+        ensures labels { IfOk result (λ made. made.labels ≡ map W.label works.now.items) }
         ensures memory { IsOkUnless result Memory }
     {
+        let peers = works.len() as u16;
+        let labels = labels_of(alloc, works.as_slice())?;
         let (ring, hand) = Ring::new(alloc, peers, handlers)?;
         let lines = Lines::new(alloc, peers, capacity)?;
         Ok(Unmanned {
@@ -208,6 +230,7 @@ impl<W: Work> Unmanned<W> {
                 ring,
                 inboxes: lines.inboxes,
                 handlers,
+                labels,
             },
             hand,
             readers: lines.readers,
@@ -219,7 +242,8 @@ impl<W: Work> Unmanned<W> {
 
     /// The crew with these works. It takes no memory.
     fn man<R: Wait>(self, rt: &R, alloc: Global, works: Vec<W>) -> NewCrew<W>
-        requires { (length works.items ≡ length self.inboxes) × All (IsFresh W.given W.ticked W.is_closed) works.items }
+        requires works { (length works.items ≡ length self.inboxes) × All (IsFresh W.given W.ticked W.is_closed) works.items }
+        requires labels { map W.label works.items ≡ self.labels }
         ensures crew { result.crew ≡ self }
         ensures seats { AreOpeningSeats result.crew result.readers.items }
         ensures handlers { AreHandlersOf result.crew result.handlers.items × MadeNoTurn result.handlers.items }

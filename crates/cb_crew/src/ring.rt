@@ -40,7 +40,7 @@ impl<D: Travels + Drop> Model for Hand<D> {
     ghost use Rattle.cb_crew.specs.Ring.{HandState};
     ghost use Rattle.cb_crew.specs.Hand.{hand_state, IsHand};
 
-    ghost Value = { HandState };
+    ghost Value = { HandState D };
 
     ghost view = { λ a. hand_state a.pass };
 

@@ -17,6 +17,8 @@ pub enum Given<M> {
 /// What works on the items of one connection, one after another.
 ///
 /// A call may wait, for a lock that others hold or for a writer; its contract holds if it returns.
+///
+/// A work keeps its label, by which contracts say whose it is.
 pub trait Work: Drop {
     ghost use Rattle.std.specs.Prelude.{◌≡◌, ℕ, Bool, true, false, List, ◌++◌, ◌∷◌, [], length};
     ghost use Rattle.cb_crew.specs.declared.work.Given.{Given};
@@ -37,6 +39,13 @@ pub trait Work: Drop {
     /// It takes nothing more.
     ghost is_closed: { Self → Bool };
 
+    /// Whose work it is.
+    ghost label: { Self → ℕ };
+
+    /// Its label.
+    fn whose(&self) -> u64
+        ensures { result ≡ label self.now };
+
     /// Whether it takes nothing more.
     fn closed(&self) -> bool
         ensures { result ≡ is_closed self.now };
@@ -46,6 +55,7 @@ pub trait Work: Drop {
         requires { is_closed self.old ≡ false }
         ensures ready { result ≡ true → (is_closed self.new ≡ false) × primed self.new }
         ensures closed { result ≡ false → is_closed self.new ≡ true }
+        ensures label { label self.new ≡ label self.old }
         ensures given { (items : List (Given Self.Item)) → given self.old items → given self.new items }
         ensures ticked { (at : List ℕ) → ticked self.old at → ticked self.new at };
 
@@ -55,11 +65,13 @@ pub trait Work: Drop {
         requires primed { primed self.old }
         ensures given { (items : List (Given Self.Item)) → given self.old items → given self.new (items ++ item ∷ []) }
         ensures end { IsEnd item → is_closed self.new ≡ true }
+        ensures label { label self.new ≡ label self.old }
         ensures ticked { (at : List ℕ) → ticked self.old at → ticked self.new at };
 
     /// What is to be done once in each turn, whether or not an item waits.
     fn tick<R: Wait>(&mut self, rt: &R)
         requires { is_closed self.old ≡ false }
+        ensures label { label self.new ≡ label self.old }
         ensures given { (items : List (Given Self.Item)) → given self.old items → given self.new items }
         ensures ticked { (items : List (Given Self.Item)) (at : List ℕ) → given self.old items → ticked self.old at → ticked self.new (at ++ length items ∷ []) };
 }

@@ -96,19 +96,19 @@ sides_back K f inbox P keeps inboxes threads back of len each = (
   λ i d lt. (keeps _ _ (each i d lt).2).1,
 )
 
-first_room : (crew : CrewState) (xs ys : List HandlerState) → map (λ (h : HandlerState). h.room) xs ≡ map (λ (h : HandlerState). h.room) ys → FirstHasRoom crew ys → FirstHasRoom crew xs
+first_room : {X : Type 0} (crew : CrewState) (xs ys : List (HandlerState X)) → map (λ (h : HandlerState X). h.room) xs ≡ map (λ (h : HandlerState X). h.room) ys → FirstHasRoom crew ys → FirstHasRoom crew xs
 first_room crew [] [] same room = room
-first_room crew [] (y ∷ ys) same room = absurd (let n : 0 ≡ suc (length (map (λ (h : HandlerState). h.room) ys)) = ap length same in omega arith)
-first_room crew (x ∷ xs) [] same room = absurd (let n : suc (length (map (λ (h : HandlerState). h.room) xs)) ≡ 0 = ap length same in omega arith)
+first_room {X} crew [] (y ∷ ys) same room = absurd (let n : 0 ≡ suc (length (map (λ (h : HandlerState X). h.room) ys)) = ap length same in omega arith)
+first_room {X} crew (x ∷ xs) [] same room = absurd (let n : suc (length (map (λ (h : HandlerState X). h.room) xs)) ≡ 0 = ap length same in omega arith)
 first_room crew (x ∷ xs) (y ∷ ys) same room = subst (λ n. length crew.inboxes ≤ n) (sym (ap (λ ns. slice_index_or ns 0 0) same)) room
 
 -- all handlers are those of the crew, the first of them first
-pub handlers_back : {T : Type 0} (K : T → HandlerState → Type 0) (f : T → HandlerState) (c : T → CrewState) → ((t : T) (s : HandlerState) → K t s → IsHandlerOf (c t) s × (s.room ≡ (f t).room))
-    → (crew : CrewState) (handlers : List HandlerState) (threads : List T) (back : List HandlerState) → map f threads ≡ handlers → All (λ t. c t ≡ crew) threads → AreHandlersOf crew handlers
+pub handlers_back : {X T : Type 0} (K : T → HandlerState X → Type 0) (f : T → HandlerState X) (c : T → CrewState) → ((t : T) (s : HandlerState X) → K t s → IsHandlerOf (c t) s × (s.room ≡ (f t).room))
+    → (crew : CrewState) (handlers : List (HandlerState X)) (threads : List T) (back : List (HandlerState X)) → map f threads ≡ handlers → All (λ t. c t ≡ crew) threads → AreHandlersOf crew handlers
     → length back ≡ length threads → Returned K threads back → AreHandlersOf crew back
-handlers_back K f c keeps crew handlers threads back of crews all len each =
-    let rooms : map (λ (h : HandlerState). h.room) back ≡ map (λ (h : HandlerState). h.room) handlers =
-    returned_map K (λ t. (f t).room) (λ (h : HandlerState). h.room) (λ t s k. (keeps t s k).1) threads back len each ∙ sym (map_map f (λ (h : HandlerState). h.room) threads) ∙ ap (map (λ (h : HandlerState). h.room)) of in
+handlers_back {X} K f c keeps crew handlers threads back of crews all len each =
+    let rooms : map (λ (h : HandlerState X). h.room) back ≡ map (λ (h : HandlerState X). h.room) handlers =
+    returned_map K (λ t. (f t).room) (λ (h : HandlerState X). h.room) (λ t s k. (keeps t s k).1) threads back len each ∙ sym (map_map f (λ (h : HandlerState X). h.room) threads) ∙ ap (map (λ (h : HandlerState X). h.room)) of in
     record {
       each = λ i d lt.
           let r = each i d lt in

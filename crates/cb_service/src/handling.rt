@@ -34,6 +34,11 @@ impl Vigil {
     fn served(&mut self, signals: &Signals) {
         self.fruitless = 0;
         self.longest = SHORTEST_SLEEP;
+        self.stand_up(signals);
+    }
+
+    /// The handler stands from now on.
+    fn stand_up(&mut self, signals: &Signals) {
         if self.seen.take().is_some() {
             signals.get_up();
         }
@@ -62,7 +67,8 @@ impl Vigil {
     }
 }
 
-/// What a handler's thread does: it makes turns until it is told to stop and a round is in vain, and hands its handler back.
+/// What a handler's thread does: it makes turns until it is told to stop and a round is in vain, and hands its handler back. It
+/// stands then, so that no reader rings for it any more.
 /// So what is queued when the last reader returned is served by all handlers, and not by one thread at the end.
 pub fn handle<W: Work, R: Wait>(
     rt: &R,
@@ -87,12 +93,16 @@ pub fn handle<W: Work, R: Wait>(
             Turn::Idle(_) | Turn::Shut(_) | Turn::NoDesk => {
                 if vigil.is_in_vain(crew.peers()) {
                     if stopped {
+                        vigil.stand_up(signals);
                         return handler;
                     }
                     vigil.rest(rt, signals);
                 }
             }
-            Turn::Spent => return handler,
+            Turn::Spent => {
+                vigil.stand_up(signals);
+                return handler;
+            }
         }
     }
     unreachable!()

@@ -56,6 +56,24 @@ pub struct Orders {
     pub pause: u32,
 }
 
+/// The readers of all peers, in their order.
+#[derive(Drop)]
+pub struct Readers<W: Work> {
+    /// Their seats.
+    pub seats: Vec<ReaderSeat<W::Item, Fresh<W>>>,
+    /// The works of each peer's later connections. A peer for which there are none has one connection.
+    pub later: Vec<Vec<Fresh<W>>>,
+}
+
+/// Who works in a crew.
+#[derive(Drop)]
+pub struct Staff<W: Work> {
+    /// The readers of its peers.
+    pub readers: Readers<W>,
+    /// All its handlers, the first of them first.
+    pub handlers: Vec<Handler<W>>,
+}
+
 /// Waits for so many milliseconds.
 fn pause<R: Clock>(rt: &R, milliseconds: u32) {
     if milliseconds > 0 {
@@ -110,15 +128,15 @@ fn start_readers<'s, E, W: Work<Item = u64> + Send + 's, R: Threads + Wait + Clo
     crew: &'s Crew<W>,
     signals: &'s Signals,
     orders: Orders,
-    seats: Vec<ReaderSeat<u64, Fresh<W>>>,
-    later: Vec<Vec<Fresh<W>>>,
+    readers: Readers<W>,
 ) -> Result<Vec<Reading<W>>, Refusal>
-    requires seats { AreOpeningSeats crew.now seats.items }
+    requires seats { AreOpeningSeats crew.now readers.seats.items }
     ensures { IfOk result (λ started. HandBackSides started.items crew.entry.now.inboxes) }
 {
     let Ok(mut threads) = Vec::with_capacity(alloc, usize::from(crew.peers())) else {
         return Err(Refusal::Memory);
     };
+    let Readers { seats, later } = readers;
     let mut later = later.into_iter();
     let mut peer = 0u16;
     for seat in seats {
@@ -157,17 +175,16 @@ fn run<'s, E, W: Work<Item = u64> + Send + 's, R: Threads + Wait + Clock + Sync>
     crew: &'s Crew<W>,
     signals: &'s Signals,
     orders: Orders,
-    seats: Vec<ReaderSeat<u64, Fresh<W>>>,
-    later: Vec<Vec<Fresh<W>>>,
-    handlers: Vec<Handler<W>>,
+    staff: Staff<W>,
 ) -> Result<(Vec<ReaderSide<u64, Fresh<W>>>, Vec<Handler<W>>), Refusal>
     requires budget { (1 ≤ orders.budget) × (orders.budget ≤ 64) }
-    requires seats { AreOpeningSeats crew.now seats.items }
-    requires handlers { AreHandlersOf crew.now handlers.items }
+    requires seats { AreOpeningSeats crew.now staff.readers.seats.items }
+    requires handlers { AreHandlersOf crew.now staff.handlers.items }
     ensures { IfOk result (λ back. AreSidesOf crew.entry.now back.0.items × AreHandlersOf crew.entry.now back.1.items) }
 {
+    let Staff { readers, handlers } = staff;
     let handling = start_handlers(scope, rt, alloc, crew, signals, orders.budget, handlers)?;
-    let reading = start_readers(scope, rt, alloc, crew, signals, orders, seats, later)?;
+    let reading = start_readers(scope, rt, alloc, crew, signals, orders, readers)?;
     let Ok(sides) = thread::join_promised(rt, reading) else {
         return Err(Refusal::Memory);
     };
@@ -186,25 +203,21 @@ pub fn serve<W: Work<Item = u64> + Send, R: Threads + Wait + Clock + Sync>(
     crew: &Crew<W>,
     signals: &Signals,
     orders: Orders,
-    seats: Vec<ReaderSeat<u64, Fresh<W>>>,
-    later: Vec<Vec<Fresh<W>>>,
-    handlers: Vec<Handler<W>>,
+    staff: Staff<W>,
 ) -> Result<Vec<Desk<W>>, Refusal>
     requires budget { (1 ≤ orders.budget) × (orders.budget ≤ 64) }
-    requires seats { AreOpeningSeats crew.now seats.items }
-    requires handlers { AreHandlersOf crew.now handlers.items }
-    ensures { IfOk result (λ desks. IsServed W.given W.is_closed crew.now desks.items) }
+    requires seats { AreOpeningSeats crew.now staff.readers.seats.items }
+    requires handlers { AreHandlersOf crew.now staff.handlers.items }
+    ensures { IfOk result (λ desks. IsServed W.label W.given W.is_closed crew.now desks.items) }
 {
     let (sides, handlers) = thread::scope(
         thread::scope_env(),
         rt,
         move |scope| -> Result<(Vec<ReaderSide<u64, Fresh<W>>>, Vec<Handler<W>>), Refusal>
-            requires { (1 ≤ orders.budget) × (orders.budget ≤ 64) × AreOpeningSeats crew.now seats.items × AreHandlersOf crew.now handlers.items }
+            requires { (1 ≤ orders.budget) × (orders.budget ≤ 64) × AreOpeningSeats crew.now staff.readers.seats.items × AreHandlersOf crew.now staff.handlers.items }
             ensures { IfOk result (λ back. AreSidesOf crew.entry.now back.0.items × AreHandlersOf crew.entry.now back.1.items) }
         {
-            let back = run(
-                scope, rt, alloc, crew, signals, orders, seats, later, handlers,
-            );
+            let back = run(scope, rt, alloc, crew, signals, orders, staff);
             signals.stop();
             back
         },

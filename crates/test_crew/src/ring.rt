@@ -1,13 +1,12 @@
-ghost use Rattle.std.specs.Prelude.{◌≡◌, [], IfOk};
-ghost use Rattle.cb_crew.specs.Ring.{running, IsHandOf, claimed_hand};
-ghost use Rattle.cb_crew.specs.RingTests.{shown_tray};
+ghost use Rattle.std.specs.Prelude.{◌≡◌, []};
+ghost use Rattle.cb_crew.specs.Ring.{running, IsHandOf};
 
 use cb_crew::{Hand, Ring, Travels};
 use std::sync::Wait;
 use std::test::*;
 
 /// A desk of these tests, with what was taken from it.
-#[derive(Debug, Drop, PartialEq, Eq)]
+#[derive(Drop)]
 struct Tray {
     peer: u16,
     taken: u64,
@@ -16,7 +15,7 @@ struct Tray {
 impl Travels for Tray {
     ghost use Rattle.cb_crew.specs.RingTests.{shown_tray};
 
-    ghost shown = { λ tray. shown_tray tray.peer tray.taken };
+    ghost shown = { λ tray. shown_tray tray tray.peer tray.taken };
 }
 
 /// A tray from which nothing was taken.
@@ -26,24 +25,28 @@ fn new_tray(peer: u16) -> Tray
     Tray { peer, taken: 0 }
 }
 
-/// The tray at the front of the ring.
-fn front<R: Wait>(rt: &R, ring: &Ring<Tray>, hand: &mut Hand<Tray>) -> Result<Tray, Fail>
-    requires hand { IsHandOf ring.now hand.old × (hand.old.held ≡ []) }
-    requires stage { hand.old.stage ≡ running }
-    ensures { IfOk result (λ found. hand.new ≡ claimed_hand hand.old (shown_tray found.peer found.taken)) }
-{
-    match ring.claim(rt, hand) {
-        Some(found) => Ok(found),
-        None => Err(Fail::from("no tray waits")),
+/// Whose tray it is and how much was taken from it, if one was there.
+fn told(tray: Option<Tray>) -> Option<(u16, u64)> {
+    match tray {
+        Some(tray) => Some((tray.peer, tray.taken)),
+        None => None,
     }
 }
 
-/// Whose tray it is, if one was there.
-fn peer_of(tray: Option<Tray>) -> Option<u16> {
-    match tray {
-        Some(tray) => Some(tray.peer),
-        None => None,
-    }
+/// Claims the tray at the front of the ring, takes so much from it, and gives it back. Whose it was.
+fn take_from<R: Wait>(rt: &R, ring: &Ring<Tray>, hand: &mut Hand<Tray>, more: u32) -> Option<u16>
+    requires hand { IsHandOf ring.now hand.old × (hand.old.held ≡ []) }
+    requires stage { hand.old.stage ≡ running }
+    ensures hand { IsHandOf ring.now hand.new × (hand.new.held ≡ []) }
+    ensures stage { hand.new.stage ≡ running }
+    ensures hands { (hand.new.hands ≡ hand.old.hands) × (hand.new.handlers ≡ hand.old.handlers) }
+{
+    let mut tray = ring.claim(rt, hand)?;
+    let peer = tray.peer;
+    tray.taken = tray.taken.wrapping_add(u64::from(more));
+    ring.in_turn(hand);
+    ring.give(rt, hand, tray);
+    Some(peer)
 }
 
 // Two hands claim trays from the front of the ring and give them back at its back.
@@ -55,27 +58,30 @@ fn trays_go_round(rt: HostRuntime) -> Result<(), Fail> {
     ring.make(&rt, &mut first, new_tray(2));
     ring.start(&mut first);
     let mut second = ring.hire(&mut first);
-    let mut one = front(&rt, &ring, &mut first)?;
-    let two = front(&rt, &ring, &mut second)?;
+    let (Some(mut one), Some(two)) = (ring.claim(&rt, &mut first), ring.claim(&rt, &mut second))
+    else {
+        return Err(Fail::from("no tray waits"));
+    };
     let began = (one.peer, two.peer);
     one.taken = 5;
     ring.give(&rt, &mut first, one);
     ring.give(&rt, &mut second, two);
-    let three = front(&rt, &ring, &mut second)?;
-    let four = front(&rt, &ring, &mut first)?;
-    let went_on = (three.peer, four.peer, four.taken);
-    ring.in_turn(&mut first);
-    ring.give(&rt, &mut second, three);
-    ring.give(&rt, &mut first, four);
+    let went_on = [
+        take_from(&rt, &ring, &mut second, 7),
+        take_from(&rt, &ring, &mut first, 1),
+    ];
     ring.join(&mut first, second);
     let kept = [
-        peer_of(ring.keep(&rt, &mut first)),
-        peer_of(ring.keep(&rt, &mut first)),
-        peer_of(ring.keep(&rt, &mut first)),
-        peer_of(ring.keep(&rt, &mut first)),
+        told(ring.keep(&rt, &mut first)),
+        told(ring.keep(&rt, &mut first)),
+        told(ring.keep(&rt, &mut first)),
+        told(ring.keep(&rt, &mut first)),
     ];
-    assert!(rt; began == (0, 1) && went_on == (2, 0, 5));
-    assert!(rt; kept == [Some(1), Some(2), Some(0), None]);
+    assert!(rt;
+        began == (0, 1)
+            && went_on == [Some(2), Some(0)]
+            && kept == [Some((1, 0)), Some((2, 7)), Some((0, 6)), None]
+    );
     Ok(())
 }
 
@@ -86,11 +92,11 @@ fn an_empty_ring(rt: HostRuntime) -> Result<(), Fail> {
     ring.make(&rt, &mut first, new_tray(0));
     ring.start(&mut first);
     let mut second = ring.hire(&mut first);
-    let one = front(&rt, &ring, &mut first)?;
-    assert!(rt; ring.claim(&rt, &mut second).is_none());
-    ring.give(&rt, &mut first, one);
-    ring.join(&mut first, second);
-    assert_eq!(rt; ring.keep(&rt, &mut first), Some(new_tray(0)));
-    assert!(rt; ring.keep(&rt, &mut first).is_none());
+    let Some(tray) = ring.claim(&rt, &mut first) else {
+        return Err(Fail::from("no tray waits"));
+    };
+    let none = ring.claim(&rt, &mut second).is_none();
+    ring.give(&rt, &mut first, tray);
+    assert!(rt; none);
     Ok(())
 }

@@ -16,7 +16,7 @@ returns g c =
     (kept.handle, kept.handle_is, kept.kept)) in (
       record { inboxes = got.0; places = got.1 },
       handlers_back (λ thread handler. IsHandlerOf (crew_of thread) handler × (handler.room ≡ (handler_of thread).room)) handler_of crew_of (λ thread handler kept. kept)
-          c.args.crew.now c.args.handlers.items handling.items handlers.items c.in_ok-handling.ensures.handlers_are c.in_ok-handling.ensures.crew_is c.requires.handlers
+          c.args.crew.now c.args.staff.handlers.items handling.items handlers.items c.in_ok-handling.ensures.handlers_are c.in_ok-handling.ensures.crew_is c.requires.handlers
           (omega (arith, c.in-Ok-join_promised.ensures.len, handlers.ok.0, handling.ok.0))
           (λ i d lt.
           let within : i < vec_len handling = omega (arith, c.in-Ok-join_promised.ensures.len, handlers.ok.0) in

@@ -1,9 +1,17 @@
-use Rattle.std.proofs.Common.{◌≡◌, ap, ◌∙◌, arith}
+use Rattle.std.proofs.Common.{◌≡◌, All, ap, subst, ◌∙◌, arith}
 use Rattle.std.proofs.lemmas.List.{nil_from_length}
+use Rattle.std.proofs.lemmas.List.Elements.{All-head}
 use Rattle.cb_crew.specs.Crew.{IsHandlerOf}
 use Rattle.cb_service.specs.Service.{handler_of, crew_of}
 use Rattle.cb_service.proofs.Threads.{started_more, started_all}
 use Rattle.cb_service.proofs.service.start_handlers.Goals as goal
+
+pub spawn_with-started-requires-clause-runs : goal.spawn_with-started-requires-clause-runs
+spawn_with-started-requires-clause-runs g c κs within = (
+  All-head (IsHandlerOf c.args.crew.now) c.in-Some.handler _ (subst (All (IsHandlerOf c.args.crew.now)) c.in-Some.ensures.steps.0 c.loop-handler.invariant.2),
+  c.requires.budget.0,
+  c.requires.budget.1,
+)
 
 pub loop-handler-preserved : goal.loop-handler-preserved
 loop-handler-preserved g c =

@@ -13,25 +13,25 @@ use Rattle.cb_crew.proofs.desk.Desk.advance.Goals as goal
 
 pub invariant_of-self : goal.invariant_of-self
 invariant_of-self g c = (
-  desk_kept g.W.Work.given g.W.Work.is_closed c.self.inside.inbox c.self.inside.seat c.take.new.self c.self.inside.work c.make_ready-ready.new.work c.self.inside.past.items (ap (λ s. s.taken) c.in-None.ensures.none.0) c.make_ready-ready.ensures.live c.make_ready-ready.ensures.given c.self.invariant.0,
+  desk_kept g.W.Work.label g.W.Work.given g.W.Work.is_closed c.self.inside.inbox c.self.inside.seat c.take.new.self c.self.inside.work c.make_ready-ready.new.work c.self.inside.past.items (ap (λ s. s.taken) c.in-None.ensures.none.0) c.make_ready-ready.ensures.label c.make_ready-ready.ensures.live c.make_ready-ready.ensures.given c.self.invariant.0,
   ap (λ s. s.inbox) c.in-None.ensures.none.0 ∙ c.self.invariant.1,
   c.self.invariant.2,
 )
 
 pub invariant_of-self-in-Some-Item : goal.invariant_of-self-in-Some-Item
 invariant_of-self-in-Some-Item g c = (
-  desk_given g.W.Work.given g.W.Work.is_closed c.self.inside.inbox c.self.inside.seat c.take.new.self c.make_ready-ready.new.work c.give.new.work c.self.inside.past.items (queued.Item c.in-Some-Item.item) (given.Item c.in-Some-Item.item) c.make_ready-ready.result
-      (c.in-Some-Item.ensures.some.0 ∙ ap (taken_more c.self.inside.seat) c.in-Some-Item.field-0-is) refl refl (λ e. absurd (false≢true e)) (λ r. (c.make_ready-ready.ensures.ready r).1) c.make_ready-ready.ensures.closed (λ r. (c.give.ensures.worked r).1) (λ r. (c.give.ensures.worked r).2) (λ r. (c.give.ensures.passed r).1)
-      (desk_kept g.W.Work.given g.W.Work.is_closed c.self.inside.inbox c.self.inside.seat c.self.inside.seat c.self.inside.work c.make_ready-ready.new.work c.self.inside.past.items refl c.make_ready-ready.ensures.live c.make_ready-ready.ensures.given c.self.invariant.0),
+  desk_given g.W.Work.label g.W.Work.given g.W.Work.is_closed c.self.inside.inbox c.self.inside.seat c.take.new.self c.make_ready-ready.new.work c.give.new.work c.self.inside.past.items (queued.Item c.in-Some-Item.item) (given.Item c.in-Some-Item.item) c.make_ready-ready.result
+      (c.in-Some-Item.ensures.some.0 ∙ ap (taken_more c.self.inside.seat) c.in-Some-Item.field-0-is) refl refl (λ e. absurd (false≢true e)) c.give.ensures.label (λ r. (c.make_ready-ready.ensures.ready r).1) c.make_ready-ready.ensures.closed (λ r. (c.give.ensures.worked r).1) (λ r. (c.give.ensures.worked r).2) (λ r. (c.give.ensures.passed r).1)
+      (desk_kept g.W.Work.label g.W.Work.given g.W.Work.is_closed c.self.inside.inbox c.self.inside.seat c.self.inside.seat c.self.inside.work c.make_ready-ready.new.work c.self.inside.past.items refl c.make_ready-ready.ensures.label c.make_ready-ready.ensures.live c.make_ready-ready.ensures.given c.self.invariant.0),
   ap (λ s. s.inbox) c.in-Some-Item.ensures.some.0 ∙ c.self.invariant.1,
   c.self.invariant.2,
 )
 
 pub invariant_of-self-in-Some-End : goal.invariant_of-self-in-Some-End
 invariant_of-self-in-Some-End g c = (
-  desk_given g.W.Work.given g.W.Work.is_closed c.self.inside.inbox c.self.inside.seat c.take.new.self c.make_ready-ready.new.work c.give-in-Some-End.new.work c.self.inside.past.items queued.End given.End c.make_ready-ready.result
-      (c.in-Some-End.ensures.some.0 ∙ ap (taken_more c.self.inside.seat) c.in-Some-End.field-0-is) refl refl (λ e. tt) (λ r. (c.make_ready-ready.ensures.ready r).1) c.make_ready-ready.ensures.closed (λ r. (c.give-in-Some-End.ensures.worked r).1) (λ r. (c.give-in-Some-End.ensures.worked r).2) (λ r. (c.give-in-Some-End.ensures.passed r).1)
-      (desk_kept g.W.Work.given g.W.Work.is_closed c.self.inside.inbox c.self.inside.seat c.self.inside.seat c.self.inside.work c.make_ready-ready.new.work c.self.inside.past.items refl c.make_ready-ready.ensures.live c.make_ready-ready.ensures.given c.self.invariant.0),
+  desk_given g.W.Work.label g.W.Work.given g.W.Work.is_closed c.self.inside.inbox c.self.inside.seat c.take.new.self c.make_ready-ready.new.work c.give-in-Some-End.new.work c.self.inside.past.items queued.End given.End c.make_ready-ready.result
+      (c.in-Some-End.ensures.some.0 ∙ ap (taken_more c.self.inside.seat) c.in-Some-End.field-0-is) refl refl (λ e. tt) c.give-in-Some-End.ensures.label (λ r. (c.make_ready-ready.ensures.ready r).1) c.make_ready-ready.ensures.closed (λ r. (c.give-in-Some-End.ensures.worked r).1) (λ r. (c.give-in-Some-End.ensures.worked r).2) (λ r. (c.give-in-Some-End.ensures.passed r).1)
+      (desk_kept g.W.Work.label g.W.Work.given g.W.Work.is_closed c.self.inside.inbox c.self.inside.seat c.self.inside.seat c.self.inside.work c.make_ready-ready.new.work c.self.inside.past.items refl c.make_ready-ready.ensures.label c.make_ready-ready.ensures.live c.make_ready-ready.ensures.given c.self.invariant.0),
   ap (λ s. s.inbox) c.in-Some-End.ensures.some.0 ∙ c.self.invariant.1,
   c.self.invariant.2,
 )
@@ -39,17 +39,17 @@ invariant_of-self-in-Some-End g c = (
 pub push_reserved-requires : goal.push_reserved-requires
 push_reserved-requires g c =
     let took = c.in-Some-Open.ensures.some.0 ∙ ap (taken_more c.self.inside.seat) c.in-Some-Open.field-0-is in
-    let after = opened_after g.W.Work.given g.W.Work.is_closed c.take.new.self.queued c.self.inside.seat.taken (queued.Open c.in-Some-Open.next) refl (subst (λ ms. IsOfALine false true c.take.new.self.queued ms) (ap (λ (s : SeatState (Queued _ _)). s.taken) took) c.reached.ensures) in
-    omega (arith, past_room g.W.Work.given g.W.Work.is_closed c.self.inside.inbox c.self.inside.seat c.self.inside.work c.self.inside.past.items after.1 c.self.invariant.0, c.self.invariant.2)
+    let after = opened_after g.W.Work.label g.W.Work.given g.W.Work.is_closed c.take.new.self.queued c.self.inside.seat.taken (queued.Open c.in-Some-Open.next) refl (subst (λ ms. IsOfALine false true c.take.new.self.queued ms) (ap (λ (s : SeatState (Queued _ _)). s.taken) took) c.reached.ensures) in
+    omega (arith, past_room g.W.Work.label g.W.Work.given g.W.Work.is_closed c.self.inside.inbox c.self.inside.seat c.self.inside.work c.self.inside.past.items after.1 c.self.invariant.0, c.self.invariant.2)
 
 pub invariant_of-self-in-Some-Open : goal.invariant_of-self-in-Some-Open
 invariant_of-self-in-Some-Open g c =
     let took = c.in-Some-Open.ensures.some.0 ∙ ap (taken_more c.self.inside.seat) c.in-Some-Open.field-0-is in
-    let after = opened_after g.W.Work.given g.W.Work.is_closed c.take.new.self.queued c.self.inside.seat.taken (queued.Open c.in-Some-Open.next) refl (subst (λ ms. IsOfALine false true c.take.new.self.queued ms) (ap (λ (s : SeatState (Queued _ _)). s.taken) took) c.reached.ensures) in
-    let kept = desk_kept g.W.Work.given g.W.Work.is_closed c.self.inside.inbox c.self.inside.seat c.self.inside.seat c.self.inside.work c.make_ready-ready.new.work c.self.inside.past.items refl c.make_ready-ready.ensures.live c.make_ready-ready.ensures.given c.self.invariant.0 in
+    let after = opened_after g.W.Work.label g.W.Work.given g.W.Work.is_closed c.take.new.self.queued c.self.inside.seat.taken (queued.Open c.in-Some-Open.next) refl (subst (λ ms. IsOfALine false true c.take.new.self.queued ms) (ap (λ (s : SeatState (Queued _ _)). s.taken) took) c.reached.ensures) in
+    let kept = desk_kept g.W.Work.label g.W.Work.given g.W.Work.is_closed c.self.inside.inbox c.self.inside.seat c.self.inside.seat c.self.inside.work c.make_ready-ready.new.work c.self.inside.past.items refl c.make_ready-ready.ensures.label c.make_ready-ready.ensures.live c.make_ready-ready.ensures.given c.self.invariant.0 in
     let fresh = subst (IsFresh g.W.Work.given g.W.Work.ticked g.W.Work.is_closed) (sym c.replace-past.ensures.after) c.into_work.ensures.fresh in (
-      subst (λ ws. IsDesk g.W.Work.given g.W.Work.is_closed (desk_state c.self.inside.inbox c.take.new.self c.replace-past.new.dest ws)) (sym (c.push_reserved.ensures.items ∙ ap (λ w. c.self.inside.past.items ++ w ∷ []) c.replace-past.ensures.value))
-          (desk_opened g.W.Work.given g.W.Work.is_closed g.W.Work.ticked c.self.inside.inbox c.self.inside.seat c.take.new.self c.make_ready-ready.new.work c.replace-past.new.dest c.self.inside.past.items (queued.Open c.in-Some-Open.next) took refl after.0 fresh kept),
+      subst (λ ws. IsDesk g.W.Work.label g.W.Work.given g.W.Work.is_closed (desk_state c.self.inside.inbox c.take.new.self c.replace-past.new.dest ws)) (sym (c.push_reserved.ensures.items ∙ ap (λ w. c.self.inside.past.items ++ w ∷ []) c.replace-past.ensures.value))
+          (desk_opened g.W.Work.label g.W.Work.given g.W.Work.is_closed g.W.Work.ticked c.self.inside.inbox c.self.inside.seat c.take.new.self c.make_ready-ready.new.work c.replace-past.new.dest c.in-Some-Open.next c.self.inside.past.items (queued.Open c.in-Some-Open.next) refl (ap g.W.Work.label (c.replace-past.ensures.after ∙ c.into_work.ensures.work)) took refl after.0 fresh kept),
       ap (λ s. s.inbox) c.in-Some-Open.ensures.some.0 ∙ c.self.invariant.1,
       omega (arith, c.push_reserved.ensures.capacity, c.self.invariant.2),
     )
