@@ -1,108 +1,82 @@
-use cb_base::{Hash256, Shared};
-use cb_block::{BITS, Block, Header, SoundBlock, Txs, check_header, root, sound};
-use cb_tx::{Inputs, OutPoint, Outputs, Script, Tx, TxIn, TxOut};
+use cb_base::{Cursor, Fault, Hash256, Shared, dsha, put_compact};
+use cb_block::{BITS, Header, SoundBlock, check_header, read_block, root, sound};
+use cb_tx::{OutPoint, Tx, read_tx};
 use std::alloc::Global;
-use std::test::*;
 
-// A block that is made: its parent, its coinbase's mark, whether it has work, and what it has beside its coinbase.
-#[derive(Clone, Copy)]
-pub(crate) struct Recipe {
-    pub(crate) prev: Hash256,
-    pub(crate) mark: u32,
-    pub(crate) works: bool,
-    pub(crate) beside: Beside,
+// The output that a coinbase's input names.
+pub(crate) const NO_OUTPUT: OutPoint = OutPoint {
+    txid: Hash256([0; 32]),
+    index: 0xffff_ffff,
+};
+
+// The hash of the network's first block.
+pub(crate) const FIRST: Hash256 = Hash256(
+    *b"\x06\x22\x6e\x46\x11\x1a\x0b\x59\xca\xaf\x12\x60\x43\xeb\x5b\xbf\x28\xc3\x4f\x3a\x5e\x33\x2a\x1f\xc7\xb2\xb7\x3c\xf1\x88\x91\x0f",
+);
+
+// An input whose script is a number.
+fn push_input(text: &mut Vec<u8>, spent: &OutPoint, mark: u32) -> Result<(), Fault> {
+    text.extend_from_slice(&spent.txid.0)?;
+    text.extend_from_slice(&spent.index.to_le_bytes())?;
+    text.push(4)?;
+    text.extend_from_slice(&mark.to_le_bytes())?;
+    text.extend_from_slice(&[0xff; 4])?;
+    Ok(())
 }
 
-#[derive(Clone, Copy)]
-pub(crate) enum Beside {
-    Nothing,
-    // A second coinbase.
-    Coinbase,
-    // A transaction that spends the output of the coinbase of a mark, and makes one of this value.
-    Spender(u32, i64),
+fn push_output(text: &mut Vec<u8>, value: i64) -> Result<(), Fault> {
+    text.extend_from_slice(&value.to_le_bytes())?;
+    text.extend_from_slice(&[1, 0x51])?;
+    Ok(())
 }
 
-fn script_of(alloc: Global, bytes: &[u8]) -> Result<Script, Fail> {
-    Ok(Script::new(Vec::from_slice(alloc, bytes)?))
+fn push_tx(text: &mut Vec<u8>, spent: &[OutPoint], values: &[i64], mark: u32) -> Result<(), Fault> {
+    text.extend_from_slice(&[1, 0, 0, 0])?;
+    put_compact(text, spent.len() as u64)?;
+    for point in spent {
+        push_input(text, point, mark)?;
+    }
+    put_compact(text, values.len() as u64)?;
+    for value in values {
+        push_output(text, *value)?;
+    }
+    text.extend_from_slice(&[0; 4])?;
+    Ok(())
 }
 
-fn inputs_of(alloc: Global, prev: OutPoint, mark: u32) -> Result<Inputs, Fail> {
-    let input = TxIn {
-        prev,
-        script: script_of(alloc, mark.to_le_bytes().as_slice())?,
-        sequence: 0xffff_ffff,
-    };
-    Ok(Inputs::new(vec![in alloc; input]?))
+// The text of a transaction that spends these outputs and makes others of these values. It differs from others by its mark.
+pub(crate) fn tx_text(
+    alloc: Global,
+    spent: &[OutPoint],
+    values: &[i64],
+    mark: u32,
+) -> Result<Vec<u8>, Fault> {
+    let mut text = Vec::new(alloc);
+    push_tx(&mut text, spent, values, mark)?;
+    Ok(text)
 }
 
-fn outputs_of(alloc: Global, value: i64) -> Result<Outputs, Fail> {
-    let output = TxOut {
-        value,
-        script: script_of(alloc, [0x51u8].as_slice())?,
-    };
-    Ok(Outputs::new(vec![in alloc; output]?))
+// The text of a coinbase of 50.
+pub(crate) fn coinbase(alloc: Global, mark: u32) -> Result<Vec<u8>, Fault> {
+    tx_text(alloc, &[NO_OUTPUT], &[50], mark)
 }
 
-// A transaction of one input, whose script is a number, and one output.
-fn tx_of(alloc: Global, spent: OutPoint, value: i64, mark: u32) -> Result<Tx, Fail> {
-    let inputs = inputs_of(alloc, spent, mark)?;
-    Ok(Tx {
-        version: 1,
-        inputs,
-        outputs: outputs_of(alloc, value)?,
-        lock_time: 0,
-    })
-}
-
-// A coinbase of 50, which differs from others by its mark.
-fn coinbase(alloc: Global, mark: u32) -> Result<Tx, Fail> {
-    let none = OutPoint {
-        txid: Hash256([0; 32]),
-        index: 0xffff_ffff,
-    };
-    tx_of(alloc, none, 50, mark)
-}
-
-// The output of a coinbase.
-pub(crate) fn made_by(alloc: Global, mark: u32) -> Result<OutPoint, Fail> {
+// The output of the coinbase with this mark.
+pub(crate) fn made_by(alloc: Global, mark: u32) -> Result<OutPoint, Fault> {
+    let text = coinbase(alloc, mark)?;
     Ok(OutPoint {
-        txid: coinbase(alloc, mark)?.txid(alloc)?,
+        txid: dsha(text.as_slice()),
         index: 0,
     })
 }
 
-fn tx_beside(alloc: Global, mark: u32, beside: Beside) -> Result<Option<Tx>, Fail> {
-    match beside {
-        Beside::Nothing => Ok(None),
-        Beside::Coinbase => Ok(Some(coinbase(alloc, mark.wrapping_add(1))?)),
-        Beside::Spender(spent, value) => {
-            Ok(Some(tx_of(alloc, made_by(alloc, spent)?, value, mark)?))
-        }
-    }
+pub(crate) fn read(alloc: Global, text: &[u8]) -> Result<Shared<Tx>, Fault> {
+    let tx = read_tx(alloc, &mut Cursor::new(text))?;
+    Ok(Shared::new(alloc, tx)?)
 }
 
-fn txs_of(alloc: Global, recipe: &Recipe) -> Result<Vec<Shared<Tx>>, Fail> {
-    let first = coinbase(alloc, recipe.mark)?;
-    let mut txs = vec![in alloc; Shared::new(alloc, first)?]?;
-    if let Some(tx) = tx_beside(alloc, recipe.mark, recipe.beside)? {
-        txs.push(Shared::new(alloc, tx)?)?;
-    }
-    Ok(txs)
-}
-
-fn root_of(alloc: Global, txs: &[Shared<Tx>]) -> Result<Hash256, Fail> {
-    let mut txids = Vec::new(alloc);
-    for tx in txs {
-        txids.push(tx.txid(alloc)?)?;
-    }
-    if txids.is_empty() {
-        return Err(Fail::from("no transactions"));
-    }
-    Ok(root(alloc, txids.as_slice())?)
-}
-
-// A header with work, or without.
-pub(crate) fn header_on(prev: Hash256, root: Hash256, works: bool) -> Header {
+// A header with work.
+pub(crate) fn header_on(prev: Hash256, root: Hash256) -> Header {
     let mut header = Header {
         version: 1,
         prev,
@@ -113,23 +87,46 @@ pub(crate) fn header_on(prev: Hash256, root: Hash256, works: bool) -> Header {
     };
     for nonce in 0..1_000u32 {
         header.nonce = nonce;
-        if check_header(&header).is_ok() == works {
+        if check_header(&header).is_ok() {
             return header;
         }
     }
     header
 }
 
-fn sound_block(alloc: Global, header: Header, txs: Vec<Shared<Tx>>) -> Result<SoundBlock, Fail> {
-    let txs = Txs::new(txs);
-    match sound(alloc, Shared::new(alloc, Block { header, txs })?) {
+// The root of transactions, by their texts.
+pub(crate) fn root_of(alloc: Global, txs: &[Vec<u8>]) -> Result<Hash256, Fault> {
+    let mut txids = Vec::new(alloc);
+    for tx in txs {
+        txids.push(dsha(tx.as_slice()))?;
+    }
+    if txids.is_empty() {
+        return Err(Fault::Empty);
+    }
+    root(alloc, txids.as_slice())
+}
+
+fn push_block(text: &mut Vec<u8>, header: &Header, txs: &[Vec<u8>]) -> Result<(), Fault> {
+    text.extend_from_slice(&header.text())?;
+    put_compact(text, txs.len() as u64)?;
+    for tx in txs {
+        text.extend_from_slice(tx.as_slice())?;
+    }
+    Ok(())
+}
+
+fn sound_block(alloc: Global, text: &[u8]) -> Result<SoundBlock, Fault> {
+    let block = read_block(alloc, &mut Cursor::new(text))?;
+    match sound(alloc, Shared::new(alloc, block)?) {
         Ok(block) => Ok(block),
-        Err((_, fault)) => Err(Fail::from(fault)),
+        Err((_, fault)) => Err(fault),
     }
 }
 
-pub(crate) fn made(alloc: Global, recipe: &Recipe) -> Result<SoundBlock, Fail> {
-    let txs = txs_of(alloc, recipe)?;
-    let header = header_on(recipe.prev, root_of(alloc, txs.as_slice())?, recipe.works);
-    sound_block(alloc, header, txs)
+// A block of transactions, by their texts.
+pub(crate) fn block_of(alloc: Global, prev: Hash256, txs: &[Vec<u8>]) -> Result<SoundBlock, Fault> {
+    let header = header_on(prev, root_of(alloc, txs)?);
+    let mut text = Vec::new(alloc);
+    push_block(&mut text, &header, txs)?;
+    sound_block(alloc, text.as_slice())
 }

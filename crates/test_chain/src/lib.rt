@@ -1,17 +1,18 @@
-//! Tests of the chain: the rows and what no contract says.
+//! Tests of the ledger, the chain, compact blocks and the pool: the worked rows, what no chain lets through to a ledger, and both
+//! forms of `place`. What else comes to them is told by the stored runs of bench_chain, bench_compact and bench_hall.
 #![tactic(auto)]
 
+#[cfg(test)]
+mod agreeing;
 #[cfg(test)]
 mod blocks;
 #[cfg(test)]
 mod branches;
 #[cfg(test)]
-mod copies;
+mod compact_blocks;
 #[cfg(test)]
-mod readers;
+mod ledgers;
 #[cfg(test)]
-mod refusals;
+mod pools;
 #[cfg(test)]
 mod scene;
-#[cfg(test)]
-mod stories;

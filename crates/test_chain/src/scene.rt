@@ -1,91 +1,114 @@
 use super::blocks::*;
 use cb_base::{Fault, Hash256};
-use cb_block::{Header, SoundBlock, genesis};
-use cb_chain::{Chain, Change, Hashes};
+use cb_block::SoundBlock;
+use cb_chain::Chain;
 use std::alloc::Global;
 use std::process::Abort;
-use std::test::*;
 
-// What comes in a step of a script. What came is named by its step, counted from 1; 0 names the first block, and a number
-// without a step a hash that isn't known. `on` is the parent's name.
+// What comes in a step of a story. What came is named by its step, counted from 1; 0 names the first block. `on` is the
+// parent's name.
 #[derive(Clone, Copy)]
 pub(crate) enum Comes {
     // A block of a coinbase with this mark: (on, mark).
     Plain(usize, u32),
     // A block of a coinbase, and a transaction that spends the output of another coinbase: (on, mark, spent mark, value).
     Spender(usize, u32, u32, i64),
-    // A block of two coinbases: (on, mark).
-    Coinbases(usize, u32),
-    // A block whose header lacks work: (on, mark).
-    Workless(usize, u32),
-    // The block of an earlier step once more.
-    Again(usize),
-    // A header alone: (on, a byte that it differs by).
-    Head(usize, u8),
-    // A header that lacks work.
-    WorklessHead(usize, u8),
-    // The header of an earlier step once more.
-    HeadAgain(usize),
-    // The header of a plain block: (on, mark).
-    PlainHead(usize, u32),
+    // A header whose block never comes: (on).
+    Head(usize),
 }
 
 // What a step tells: which blocks went off the best chain and which came on, or the fault.
-pub(crate) type Told = Result<(&'static [usize], &'static [usize]), Fault>;
+type Told<'a> = Result<(&'a [usize], &'a [usize]), Fault>;
 
-// A header or block that comes, and what that tells.
-pub(crate) type Step = (Comes, Told);
+// What comes, what that tells, and the tip's name after it.
+pub(crate) type Step = (Comes, Told<'static>, usize);
 
 // A block that stays aside, or a header that is taken.
-pub(crate) const ASIDE: Told = Ok((&[], &[]));
+pub(crate) const ASIDE: Told<'static> = Ok((&[], &[]));
 
-#[derive(Drop)]
-struct Came {
-    header: Header,
-    block: Option<SoundBlock>,
+// The block of a hash is there, or only a mark, or neither.
+#[derive(Clone, Copy, PartialEq, Eq)]
+pub(crate) enum Stands {
+    Kept,
+    Marked,
+    Lacking,
 }
 
-fn came_with(block: SoundBlock) -> Came {
-    Came {
-        header: block.block().header,
-        block: Some(block),
+// Steps, and what holds after them.
+#[derive(Clone, Copy)]
+pub(crate) struct Story {
+    // So many plain blocks come first, each on the one before it. They are named by their heights, and their marks are one less.
+    pub(crate) grown: u32,
+    pub(crate) steps: &'static [&'static [Step]],
+    // The tip's height.
+    pub(crate) height: u32,
+    // The marks from 1 to 8 whose coinbase's output is unspent.
+    pub(crate) unspent: &'static [u32],
+    // What is kept under some names, and their heights.
+    pub(crate) stands: &'static [(usize, Stands, Option<u32>)],
+    pub(crate) locator: &'static [usize],
+}
+
+// A story of nothing.
+pub(crate) const NOTHING: Story = Story {
+    grown: 0,
+    steps: &[],
+    height: 0,
+    unspent: &[],
+    stands: &[],
+    locator: &[0],
+};
+
+const UNKNOWN: Hash256 = Hash256([9; 32]);
+
+const MOST_NAMES: usize = 24;
+
+// The texts of a coinbase with this mark.
+fn plain(alloc: Global, mark: u32) -> Result<Vec<Vec<u8>>, Fault> {
+    let mut txs = Vec::new(alloc);
+    txs.push(coinbase(alloc, mark)?)?;
+    Ok(txs)
+}
+
+// The same, and of a transaction that spends the output of a coinbase and makes one of this value.
+fn spender(alloc: Global, mark: u32, spent: u32, value: i64) -> Result<Vec<Vec<u8>>, Fault> {
+    let point = made_by(alloc, spent)?;
+    let mut txs = plain(alloc, mark)?;
+    txs.push(tx_text(alloc, &[point], &[value], mark)?)?;
+    Ok(txs)
+}
+
+// The hashes of the first block and of what came.
+#[derive(Clone, Copy)]
+pub(crate) struct Names {
+    list: [Hash256; MOST_NAMES],
+    count: usize,
+}
+
+impl Names {
+    pub(crate) fn new() -> Names {
+        let mut list = [UNKNOWN; MOST_NAMES];
+        list[0] = FIRST;
+        Names { list, count: 1 }
     }
-}
 
-fn came_alone(header: Header) -> Came {
-    Came {
-        header,
-        block: None,
-    }
-}
-
-// A chain, and what came to it.
-#[derive(Drop)]
-pub(crate) struct Scene {
-    pub(crate) alloc: Global,
-    pub(crate) chain: Chain,
-    came: Vec<Came>,
-}
-
-impl Scene {
-    pub(crate) fn new(alloc: Global) -> Result<Scene, Fail> {
-        let came = vec![in alloc; came_with(genesis(alloc)?)]?;
-        Ok(Scene {
-            alloc,
-            chain: Chain::new(alloc)?,
-            came,
-        })
+    fn push(&mut self, name: Hash256) {
+        if let Some(place) = self.list.get_mut(self.count) {
+            *place = name;
+        }
+        self.count = self.count.wrapping_add(1);
     }
 
-    pub(crate) fn name(&self, step: usize) -> Hash256 {
-        match self.came.get(step) {
-            Some(came) => came.header.hash(),
-            None => Hash256([9; 32]),
+    // The hash of this name, or one that isn't known.
+    fn name(&self, step: usize) -> Hash256 {
+        match self.list.get(step) {
+            Some(name) => *name,
+            None => UNKNOWN,
         }
     }
 
-    // Whether the hashes are the names of these steps.
-    pub(crate) fn are(&self, hashes: &[Hash256], steps: &[usize]) -> bool {
+    // Whether the hashes have these names.
+    fn are(&self, hashes: &[Hash256], steps: &[usize]) -> bool {
         if hashes.len() != steps.len() {
             return false;
         }
@@ -97,159 +120,141 @@ impl Scene {
         true
     }
 
-    // Whether the headers are those of these steps.
-    pub(crate) fn are_headers(&self, headers: &[Header], steps: &[usize]) -> bool {
-        if headers.len() != steps.len() {
-            return false;
+    // Whether a block that comes tells this.
+    fn block_tells(&mut self, chain: &mut Chain, block: SoundBlock, told: Told<'_>) -> bool {
+        self.push(block.block().header.hash());
+        match (chain.accept_block(block), told) {
+            (Ok(change), Ok((off, on))) => {
+                self.are(change.off.as_slice(), off) && self.are(change.on.as_slice(), on)
+            }
+            (Err(fault), Err(expected)) => fault == expected,
+            _ => false,
         }
-        for place in 0..headers.len() {
-            if headers[place].hash() != self.name(steps[place]) {
+    }
+
+    fn header_tells(&mut self, chain: &mut Chain, on: usize, told: Told<'_>) -> bool {
+        let header = header_on(self.name(on), Hash256([7; 32]));
+        self.push(header.hash());
+        chain.accept_header(header).err() == told.err()
+    }
+
+    // Whether what comes tells this.
+    fn tells(
+        &mut self,
+        alloc: Global,
+        chain: &mut Chain,
+        comes: Comes,
+        told: Told<'_>,
+    ) -> Result<bool, Fault> {
+        let (on, txs) = match comes {
+            Comes::Plain(on, mark) => (on, plain(alloc, mark)?),
+            Comes::Spender(on, mark, spent, value) => (on, spender(alloc, mark, spent, value)?),
+            Comes::Head(on) => return Ok(self.header_tells(chain, on, told)),
+        };
+        let block = block_of(alloc, self.name(on), txs.as_slice())?;
+        Ok(self.block_tells(chain, block, told))
+    }
+
+    // Whether these stand so.
+    fn stand(&self, chain: &Chain, rows: &[(usize, Stands, Option<u32>)]) -> bool {
+        for (step, stands, height) in rows {
+            let name = self.name(*step);
+            if what_stands(chain, &name) != Some(*stands) || chain.height(&name) != *height {
                 return false;
             }
         }
         true
     }
 
-    // The recipe of a block that comes.
-    fn recipe(&self, comes: Comes) -> Option<Recipe> {
-        let (on, mark, works, beside) = match comes {
-            Comes::Plain(on, mark) | Comes::PlainHead(on, mark) => (
-                on,
-                mark,
-                true,
-                Beside::Nothing,
-            ),
-            Comes::Workless(on, mark) => (on, mark, false, Beside::Nothing),
-            Comes::Coinbases(on, mark) => (on, mark, true, Beside::Coinbase),
-            Comes::Spender(on, mark, spent, value) => {
-                (on, mark, true, Beside::Spender(spent, value))
-            }
-            _ => return None,
-        };
-        let prev = self.name(on);
-        Some(Recipe {
-            prev,
-            mark,
-            works,
-            beside,
-        })
-    }
-
-    // The header that comes, where it isn't a block's.
-    fn header(&self, comes: Comes) -> Option<Header> {
-        match comes {
-            Comes::Head(on, byte) => { Some(header_on(self.name(on), Hash256([byte; 32]), true)) }
-            Comes::WorklessHead(on, byte) => {
-                Some(header_on(self.name(on), Hash256([byte; 32]), false))
-            }
-            Comes::HeadAgain(step) => self.came.get(step).map(|came| came.header),
-            _ => None,
+    fn has_locator(&self, chain: &Chain, steps: &[usize]) -> bool {
+        match chain.locator() {
+            Ok(hashes) => self.are(hashes.as_slice(), steps),
+            Err(_) => false,
         }
-    }
-
-    fn block_again(&self, step: usize) -> Result<SoundBlock, Fail> {
-        match self.came.get(step) {
-            Some(
-                Came {
-                    block: Some(block),
-                    ..
-                },
-            ) => Ok(block.copy()?),
-            _ => Err(Fail::from("no such block")),
-        }
-    }
-
-    fn block(&self, comes: Comes) -> Result<SoundBlock, Fail> {
-        if let Some(recipe) = self.recipe(comes) {
-            return made(self.alloc, &recipe);
-        }
-        match comes {
-            Comes::Again(step) => self.block_again(step),
-            _ => Err(Fail::from("no such block")),
-        }
-    }
-
-    fn coming(&self, comes: Comes) -> Result<Came, Fail> {
-        if let Some(header) = self.header(comes) {
-            return Ok(came_alone(header));
-        }
-        let block = self.block(comes)?;
-        Ok(match comes {
-            Comes::PlainHead(..) => came_alone(block.block().header),
-            _ => came_with(block),
-        })
-    }
-
-    // What the chain tells of it.
-    fn takes(&mut self, came: &Came) -> Result<Result<Change, Fault>, Fail> {
-        match &came.block {
-            Some(block) => Ok(self.chain.accept_block(block.copy()?)),
-            None => Ok(match self.chain.accept_header(came.header) {
-                Ok(()) => Ok(unchanged(self.alloc)),
-                Err(fault) => Err(fault),
-            }),
-        }
-    }
-
-    // Whether these blocks went off and came on, and the last one is the tip.
-    fn has_changed(&self, tip: Hash256, change: &Change, off: &[usize], on: &[usize]) -> bool {
-        let next = match on.last() {
-            Some(step) => self.name(*step),
-            None => tip,
-        };
-        self.are(change.off.as_slice(), off)
-            && self.are(change.on.as_slice(), on)
-            && self.chain.tip() == next
-    }
-
-    // Whether the chain tells of what comes what it should, and has the tip that follows from that.
-    fn follows(&mut self, step: &Step) -> Result<bool, Fail> {
-        let came = self.coming(step.0)?;
-        let tip = self.chain.tip();
-        let told = self.takes(&came)?;
-        self.came.push(came)?;
-        match (told, step.1) {
-            (Ok(change), Ok((off, on))) => Ok(self.has_changed(tip, &change, off, on)),
-            (Err(Fault::Memory), _) => Err(Fail::from(Fault::Memory)),
-            (Err(fault), Err(expected)) => Ok(fault == expected && self.chain.tip() == tip),
-            (Err(fault), Ok(_)) => Err(Fail::from(fault)),
-            (Ok(_), Err(_)) => Ok(false),
-        }
-    }
-
-    // Whether a plain block comes on the tip: (its parent's name, and its mark).
-    fn grows_by(&mut self, on: usize, mark: u32) -> Result<bool, Fail> {
-        let came = self.coming(Comes::Plain(on, mark))?;
-        let tip = self.chain.tip();
-        let told = self.takes(&came)?;
-        self.came.push(came)?;
-        let change = told?;
-        Ok(self.has_changed(tip, &change, &[], [on.wrapping_add(1)].as_slice()))
-    }
-
-    // Whether plain blocks come on the first one, each on the one before it. They are named by their heights, and their
-    // marks are one less.
-    pub(crate) fn grows(&mut self, count: u32) -> Result<bool, Fail> {
-        for mark in 0..count {
-            if !self.grows_by(mark as usize, mark)? {
-                return Ok(false);
-            }
-        }
-        Ok(true)
     }
 }
 
-fn unchanged(alloc: Global) -> Change {
-    Change {
-        off: Hashes::new(Vec::new(alloc)),
-        on: Hashes::new(Vec::new(alloc)),
+fn what_stands(chain: &Chain, name: &Hash256) -> Option<Stands> {
+    match (chain.block(name), chain.lacks(name)) {
+        (Some(block), false) if block.block().header.hash() == *name => Some(Stands::Kept),
+        (None, false) => Some(Stands::Marked),
+        (None, true) => Some(Stands::Lacking),
+        _ => None,
     }
 }
 
-// Each step tells what the script says.
-pub(crate) fn plays(rt: &impl Abort, scene: &mut Scene, script: &[Step]) -> Result<(), Fail> {
-    for step in script {
-        assert!(rt; scene.follows(step)?);
+// Whether of the marks from 1 to 8 these have an unspent output.
+fn has_outputs(alloc: Global, chain: &Chain, marks: &[u32]) -> Result<bool, Fault> {
+    for mark in 1..9u32 {
+        let point = made_by(alloc, mark)?;
+        if chain.ledger().has(&point) != marks.contains(&mark) {
+            return Ok(false);
+        }
+    }
+    Ok(true)
+}
+
+// Each step tells what it should.
+pub(crate) fn plays(
+    rt: &impl Abort,
+    alloc: Global,
+    chain: &mut Chain,
+    names: &mut Names,
+    steps: &[Step],
+) -> Result<(), Fault> {
+    for (comes, told, tip) in steps {
+        assert!(rt; names.tells(alloc, chain, *comes, *told)?);
+        assert!(rt; chain.tip() == names.name(*tip));
     }
     Ok(())
+}
+
+fn grows(
+    rt: &impl Abort,
+    alloc: Global,
+    chain: &mut Chain,
+    names: &mut Names,
+    count: u32,
+) -> Result<(), Fault> {
+    for mark in 0..count {
+        let on = mark as usize;
+        let told = [on + 1];
+        assert!(rt; names.tells(alloc, chain, Comes::Plain(on, mark), Ok((&[], &told)))?);
+    }
+    Ok(())
+}
+
+// How the chain stands.
+pub(crate) fn keeps(
+    rt: &impl Abort,
+    alloc: Global,
+    chain: &Chain,
+    names: &Names,
+    story: &Story,
+) -> Result<(), Fault> {
+    assert!(rt; chain.tip_height() == story.height);
+    assert!(rt; names.stand(chain, story.stands));
+    assert!(rt; has_outputs(alloc, chain, story.unspent)?);
+    assert!(rt; names.has_locator(chain, story.locator));
+    Ok(())
+}
+
+fn goes(
+    rt: &impl Abort,
+    alloc: Global,
+    chain: &mut Chain,
+    names: &mut Names,
+    story: &Story,
+) -> Result<(), Fault> {
+    grows(rt, alloc, chain, names, story.grown)?;
+    for steps in story.steps {
+        plays(rt, alloc, chain, names, *steps)?;
+    }
+    keeps(rt, alloc, chain, names, story)
+}
+
+// Each step tells what it should, and then the rest holds.
+pub(crate) fn comes_true(rt: &impl Abort, alloc: Global, story: &Story) -> Result<(), Fault> {
+    let mut chain = Chain::new(alloc)?;
+    goes(rt, alloc, &mut chain, &mut Names::new(), story)
 }
