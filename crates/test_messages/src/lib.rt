@@ -2,8 +2,6 @@
 #![tactic(auto)]
 
 #[cfg(test)]
-mod compact_payloads;
-#[cfg(test)]
 mod messages;
 #[cfg(test)]
 mod payloads;

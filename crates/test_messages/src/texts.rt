@@ -17,6 +17,13 @@ pub(crate) const FIRST_HASH: &str =
 pub(crate) const FIRST_TXID: &str =
     "3ba3edfd7a7b12b27ac72c3e67768f617fc81bc3888a51323a9fb8aa4b1e5e4a";
 
+/// That transaction.
+pub(crate) const FIRST_TX: &str =
+    "01000000010000000000000000000000000000000000000000000000000000000000000000ffffffff4d04ffff001d0104455468652054696d65732030332f4a616e2f32303039204368616e63656c6c6f72206f6e206272696e6b206f66207365636f6e64206261696c6f757420666f722062616e6b73ffffffff0100f2052a01000000434104678afdb0fe5548271967f1a67130b7105cd6a828e03909a67962e0ea1f61deb649f6bc3f4cef38c4f35504e51ec112de5c384df7ba0b8d578a4c702b6bf11d5fac00000000";
+
+/// A transaction of nothing.
+pub(crate) const NOTHING: &str = "01000000000000000000";
+
 /// 32 zero bytes.
 pub(crate) const NO_HASH: &str = "0000000000000000000000000000000000000000000000000000000000000000";
 
@@ -24,7 +31,8 @@ pub(crate) const NO_HASH: &str = "0000000000000000000000000000000000000000000000
 pub(crate) fn bytes_of(alloc: Global, texts: &[&str]) -> Result<Vec<u8>, Fail> {
     let mut bytes = Vec::new(alloc);
     for text in texts {
-        bytes.extend_from_slice(hex::decode(alloc, text)?.as_slice())?;
+        let part = hex::decode(alloc, text)?;
+        bytes.extend_from_slice(part.as_slice())?;
     }
     Ok(bytes)
 }
