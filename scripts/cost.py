@@ -22,6 +22,8 @@ ROOT = Path(__file__).resolve().parent.parent
 INTERVAL = 0.5
 TICKS = os.sysconf("SC_CLK_TCK")
 KINDS = ("proof", "tests", "edits")
+# what the folder is named in which the gate tries a must-fail edit
+EDITED = "/rt-edit-"
 # how many functions `rank` lists
 MOST = 30
 
@@ -46,11 +48,12 @@ class Meter:
                 try:
                     fields = Path(entry.path, "stat").read_text().rpartition(")")[2].split()
                     words = Path(entry.path, "cmdline").read_bytes().decode(errors="replace").split("\0")
+                    folder = os.readlink(f"{entry.path}/cwd")
                 except OSError:
                     continue
                 number = int(entry.name)
                 parents[number] = int(fields[1])
-                if of := purpose(words):
+                if of := purpose(words, folder):
                     provers[number, int(fields[19])] = (*of, (int(fields[11]) + int(fields[12])) / TICKS)
         self.taken |= {it: found for it, found in provers.items() if self.is_below(it[0], parents)}
 
@@ -69,11 +72,11 @@ class Meter:
         return found
 
 
-def purpose(words):
+def purpose(words, folder):
     """Returns the crate that a prover is at work on and what it does, or None where the words are those of another program."""
     if len(words) < 4 or os.path.basename(words[0]) != "rattle" or "--crate-name" not in words:
         return None
-    kind = "edits" if words[1] == "check" else "tests" if "--test" in words else "proof"
+    kind = "edits" if EDITED in folder else "tests" if "--test" in words else "proof"
     return words[words.index("--crate-name") + 1], kind
 
 
