@@ -1,7 +1,7 @@
+//! Blocks that are fetched: a copy of what steps lead to.
 use cb_base::{Fault, Hash256};
-use cb_fetch::{
-    Fetch, each_is_fetched_once, limits_hold, none_is_asked_for_twice, what_is_needed_is_fetched,
-};
+use cb_fetch::Fetch;
+use cb_payload::InvEntry;
 use cb_state::Inventory;
 use std::alloc::Global;
 use std::test::*;
@@ -9,26 +9,19 @@ use std::test::*;
 /// A step of an example. Hashes are those of the numbers from one up to another.
 #[derive(Clone, Copy)]
 enum Step {
-    Want(u16, u16),
-    TakeOn(u16, u16),
-    Land(u16),
+    Want(u8, u8),
+    TakeOn(u8, u8),
+    Land(u8),
 }
 
 /// The hash that begins with a number, and has zeros behind it.
-fn hash(number: u16) -> Hash256 {
+fn hash(number: u8) -> Hash256 {
     let mut bytes = [0; 32];
-    let [low, high] = number.to_le_bytes();
-    bytes[0] = low;
-    bytes[1] = high;
+    bytes[0] = number;
     Hash256(bytes)
 }
 
-/// The number that a hash begins with.
-fn number(hash: &Hash256) -> u16 {
-    u16::from_le_bytes([hash.0[0], hash.0[1]])
-}
-
-fn want(alloc: Global, fetch: &mut Fetch, from: u16, to: u16) -> Result<(), Fault> {
+fn want(alloc: Global, fetch: &mut Fetch, from: u8, to: u8) -> Result<(), Fault> {
     let mut hashes = Vec::new(alloc);
     for number in from..to {
         hashes.push(hash(number))?;
@@ -37,14 +30,17 @@ fn want(alloc: Global, fetch: &mut Fetch, from: u16, to: u16) -> Result<(), Faul
 }
 
 /// Each block is among the entries twice, with a transaction, a compact block and another entry between.
-fn take_on(alloc: Global, fetch: &mut Fetch, from: u16, to: u16) -> Result<(), Fault> {
+fn take_on(alloc: Global, fetch: &mut Fetch, from: u8, to: u8) -> Result<(), Fault> {
     let mut entries = Vec::new(alloc);
     for number in from..to {
-        entries.push(Inventory::Block(hash(number)))?;
-        entries.push(Inventory::Tx(hash(0xfff1)))?;
-        entries.push(Inventory::CompactBlock(hash(0xfff2)))?;
-        entries.push(Inventory::Other(3, hash(0xfff3)))?;
-        entries.push(Inventory::Block(hash(number)))?;
+        let others = [
+            Inventory::Block(hash(number)),
+            Inventory::Tx(hash(0xf1)),
+            Inventory::CompactBlock(hash(0xf2)),
+            Inventory::Other(3, hash(0xf3)),
+            Inventory::Block(hash(number)),
+        ];
+        entries.extend_from_slice(others.as_slice())?;
     }
     fetch.take_on(entries.as_slice())
 }
@@ -60,87 +56,95 @@ fn take(alloc: Global, fetch: &mut Fetch, step: Step) -> Result<(), Fault> {
     }
 }
 
-/// What steps lead to.
-fn fetch_after(alloc: Global, steps: &[Step]) -> Result<Fetch, Fault> {
-    let mut fetch = Fetch::new(alloc);
-    for step in steps {
-        take(alloc, &mut fetch, *step)?;
-    }
-    Ok(fetch)
+/// Steps, and what is in flight and wanted then, and whether it is time to ask for more.
+#[derive(Clone, Copy)]
+struct Row {
+    steps: &'static [Step],
+    flight: &'static [u8],
+    wanted: &'static [u8],
+    is_due: bool,
 }
 
-/// A line of what is in flight, each with its type, of what is wanted, and of whether it is time to ask for more.
-fn line(alloc: Global, fetch: &Fetch) -> Result<String, Fail> {
-    let mut text = format!(in alloc; "flight")?;
-    for entry in fetch.flight_entries(alloc)?.as_slice() {
-        write!(text, " {}:{}", entry.kind, number(&entry.hash))?;
+fn are_asked(entries: &[InvEntry], numbers: &[u8]) -> bool {
+    entries.len() == numbers.len()
+        && entries.iter().zip(numbers.iter()).all(|(entry, number)| entry.kind == 2
+            && entry.hash == hash(*number))
+}
+
+fn are_wanted(entries: &[Inventory], numbers: &[u8]) -> bool {
+    entries.len() == numbers.len()
+        && entries.iter().zip(numbers.iter()).all(|(entry, number)| *entry
+            == Inventory::Block(hash(*number)))
+}
+
+/// Whether this is what the row says.
+fn stands_so(alloc: Global, fetch: &Fetch, row: Row) -> bool {
+    fetch.is_due() == row.is_due
+        && fetch.flight().len() == row.flight.len()
+        && match fetch.flight_entries(alloc) {
+            Ok(entries) => are_asked(entries.as_slice(), row.flight),
+            Err(_) => false,
+        }
+        && match fetch.wanted(alloc) {
+            Ok(entries) => are_wanted(entries.as_slice(), row.wanted),
+            Err(_) => false,
+        }
+}
+
+/// Whether a copy is what the row says.
+fn copied_so(alloc: Global, fetch: &Fetch, row: Row) -> bool {
+    match fetch.copy(alloc) {
+        Ok(copy) => stands_so(alloc, &copy, row),
+        Err(_) => false,
     }
-    write!(text, " wanted")?;
-    for entry in fetch.wanted(alloc)?.as_slice() {
-        match entry {
-            Inventory::Block(hash) => write!(text, " {}", number(hash))?,
-            _ => write!(text, " no block")?,
+}
+
+/// Whether a copy of what the steps lead to is what the row says.
+fn goes_so(alloc: Global, row: Row) -> bool {
+    let mut fetch = Fetch::new(alloc);
+    for step in row.steps {
+        if take(alloc, &mut fetch, *step).is_err() {
+            return false;
         }
     }
-    let word = if fetch.is_due() { "due" } else { "not due" };
-    write!(text, " {word}")?;
-    Ok(text)
-}
-
-/// The line of a copy of what steps lead to.
-fn line_after(alloc: Global, steps: &[Step]) -> Result<String, Fail> {
-    let fetch = fetch_after(alloc, steps)?;
-    line(alloc, &fetch.copy(alloc)?)
+    copied_so(alloc, &fetch, row)
 }
 
 #[test]
-fn blocks_are_fetched(rt: HostRuntime) -> Result<(), Fail> {
+fn blocks_are_fetched(rt: HostRuntime) {
     use Step::{Land, TakeOn, Want};
-    for (steps, expected) in [
-        (
-            [Want(1, 4), Want(3, 5), Land(2)],
-            "flight wanted 1 2 3 4 due",
-        ),
-        (
-            [TakeOn(1, 4), Land(2), Want(2, 5)],
-            "flight 2:1 2:3 wanted 2 4 not due",
-        ),
-        ([TakeOn(1, 2), Land(1), Want(1, 1)], "flight wanted not due"),
-        (
-            [Want(1, 9), TakeOn(1, 3), TakeOn(7, 8)],
-            "flight 2:7 wanted not due",
-        ),
+    for row in [
+        Row {
+            steps: &[Want(1, 4), Want(3, 5), Land(2)],
+            flight: &[],
+            wanted: &[1, 2, 3, 4],
+            is_due: true,
+        },
+        Row {
+            steps: &[TakeOn(1, 4), Land(2), Want(2, 5)],
+            flight: &[1, 3],
+            wanted: &[2, 4],
+            is_due: false,
+        },
+        Row {
+            steps: &[TakeOn(1, 2), Land(1), Want(1, 1)],
+            flight: &[],
+            wanted: &[],
+            is_due: false,
+        },
+        Row {
+            steps: &[Want(1, 9), TakeOn(1, 3), TakeOn(7, 8)],
+            flight: &[7],
+            wanted: &[],
+            is_due: false,
+        },
+        Row {
+            steps: &[TakeOn(0, 18)],
+            flight: &[0, 1, 2, 3, 4, 5, 6, 7, 8, 9, 10, 11, 12, 13, 14, 15],
+            wanted: &[16, 17],
+            is_due: false,
+        },
     ] {
-        assert_eq!(rt;
-            line_after(rt.alloc(), steps.as_slice())?.as_str(),
-            expected
-        );
+        assert!(rt; goes_so(rt.alloc(), row));
     }
-    Ok(())
-}
-
-/// How many are in flight, and how many are wanted.
-fn counts_after(alloc: Global, step: Step) -> Result<(usize, usize), Fail> {
-    let fetch = fetch_after(alloc, &[step])?;
-    let wanted = fetch.wanted(alloc)?;
-    Ok((fetch.flight().len(), wanted.as_slice().len()))
-}
-
-#[test]
-fn limits(rt: HostRuntime) -> Result<(), Fail> {
-    let alloc = rt.alloc();
-    assert!(rt; counts_after(alloc, Step::Want(0, 2_001))? == (0, 2_000));
-    assert!(rt; counts_after(alloc, Step::TakeOn(0, 16))? == (16, 0));
-    assert!(rt; counts_after(alloc, Step::TakeOn(0, 17))? == (16, 1));
-    assert!(rt; counts_after(alloc, Step::TakeOn(0, 2_017))? == (16, 2_000));
-    Ok(())
-}
-
-/// The laws hold by their contracts, and cost nothing.
-#[test]
-fn laws_take_nothing(rt: HostRuntime) {
-    each_is_fetched_once(&Fetch::new(rt.alloc()));
-    limits_hold();
-    none_is_asked_for_twice();
-    what_is_needed_is_fetched();
 }

@@ -1,13 +1,11 @@
-//! Tests of cb_fetch, cb_talk, cb_journal and cb_peer: the rows and what no contract says.
+//! Tests of cb_fetch, cb_journal and cb_peer: the rows, and what neither a contract says nor a program shows.
 #![tactic(auto)]
 
 #[cfg(test)]
-mod fetch;
+mod answers;
 #[cfg(test)]
-mod journal;
+mod fetch;
 #[cfg(test)]
 mod peer;
 #[cfg(test)]
 mod shared;
-#[cfg(test)]
-mod talk;

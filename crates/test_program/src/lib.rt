@@ -1,7 +1,5 @@
-//! Tests of cb_sim and of the program: the rows and what no contract says.
+//! Tests of the program: the worked rows. What else it prints is in the stored runs, the examples and bench/edges.py.
 #![tactic(auto)]
 
 #[cfg(test)]
 mod program;
-#[cfg(test)]
-mod sim;

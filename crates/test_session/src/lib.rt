@@ -2,6 +2,8 @@
 #![tactic(auto)]
 
 #[cfg(test)]
+mod conversation;
+#[cfg(test)]
 mod io;
 #[cfg(test)]
 mod session;

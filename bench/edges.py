@@ -1,0 +1,194 @@
+#!/usr/bin/env python3
+"""Runs the built program where no stored run can: reads and writes that fail, one byte at a time, lists of words and lines that each
+end a run, and long inputs.
+
+It needs the built program (crates/cbrelay/out/cbrelay, as ./build leaves it), python3 and Linux, and takes some seconds. What has to
+come out was written from the rules in docs/PROTOCOL.md.
+"""
+
+import os
+import resource
+import signal
+import socket
+import subprocess
+import sys
+import tempfile
+import time
+
+from bench import built, envelope, usage
+
+SECONDS = 60
+VERACK = envelope(b"verack", b"")
+PING, PONG = envelope(b"ping", bytes(8)), envelope(b"pong", bytes(8))
+# A `verack`, one with a wrong checksum, and an unknown command, and what `decode` prints of them.
+DECODED = VERACK.hex().encode() + b"\n" + VERACK[:20].hex().encode() + b"00000000\n" + envelope(b"hello", b"hello").hex().encode() + b"\n"
+PRINTED = b"verack\ndamaged\nunknown hello 5\nrest 0\n"
+SIMULATED = b"system 1 1 1\nput 0 7\n"
+REPORTED = b"peer 0 queued 7 taken -\nring 0\nhandler 0 -\n"
+
+# Words that are refused: one that is empty, and two commands as one word.
+REFUSED_WORDS = ("", "decode serve")
+
+# Lines of `decode` that aren't hex.
+NO_HEX = (b"xy", b"fab", b" fa", b"fa\rbf", b"fabf\r\r")
+
+# First lines of `sim` that can't be read: sizes out of their ranges, too few and too many, and words that aren't parted by one space.
+NO_SIZES = (
+    "system 65 1 1", "system 0 1 1", "system 1 17 1", "system 1 0 1", "system 1 1 1025", "system 1 1 0", "system 1 1",
+    "system 1 1 1 1", "system  1 1 1", "system 1 1 1 ", "system +1 1 1", "System 1 1 1", "put 0 1", "", "1 unreadable",
+)
+
+# Lines of acts that can't be read.
+NO_ACTS = (
+    "put 65536 1", "put 0 18446744073709551616", "put  0 1", "put 0  1", "put 0 1 ", " put 0 1", "put 0\r 1", "put 0 1\r\r",
+    "drop 0 1", "put 0", "put", "end", "end 0 1", "open", "open 0 1", "open 65536", "claim", "claim 65536", "take x", "take -1",
+    "give 0 ", "give +0", "system 1 1 1", "",
+)
+
+
+class Looks:
+    """Runs of one program, and how many of them came out otherwise than they should."""
+
+    def __init__(self, program):
+        self.program, self.count, self.failed = program, 0, 0
+
+    def look(self, name, got, wanted):
+        self.count += 1
+        if got != wanted:
+            self.failed += 1
+            print(f"edges: {name}: {shown(got)} for {shown(wanted)}")
+
+    def run(self, words, given, **streams):
+        """The status, standard output and standard error of a run; an output that goes elsewhere is empty."""
+        streams = {"input": given, "stdout": subprocess.PIPE, "stderr": subprocess.PIPE} | streams
+        ran = subprocess.run([self.program, *words], timeout=SECONDS, check=False, **streams)
+        return ran.returncode, ran.stdout or b"", ran.stderr or b""
+
+    # ---- words and lines that end a run
+
+    def words_that_are_refused(self):
+        for word in REFUSED_WORDS:
+            status, printed, told = self.run([word], DECODED)
+            self.look(f"the word {word!r}", (status, printed, told != b""), (1, b"", True))
+
+    def lines_that_cannot_be_read(self):
+        for line in NO_HEX:
+            self.look(f"decode of {line!r}", self.run(["decode"], b"fa\n" + line + b"\nfa\n"), (3, b"line 2 not hex\n", b""))
+        self.look("decode of a CR at the end", self.run(["decode"], b"fabf\r"), (3, b"line 1 not hex\n", b""))
+        for line in NO_SIZES:
+            self.look(f"sim of {line!r}", self.run(["sim"], f"{line}\nput 0 1\n".encode()), (3, b"1 unreadable\n", b""))
+        for line in NO_ACTS:
+            lines = f"system 1 1 1\nput 0 7\n{line}\ntake 0\n".encode()
+            self.look(f"sim of {line!r}", self.run(["sim"], lines), (3, b"3 unreadable\n", b""))
+
+    # ---- reads
+
+    def one_byte_a_read(self):
+        """Each read gives one byte: a message of a socket that keeps them apart."""
+        for words, given, printed, told in (
+            (["decode"], DECODED, PRINTED, b""),
+            (["serve"], VERACK + PING + PING, PONG + PONG, b"closed Bye\n"),
+            (["sim"], SIMULATED, REPORTED, b""),
+        ):
+            ours, theirs = socket.socketpair(socket.AF_UNIX, socket.SOCK_SEQPACKET)
+            with ours, theirs, subprocess.Popen([self.program, *words], stdin=theirs, stdout=subprocess.PIPE, stderr=subprocess.PIPE) as node:
+                theirs.close()
+                for place in range(len(given)):
+                    ours.send(given[place : place + 1])
+                ours.close()
+                got = node.communicate(timeout=SECONDS)
+            self.look(f"{words[0]}, a byte a read", (node.returncode, *got), (0, printed, told))
+
+    def reads_that_fail(self):
+        """Behind these bytes a read fails: what its peer didn't read when it closed breaks a socket's connection."""
+        for name, words, given, wanted in (
+            ("decode, behind a line and a half", ["decode"], DECODED[:60], (3, b"verack\n", b"read failed\n")),
+            ("sim, behind a line and a half", ["sim"], SIMULATED[:15], (3, b"", b"read failed\n")),
+            ("serve, at once", ["serve"], b"", (3, b"", b"closed Bye\nread failed\n")),
+            ("serve, behind a ping and a magic", ["serve"], PING + PING[:4], (3, PONG, b"closed Bye\nread failed\n")),
+            ("serve, in the middle of a payload", ["serve"], PING[:28], (3, b"", b"closed Bye\nread failed\n")),
+        ):
+            ours, theirs = socket.socketpair()
+            with ours, theirs:
+                ours.sendall(given)
+                theirs.sendall(b"unread")
+                ours.close()
+                self.look(f"a read fails in {name}", self.run(words, None, stdin=theirs), wanted)
+
+    # ---- writes
+
+    def limited(self, words, given, size):
+        """A run whose output is a file that takes so many bytes, and what the file holds then."""
+
+        def limit():
+            signal.signal(signal.SIGXFSZ, signal.SIG_IGN)
+            resource.setrlimit(resource.RLIMIT_FSIZE, (size, size))
+
+        with tempfile.TemporaryFile() as file:
+            status, _, told = self.run(words, given, stdout=file, restore_signals=False, preexec_fn=limit)
+            file.seek(0)
+            return status, file.read(), told
+
+    def writes_that_fail(self):
+        """A file that takes a few bytes, a device that is full, and a pipe that nobody reads."""
+        for size in (0, 9, 37):
+            wanted = (3, PRINTED[:size], b"write failed\n")
+            self.look(f"decode into {size} bytes", self.limited(["decode"], DECODED, size), wanted)
+        for size in range(len(PONG)):
+            wanted = (3, PONG[:size], b"closed WriteFault\nwrite failed\n")
+            self.look(f"serve into {size} bytes", self.limited(["serve"], PING + PING, size), wanted)
+        for words, given, told in (
+            (["decode"], DECODED, b"write failed\n"),
+            (["sim"], SIMULATED, b"write failed\n"),
+            (["serve"], PING, b"closed WriteFault\nwrite failed\n"),
+        ):
+            with open("/dev/full", "wb") as full:
+                self.look(f"{words[0]} to a full device", self.run(words, given, stdout=full), (3, b"", told))
+            with unread_pipe() as pipe:
+                self.look(f"{words[0]} to a closed pipe", self.run(words, given, stdout=pipe), (3, b"", told))
+
+    # ---- long inputs
+
+    def a_hundred_thousand_acts(self):
+        """The lists grow to 50,000 entries: an act that copied one would take minutes together."""
+        count, began = 50_000, time.monotonic()
+        lines = b"system 1 1 1\nclaim 0\n" + b"put 0 1\ntake 0\n" * count
+        listed = ",".join("1" * count)
+        report = f"peer 0 queued {listed} taken {listed}\nring -\nhandler 0 desk 0\n"
+        self.look("100,000 acts", self.run(["sim"], lines), (0, report.encode(), b""))
+        took = time.monotonic() - began
+        self.look("100,000 acts within 10 seconds", took < 10, True)
+
+    def pings_past_checkpoints(self):
+        for count in (32_768, 100_000):
+            self.look(f"{count} pings", self.run(["serve"], PING * count), (0, PONG * count, b"closed Bye\n"))
+
+
+def unread_pipe():
+    """The end to write to of a pipe that nobody can read."""
+    reading, writing = os.pipe()
+    os.close(reading)
+    return os.fdopen(writing, "wb")
+
+
+def shown(value):
+    text = repr(value)
+    return text if len(text) <= 200 else f"{text[:200]}.."
+
+
+def main():
+    usage(__doc__).parse_args()
+    looks = Looks(built(None, "cbrelay"))
+    looks.words_that_are_refused()
+    looks.lines_that_cannot_be_read()
+    looks.one_byte_a_read()
+    looks.reads_that_fail()
+    looks.writes_that_fail()
+    looks.a_hundred_thousand_acts()
+    looks.pings_past_checkpoints()
+    print(f"edges: {looks.count - looks.failed} as they should be, {looks.failed} not")
+    return 1 if looks.failed else 0
+
+
+if __name__ == "__main__":
+    sys.exit(main())
