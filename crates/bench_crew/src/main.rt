@@ -16,7 +16,7 @@ use crate::tally::Served;
 use crate::work::HashWork;
 use cb_base::Fault;
 use cb_crew::{Crew, Desk, Fresh, NewCrew};
-use cb_service::{Orders, Readers, Refusal, Signals, Staff, serve};
+use cb_service::{Orders, Readers, Refusal, Signals, Staff, serve_peers};
 use std::alloc::Global;
 use std::io::{ErrorKind, Read};
 use std::marker::Sync;
@@ -80,7 +80,7 @@ fn serve_crew<R: Threads + Wait + Clock + Sync>(
         },
         handlers: made.handlers,
     };
-    serve(rt, alloc, &crew, signals, orders, staff)
+    serve_peers(rt, alloc, &crew, signals, orders, staff)
 }
 
 /// What each work of each peer keeps, the first connection's first.

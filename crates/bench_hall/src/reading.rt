@@ -7,7 +7,7 @@ use cb_base::{Cursor, Fault, Shared};
 use cb_block::{Header, read_header};
 use cb_journal::{Given, Local, Question, Request, Sought, Told};
 use cb_payload::{HeaderList, Listed, Locator};
-use cb_state::{Connection, Entries, Inventory};
+use cb_state::{Connection, Inventories, Inventory};
 use cb_tx::{Tx, read_hash, read_tx};
 use std::alloc::Global;
 
@@ -30,7 +30,7 @@ fn read_entry(cursor: &mut Cursor) -> Result<Inventory, Fault> {
     })
 }
 
-fn read_entries(alloc: Global, cursor: &mut Cursor) -> Result<Entries, Fault> {
+fn read_entries(alloc: Global, cursor: &mut Cursor) -> Result<Inventories, Fault> {
     let mut entries = Vec::new(alloc);
     for _ in 0..cursor.left() / 36 {
         entries.push(read_entry(cursor)?)?;

@@ -3,20 +3,20 @@
 
 mod block;
 mod coding;
-mod first;
+mod genesis_tx;
 mod header;
-mod law;
+mod laws;
+mod merkle;
 mod rules;
 mod soundness;
-mod tree;
 
 pub use block::{Block, Txs};
 pub use coding::{read_block, write_block};
 pub use header::{BITS, Header, check_header, hash_with_work, read_header};
-pub use law::{
+pub use laws::{
     beginning_of_block_is_truncated, beginning_of_header_is_truncated, one_block_text, one_root,
     one_sound_list,
 };
+pub use merkle::{mutated, root};
 pub use rules::check_block;
 pub use soundness::{SoundBlock, genesis, sound, sound_by};
-pub use tree::{mutated, root};

@@ -7,9 +7,9 @@ ghost use Rattle.cb_block.specs.Genesis.{genesis_block};
 ghost use Rattle.cb_block.specs.Soundness.{AreApart, IsSound, names};
 
 use crate::block::{Block, Txs};
-use crate::first::first_tx;
+use crate::genesis_tx::first_tx;
 use crate::header::{BITS, Header};
-use crate::tree::tree;
+use crate::merkle::tree;
 use cb_base::{Fault, Hash256, Shared, dsha};
 use cb_tx::{Tx, write_tx};
 use std::alloc::Global;

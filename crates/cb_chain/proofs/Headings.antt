@@ -10,7 +10,7 @@ use Rattle.cb_ledger.specs.Unspent.{Unspent}
 use Rattle.cb_ledger.specs.declared.undo.CoinChange.{CoinChange}
 use Rattle.cb_chain.specs.declared.accepting.Spot.{Spot}
 use Rattle.cb_chain.specs.declared.node.Node.{Node}
-use Rattle.cb_chain.specs.declared.side.Side.{Side}
+use Rattle.cb_chain.specs.declared.side_chain.Side.{Side}
 use Rattle.cb_chain.specs.Calls.{AcceptsHeader, header_entry, header_fault}
 use Rattle.cb_chain.specs.Entries.{Entry, Tree, block_hash}
 use Rattle.cb_chain.specs.Headers.{Meets, TakesHeaders, goes_on}

@@ -4,7 +4,7 @@ pub mod Halts
 pub mod Headings
 pub mod Heights
 pub mod Histories
-pub mod Laws
+pub mod LawLemmas
 pub mod Ledgers
 pub mod Links
 pub mod Locators

@@ -11,7 +11,7 @@ use Rattle.cb_ledger.specs.Undo.{LeadsBack}
 use Rattle.cb_ledger.specs.Unspent.{Unspent}
 use Rattle.cb_chain.specs.declared.accepting.Spot.{Spot}
 use Rattle.cb_chain.specs.declared.node.Node.{Node}
-use Rattle.cb_chain.specs.declared.side.Side.{Side}
+use Rattle.cb_chain.specs.declared.side_chain.Side.{Side}
 use Rattle.cb_chain.specs.Best.{best, is_higher, unspent_after}
 use Rattle.cb_chain.specs.Calls.{block_entry, block_fault, joined, marked_above}
 use Rattle.cb_chain.specs.Entries.{Entry, Tree, block_hash, is_kept}

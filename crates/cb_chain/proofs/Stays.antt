@@ -19,7 +19,7 @@ use Rattle.cb_chain.specs.Calls.{AcceptsBlock, AcceptsHeader, bad_entry, block_e
 use Rattle.cb_chain.specs.Entries.{Entry, Tree, block_hash, entry_of, height_of, is_kept, is_known, same}
 use Rattle.cb_chain.specs.Following.{above_branch, headers_above}
 use Rattle.cb_chain.specs.Laws.{LeadsOver, MayLead, Stays, active_hashes, height_in}
-use Rattle.cb_chain.proofs.Laws.{tip_kept}
+use Rattle.cb_chain.proofs.LawLemmas.{tip_kept}
 use Rattle.cb_chain.proofs.Roots.{AreRooted, known_behind, known_first}
 use Rattle.cb_chain.proofs.Marks.{marks_keep_best, marks_keep_branch, marks_keep_unspent}
 use Rattle.cb_chain.proofs.NewTip.{best_new, best_other, branch_new, height_new, height_other, joined_err, joined_ok}

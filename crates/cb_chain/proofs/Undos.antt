@@ -16,7 +16,7 @@ use Rattle.cb_chain.specs.Entries.{Entry, Tree, block_hash, entry_of, genesis_ha
 use Rattle.cb_chain.specs.Keeping.{Step, active_places, entry_from, place_of, tree_of}
 use Rattle.cb_chain.specs.Sides.{AreUndos, HasRecord, IsChain, IsSide, IsUndo, WasConnected, prev_of, record_at}
 use Rattle.cb_chain.specs.declared.node.Node.{Node}
-use Rattle.cb_chain.specs.declared.side.Side.{Side}
+use Rattle.cb_chain.specs.declared.side_chain.Side.{Side}
 use Rattle.cb_chain.proofs.SideNodes.{Grows, climb_aside, grows_tree}
 use Rattle.cb_chain.proofs.Places.{eq_true, get_set, place_low}
 use Rattle.cb_chain.proofs.Marks.{mark_header, marks_keep_active_places, marks_keep_best, marks_keep_kept, marks_keep_length, marks_keep_place, marks_keep_unspent, with_mark}

@@ -9,7 +9,7 @@ use Rattle.cb_ledger.specs.Spend.{spend}
 use Rattle.cb_ledger.specs.Undo.{LeadsBack, changed}
 use Rattle.cb_ledger.specs.Unspent.{Unspent}
 use Rattle.cb_chain.specs.declared.node.Node.{Node}
-use Rattle.cb_chain.specs.declared.side.Side.{Side}
+use Rattle.cb_chain.specs.declared.side_chain.Side.{Side}
 use Rattle.cb_chain.specs.Best.{best, faulty, unspent_after}
 use Rattle.cb_chain.specs.Entries.{Tree, entry_of, is_kept}
 use Rattle.cb_chain.specs.Keeping.{Grown, active_places, place_of, tree_of}

@@ -5,7 +5,7 @@ ghost use Rattle.cb_chain.specs.Entries.{block_of, entry_of, height_of, is_lacki
 ghost use Rattle.cb_chain.specs.Keeping.{entry_from};
 
 use crate::node::Node;
-use crate::side::Side;
+use crate::side_chain::Side;
 use crate::tree::Tree;
 use cb_base::{Fault, Hash256};
 use cb_block::{Header, SoundBlock};

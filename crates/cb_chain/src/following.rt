@@ -5,9 +5,9 @@ ghost use Rattle.cb_chain.specs.Following.{headers_above, headers_after, place_i
 ghost use Rattle.cb_chain.specs.Keeping.{IsTree, active_places, tree_of};
 ghost use Rattle.cb_chain.specs.Locator.{locator_of};
 
+use crate::branch::fork_of;
 use crate::chain::Chain;
 use crate::tree::Tree;
-use crate::walking::fork_of;
 use cb_base::{Fault, Hash256};
 use cb_block::Header;
 use std::alloc::Global;

@@ -2,23 +2,23 @@
 #![tactic(auto)]
 
 mod accepting;
+mod branch;
 mod chain;
 mod change;
 mod following;
-mod heading;
-mod law;
-mod leading;
+mod headers;
+mod laws;
 mod node;
-mod side;
+mod reorganising;
+mod side_chain;
 mod tree;
-mod walking;
 
 pub use accepting::MOST_HEIGHT;
 pub use chain::Chain;
 pub use change::{Change, Hashes};
 pub use following::MOST_HEADERS;
-pub use heading::Accepted;
-pub use law::{
+pub use headers::Accepted;
+pub use laws::{
     active_is_linked, has_history, kept_meet_rules, kept_once, ledger_is_folded,
     marked_for_a_reason, marked_is_never_spent, none_higher, one_tree,
 };

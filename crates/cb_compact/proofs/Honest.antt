@@ -19,7 +19,7 @@ use Rattle.cb_compact.specs.Placing.{IsFilled, IsPlaced}
 use Rattle.cb_compact.specs.ShortIds.{key_of, short_id_of}
 use Rattle.cb_compact.specs.Slots.{choice, filled, is_among, laid_out, missing, only_tx, slots, with_id}
 use Rattle.cb_compact.specs.declared.form.Compact.{Compact}
-use Rattle.cb_compact.specs.declared.named.Pair.{Pair}
+use Rattle.cb_compact.specs.declared.named_tx.Pair.{Pair}
 use Rattle.cb_compact.specs.declared.partial.Filled.{Filled}
 use Rattle.cb_compact.specs.declared.partial.Filled.TheVariants.{Sound, Wrong}
 use Rattle.cb_compact.specs.declared.partial.Placed.{Placed}

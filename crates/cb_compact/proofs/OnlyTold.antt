@@ -9,7 +9,7 @@ use Rattle.cb_compact.specs.Honest.{AreOneIfApart, IsTold}
 use Rattle.cb_compact.specs.Placing.{IsFilled, IsPlaced}
 use Rattle.cb_compact.specs.Slots.{filled, slots}
 use Rattle.cb_compact.specs.declared.form.Prefilled.{Prefilled}
-use Rattle.cb_compact.specs.declared.named.Pair.{Pair}
+use Rattle.cb_compact.specs.declared.named_tx.Pair.{Pair}
 use Rattle.cb_compact.specs.declared.partial.Filled.TheVariants.{Sound}
 use Rattle.cb_compact.specs.declared.partial.Placed.{Placed}
 use Rattle.cb_compact.specs.declared.partial.Placed.TheVariants.{Missing, Repeat, Whole}

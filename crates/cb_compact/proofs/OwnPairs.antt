@@ -12,7 +12,7 @@ use Rattle.cb_compact.specs.Honest.{AreOwn, AreUnserved, HaveOwnIds, IsHonest, I
 use Rattle.cb_compact.specs.Placing.{IsPlaced}
 use Rattle.cb_compact.specs.Slots.{AreDifferent, is_among, with_id}
 use Rattle.cb_compact.specs.declared.form.Compact.{Compact}
-use Rattle.cb_compact.specs.declared.named.Pair.{Pair}
+use Rattle.cb_compact.specs.declared.named_tx.Pair.{Pair}
 use Rattle.cb_compact.specs.declared.partial.Filled.TheVariants.{Sound}
 use Rattle.cb_compact.specs.declared.partial.Placed.{Placed}
 use Rattle.cb_compact.specs.declared.partial.Placed.TheVariants.{Missing, Repeat, Whole}

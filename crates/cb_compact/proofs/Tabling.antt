@@ -9,7 +9,7 @@ use Rattle.std.specs.Map.{lookup}
 use Rattle.cb_tx.specs.declared.tx.Tx.{Tx}
 use Rattle.cb_compact.specs.Slots.{AreDifferent, choice, is_among, only_tx, with_id}
 use Rattle.cb_compact.specs.Tables.{ArePlaces, IsPlace, IsTable, all_found, found_of, found_tx, more_at, one_more, with_pair}
-use Rattle.cb_compact.specs.declared.named.Pair.{Pair}
+use Rattle.cb_compact.specs.declared.named_tx.Pair.{Pair}
 use Rattle.cb_compact.specs.declared.table.Found.{Found}
 use Rattle.cb_compact.specs.declared.table.Found.TheVariants.{Nobody}
 use Rattle.cb_compact.specs.declared.table.Table.{Table}

@@ -6,7 +6,7 @@ use Rattle.cb_block.specs.Soundness.{IsSound}
 use Rattle.cb_block.specs.declared.header.Header.{Header}
 use Rattle.cb_compact.specs.Slots.{AreDifferent, filled, missing, slots}
 use Rattle.cb_compact.specs.declared.form.Prefilled.{Prefilled}
-use Rattle.cb_compact.specs.declared.named.Pair.{Pair}
+use Rattle.cb_compact.specs.declared.named_tx.Pair.{Pair}
 use Rattle.cb_compact.specs.declared.partial.Filled.{Filled}
 use Rattle.cb_compact.specs.declared.partial.Filled.TheVariants.{Sound, Wrong}
 use Rattle.cb_compact.specs.declared.partial.Placed.{Placed}

@@ -5,7 +5,7 @@ use Rattle.std.specs.List.{list_any}
 use Rattle.cb_tx.specs.declared.tx.Tx.{Tx}
 use Rattle.cb_block.specs.declared.header.Header.{Header}
 use Rattle.cb_compact.specs.declared.form.Prefilled.{Prefilled}
-use Rattle.cb_compact.specs.declared.named.Pair.{Pair}
+use Rattle.cb_compact.specs.declared.named_tx.Pair.{Pair}
 
 -- whether an id is among some
 abbrev pub is_among : ℕ → List ℕ → Bool

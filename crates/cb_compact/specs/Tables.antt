@@ -3,7 +3,7 @@ use Rattle.std.specs.Prelude.{◌≡◌, ℕ, zero, suc, false, nat_eq, List, []
 use Rattle.std.specs.Map.{lookup}
 use Rattle.cb_tx.specs.declared.tx.Tx.{Tx}
 use Rattle.cb_compact.specs.Slots.{is_among, with_id}
-use Rattle.cb_compact.specs.declared.named.Pair.{Pair}
+use Rattle.cb_compact.specs.declared.named_tx.Pair.{Pair}
 use Rattle.cb_compact.specs.declared.table.Found.{Found}
 use Rattle.cb_compact.specs.declared.table.Found.TheVariants.{Nobody, One, Several}
 use Rattle.cb_compact.specs.declared.table.Table.{Table}

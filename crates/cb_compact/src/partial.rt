@@ -7,7 +7,7 @@ ghost use Rattle.cb_block.specs.Soundness.{names};
 ghost use Rattle.cb_compact.specs.Placing.{IsFilled};
 ghost use Rattle.cb_compact.specs.Slots.{filled, missing};
 
-use crate::named::NamedTx;
+use crate::named_tx::NamedTx;
 use cb_base::{Fault, Hash256, Shared};
 use cb_block::{Block, Header, SoundBlock, Txs, sound_by};
 use cb_tx::Tx;

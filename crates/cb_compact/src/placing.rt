@@ -7,7 +7,7 @@ ghost use Rattle.cb_compact.specs.Slots.{AreDifferent, choice, laid_out, missing
 ghost use Rattle.cb_compact.specs.Tables.{IsTable, found_tx};
 
 use crate::form::Prefilled;
-use crate::named::{NamedTx, Pair};
+use crate::named_tx::{NamedTx, Pair};
 use crate::partial::{Partial, Placed, whole};
 use crate::table::{Found, table_of};
 use cb_base::Fault;

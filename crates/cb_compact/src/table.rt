@@ -7,7 +7,7 @@ ghost use Rattle.cb_compact.specs.Slots.{AreDifferent};
 ghost use Rattle.cb_compact.specs.Tables.{IsTable, all_found, found_tx, one_more, with_pair};
 
 use crate::id_seed::IdSeed;
-use crate::named::{NamedTx, Pair};
+use crate::named_tx::{NamedTx, Pair};
 use cb_base::Fault;
 use std::alloc::Global;
 use std::collections::HashMap;

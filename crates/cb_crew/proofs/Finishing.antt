@@ -6,7 +6,7 @@ use Rattle.std.proofs.lemmas.List.{append-nil, append_assoc, get_or-map, length-
 use Rattle.std.proofs.lemmas.Simd.{map-map}
 use Rattle.cb_inbox.specs.Seat.{InboxState}
 use Rattle.cb_crew.specs.declared.work.Given.{Given}
-use Rattle.cb_crew.specs.declared.side.ReaderSide.{ReaderSide}
+use Rattle.cb_crew.specs.declared.reader_side.ReaderSide.{ReaderSide}
 use Rattle.cb_crew.specs.Desk.{DeskState, first_label}
 use Rattle.cb_crew.specs.Ring.{DeskName, Shown}
 use Rattle.cb_crew.specs.Turn.{shown_desk}

@@ -12,8 +12,8 @@ use Rattle.atomic_table.specs.Seated.{TableId}
 use Rattle.cb_inbox.specs.declared.queued.Queued.{Queued}
 use Rattle.cb_inbox.specs.Seat.{InboxState, SeatState, opening_seat}
 use Rattle.cb_crew.specs.Ring.{DeskName, HandState, RingState, making, StandsForAll, made_hand, running_hand, hired_hand, hiring_hand}
-use Rattle.cb_crew.specs.declared.side.ReaderSide.{ReaderSide}
-use Rattle.cb_crew.specs.declared.side.ReaderSide.TheVariants as side
+use Rattle.cb_crew.specs.declared.reader_side.ReaderSide.{ReaderSide}
+use Rattle.cb_crew.specs.declared.reader_side.ReaderSide.TheVariants as side
 use Rattle.cb_crew.specs.Desk.{DeskState, first_label}
 use Rattle.cb_crew.specs.Turn.{HandlerState, IsNoteOf, shown_desk}
 use Rattle.cb_crew.specs.Crew.{CrewState, AreHandlersOf, AreOpeningSeats, AreSidesOf, FirstHasRoom, HasPlace, IsCrew, IsFreeHandOf, IsHandlerOf, IsNewCrew, MadeNoTurn, inbox_of, names_of}

@@ -5,8 +5,8 @@ use Rattle.atomic_table.specs.Seated.{TableId}
 use Rattle.cb_inbox.specs.declared.queued.Queued.{Queued}
 use Rattle.cb_inbox.specs.declared.queued.Queued.TheVariants as queued
 use Rattle.cb_inbox.specs.Seat.{InboxState, SeatState, opening_seat}
-use Rattle.cb_crew.specs.declared.side.ReaderSide.{ReaderSide}
-use Rattle.cb_crew.specs.declared.side.ReaderSide.TheVariants as side
+use Rattle.cb_crew.specs.declared.reader_side.ReaderSide.{ReaderSide}
+use Rattle.cb_crew.specs.declared.reader_side.ReaderSide.TheVariants as side
 use Rattle.cb_crew.specs.Ring.{DeskName, RingState, HandState, Shown, running, IsOfCrew, peers_of}
 use Rattle.cb_crew.specs.Turn.{HandlerState}
 

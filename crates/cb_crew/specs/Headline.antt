@@ -5,7 +5,7 @@ use Rattle.cb_sched.specs.Laws.{IsBeginning}
 use Rattle.cb_inbox.specs.declared.queued.Queued.{Queued}
 use Rattle.cb_crew.specs.declared.work.Given.{Given}
 use Rattle.cb_crew.specs.declared.work.Given.TheVariants as given
-use Rattle.cb_crew.specs.declared.side.ReaderSide.{ReaderSide}
+use Rattle.cb_crew.specs.declared.reader_side.ReaderSide.{ReaderSide}
 use Rattle.cb_crew.specs.Work.{AreWorksOf, connections_of}
 use Rattle.cb_crew.specs.Desk.{DeskState, first_label}
 use Rattle.cb_crew.specs.Crew.{CrewState, names_of, all_queued}

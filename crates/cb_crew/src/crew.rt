@@ -6,8 +6,8 @@ ghost use Rattle.cb_crew.specs.Headline.{IsFinished};
 
 use crate::desk::Desk;
 use crate::handler::Handler;
+use crate::reader_side::ReaderSide;
 use crate::ring::Ring;
-use crate::side::ReaderSide;
 use crate::work::{Fresh, Work};
 use cb_base::{Fault, Shared};
 use cb_inbox::{Inbox, ReaderSeat};

@@ -154,7 +154,7 @@ impl<W: Work> Handler<W> {
         ensures ticks { GivesTicked W.label W.given W.ticked W.is_closed self.old.hand self.new.hand desk }
         ensures same { (self.new.turns ≡ self.old.turns) × (self.new.room ≡ self.old.room) }
     {
-        let turn = serve(rt, &mut desk, budget);
+        let turn = serve_desk(rt, &mut desk, budget);
         crew.ring.give(rt, &mut self.hand, desk);
         turn
     }
@@ -177,7 +177,7 @@ fn hear<W: Work>(
 }
 
 /// Serves a desk, and tells what was done.
-fn serve<W: Work, R: Wait>(rt: &R, desk: &mut Desk<W>, budget: u32) -> Turn
+fn serve_desk<W: Work, R: Wait>(rt: &R, desk: &mut Desk<W>, budget: u32) -> Turn
     requires { (1 ≤ budget) × (budget ≤ 64) }
     ensures turns { TurnsDesk W.label W.is_closed desk.old desk.new budget result }
     ensures ticks { TickedOnce W.given W.ticked W.is_closed desk.old desk.new }

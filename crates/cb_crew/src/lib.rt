@@ -6,16 +6,16 @@ mod desk;
 mod finish;
 mod handler;
 mod new_crew;
+mod reader_side;
 mod ring;
 mod ring_rule;
-mod side;
 mod work;
 
 pub use crew::Crew;
 pub use desk::{Count, Desk};
 pub use handler::{Handler, Turn};
 pub use new_crew::NewCrew;
+pub use reader_side::ReaderSide;
 pub use ring::{Hand, Ring};
 pub use ring_rule::Travels;
-pub use side::ReaderSide;
 pub use work::{Fresh, Given, Work};

@@ -4,7 +4,7 @@ ghost use Rattle.cb_fetch.specs.Fetching.{as_blocks, block_in, blocks_in, idle, 
 
 use cb_base::{Fault, Hash256};
 use cb_payload::InvEntry;
-use cb_state::{Entries, Inventory};
+use cb_state::{Inventories, Inventory};
 use indexmap::IndexSet;
 use std::alloc::Global;
 use std::marker::Model;
@@ -175,13 +175,13 @@ impl Fetch {
     /// The wanted blocks as entries of inventory, in order: to ask which of them are still needed.
     ///
     /// The only error is `Fault::Memory`. It takes none where nothing is wanted.
-    pub fn wanted(&self, alloc: Global) -> Result<Entries, Fault>
+    pub fn wanted(&self, alloc: Global) -> Result<Inventories, Fault>
         ensures entries { IfOk result (λ entries. entries ≡ as_blocks self.now.wanted) }
         ensures memory { IsOkUnless result Memory }
         ensures unpaid { length self.now.wanted ≡ 0 → IsOk result }
     {
         let entries = block_entries(alloc, self.wanted.as_slice())?;
-        Ok(Entries::from_few(entries))
+        Ok(Inventories::from_few(entries))
     }
 
     /// The entries of `getdata` that ask for the blocks in flight, of type 2, in order.

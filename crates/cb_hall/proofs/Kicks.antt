@@ -26,7 +26,7 @@ use Rattle.cb_journal.specs.Connections.{Slots, changed_at, connected_of, counte
 use Rattle.cb_journal.specs.Replica.{Does, Leads, ReplicaState, Steps}
 use Rattle.cb_journal.specs.Replies.{Answers, IsServed, Replies}
 use Rattle.cb_journal.proofs.Leading.{leads_one, leads_then}
-use Rattle.cb_hall.specs.Law.{AreTurnedAway, CountsItsQuestions, IsLetIn, WasKicked, is_question_of, questions_of}
+use Rattle.cb_hall.specs.Laws.{AreTurnedAway, CountsItsQuestions, IsLetIn, WasKicked, is_question_of, questions_of}
 use Rattle.cb_hall.proofs.Lookups.{comes_fresh, is_same, opened_keeps, put_either, put_nothing}
 
 -- ---- one entry

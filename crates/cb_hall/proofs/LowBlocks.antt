@@ -17,7 +17,7 @@ use Rattle.cb_chain.specs.Entries.{Entry, Tree, block_hash, genesis_hash, same, 
 use Rattle.cb_chain.specs.History.{BlockCall, Call, HeaderCall, IsHistoric, IsHistory, IsStep}
 use Rattle.cb_chain.specs.Laws.{height_in}
 use Rattle.cb_chain.proofs.Histories.{historic_block}
-use Rattle.cb_chain.proofs.Laws.{tip_kept}
+use Rattle.cb_chain.proofs.LawLemmas.{tip_kept}
 use Rattle.cb_chain.proofs.Marks.{marked_is, marks_keep_best, marks_keep_height, marks_keep_kept}
 use Rattle.cb_chain.proofs.NewTip.{best_new, height_other}
 use Rattle.cb_chain.proofs.Nodes.{same-refl, same-true}

@@ -14,7 +14,7 @@ use Rattle.cb_chain.specs.Best.{best}
 use Rattle.cb_chain.specs.Entries.{Entry, Tree, block_hash, entry_of, first_entry, genesis_hash, has_block, height_of, is_kept, is_marked, same}
 use Rattle.cb_chain.specs.History.{IsHistoric}
 use Rattle.cb_chain.specs.Laws.{height_in}
-use Rattle.cb_chain.proofs.Laws.{tip_kept}
+use Rattle.cb_chain.proofs.LawLemmas.{tip_kept}
 use Rattle.cb_chain.proofs.NewTip.{height_other}
 use Rattle.cb_chain.proofs.Nodes.{same-true}
 use Rattle.cb_chain.proofs.Reached.{ArePlanted, kept_apart, kept_behind, planted_after}

@@ -22,7 +22,7 @@ use Rattle.cb_chain.specs.Calls.{AcceptsBlock, block_entry, block_fault, change_
 use Rattle.cb_chain.specs.Entries.{Tree, block_hash, height_of, is_kept, is_marked}
 use Rattle.cb_chain.specs.History.{IsHistoric}
 use Rattle.cb_chain.specs.Laws.{height_in}
-use Rattle.cb_chain.proofs.Laws.{tip_kept}
+use Rattle.cb_chain.proofs.LawLemmas.{tip_kept}
 use Rattle.cb_chain.proofs.NewTip.{best_new, branch_new, height_new, height_other, joined_err, joined_ok}
 use Rattle.cb_chain.proofs.Nodes.{reverse_cons, same-refl}
 use Rattle.cb_chain.proofs.Reached.{marked_err, planted_after}
@@ -30,8 +30,8 @@ use Rattle.cb_chain.proofs.SideNodes.{block_free, kept_other}
 use Rattle.cb_pool.specs.Listing.{txs_of}
 use Rattle.cb_pool.proofs.Spent.{ok_at}
 use Rattle.cb_state.specs.declared.connection.Connection.{Connection}
-use Rattle.cb_state.specs.declared.giving.Taken.{Taken}
-use Rattle.cb_state.specs.Giving.{TakesBlock, refused_for}
+use Rattle.cb_state.specs.declared.accepting.Taken.{Taken}
+use Rattle.cb_state.specs.Accepting.{TakesBlock, refused_for}
 use Rattle.cb_state.specs.Mining.{IsMined, coinbase_of, next_height, subsidy}
 use Rattle.cb_state.specs.State.{IsUnspent, NodeState, WaitOn}
 use Rattle.cb_state.proofs.Growing.{spent_on}

@@ -13,7 +13,7 @@ use Rattle.cb_journal.specs.Connections.{latest_of}
 use Rattle.cb_journal.specs.Journal.{JournalState, Notes}
 use Rattle.cb_journal.specs.Replica.{Leads, heard, opening}
 use Rattle.cb_hall.specs.Badge.{BadgeState, counted}
-use Rattle.cb_hall.specs.declared.look.Look.{Look}
+use Rattle.cb_hall.specs.declared.summary.Look.{Look}
 
 -- All calls since the beginning, of which the journal's are the last, and the answers to the questions among them: those that
 -- were dropped led from nothing to the state before the journal, and the journal leads on from there.

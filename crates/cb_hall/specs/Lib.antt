@@ -1,5 +1,5 @@
 pub mod Badge
 pub mod Hall
 pub mod Histories
-pub mod Law
+pub mod Laws
 pub mod MinedBlock

@@ -14,7 +14,7 @@ use Rattle.cb_chain.specs.Best.{active, best}
 use Rattle.cb_chain.specs.Entries.{Entry, Tree, block_hash, block_of, entry_of, is_marked}
 use Rattle.cb_chain.specs.Laws.{height_in}
 use Rattle.cb_pool.specs.Rules.{txid_of}
-use Rattle.cb_state.specs.declared.giving.Taken.{Taken}
+use Rattle.cb_state.specs.declared.accepting.Taken.{Taken}
 use Rattle.cb_state.specs.State.{IsUnspent, NodeState}
 
 -- It is the tip and is kept, and the active chain is longer by its header alone.

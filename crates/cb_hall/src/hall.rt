@@ -11,7 +11,7 @@ ghost use Rattle.cb_hall.specs.Badge.{AreBadges, fresh_badge, marked};
 ghost use Rattle.cb_hall.specs.Hall.{Grants, Grows, HasHistory, IsFull, Submitted, look_of, latest_connection, next_connection};
 
 use crate::badge::{Badge, first_badges};
-use crate::look::Look;
+use crate::summary::Look;
 use cb_base::Fault;
 use cb_block::SoundBlock;
 use cb_journal::{Answer, Connections, Entry, Journal, Local, MOST_CALLS, Question};

@@ -3,11 +3,11 @@
 
 mod badge;
 mod hall;
-mod law;
-mod look;
+mod laws;
 mod mined;
+mod summary;
 
 pub use badge::Badge;
 pub use hall::Hall;
-pub use law::{each_question_is_counted, mined_is_next_tip, one_hall, who_was_kicked};
-pub use look::Look;
+pub use laws::{each_question_is_counted, mined_is_next_tip, one_hall, who_was_kicked};
+pub use summary::Look;

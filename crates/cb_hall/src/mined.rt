@@ -1,7 +1,7 @@
 //! What becomes of a mined block that is given to a state.
 ghost use Rattle.std.specs.Prelude.{None};
-ghost use Rattle.cb_state.specs.declared.giving.Taken.{Taken};
-ghost use Rattle.cb_state.specs.Giving.{TakesBlock};
+ghost use Rattle.cb_state.specs.declared.accepting.Taken.{Taken};
+ghost use Rattle.cb_state.specs.Accepting.{TakesBlock};
 ghost use Rattle.cb_state.specs.Mining.{IsMined};
 ghost use Rattle.cb_state.specs.State.{NodeState};
 ghost use Rattle.cb_hall.specs.MinedBlock.{FaresAsMined};

@@ -5,7 +5,7 @@ use Rattle.cb_base.specs.declared.fault.Fault.{Fault}
 use Rattle.cb_block.specs.declared.header.Header.{Header}
 use Rattle.cb_tx.specs.declared.tx.Tx.{Tx}
 use Rattle.cb_state.specs.declared.connection.Connection.{Connection}
-use Rattle.cb_state.specs.Giving.{TakesTx}
+use Rattle.cb_state.specs.Accepting.{TakesTx}
 use Rattle.cb_state.specs.State.{NodeState}
 use Rattle.cb_journal.specs.declared.answer.Answer.TheVariants as answer
 use Rattle.cb_journal.specs.declared.entry.Local.{Local}

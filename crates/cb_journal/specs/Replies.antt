@@ -7,11 +7,11 @@ use Rattle.cb_compact.specs.ShortIds.{key_of}
 use Rattle.cb_pool.specs.Listing.{txs_of}
 use Rattle.cb_pool.specs.Matching.{pairs_of}
 use Rattle.cb_state.specs.declared.connection.Connection.{Connection}
-use Rattle.cb_state.specs.declared.giving.Heads.{Heads}
-use Rattle.cb_state.specs.declared.giving.Taken.{Taken}
+use Rattle.cb_state.specs.declared.accepting.Heads.{Heads}
+use Rattle.cb_state.specs.declared.accepting.Taken.{Taken}
 use Rattle.cb_state.specs.declared.news.News.{News}
 use Rattle.cb_state.specs.declared.wanting.Need.{Need}
-use Rattle.cb_state.specs.Giving.{TakesBlock, TakesHeads, TakesTx}
+use Rattle.cb_state.specs.Accepting.{TakesBlock, TakesHeads, TakesTx}
 use Rattle.cb_state.specs.News.{IsNews}
 use Rattle.cb_state.specs.Serving.{excerpt_of, pieces_of}
 use Rattle.cb_state.specs.State.{NodeState}

@@ -5,7 +5,7 @@ use cb_base::{Hash256, Shared};
 use cb_block::{Header, SoundBlock};
 use cb_payload::{Differences, HeaderList, Locator};
 use cb_pool::ShortIds;
-use cb_state::Entries;
+use cb_state::Inventories;
 use cb_tx::Tx;
 
 /// For how many bytes an entry of a list counts in a journal.
@@ -35,7 +35,7 @@ pub struct Sought {
 #[derive(Drop)]
 pub enum Request {
     /// Transactions and blocks (Bitcoin's protocol, `getdata`).
-    Items(Entries),
+    Items(Inventories),
     /// The headers of the best chain behind a locator, up to a stop (Bitcoin's protocol, `getheaders`).
     After(Locator, Hash256),
     /// The transactions of a block at the places with these differences (BIP 152, `getblocktxn`).
@@ -63,7 +63,7 @@ pub enum Question {
     /// What is the chain's locator?
     Locator,
     /// The peer told of transactions and blocks: which are wanted?
-    Want(Entries),
+    Want(Inventories),
     /// The peer gave a transaction.
     GiveTx(Shared<Tx>),
     /// The peer gave a block.

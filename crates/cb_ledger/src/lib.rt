@@ -4,13 +4,13 @@
 mod base;
 mod checking;
 mod connecting;
-mod law;
+mod laws;
 mod ledger;
 mod overlay;
 mod undo;
 
 pub use checking::sum_of;
-pub use law::{
+pub use laws::{
     coinbases, few_outputs, no_value_made, one_after_the_other, spent_once, there_and_back,
 };
 pub use ledger::Ledger;

@@ -15,7 +15,7 @@ use Rattle.cb_journal.specs.declared.answer.Answer.TheVariants as answers
 use Rattle.cb_payload.specs.declared.inventory.InvEntry.{InvEntry}
 use Rattle.cb_payload.specs.declared.requests.CompactRelay.{CompactRelay}
 use Rattle.cb_payload.specs.declared.version.Version.{Version}
-use Rattle.cb_state.specs.declared.giving.Heads.{Heads}
+use Rattle.cb_state.specs.declared.accepting.Heads.{Heads}
 use Rattle.cb_wire.specs.declared.item.Item.{Item}
 use Rattle.cb_wire.specs.declared.item.Item.TheVariants.{Good, Damaged, Bad}
 use Rattle.cb_wire.specs.declared.message.Message.{Message}
@@ -28,8 +28,8 @@ use Rattle.cb_peer.specs.declared.standing.Standing.{Standing}
 use Rattle.cb_peer.specs.declared.state.State.{State}
 use Rattle.cb_peer.specs.declared.state.State.TheVariants.{Start, Greeted, Ready, Closed}
 use Rattle.cb_peer.specs.Ask.{fits, is_nil, question_of, told_of}
-use Rattle.cb_peer.specs.Law.{IsReached}
-use Rattle.cb_peer.specs.Law.IsReached.{opens, steps, stops}
+use Rattle.cb_peer.specs.Laws.{IsReached}
+use Rattle.cb_peer.specs.Laws.IsReached.{opens, steps, stops}
 use Rattle.cb_peer.specs.Receiving.{Plan, asks, brought, by_compact, by_headers, by_phase, ended, ends, given_up, gives_up, heard_of, in_greeted, in_ready, in_start, introduced, processed, received, sends}
 use Rattle.cb_peer.specs.Replying.{answered, heads_by, heads_told, need_told, news_told, taken_told, wanted_told}
 use Rattle.cb_peer.specs.Session.{Stepped, arrives, for_item, open_step, standing_item, stands, stays, step_of, told}

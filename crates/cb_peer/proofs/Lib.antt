@@ -1,6 +1,6 @@
 pub mod Apt
 pub mod Cases
-pub mod Laws
+pub mod LawLemmas
 pub mod Lights
 pub mod Sending
 pub mod Sound

@@ -2,8 +2,8 @@
 use Rattle.std.specs.Prelude.{ℕ, ◌+◌, ◌*◌, Bool, true, false, length}
 use Rattle.cb_journal.specs.declared.answer.Answer.{Answer}
 use Rattle.cb_journal.specs.declared.answer.Answer.TheVariants as answers
-use Rattle.cb_state.specs.declared.excerpt.Excerpt.{Excerpt}
-use Rattle.cb_state.specs.declared.excerpt.Excerpt.TheVariants as excerpts
+use Rattle.cb_state.specs.declared.serving_places.Excerpt.{Excerpt}
+use Rattle.cb_state.specs.declared.serving_places.Excerpt.TheVariants as excerpts
 use Rattle.cb_wire.specs.declared.item.Item.{Item}
 use Rattle.cb_wire.specs.declared.item.Item.TheVariants.{Good}
 use Rattle.cb_wire.specs.Grammar.{payload_text}

@@ -1,6 +1,6 @@
 pub mod Ask
 pub mod Event
-pub mod Law
+pub mod Laws
 pub mod Pings
 pub mod Plan
 pub mod Receiving

@@ -4,7 +4,7 @@
 
 mod ask;
 mod event;
-mod law;
+mod laws;
 mod plan;
 mod receiving;
 mod replying;
@@ -16,7 +16,7 @@ mod state;
 
 pub use ask::Ask;
 pub use event::Event;
-pub use law::{
+pub use laws::{
     a_tip_is_not_told_to_its_source, few_blocks_are_fetched, headers_are_sent_where_asked_for,
     no_block_in_flight_is_asked_for, only_the_handshake_counts, questions_run_out,
     sound_blocks_are_given, what_the_hall_has_is_served,

@@ -294,12 +294,12 @@ pub(crate) fn hash_of_last(headers: &[Header]) -> Option<Hash256>
 }
 
 // The entries as they are read. The only error is `Fault::Memory`.
-fn understood_of(alloc: Global, entries: &Entries) -> Result<cb_state::Entries, Fault>
+fn understood_of(alloc: Global, entries: &Entries) -> Result<cb_state::Inventories, Fault>
     ensures entries { IfOk result (λ made. made ≡ map understood entries.now) }
     ensures memory { IsOkUnless result Memory }
 {
     let made = all_understood(alloc, entries.as_slice())?;
-    Ok(cb_state::Entries::from_few(made))
+    Ok(cb_state::Inventories::from_few(made))
 }
 
 // The same of a slice.
@@ -315,13 +315,13 @@ fn all_understood(alloc: Global, entries: &[InvEntry]) -> Result<Vec<Inventory>,
 }
 
 // The entries of transactions and blocks, as they are read. The only error is `Fault::Memory`.
-fn known_of(alloc: Global, entries: &Entries) -> Result<cb_state::Entries, Fault>
+fn known_of(alloc: Global, entries: &Entries) -> Result<cb_state::Inventories, Fault>
     ensures entries { IfOk result (λ made. made ≡ told_of entries.now) }
     ensures memory { IsOkUnless result Memory }
     ensures unpaid { told_of entries.now ≡ [] → IsOk result }
 {
     let made = all_known(alloc, entries.as_slice())?;
-    Ok(cb_state::Entries::from_few(made))
+    Ok(cb_state::Inventories::from_few(made))
 }
 
 // The same of a slice.

@@ -279,7 +279,7 @@ fn locator_of(alloc: Global, hash: Hash256) -> Result<Locator, Fault>
 // The request for the transactions among entries, if there are any. The only error is `Fault::Memory`.
 fn requests_of_txs(
     alloc: Global,
-    entries: &cb_state::Entries,
+    entries: &cb_state::Inventories,
 ) -> Result<Option<BoundedMessage>, Fault>
     ensures message { IfOk result (λ made. as_list made ≡ asking_for (filter_map tx_request entries.now)) }
     ensures memory { IsOkUnless result Memory }

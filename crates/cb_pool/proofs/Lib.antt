@@ -1,4 +1,4 @@
-pub mod Laws
+pub mod LawLemmas
 pub mod Left
 pub mod Matching
 pub mod Named

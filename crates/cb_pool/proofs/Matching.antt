@@ -5,7 +5,7 @@ use Rattle.std.proofs.lemmas.Bool.{cases_Bool}
 use Rattle.std.proofs.lemmas.List.Folds.{list_any-append}
 use Rattle.cb_tx.specs.declared.tx.Tx.{Tx}
 use Rattle.cb_compact.specs.Slots.{is_among}
-use Rattle.cb_compact.specs.declared.named.Pair.{Pair}
+use Rattle.cb_compact.specs.declared.named_tx.Pair.{Pair}
 use Rattle.cb_pool.specs.Matching.{pair_of, pairs_of}
 
 alike : {X : Type 0} (p q : X → Bool) (xs : List X) → ((x : X) → p x ≡ q x) → filter p xs ≡ filter q xs

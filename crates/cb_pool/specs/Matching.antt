@@ -3,7 +3,7 @@ use Rattle.std.specs.Prelude.{ℕ, List, map, filter}
 use Rattle.cb_tx.specs.declared.tx.Tx.{Tx}
 use Rattle.cb_compact.specs.ShortIds.{short_id_of}
 use Rattle.cb_compact.specs.Slots.{is_among}
-use Rattle.cb_compact.specs.declared.named.Pair.{Pair}
+use Rattle.cb_compact.specs.declared.named_tx.Pair.{Pair}
 use Rattle.cb_pool.specs.Rules.{txid_of}
 
 -- a transaction with its short id under a key

@@ -5,14 +5,14 @@ mod apart;
 mod candidate;
 mod checking;
 mod coins;
-mod law;
+mod laws;
 mod members;
 mod pairs;
 mod pool;
 mod refolding;
 
 pub use candidate::Candidate;
-pub use law::{
+pub use laws::{
     each_spends_what_is_there, each_stands_alone, none_is_spent_twice, numbers_differ, one_fold,
     stays_as_it_is, stays_behind_others,
 };

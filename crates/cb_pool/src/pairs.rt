@@ -30,7 +30,7 @@ pub struct Pairs {
 
 impl Model for Pairs {
     ghost use Rattle.std.specs.Prelude.{List};
-    ghost use Rattle.cb_compact.specs.declared.named.Pair.{Pair};
+    ghost use Rattle.cb_compact.specs.declared.named_tx.Pair.{Pair};
 
     ghost Value = { List Pair };
 

@@ -10,5 +10,5 @@ mod signals;
 
 pub use reading::item_at;
 pub use refusal::Refusal;
-pub use service::{Orders, Readers, Staff, serve};
+pub use service::{Orders, Readers, Staff, serve_peers};
 pub use signals::Signals;

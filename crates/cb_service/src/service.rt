@@ -197,7 +197,7 @@ fn run<'s, E, W: Work<Item = u64> + Send + 's, R: Threads + Wait + Clock + Sync>
 
 /// Serves a crew in threads: one for each handler, and one for each peer's reader. Once all readers have returned, the handlers
 /// are stopped and the crew finishes. Where it is refused, all threads have returned too.
-pub fn serve<W: Work<Item = u64> + Send, R: Threads + Wait + Clock + Sync>(
+pub fn serve_peers<W: Work<Item = u64> + Send, R: Threads + Wait + Clock + Sync>(
     rt: &R,
     alloc: Global,
     crew: &Crew<W>,

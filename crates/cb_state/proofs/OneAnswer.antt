@@ -20,11 +20,11 @@ use Rattle.cb_chain.proofs.Once.{one_block, one_heading}
 use Rattle.cb_pool.specs.Folding.{Refolds}
 use Rattle.cb_pool.specs.Listing.{txs_of}
 use Rattle.cb_pool.specs.Rules.{Applies, Refuses, RefusesAlone, StandsAlone, is_named_in, txid_of}
-use Rattle.cb_pool.proofs.Laws.{one_refold}
+use Rattle.cb_pool.proofs.LawLemmas.{one_refold}
 use Rattle.cb_state.specs.declared.connection.Connection.{Connection}
-use Rattle.cb_state.specs.declared.giving.Heads.{Heads}
-use Rattle.cb_state.specs.declared.giving.Taken.{Taken}
-use Rattle.cb_state.specs.Giving.{Follows, TakesBlock, TakesHeads, TakesTx, TakesTxOver, announcers_after, became_tip, locator_for, refused_for, txs_put_off}
+use Rattle.cb_state.specs.declared.accepting.Heads.{Heads}
+use Rattle.cb_state.specs.declared.accepting.Taken.{Taken}
+use Rattle.cb_state.specs.Accepting.{Follows, TakesBlock, TakesHeads, TakesTx, TakesTxOver, announcers_after, became_tip, locator_for, refused_for, txs_put_off}
 use Rattle.cb_state.specs.State.{NodeState, IsUnspent}
 
 -- ---- records by their fields

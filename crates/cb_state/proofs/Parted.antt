@@ -14,7 +14,7 @@ use Rattle.cb_tx.specs.Text.{list_text, tx_text}
 use Rattle.cb_block.specs.declared.block.Block.{Block}
 use Rattle.cb_block.specs.Text.{block_text, header_text}
 use Rattle.cb_compact.specs.Differences.{sums}
-use Rattle.cb_state.specs.declared.excerpt.Excerpt.TheVariants.{Part, Whole}
+use Rattle.cb_state.specs.declared.serving_places.Excerpt.TheVariants.{Part, Whole}
 use Rattle.cb_state.specs.Parts.{IsCarried, txs_at}
 use Rattle.cb_state.specs.Serving.{are_below, excerpt_at}
 

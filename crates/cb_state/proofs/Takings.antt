@@ -23,11 +23,11 @@ use Rattle.cb_pool.specs.Folding.{Refolds}
 use Rattle.cb_pool.specs.Listing.{Listing, txs_of, with_last}
 use Rattle.cb_pool.specs.Rules.{Applies, Refuses}
 use Rattle.cb_state.specs.declared.connection.Connection.{Connection}
-use Rattle.cb_state.specs.declared.giving.Heads.{Heads}
-use Rattle.cb_state.specs.declared.giving.Outlook.{Outlook}
-use Rattle.cb_state.specs.declared.giving.Outlook.TheVariants.{Folds, Stays}
-use Rattle.cb_state.specs.declared.giving.Taken.{Taken}
-use Rattle.cb_state.specs.Giving.{Follows, TakesBlock, TakesHeads, TakesTx, TakesTxOver, announcers_after, became_tip, has_some, locator_for, txs_above, txs_in, txs_put_off}
+use Rattle.cb_state.specs.declared.accepting.Heads.{Heads}
+use Rattle.cb_state.specs.declared.accepting.Outlook.{Outlook}
+use Rattle.cb_state.specs.declared.accepting.Outlook.TheVariants.{Folds, Stays}
+use Rattle.cb_state.specs.declared.accepting.Taken.{Taken}
+use Rattle.cb_state.specs.Accepting.{Follows, TakesBlock, TakesHeads, TakesTx, TakesTxOver, announcers_after, became_tip, has_some, locator_for, txs_above, txs_in, txs_put_off}
 use Rattle.cb_state.specs.Outlooks.{IsOutlookOn, IsReady, first_of}
 use Rattle.cb_state.specs.State.{NodeState, IsUnspent, WaitOn}
 use Rattle.cb_state.proofs.Growing.{grown_on}

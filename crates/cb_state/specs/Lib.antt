@@ -1,5 +1,5 @@
 pub mod Announcers
-pub mod Giving
+pub mod Accepting
 pub mod Mining
 pub mod News
 pub mod Outlooks

@@ -8,9 +8,9 @@ use Rattle.cb_chain.specs.Best.{best}
 use Rattle.cb_pool.specs.Folding.{HasRoom}
 use Rattle.cb_pool.specs.Listing.{txs_of}
 use Rattle.cb_pool.specs.declared.members.Pooled.{Pooled}
-use Rattle.cb_state.specs.declared.giving.Outlook.{Outlook}
-use Rattle.cb_state.specs.declared.giving.Outlook.TheVariants.{Folds, Stays}
-use Rattle.cb_state.specs.Giving.{IsPlanOn, txs_above}
+use Rattle.cb_state.specs.declared.accepting.Outlook.{Outlook}
+use Rattle.cb_state.specs.declared.accepting.Outlook.TheVariants.{Folds, Stays}
+use Rattle.cb_state.specs.Accepting.{IsPlanOn, txs_above}
 use Rattle.cb_state.specs.State.{IsUnspent, NodeState}
 
 -- The block comes on the tip, so that nothing is put off for it, and what waits can be spent behind it too.

@@ -12,8 +12,8 @@ use Rattle.cb_chain.specs.Laws.{height_in}
 use Rattle.cb_compact.specs.Differences.{sums}
 use Rattle.cb_pool.specs.Listing.{txs_of}
 use Rattle.cb_pool.specs.Rules.{named_in}
-use Rattle.cb_state.specs.declared.excerpt.Excerpt.{Excerpt}
-use Rattle.cb_state.specs.declared.excerpt.Excerpt.TheVariants as excerpt
+use Rattle.cb_state.specs.declared.serving_places.Excerpt.{Excerpt}
+use Rattle.cb_state.specs.declared.serving_places.Excerpt.TheVariants as excerpt
 use Rattle.cb_state.specs.declared.inventory.Inventory.{Inventory}
 use Rattle.cb_state.specs.declared.inventory.Inventory.TheVariants as entry
 use Rattle.cb_state.specs.declared.serving.Piece.{Piece}

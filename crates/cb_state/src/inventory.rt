@@ -18,4 +18,4 @@ pub enum Inventory {
 }
 
 /// Entries of inventory, at most 50,000.
-pub type Entries = Listed<Inventory, MOST_ENTRIES>;
+pub type Inventories = Listed<Inventory, MOST_ENTRIES>;

@@ -7,7 +7,7 @@ ghost use Rattle.cb_state.specs.declared.inventory.Inventory.TheVariants as entr
 ghost use Rattle.cb_state.specs.Serving.{is_within, piece_of, pieces_of, short_piece, tx_piece, whole_piece};
 
 use crate::bounded::{BoundedBlock, kept_block};
-use crate::inventory::{Entries, Inventory, MOST_ENTRIES};
+use crate::inventory::{Inventories, Inventory, MOST_ENTRIES};
 use crate::state::State;
 use cb_base::{Fault, Hash256};
 use cb_payload::Listed;
@@ -37,7 +37,7 @@ impl State {
     /// copied.
     ///
     /// The only error is `Fault::Memory`.
-    pub fn serve(&self, entries: &Entries) -> Result<Pieces, Fault>
+    pub fn serve(&self, entries: &Inventories) -> Result<Pieces, Fault>
         ensures pieces { IfOk result (λ pieces. pieces ≡ pieces_of self.now entries.now) }
         ensures memory { IsOkUnless result Memory }
     {

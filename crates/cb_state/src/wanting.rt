@@ -7,8 +7,8 @@ ghost use Rattle.cb_chain.specs.Locator.{locator_of};
 ghost use Rattle.cb_state.specs.declared.inventory.Inventory.TheVariants as entry;
 ghost use Rattle.cb_state.specs.Wanting.{AreNoted, IsNeed, blocks_of, is_block, is_near, only_block, stands_on_tip, wanted_of, with_entry, with_wanted};
 
-use crate::inventory::{Entries, Inventory};
-use crate::locating::locator_of;
+use crate::inventory::{Inventories, Inventory};
+use crate::locator::locator_of;
 use crate::state::State;
 use cb_base::{Fault, Hash256};
 use cb_payload::Locator;
@@ -19,7 +19,7 @@ use std::collections::HashSet;
 #[derive(Drop)]
 pub struct Need {
     /// The wanted ones, each once, in order.
-    pub entries: Entries,
+    pub entries: Inventories,
     /// Whether one block alone is wanted, whose header is known and stands on the tip.
     pub near: bool,
     /// The chain's locator, where a block is wanted.
@@ -83,7 +83,7 @@ impl State {
     /// bad. Each different entry is told once, in order.
     ///
     /// The only error is `Fault::Memory`.
-    pub fn want(&self, entries: &Entries) -> Result<Need, Fault>
+    pub fn want(&self, entries: &Inventories) -> Result<Need, Fault>
         ensures need { IfOk result (IsNeed self.now entries.now) }
         ensures memory { IsOkUnless result Memory }
     {
@@ -91,7 +91,7 @@ impl State {
         let near = self.is_near(wanted.as_slice());
         let locator = self.block_locator(wanted.as_slice())?;
         Ok(Need {
-            entries: Entries::from_few(wanted),
+            entries: Inventories::from_few(wanted),
             near,
             locator,
         })

@@ -18,7 +18,7 @@ use Rattle.cb_journal.specs.declared.question.Question.TheVariants as questions
 use Rattle.cb_payload.specs.declared.inventory.InvEntry.{InvEntry}
 use Rattle.cb_payload.specs.declared.requests.CompactRelay.{CompactRelay}
 use Rattle.cb_payload.specs.declared.version.Version.{Version}
-use Rattle.cb_state.specs.declared.giving.Heads.{Heads}
+use Rattle.cb_state.specs.declared.accepting.Heads.{Heads}
 use Rattle.cb_wire.specs.declared.item.Item.{Item}
 use Rattle.cb_wire.specs.declared.item.Item.TheVariants.{Good, Damaged, Bad}
 use Rattle.cb_wire.specs.declared.message.Message.{Message}

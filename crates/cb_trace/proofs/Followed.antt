@@ -26,12 +26,12 @@ use Rattle.cb_peer.specs.declared.state.Peer.{Peer}
 use Rattle.cb_peer.specs.declared.state.State.{State}
 use Rattle.cb_peer.specs.Ask.{fits, question_at, question_of, standing_question}
 use Rattle.cb_peer.specs.Event.{is_input, is_told, kind_of}
-use Rattle.cb_peer.specs.Law.{is_following, is_headers}
+use Rattle.cb_peer.specs.Laws.{is_following, is_headers}
 use Rattle.cb_peer.specs.Receiving.{Plan, ends}
 use Rattle.cb_peer.specs.Replying.{answered}
 use Rattle.cb_peer.specs.Session.{Stepped, arrives, closes, for_item, open_step, openings, standing_item, stands, stays, told}
 use Rattle.cb_peer.specs.State.{SessionState, freed, is_closed}
-use Rattle.cb_peer.proofs.Laws.{no_headers_unasked}
+use Rattle.cb_peer.proofs.LawLemmas.{no_headers_unasked}
 use Rattle.cb_peer.proofs.Sending.{None_of, sent_at_end}
 use Rattle.cb_peer.proofs.Steps.{no_question, open_over}
 use Rattle.cb_trace.specs.declared.trace.TraceEntry.{TraceEntry}

@@ -4,7 +4,7 @@ pub mod Fitting
 pub mod Folds
 pub mod Followed
 pub mod Hears
-pub mod Laws
+pub mod LawLemmas
 pub mod Questions
 pub mod Reached
 pub mod Requested

@@ -7,8 +7,8 @@ use Rattle.cb_peer.specs.declared.settings.Settings.{Settings}
 use Rattle.cb_peer.specs.declared.event.Event.{Event}
 use Rattle.cb_peer.specs.declared.state.CloseReason.{CloseReason}
 use Rattle.cb_peer.specs.declared.state.CloseReason.TheVariants as reasons
-use Rattle.cb_peer.specs.Law.{IsReached}
-use Rattle.cb_peer.specs.Law.IsReached.{opens, steps, stops}
+use Rattle.cb_peer.specs.Laws.{IsReached}
+use Rattle.cb_peer.specs.Laws.IsReached.{opens, steps, stops}
 use Rattle.cb_peer.specs.Session.{Stepped, closes, open_step, stays, step_of}
 use Rattle.cb_peer.specs.State.{SessionState, is_closed}
 use Rattle.cb_trace.specs.declared.trace.TraceEntry.{TraceEntry}

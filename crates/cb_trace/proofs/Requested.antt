@@ -27,7 +27,7 @@ use Rattle.cb_peer.specs.declared.event.Event.TheVariants as events
 use Rattle.cb_peer.specs.declared.settings.Settings.{Settings}
 use Rattle.cb_peer.specs.declared.standing.Standing.{Standing}
 use Rattle.cb_peer.specs.Ask.{fits, question_at, question_of, standing_question}
-use Rattle.cb_peer.specs.Law.{asks_for_block, names_block}
+use Rattle.cb_peer.specs.Laws.{asks_for_block, names_block}
 use Rattle.cb_peer.specs.Replying.{answered, is_heard, tip_told, tx_request, wanted_told}
 use Rattle.cb_peer.specs.Session.{Stepped, arrives, open_step, openings, step_of, told}
 use Rattle.cb_peer.specs.State.{SessionState, freed, is_closed}

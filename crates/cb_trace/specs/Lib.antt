@@ -1,5 +1,5 @@
 pub mod Fold
-pub mod Law
+pub mod Laws
 pub mod Prompt
 pub mod Trace
 pub mod Whole

@@ -1,5 +1,5 @@
 ghost use Rattle.std.specs.Prelude.{◌≡◌, ◌≤◌, length, map, IfOk};
-ghost use Rattle.cb_crew.specs.declared.side.ReaderSide.TheVariants.{Live};
+ghost use Rattle.cb_crew.specs.declared.reader_side.ReaderSide.TheVariants.{Live};
 ghost use Rattle.cb_inbox.specs.Seat.{opening_seat};
 ghost use Rattle.cb_crew.specs.Crew.{AreHandlersOf, AreOpeningSeats, AreSidesOf, IsHandlerOf, IsNewCrew, MadeNoTurn};
 

@@ -6,7 +6,7 @@ ghost use Rattle.cb_crew.specs.WorkTests.{counted, kept};
 use crate::lister::Lister;
 use cb_base::Fault;
 use cb_crew::{Crew, Desk, NewCrew};
-use cb_service::{Orders, Readers, Signals, Staff, item_at, serve};
+use cb_service::{Orders, Readers, Signals, Staff, item_at, serve_peers};
 use std::alloc::Global;
 use std::marker::Sync;
 use std::sync::Wait;
@@ -57,7 +57,7 @@ fn serve_all<R: Threads + Wait + Clock + Sync>(
         },
         handlers: made.handlers,
     };
-    serve(rt, alloc, &crew, signals, orders, staff).map_err(|_| Fault::Memory)
+    serve_peers(rt, alloc, &crew, signals, orders, staff).map_err(|_| Fault::Memory)
 }
 
 /// Whether the desk is this peer's, and its one work, the peer's own, was given the peer's items 0 to `items - 1` and then the

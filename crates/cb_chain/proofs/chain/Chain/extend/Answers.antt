@@ -11,7 +11,7 @@ use Rattle.cb_chain.specs.Keeping.{active_places, climb, tree_of}
 use Rattle.cb_chain.specs.Plans.{Moved}
 use Rattle.cb_chain.specs.Sides.{IsChain}
 use Rattle.cb_chain.specs.declared.node.Node.{Node}
-use Rattle.cb_chain.specs.declared.side.Side.{Side}
+use Rattle.cb_chain.specs.declared.side_chain.Side.{Side}
 use Rattle.cb_chain.proofs.Ledgers.{rests_let_go, rests_still}
 use Rattle.cb_chain.proofs.Outcomes.{IsEnd, IsStopped, moves, ready, stop_place, stop_tip, stops, tops_tip, why}
 use Rattle.cb_chain.proofs.Starts.{chain_as, sides_low}

@@ -2,7 +2,7 @@ use Rattle.std.proofs.Common.{◌≡◌, ◌++◌, ℕ, List, []}
 use Rattle.std.specs.Vec.Iter.{into_iter_items}
 use Rattle.cb_compact.specs.Slots.{AreDifferent}
 use Rattle.cb_compact.specs.Tables.{IsTable}
-use Rattle.cb_compact.specs.declared.named.Pair.{Pair}
+use Rattle.cb_compact.specs.declared.named_tx.Pair.{Pair}
 use Rattle.cb_compact.proofs.table.Table.found_among.Given as goal
 
 abbrev pub invariant-loop-pair : goal.invariant-loop-pair

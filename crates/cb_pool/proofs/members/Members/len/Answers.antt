@@ -2,7 +2,7 @@ use Rattle.std.proofs.Common.{subst}
 use Rattle.std.specs.Prelude.{All}
 use Rattle.cb_pool.specs.Listing.{NamesDiffer, Roomy, txs_of}
 use Rattle.cb_pool.specs.Rules.{StandsAlone}
-use Rattle.cb_pool.proofs.Laws.{all_alone, names_differ}
+use Rattle.cb_pool.proofs.LawLemmas.{all_alone, names_differ}
 use Rattle.cb_pool.proofs.Named.{pooled_of}
 use Rattle.cb_pool.proofs.members.Members.len.Goals as goal
 

@@ -1,7 +1,7 @@
 use Rattle.std.proofs.Common.{◌≡◌, ◌∙◌, [], ap, subst, sym}
 use Rattle.cb_block.specs.declared.block.Block.{Block}
 use Rattle.cb_chain.proofs.Nodes.{same-true}
-use Rattle.cb_state.specs.Giving.{txs_above}
+use Rattle.cb_state.specs.Accepting.{txs_above}
 use Rattle.cb_state.specs.Outlooks.{LeavesPool}
 use Rattle.cb_state.specs.State.{NodeState}
 use Rattle.cb_state.proofs.Takings.{nothing_on}

@@ -1,6 +1,6 @@
 use Rattle.std.proofs.Common.{◌≡◌, map, take}
 use Rattle.cb_chain.specs.Entries.{block_hash}
-use Rattle.cb_state.specs.Giving.{txs_in}
+use Rattle.cb_state.specs.Accepting.{txs_in}
 use Rattle.cb_state.proofs.state.State.put_off_for.Given as goal
 
 abbrev pub invariant-loop-header : goal.invariant-loop-header

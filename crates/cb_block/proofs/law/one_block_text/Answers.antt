@@ -1,5 +1,0 @@
-use Rattle.cb_block.proofs.Headers as headers
-use Rattle.cb_block.proofs.law.one_block_text.Goals as goal
-
-pub returns : goal.returns
-returns c = headers.one_block_text

@@ -1,5 +1,0 @@
-use Rattle.cb_block.proofs.Levels as levels
-use Rattle.cb_block.proofs.law.one_root.Goals as goal
-
-pub returns : goal.returns
-returns c = levels.one_root

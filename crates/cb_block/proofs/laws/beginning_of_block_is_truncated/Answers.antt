@@ -1,0 +1,5 @@
+use Rattle.cb_block.proofs.CutTexts.{beginning_of_block}
+use Rattle.cb_block.proofs.laws.beginning_of_block_is_truncated.Goals as goal
+
+pub returns : goal.returns
+returns c = beginning_of_block

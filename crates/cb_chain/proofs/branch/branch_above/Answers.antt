@@ -1,0 +1,27 @@
+use Rattle.std.proofs.Common.{◌≡◌, ◌<◌, List, ℕ, sym, ap, subst, ◌∙◌, arith}
+use Rattle.std.proofs.lemmas.Option.{same_Some}
+use Rattle.cb_chain.specs.declared.node.Node.{Node}
+use Rattle.cb_chain.proofs.Forks.{Climbing, Climbs, climbing_starts, climbing_goes, climbing_ends}
+use Rattle.cb_chain.proofs.branch.branch_above.Goals as goal
+
+pub loop-branch-init : goal.loop-branch-init
+loop-branch-init c = (c.requires.place, λ is. climbing_starts c.args.tree.now.nodes c.args.from c.args.fork c.new-branch.result.items c.new-branch.ensures.items is c.requires.place)
+
+climbs : (c : goal.After-node-in-loop-branch) → Climbs c.args.tree.now.nodes c.args.from c.args.fork c.node-in-loop-branch.result.now c.loop-branch.place c.loop-branch.branch.items
+climbs c =
+    let node = c.node-in-loop-branch.result.now in
+    let one : c.node.result.now ≡ node = same_Some c.node.result.now node (sym c.node.ensures.node ∙ c.node-in-loop-branch.ensures.node) in
+    let higher : c.args.fork < node.height = omega (arith, c.loop-branch-test.true, ap (λ (n : Node). n.height) one) in
+    climbing_goes c.args.tree.now.nodes c.args.from c.args.fork c.loop-branch.place c.loop-branch.branch.items node (c.loop-branch.invariant.1 c.node.ensures.tree) c.loop-branch.invariant.0 c.node-in-loop-branch.ensures.node higher
+
+pub loop-branch-smaller : goal.loop-branch-smaller
+loop-branch-smaller c = (climbs c).parent
+
+pub loop-branch-preserved : goal.loop-branch-preserved
+loop-branch-preserved c =
+    ((climbs c).within, λ _. subst (λ (ps : List ℕ). Climbing c.args.tree.now.nodes c.args.from c.args.fork c.node-in-loop-branch.result.now.parent ps) (sym c.in_ok-push.ensures.items) (climbs c).next)
+
+pub returns-clause-places : goal.returns-clause-places
+returns-clause-places c = λ hash e _.
+    c.reverse.ensures.items
+    ∙ climbing_ends c.args.tree.now.nodes c.args.from c.args.fork c.loop-branch.place c.loop-branch.branch.items c.node.result.now hash (c.loop-branch.invariant.1 c.node.ensures.tree) c.node.ensures.node c.loop-branch-test.false e

@@ -1,5 +1,0 @@
-use Rattle.cb_chain.proofs.Laws.{active_linked}
-use Rattle.cb_chain.proofs.law.active_is_linked.Goals as goal
-
-pub returns : goal.returns
-returns c = active_linked c.args.chain.now c.has_history.ensures

@@ -1,0 +1,255 @@
+ghost use Rattle.std.specs.Prelude.{◌≡◌, ◌≢◌, ◌⊎◌, ◌+◌, ◌<◌, ◌≤◌, ◌∷◌, ◌++◌, [], length, drop, take, map, reverse, slice_get, true, None, Some, Ok, Err, All, IfErr, IfOk, IfSome, IsOkUnless, IsSome, OnErr, OnOk, vec_capacity, vec_len};
+ghost use Rattle.cb_base.specs.declared.fault.Fault.TheVariants.{Memory};
+ghost use Rattle.cb_ledger.specs.Undo.{changed};
+ghost use Rattle.cb_chain.specs.Best.{best, is_higher};
+ghost use Rattle.cb_chain.specs.Calls.{block_entry, block_fault, joined, marked_above};
+ghost use Rattle.cb_chain.specs.Entries.{block_hash, is_kept};
+ghost use Rattle.cb_chain.specs.History.{IsHistoric};
+ghost use Rattle.cb_chain.specs.Keeping.{IsFork, IsNode, IsSpot, IsTree, active_places, block_at, climb, tree_of};
+ghost use Rattle.cb_chain.specs.Laws.{LeadsOver, active_hashes};
+ghost use Rattle.cb_chain.specs.Plans.{Moved, change_at, hash_at};
+ghost use Rattle.cb_chain.specs.Sides.{RestsOn};
+ghost use Rattle.cb_chain.specs.declared.node.Node.{Node};
+
+use crate::accepting::Spot;
+use crate::branch::{branch_above, fork_of};
+use crate::chain::Chain;
+use crate::change::{Change, Hashes};
+use crate::node::{Kept, Node};
+use crate::side_chain::{Side, Stop, keep_side, not_far_below, rest_on, starts_from};
+use crate::tree::Tree;
+use cb_base::{Fault, Hash256};
+use cb_ledger::Ledger;
+use std::alloc::Global;
+
+// How a block becomes the tip.
+#[derive(Drop)]
+struct Plan {
+    // The height at which its branch leaves the active chain.
+    fork: usize,
+    // The nodes of its branch above that, without its own.
+    branch: Vec<usize>,
+    change: Change,
+}
+
+// The active chain leaves what stands above a height for a branch and the node that comes next. There is room.
+fn put_on(active: &mut Vec<usize>, fork: usize, branch: Vec<usize>, last: usize)
+    requires fork { fork < length active.old.items }
+    requires places { vec_len active.old + (vec_len branch + 1) ≤ vec_capacity active.old }
+    ensures { active.new.items ≡ take (fork + 1) active.old.items ++ branch.items ++ last ∷ [] }
+{
+    active.truncate(fork + 1);
+    for place in branch {
+        active.push(place).unwrap();
+    }
+    active.push(last).unwrap();
+}
+
+// The hashes of nodes.
+fn hashes_at(alloc: Global, tree: &Tree, places: &[usize]) -> Result<Vec<Hash256>, Fault>
+    requires { All (λ place. place < length tree.now.nodes) places.now }
+    ensures hashes { IfOk result (λ hashes. hashes.items ≡ map (hash_at tree.now.nodes) places.now) }
+    ensures memory { IsOkUnless result Memory }
+{
+    let mut hashes = Vec::with_capacity(alloc, places.len())?;
+    for place in places {
+        hashes.push(tree.node(*place).hash)?;
+    }
+    Ok(hashes)
+}
+
+// What a block changes, where these nodes leave the active chain for a branch of these and the block: each from the lowest
+// up.
+fn change_to(
+    alloc: Global,
+    tree: &Tree,
+    off: &[usize],
+    branch: &[usize],
+    hash: Hash256,
+) -> Result<Change, Fault>
+    requires off { All (λ place. place < length tree.now.nodes) off.now }
+    requires branch { All (λ place. place < length tree.now.nodes) branch.now }
+    ensures off { IfOk result (λ change. change.off ≡ reverse (map (hash_at tree.now.nodes) off.now)) }
+    ensures on { IfOk result (λ change. change.on ≡ map (hash_at tree.now.nodes) branch.now ++ hash ∷ []) }
+    ensures memory { IsOkUnless result Memory }
+{
+    let mut off = hashes_at(alloc, tree, off)?;
+    off.reverse();
+    let mut on = hashes_at(alloc, tree, branch)?;
+    on.push(hash)?;
+    Ok(Change {
+        off: Hashes::new(off),
+        on: Hashes::new(on),
+    })
+}
+
+// How a block becomes the tip that stands on a kept one.
+fn plan_for(alloc: Global, tree: &Tree, active: &[usize], spot: Spot) -> Result<Plan, Fault>
+    requires tree { IsTree tree.now.nodes }
+    requires active { active.now ≡ active_places (tree_of tree.now.nodes) }
+    requires spot { IsSpot spot spot.header (tree_of tree.now.nodes) }
+    requires kept { is_kept (tree_of tree.now.nodes) spot.header.prev ≡ true }
+    ensures fork { IfOk result (λ plan. IsFork (tree_of tree.now.nodes) spot.header.prev plan.fork) }
+    ensures branch { IfOk result (λ plan. plan.branch.items ≡ map (λ step. step.place) (drop plan.fork (climb (tree_of tree.now.nodes) spot.header.prev))) }
+    ensures change { IfOk result (λ plan. plan.change ≡ change_at (tree_of tree.now.nodes) spot.header plan.fork) }
+    ensures memory { IsOkUnless result Memory }
+{
+    let fork = fork_of(tree, active, spot.parent);
+    let branch = branch_above(alloc, tree, spot.parent, fork)?;
+    let change = change_to(
+        alloc,
+        tree,
+        &active[fork + 1..],
+        branch.as_slice(),
+        spot.hash,
+    )?;
+    Ok(Plan {
+        fork,
+        branch,
+        change,
+    })
+}
+
+// Keeps a block whose path stops, and marks from there on. Where memory was wanting it keeps nothing.
+fn mark_stop(tree: &mut Tree, node: Node, stop: Stop)
+    requires room { 0 < tree.old.room }
+    requires node { IsNode node (tree_of tree.old.nodes) }
+    requires place { (stop.fault ≡ Memory) ⊎ ((0 < stop.place) × IsSome (block_at (tree.old.nodes ++ node ∷ []) stop.place)) }
+    ensures { ((stop.fault ≡ Memory) × (tree.new.nodes ≡ tree.old.nodes) × (tree.new.undos ≡ tree.old.undos))
+        ⊎ ((stop.fault ≢ Memory) × (tree.new.undos ≡ tree.old.undos ++ None ∷ []) × ((first : Node) → slice_get (tree.old.nodes ++ node ∷ []) stop.place ≡ Some first
+        → tree_of tree.new.nodes ≡ marked_above first.hash (tree_of (tree.old.nodes ++ node ∷ [])))) }
+{
+    if stop.fault == Fault::Memory {
+        return;
+    }
+    tree.add(node, None);
+    tree.mark_above(stop.place);
+}
+
+// The active chain leaves for a branch that was tried and a block on it. Where memory is wanting it stays, and so does the
+// ledger. The branch that was tried last rests on the ledger anew, or else the tip that was left takes its place.
+fn switch(
+    alloc: Global,
+    tree: &Tree,
+    active: &mut Vec<usize>,
+    ledger: &mut Ledger,
+    side: &mut Option<Side>,
+    spot: Spot,
+    tried: Side,
+) -> Result<Change, Fault>
+    requires tree { IsTree tree.now.nodes }
+    requires active { active.old.items ≡ active_places (tree_of tree.now.nodes) }
+    requires spot { IsSpot spot spot.header (tree_of tree.now.nodes) }
+    requires kept { is_kept (tree_of tree.now.nodes) spot.header.prev ≡ true }
+    ensures moved { IfOk result (λ change. Moved (tree_of tree.now.nodes) spot.header active.old.items (length tree.now.nodes) active.new.items change) }
+    ensures ledger { OnOk result (ledger.new.unspent ≡ changed ledger.old.unspent tried.overlay) }
+    ensures side { OnOk result (IfSome side.new (RestsOn active.old.items ledger.old.unspent ledger.new.unspent side.old)) }
+    ensures same { OnErr result ((active.new.items ≡ active.old.items) × (ledger.new.unspent ≡ ledger.old.unspent) × (side.new ≡ side.old)) }
+    ensures memory { IsOkUnless result Memory }
+{
+    let mut back = tried.into_changes(alloc)?;
+    ledger.reserve(back.len())?;
+    let Plan {
+        fork,
+        branch,
+        change,
+    } = plan_for(alloc, tree, active.as_slice(), spot)?;
+    active.reserve(branch.len() + 1)?;
+    ledger.exchange(&mut back);
+    let tip = active[active.len() - 1];
+    let last = side.take().unwrap_or(Side::at(alloc, tip));
+    *side = rest_on(Some(last), &back);
+    put_on(active, fork, branch, tree.len());
+    Ok(change)
+}
+
+impl Chain {
+    // Keeps a block that stands on the tip: it becomes the tip, or can't be spent.
+    fn extend(&mut self, spot: Spot, kept: Kept) -> Result<Change, Fault>
+        requires spot { IsSpot spot kept.header self.old }
+        requires none { block_fault self.old kept.header ≡ None }
+        requires higher { is_higher (block_entry kept ∷ self.old) (block_hash kept.header) (best self.old) ≡ true }
+        requires calls { IsHistoric (joined self.old kept).1 }
+        requires tip { kept.header.prev ≡ best self.old }
+        ensures ok { IfOk result (λ change. (Ok change, self.new) ≡ joined self.old kept) }
+        ensures moves { IfOk result (λ change. LeadsOver (active_hashes self.old) change (active_hashes self.new)) }
+        ensures err { IfErr result (λ fault. ((fault ≡ Memory) × (self.new ≡ self.old)) ⊎ ((Err fault, self.new) ≡ joined self.old kept)) }
+        ensures unchanged { result ≡ Err Memory → self.new ≡ self.old }
+    {
+        self.tree.reserve(1)?;
+        let Plan {
+            fork,
+            branch,
+            change,
+        } = plan_for(self.alloc, &self.tree, self.active.as_slice(), spot)?;
+        self.active.reserve(branch.len() + 1)?;
+        let last = self.tree.len();
+        let undo = match self.ledger.connect(kept.block()) {
+            Ok(undo) => undo,
+            Err(fault) => {
+                let stop = Stop { place: last, fault };
+                mark_stop(&mut self.tree, spot.node(Some(kept), false), stop);
+                return Err(fault);
+            }
+        };
+        let side = not_far_below(&self.tree, self.side.take(), spot.height);
+        self.side = rest_on(side, &undo);
+        put_on(&mut self.active, fork, branch, last);
+        self.tree.add(spot.node(Some(kept), false), Some(undo));
+        Ok(change)
+    }
+
+    // Keeps a block that stands on another branch: that becomes the active chain, or its path stops.
+    fn turn(&mut self, spot: Spot, kept: Kept) -> Result<Change, Fault>
+        requires spot { IsSpot spot kept.header self.old }
+        requires none { block_fault self.old kept.header ≡ None }
+        requires higher { is_higher (block_entry kept ∷ self.old) (block_hash kept.header) (best self.old) ≡ true }
+        requires calls { IsHistoric (joined self.old kept).1 }
+        ensures ok { IfOk result (λ change. (Ok change, self.new) ≡ joined self.old kept) }
+        ensures moves { IfOk result (λ change. LeadsOver (active_hashes self.old) change (active_hashes self.new)) }
+        ensures err { IfErr result (λ fault. ((fault ≡ Memory) × (self.new ≡ self.old)) ⊎ ((Err fault, self.new) ≡ joined self.old kept)) }
+        ensures unchanged { result ≡ Err Memory → self.new ≡ self.old }
+    {
+        self.tree.reserve(1)?;
+        let tip = self.active[self.active.len() - 1];
+        let mut side = starts_from(self.alloc, &self.tree, tip, &mut self.side, spot.parent);
+        let tried = side.try_on(self.alloc, &self.ledger, &mut self.tree, spot.parent, &kept);
+        let undo = match tried {
+            Ok(undo) => undo,
+            Err(stop) => {
+                keep_side(&mut self.side, side);
+                mark_stop(&mut self.tree, spot.node(Some(kept), false), stop);
+                return Err(stop.fault);
+            }
+        };
+        let change = switch(
+            self.alloc,
+            &self.tree,
+            &mut self.active,
+            &mut self.ledger,
+            &mut self.side,
+            spot,
+            side,
+        )?;
+        self.tree.add(spot.node(Some(kept), false), Some(undo));
+        Ok(change)
+    }
+
+    // Keeps a block that is higher than the tip: it becomes the tip, or its path stops.
+    pub(crate) fn lead(&mut self, spot: Spot, kept: Kept) -> Result<Change, Fault>
+        requires spot { IsSpot spot kept.header self.old }
+        requires none { block_fault self.old kept.header ≡ None }
+        requires higher { is_higher (block_entry kept ∷ self.old) (block_hash kept.header) (best self.old) ≡ true }
+        requires calls { IsHistoric (joined self.old kept).1 }
+        ensures ok { IfOk result (λ change. (Ok change, self.new) ≡ joined self.old kept) }
+        ensures moves { IfOk result (λ change. LeadsOver (active_hashes self.old) change (active_hashes self.new)) }
+        ensures err { IfErr result (λ fault. ((fault ≡ Memory) × (self.new ≡ self.old)) ⊎ ((Err fault, self.new) ≡ joined self.old kept)) }
+        ensures unchanged { result ≡ Err Memory → self.new ≡ self.old }
+    {
+        if spot.parent == self.active[self.active.len() - 1] {
+            self.extend(spot, kept)
+        } else {
+            self.turn(spot, kept)
+        }
+    }
+}

@@ -1,5 +1,0 @@
-use Rattle.cb_ledger.proofs.Txs.{spend-append}
-use Rattle.cb_ledger.proofs.law.one_after_the_other.Goals as goal
-
-pub returns : goal.returns
-returns c = spend-append

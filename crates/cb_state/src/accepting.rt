@@ -1,0 +1,234 @@
+ghost use Rattle.std.specs.Prelude.{◌≡◌, ◌≢◌, ◌⊎◌, ◌≤◌, ◌++◌, [], drop, filter, length, option_copied, IfErr, IfOk, IfSome, IsOk, IsOkUnless, MatchOption, MatchResult, OnErr, OnOk, Some, true};
+ghost use Rattle.cb_base.specs.declared.fault.Fault.TheVariants.{Memory};
+ghost use Rattle.cb_block.specs.Blocks.{MeetsBlockRules};
+ghost use Rattle.cb_chain.specs.Entries.{is_lacking};
+ghost use Rattle.cb_chain.specs.Laws.{MayLead};
+ghost use Rattle.cb_ledger.specs.Spend.{spend};
+ghost use Rattle.cb_pool.specs.Folding.{Refolds};
+ghost use Rattle.cb_pool.specs.Listing.{txs_of};
+ghost use Rattle.cb_state.specs.Accepting.{TakesBlock, TakesHeads, TakesTx, announcers_after, locator_for, txs_above, txs_under};
+ghost use Rattle.cb_state.specs.Outlooks.{IsOutlookOn, IsReady, first_of};
+
+use crate::announcers::Announcers;
+use crate::connection::Connection;
+use crate::locator::locator_of;
+use crate::state::State;
+use cb_base::{Fault, Hash256, Shared};
+use cb_block::{Header, SoundBlock};
+use cb_chain::{Chain, Hashes, kept_meet_rules};
+use cb_ledger::Ledger;
+use cb_payload::Locator;
+use cb_pool::{Candidate, Pool, Refolding, stays_as_it_is, stays_behind_others};
+use cb_tx::Tx;
+use std::alloc::Global;
+
+/// What a block met.
+#[derive(Drop)]
+pub struct Taken {
+    /// Why it was refused, if it was.
+    pub refused: Option<Fault>,
+    /// The chain's locator, where the refusal is `Fault::NoParent`.
+    pub locator: Locator,
+}
+
+/// What headers met that were given in turn.
+#[derive(Drop)]
+pub struct Heads {
+    /// Why one was refused, if one was.
+    pub refused: Option<Fault>,
+    /// The hashes of the headers before it whose blocks are lacking, in order.
+    pub lack: Hashes,
+    /// The chain's locator, where the refusal is `Fault::NoParent`.
+    pub locator: Locator,
+}
+
+// The locator that is told with a refusal.
+fn told_locator(alloc: Global, refused: Option<Fault>, locator: Locator) -> Locator
+    ensures { result ≡ locator_for refused locator }
+{
+    match refused {
+        Some(fault) if fault == Fault::NoParent => locator,
+        _ => Locator::from_few(Vec::new(alloc)),
+    }
+}
+
+// What is told of what was refused for a fault: the fault, but for want of memory, which is an error.
+fn told(fault: Fault) -> Result<Option<Fault>, Fault>
+    ensures ok { IfOk result (λ refused. (refused ≡ Some fault) × (fault ≢ Memory)) }
+    ensures err { IfErr result (λ error. (error ≡ Memory) × (fault ≡ Memory)) }
+{
+    if fault == Fault::Memory {
+        return Err(fault);
+    }
+    Ok(Some(fault))
+}
+
+// What is told of a block that was refused for a fault.
+fn refusal(alloc: Global, fault: Fault, locator: Locator) -> Result<Taken, Fault>
+    ensures ok { IfOk result (λ taken. (taken.refused ≡ Some fault) × (taken.locator ≡ locator_for (Some fault) locator) × (fault ≢ Memory)) }
+    ensures err { IfErr result (λ error. (error ≡ Memory) × (fault ≡ Memory)) }
+{
+    let refused = told(fault)?;
+    Ok(Taken {
+        refused,
+        locator: told_locator(alloc, refused, locator),
+    })
+}
+
+// Pushes a block's transactions other than its coinbase, where there is a block. The only error is `Fault::Memory`.
+fn push_candidates(first: &mut Vec<Candidate>, block: Option<&SoundBlock>) -> Result<(), Fault>
+    requires rules { IfSome (option_copied block) (λ block. MeetsBlockRules block ⊎ (length block.txs ≤ 1)) }
+    ensures pushed { OnOk result (first.new.items ≡ first.old.items ++ drop 1 (txs_under (option_copied block.entry))) }
+    ensures memory { IsOkUnless result Memory }
+{
+    let Some(block) = block else {
+        return Ok(());
+    };
+    for place in 1..block.block().txs.as_slice().len() {
+        first.push(Candidate::of_block(block, place)?)?;
+    }
+    Ok(())
+}
+
+// The hashes whose blocks are neither kept nor marked bad, in order.
+fn lacking(chain: &Chain, hashes: Hashes) -> Hashes
+    ensures { result ≡ filter (is_lacking chain.now) hashes }
+{
+    let mut list = hashes.into_vec();
+    list.retain(|hash| chain.lacks(hash));
+    Hashes::new(list)
+}
+
+// What becomes of the pool where a block becomes the tip.
+#[derive(Drop)]
+enum Outlook {
+    // It stays: the block comes on the tip, and spends and makes no output that the pool's transactions spend or make.
+    Stays,
+    // It is folded anew by a plan.
+    Folds(Refolding),
+}
+
+// The pool goes by an outlook, where there is one.
+fn follow(pool: &mut Pool, ledger: &Ledger, outlook: Option<Outlook>)
+    requires ready { IfSome outlook (IsReady ledger.now.unspent pool.old.list) }
+    ensures { MatchOption outlook (pool.new ≡ pool.old) (λ outlook. Refolds ledger.now.unspent (first_of outlook) pool.old pool.new
+        × IsOk (spend ledger.now.unspent (txs_of pool.new.list))) }
+{
+    match outlook {
+        Some(Outlook::Folds(plan)) => pool.refold_with(ledger, plan),
+        Some(Outlook::Stays) => stays_as_it_is(pool, ledger),
+        None => {}
+    }
+}
+
+// The connection that gave a new tip, if one is named, becomes the last announcer.
+fn thank(announcers: &mut Announcers, from: Option<Connection>)
+    ensures { announcers.new ≡ announcers_after announcers.old true from }
+{
+    if let Some(connection) = from {
+        announcers.put_last(connection);
+    }
+}
+
+impl State {
+    /// A transaction comes into the pool, or is refused for the fault that is told.
+    ///
+    /// The only error is `Fault::Memory`, which changes nothing.
+    pub fn take_tx(&mut self, tx: Shared<Tx>) -> Result<Option<Fault>, Fault>
+        ensures taken { IfOk result (λ refused. TakesTx self.old tx refused self.new) }
+        ensures err { OnErr result (self.new ≡ self.old) }
+        ensures memory { IsOkUnless result Memory }
+    {
+        if let Err(fault) = self.pool.insert(self.chain.ledger(), tx) {
+            return told(fault);
+        }
+        Ok(None)
+    }
+
+    /// A block comes. Where it becomes the tip, the pool is folded anew behind the transactions of the blocks that were put
+    /// off, and the connection that is named, if one is, becomes the last announcer.
+    ///
+    /// The only error is `Fault::Memory`, which changes nothing.
+    pub fn take_block(
+        &mut self,
+        block: SoundBlock,
+        from: Option<Connection>,
+    ) -> Result<Taken, Fault>
+        ensures taken { IfOk result (λ taken. TakesBlock self.old block from taken self.new) }
+        ensures err { OnErr result (self.new ≡ self.old) }
+        ensures memory { IsOkUnless result Memory }
+    {
+        let locator = locator_of(&self.chain)?;
+        let outlook = self.outlook_on(&block)?;
+        let change = match self.chain.accept_block(block) {
+            Ok(change) => change,
+            Err(fault) => return refusal(self.alloc, fault, locator),
+        };
+        let taken = Taken {
+            refused: None,
+            locator: Locator::from_few(Vec::new(self.alloc)),
+        };
+        if change.on.as_slice().is_empty() {
+            return Ok(taken);
+        }
+        follow(&mut self.pool, self.chain.ledger(), outlook);
+        thank(&mut self.announcers, from);
+        Ok(taken)
+    }
+
+    /// Headers come, and are kept in turn. One that is known is passed over, and the first other refusal ends it.
+    ///
+    /// The only error is `Fault::Memory`, which changes nothing: none of them is kept.
+    pub fn take_headers(&mut self, headers: &[Header]) -> Result<Heads, Fault>
+        ensures taken { IfOk result (λ heads. TakesHeads self.old headers.now heads self.new) }
+        ensures err { OnErr result (self.new ≡ self.old) }
+        ensures memory { IsOkUnless result Memory }
+    {
+        let locator = locator_of(&self.chain)?;
+        let accepted = self.chain.accept_headers(headers)?;
+        Ok(Heads {
+            refused: accepted.refused,
+            lack: lacking(&self.chain, accepted.met),
+            locator: told_locator(self.alloc, accepted.refused, locator),
+        })
+    }
+
+    // What becomes of the pool where a block becomes the tip. There is no outlook where that can't be, since the block's parent
+    // isn't known, or stands below the tip. The only error is `Fault::Memory`.
+    fn outlook_on(&self, block: &SoundBlock) -> Result<Option<Outlook>, Fault>
+        ensures outlook { IfOk result (λ outlook. MatchOption outlook (¬ MayLead self.now.tree block.now.header.prev) (IsOutlookOn self.now block.now)) }
+        ensures memory { IsOkUnless result Memory }
+    {
+        let parent = &block.block().header.prev;
+        let Some(height) = self.chain.height(parent) else {
+            return Ok(None);
+        };
+        if height < self.chain.tip_height() {
+            return Ok(None);
+        }
+        let first = self.put_off_for(parent)?;
+        if first.as_slice().is_empty()
+            && *parent == self.chain.tip()
+            && self.pool.is_apart_from(block)
+        {
+            stays_behind_others(&self.pool, self.chain.ledger());
+            return Ok(Some(Outlook::Stays));
+        }
+        Ok(Some(Outlook::Folds(self.pool.refolding(first)?)))
+    }
+
+    // The transactions other than coinbases of the blocks above the place where the active chain left a parent's branch, the
+    // lowest block's first. The only error is `Fault::Memory`.
+    fn put_off_for(&self, parent: &Hash256) -> Result<Vec<Candidate>, Fault>
+        ensures first { IfOk result (λ first. first.items ≡ txs_above self.now.tree parent.now) }
+        ensures memory { IsOkUnless result Memory }
+    {
+        kept_meet_rules(&self.chain);
+        let headers = self.chain.path(parent)?;
+        let mut first = Vec::new(self.alloc);
+        for header in headers.as_slice() {
+            push_candidates(&mut first, self.chain.block(&header.hash()))?;
+        }
+        Ok(first)
+    }
+}

@@ -1,0 +1,21 @@
+//! What holds of every state, and of every call. Each law is the contract of a function that changes nothing.
+ghost use Rattle.std.specs.Prelude.{◌≡◌, List, Option};
+ghost use Rattle.cb_base.specs.declared.fault.Fault.{Fault};
+ghost use Rattle.cb_block.specs.declared.block.Block.{Block};
+ghost use Rattle.cb_block.specs.declared.header.Header.{Header};
+ghost use Rattle.cb_tx.specs.declared.tx.Tx.{Tx};
+ghost use Rattle.cb_state.specs.declared.connection.Connection.{Connection};
+ghost use Rattle.cb_state.specs.declared.accepting.Heads.{Heads};
+ghost use Rattle.cb_state.specs.declared.accepting.Taken.{Taken};
+ghost use Rattle.cb_state.specs.Accepting.{TakesBlock, TakesHeads, TakesTx};
+ghost use Rattle.cb_state.specs.State.{NodeState};
+
+/// To a transaction, a block or headers over a state there is one answer, and one state that they leave.
+pub fn one_answer()
+    ensures tx { (old new other : NodeState) (tx : Tx) (refused again : Option Fault)
+        → TakesTx old tx refused new → TakesTx old tx again other → (refused ≡ again) × (new ≡ other) }
+    ensures block { (old new other : NodeState) (block : Block) (from : Option Connection) (taken again : Taken)
+        → TakesBlock old block from taken new → TakesBlock old block from again other → (taken ≡ again) × (new ≡ other) }
+    ensures headers { (old new other : NodeState) (headers : List Header) (heads again : Heads)
+        → TakesHeads old headers heads new → TakesHeads old headers again other → (heads ≡ again) × (new ≡ other) }
+{}

@@ -1,0 +1,182 @@
+ghost use Rattle.std.specs.Prelude.{◌≡◌, ◌≤◌, false, length, slice_get, IfOk, IsOk, IsOkUnless};
+ghost use Rattle.cb_base.specs.declared.fault.Fault.TheVariants.{BadIndex, Memory};
+ghost use Rattle.cb_block.specs.Text.{block_text, header_text};
+ghost use Rattle.cb_compact.specs.Differences.{sums};
+ghost use Rattle.cb_state.specs.Parts.{BlockPart, IsCarried, txs_at};
+ghost use Rattle.cb_state.specs.Serving.{are_below, excerpt_at, excerpt_of};
+ghost use Rattle.cb_state.specs.declared.serving_places.Excerpt.TheVariants as excerpts;
+
+use crate::bounded::BoundedBlock;
+use crate::state::State;
+use cb_base::{Fault, Hash256, Shared};
+use cb_block::{Header, SoundBlock, Txs};
+use cb_chain::kept_meet_rules;
+use cb_compact::undiffer;
+use cb_tx::Tx;
+use std::alloc::Global;
+use std::marker::Model;
+
+// How far below the tip transactions of a block are served alone at the most (own).
+const MOST_PART_DEPTH: u32 = 10;
+
+/// Transactions of a block that a message can carry: the block's hash, and they behind their count, have at most 4,000,000 bytes
+/// (Bitcoin's protocol; BIP 152, `blocktxn`). It is seen as the hash and their list.
+#[derive(Drop)]
+pub struct Part {
+    hash: Hash256,
+    txs: Txs,
+}
+
+impl Model for Part {
+    ghost use Rattle.cb_state.specs.Parts.{BlockPart, IsCarried};
+
+    ghost Value = { BlockPart };
+
+    ghost view = { λ part. record { hash = part.hash; txs = part.txs } };
+
+    ghost invariant = { λ part. IsCarried part.txs };
+}
+
+impl Part {
+    /// Takes transactions that a message can carry, and the hash of their block.
+    pub fn new(hash: Hash256, txs: Txs) -> Part
+        requires { IsCarried txs }
+        ensures { result ≡ record { hash = hash; txs = txs } }
+    {
+        Part { hash, txs }
+    }
+
+    /// The block's hash.
+    pub fn hash(&self) -> Hash256
+        ensures { result ≡ self.now.hash }
+    {
+        self.hash
+    }
+
+    /// The transactions in order.
+    pub fn txs(&self) -> &Txs
+        ensures same { result.now ≡ self.now.txs }
+        ensures few { IsCarried self.now.txs }
+    {
+        &self.txs
+    }
+
+    /// The same once more. The transactions are shared: memory is taken for their list alone. The only error is `Fault::Memory`.
+    pub fn copy(&self, alloc: Global) -> Result<Part, Fault>
+        ensures same { IfOk result (λ copy. copy ≡ self.now) }
+        ensures memory { IsOkUnless result Memory }
+    {
+        let list = copy_txs(alloc, self.txs.as_slice())?;
+        Ok(Part {
+            hash: self.hash,
+            txs: Txs::new(list),
+        })
+    }
+}
+
+/// What is served of places of a block (BIP 152, `getblocktxn`).
+#[derive(Drop)]
+pub enum Excerpt {
+    /// The block isn't there.
+    Absent,
+    /// One of the places is none of the block's, for this reason.
+    Refused(Fault),
+    /// Its transactions at these places.
+    Part(Part),
+    /// The whole block, which stands too far below the tip for that.
+    Whole(BoundedBlock),
+}
+
+impl State {
+    /// What is served of the places of a block with these differences (BIP 152, `getblocktxn`): its transactions at these places
+    /// where it stands at most ten below the tip, else the whole block. They are shared and not copied.
+    ///
+    /// Where a place reaches the number of its transactions, or passes what 64 bits hold, it is refused with `Fault::BadIndex`,
+    /// wherever it stands. The only error is `Fault::Memory`, and what is absent or refused takes none.
+    pub fn serve_places(&self, hash: &Hash256, differences: &[u64]) -> Result<Excerpt, Fault>
+        ensures exact { IfOk result (λ excerpt. excerpt ≡ excerpt_of self.now hash.now differences.now) }
+        ensures memory { IsOkUnless result Memory }
+        ensures absent { excerpt_of self.now hash.now differences.now ≡ excerpts.Absent → IsOk result }
+        ensures refused { excerpt_of self.now hash.now differences.now ≡ excerpts.Refused BadIndex → IsOk result }
+    {
+        kept_meet_rules(&self.chain);
+        let Some(block) = self.chain.block(hash) else {
+            return Ok(Excerpt::Absent);
+        };
+        let near = self.is_within(hash, MOST_PART_DEPTH);
+        excerpt_at(self.alloc, near, *hash, differences, block)
+    }
+}
+
+// The transactions of a block at the places with these differences, or the whole block where it isn't near the tip.
+fn excerpt_at(
+    alloc: Global,
+    near: bool,
+    hash: Hash256,
+    differences: &[u64],
+    block: &SoundBlock,
+) -> Result<Excerpt, Fault>
+    requires { length (block_text block.now) ≤ 4000000 }
+    ensures exact { IfOk result (λ excerpt. excerpt ≡ excerpt_at near hash (sums 0 differences.now) block.now) }
+    ensures memory { IsOkUnless result Memory }
+    ensures refused { are_below (length block.now.txs) (sums 0 differences.now) ≡ false → IsOk result }
+{
+    let total = block.block().txs.as_slice().len();
+    let places = match undiffer(alloc, differences, total as u64) {
+        Ok(places) => places,
+        Err(fault) if fault == Fault::BadIndex => return Ok(Excerpt::Refused(fault)),
+        Err(fault) => return Err(fault),
+    };
+    if !near {
+        return Ok(Excerpt::Whole(BoundedBlock::new(block.copy()?)));
+    }
+    // No effect when it runs: it tells the prover what the type keeps.
+    let _ = header_size(&block.block().header);
+    let list = txs_at(alloc, block.block().txs.as_slice(), places.as_slice())?;
+    Ok(Excerpt::Part(Part::new(hash, Txs::new(list))))
+}
+
+// How many bytes a header has.
+fn header_size(header: &Header) -> usize
+    ensures text { result ≡ length (header_text header.now) }
+    ensures size { result ≡ 80 }
+{
+    header.text().as_slice().len()
+}
+
+// The transaction at a place, if there is one.
+fn tx_at(txs: &[Shared<Tx>], place: u64) -> Result<Option<Shared<Tx>>, Fault>
+    ensures same { IfOk result (λ tx. tx ≡ slice_get txs.now place) }
+    ensures memory { IsOkUnless result Memory }
+{
+    match txs.get(place as usize) {
+        Some(tx) => Ok(Some(tx.clone()?)),
+        None => Ok(None),
+    }
+}
+
+// The transactions at these places, in order.
+fn txs_at(alloc: Global, txs: &[Shared<Tx>], places: &[u64]) -> Result<Vec<Shared<Tx>>, Fault>
+    ensures exact { IfOk result (λ list. list.items ≡ txs_at txs.now places.now) }
+    ensures memory { IsOkUnless result Memory }
+{
+    let mut list = Vec::with_capacity(alloc, places.len())?;
+    for place in places {
+        if let Some(tx) = tx_at(txs, *place)? {
+            list.push(tx)?;
+        }
+    }
+    Ok(list)
+}
+
+// Further owners of the transactions, in order.
+fn copy_txs(alloc: Global, txs: &[Shared<Tx>]) -> Result<Vec<Shared<Tx>>, Fault>
+    ensures same { IfOk result (λ list. list.items ≡ txs.now) }
+    ensures memory { IsOkUnless result Memory }
+{
+    let mut list = Vec::with_capacity(alloc, txs.len())?;
+    for tx in txs {
+        list.push(tx.clone()?)?;
+    }
+    Ok(list)
+}

@@ -1,5 +1,0 @@
-use Rattle.cb_trace.proofs.Laws.{settings_same}
-use Rattle.cb_trace.proofs.law.settings_stay.Goals as goal
-
-pub returns : goal.returns
-returns c = λ settings entries. settings_same settings entries
