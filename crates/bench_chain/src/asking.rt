@@ -2,15 +2,15 @@ use cb_base::{Cursor, Fault, Hash256};
 use cb_chain::Chain;
 use cb_tx::OutPoint;
 
-// How many questions there are.
+/// How many questions there are.
 const QUESTIONS: u8 = 7;
 
 fn has_first_output(chain: &Chain, txid: Hash256) -> bool {
     chain.ledger().has(&OutPoint { txid, index: 0 })
 }
 
-// Asks a chain for the tip, its height, the tip as an outpoint, the tip's block, the locator, the headers after the tip, or the
-// path from the tip, and tells the size of the answer.
+/// Asks a chain for the tip, its height, the tip as an outpoint, the tip's block, the locator, the headers after the tip, or the
+/// path from the tip, and tells the size of the answer.
 fn answer_size(chain: &Chain, question: u8) -> Result<usize, Fault> {
     let tip = chain.tip();
     match question {

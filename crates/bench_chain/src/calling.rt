@@ -10,7 +10,8 @@ use cb_chain::{Chain, Change};
 /// Gives a header to a chain, and notes how that ended.
 pub fn take_header(chain: &mut Chain, notes: &mut Notes, header: Header) -> Result<(), Fault>
     ensures ok { OnOk result (HasHad (HeaderCall header) chain.old chain.new) }
-    ensures err { OnErr result ((chain.new ≡ chain.old) ⊎ HasHad (HeaderCall header) chain.old chain.new) }
+    ensures err { OnErr result
+        ((chain.new ≡ chain.old) ⊎ HasHad (HeaderCall header) chain.old chain.new) }
 {
     if notes.careful {
         return take_header_with_care(chain, notes, header);
@@ -22,7 +23,8 @@ pub fn take_header(chain: &mut Chain, notes: &mut Notes, header: Header) -> Resu
 /// Gives a block to a chain, and notes how that ended.
 pub fn take_block(chain: &mut Chain, notes: &mut Notes, block: &SoundBlock) -> Result<(), Fault>
     ensures ok { OnOk result (HasHad (BlockCall block.now) chain.old chain.new) }
-    ensures err { OnErr result ((chain.new ≡ chain.old) ⊎ HasHad (BlockCall block.now) chain.old chain.new) }
+    ensures err { OnErr result
+        ((chain.new ≡ chain.old) ⊎ HasHad (BlockCall block.now) chain.old chain.new) }
 {
     if notes.careful {
         return take_block_with_care(chain, notes, block);
@@ -31,7 +33,7 @@ pub fn take_block(chain: &mut Chain, notes: &mut Notes, block: &SoundBlock) -> R
     notes.note_block(&ended)
 }
 
-// Where memory runs out the chain must be as its copy is, and the call is made again.
+/// Where memory runs out the chain must be as its copy is, and the call is made again.
 fn take_header_with_care(chain: &mut Chain, notes: &mut Notes, header: Header) -> Result<(), Fault>
     ensures ok { OnOk result (HasHad (HeaderCall header) chain.old chain.new) }
     ensures err { OnErr result (chain.new ≡ chain.old) }
@@ -93,7 +95,7 @@ fn offer_block_beside(
     Ok(())
 }
 
-// Gives a header to a chain, and tells how that ended. The only error is `Fault::Memory`, which changes nothing.
+/// Gives a header to a chain, and tells how that ended. The only error is `Fault::Memory`, which changes nothing.
 #[tactic(auto, unfolding(crate::specs::Playing::HasHad))]
 fn offer_header(chain: &mut Chain, header: Header) -> Result<Result<(), Fault>, Fault>
     ensures ok { OnOk result (HasHad (HeaderCall header) chain.old chain.new) }
@@ -106,7 +108,7 @@ fn offer_header(chain: &mut Chain, header: Header) -> Result<Result<(), Fault>, 
     }
 }
 
-// Gives a block to a chain, and tells how that ended. The only error is `Fault::Memory`, which changes nothing.
+/// Gives a block to a chain, and tells how that ended. The only error is `Fault::Memory`, which changes nothing.
 #[tactic(auto, unfolding(crate::specs::Playing::HasHad))]
 fn offer_block(chain: &mut Chain, block: &SoundBlock) -> Result<Result<Change, Fault>, Fault>
     ensures ok { OnOk result (HasHad (BlockCall block.now) chain.old chain.new) }

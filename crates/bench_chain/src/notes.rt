@@ -115,7 +115,7 @@ impl Notes {
         Ok(text)
     }
 
-    // How the chain stands, and how many calls and answers there were.
+    /// How the chain stands, and how many calls and answers there were.
     fn push_counts(&self, text: &mut String, chain: &Chain) -> Result<(), Fault> {
         push_tip(self.alloc, text, chain)?;
         let (accepted, refused, answered) = (self.accepted, self.refused, self.answered);
@@ -129,7 +129,7 @@ impl Notes {
         Ok(())
     }
 
-    // Of all that careful calls named.
+    /// Of all that careful calls named.
     fn push_remembered(&self, text: &mut String, chain: &Chain) -> Result<(), Fault> {
         for name in &self.names {
             push_name(self.alloc, text, chain, name)?;

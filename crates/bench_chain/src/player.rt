@@ -46,7 +46,9 @@ impl Player {
     /// A refused record has made its call or left the chain as it was.
     pub fn play(&mut self, kind: u8, payload: &[u8]) -> Result<(), Fault>
         ensures ok { OnOk result (Plays kind payload.now self.old.chain self.new.chain) }
-        ensures err { OnErr result ((self.new.chain ≡ self.old.chain) ⊎ Plays kind payload.now self.old.chain self.new.chain) }
+        ensures err { OnErr result
+            ((self.new.chain ≡ self.old.chain)
+            ⊎ Plays kind payload.now self.old.chain self.new.chain) }
     {
         let mut cursor = Cursor::new(payload);
         match kind {
@@ -63,7 +65,7 @@ impl Player {
     }
 }
 
-// Judges a block by itself, and tells how many transactions it has.
+/// Judges a block by itself, and tells how many transactions it has.
 fn judge_block<'a>(alloc: Global, cursor: &mut Cursor<'a>) -> Result<u64, Fault> {
     Ok(read_sound(alloc, cursor)?.txids().len() as u64)
 }

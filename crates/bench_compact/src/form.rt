@@ -81,7 +81,7 @@ impl Form {
     }
 }
 
-// The transactions of these numbers at these places.
+/// The transactions of these numbers at these places.
 fn prefilled_at(
     alloc: Global,
     places: &[u64],

@@ -2,7 +2,7 @@ use bench_records::push_word;
 use cb_base::Fault;
 use cb_compact::{Filled, Placed};
 
-// A line has so many numbers at the most.
+/// A line has so many numbers at the most.
 const MOST: usize = 16;
 
 /// A number more, in one that stands for all numbers so far and their order.

@@ -36,7 +36,7 @@ pub fn paired(id: u64, named: &NamedTx) -> Result<Pair, Fault> {
     Ok(Pair { id, tx })
 }
 
-// An entry of an id.
+/// An entry of an id.
 fn read_pair(txs: &[NamedTx], cursor: &mut Cursor) -> Result<Pair, Fault> {
     let id = cursor.u64()?;
     match txs.get(cursor.u32()? as usize) {
@@ -57,7 +57,7 @@ pub fn read_pairs(
     Ok(())
 }
 
-// The transaction of an entry.
+/// The transaction of an entry.
 fn read_entry_tx(txs: &[NamedTx], cursor: &mut Cursor) -> Result<Shared<Tx>, Fault> {
     cursor.u64()?;
     tx_of(txs, u64::from(cursor.u32()?))

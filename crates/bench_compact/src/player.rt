@@ -113,7 +113,7 @@ impl Player {
         read_pairs(self.txs.as_slice(), cursor, &mut self.pairs)
     }
 
-    // Pairs of all transactions under their short ids, the last first.
+    /// Pairs of all transactions under their short ids, the last first.
     fn pair_all(&mut self) -> Result<(), Fault> {
         let key = key(&self.block.block().header, self.nonce);
         self.pairs.clear();
@@ -144,7 +144,7 @@ impl Player {
         push_numbers(&mut self.lines, "short ids", &[sum])
     }
 
-    // The short ids of all transactions, mixed.
+    /// The short ids of all transactions, mixed.
     fn mixed_ids(&self) -> u64 {
         let key = key(&self.block.block().header, self.nonce);
         let mut sum = 0;
@@ -163,7 +163,7 @@ impl Player {
         }
     }
 
-    // Looks for the transactions, and keeps what came of it.
+    /// Looks for the transactions, and keeps what came of it.
     fn place_once(&mut self) -> Result<(), Fault> {
         let header = self.block.block().header;
         let (txs, pairs) = (self.txs.as_slice(), self.pairs.as_slice());
@@ -216,7 +216,7 @@ impl Player {
     }
 }
 
-// The block with these transactions at the places that were missing.
+/// The block with these transactions at the places that were missing.
 fn filled(placed: Option<Placed>, txs: Vec<Shared<Tx>>) -> Result<Filled, Fault> {
     match placed {
         Some(Placed::Missing(_, partial)) => partial.fill(txs),
@@ -224,7 +224,7 @@ fn filled(placed: Option<Placed>, txs: Vec<Shared<Tx>>) -> Result<Filled, Fault>
     }
 }
 
-// Reads and judges a block, so many times.
+/// Reads and judges a block, so many times.
 fn judge_often(alloc: Global, text: &[u8], count: u32) -> Result<(), Fault> {
     for _ in 0..count {
         drop(read_sound(alloc, &mut Cursor::new(text))?);

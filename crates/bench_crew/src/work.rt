@@ -47,7 +47,9 @@ impl HashWork {
 
     /// The works of so many peers' first connections, in the peers' order.
     pub fn first(alloc: Global, count: u16, rounds: u32) -> Result<Vec<HashWork>, Fault>
-        ensures { IfOk result (λ works. (length works.items ≡ count) × All (IsFresh was_given (λ work at. Unit {0}) is_over) works.items) }
+        ensures { IfOk result
+            (λ works. (length works.items ≡ count)
+            × All (IsFresh was_given (λ work at. Unit {0}) is_over) works.items) }
     {
         let mut works = Vec::new(alloc);
         for peer in 0..count {
@@ -92,7 +94,8 @@ impl Work for HashWork {
 
     fn step<R: Wait>(&mut self, _rt: &R, item: Given<u64>)
         requires open { self.old.ended ≡ false }
-        ensures given { (items : List (Given ℕ)) → was_given self.old items → was_given self.new (items ++ item ∷ []) }
+        ensures given { (items : List (Given ℕ)) → was_given self.old items →
+            was_given self.new (items ++ item ∷ []) }
         ensures end { IsEnd item → self.new.ended ≡ true }
         ensures label { self.new.peer ≡ self.old.peer }
     {

@@ -28,10 +28,13 @@ pub fn new_hall(alloc: Global, peers: u16) -> Result<(Hall, Vec<Badge>), Fault>
     Hall::new(alloc, peers)
 }
 
-// The place of a connection's badge.
+/// The place of a connection's badge.
 #[tactic(auto, using(crate::proofs::Places::same_item))]
 fn place_of(badges: &[Badge], connection: Connection) -> Option<usize>
-    ensures { IfSome result (λ place. (place < length badges.now) × ((badge : BadgeState) → badge ≡ slice_index_or badges.now place badge → badge.connection ≡ connection)) }
+    ensures { IfSome result
+        (λ place. (place < length badges.now)
+        × ((badge : BadgeState) → badge ≡ slice_index_or badges.now place badge →
+        badge.connection ≡ connection)) }
 {
     for place in 0..badges.len() {
         if badges[place].connection() == connection {
@@ -62,7 +65,9 @@ impl Node {
     /// A question under the badge of this connection.
     #[tactic(auto, unfolding(crate::specs::Playing::Makes))]
     pub fn ask(&mut self, connection: Connection, question: &Question) -> Result<Reply, Fault>
-        ensures { MatchResult result (λ reply. Makes (calls.Ask connection question.now) self.old.hall self.new.hall) (λ fault. self.new.hall ≡ self.old.hall) }
+        ensures { MatchResult result
+            (λ reply. Makes (calls.Ask connection question.now) self.old.hall self.new.hall)
+            (λ fault. self.new.hall ≡ self.old.hall) }
     {
         let Some(place) = place_of(self.badges.as_slice(), connection) else {
             return Err(Fault::NotEnabled);
@@ -74,7 +79,8 @@ impl Node {
 
     #[tactic(auto, unfolding(crate::specs::Playing::Makes))]
     pub fn open(&mut self, peer: u16) -> Result<Reply, Fault>
-        ensures { MatchResult result (λ reply. Makes (calls.Open peer) self.old.hall self.new.hall) (λ fault. self.new.hall ≡ self.old.hall) }
+        ensures { MatchResult result (λ reply. Makes (calls.Open peer) self.old.hall self.new.hall)
+            (λ fault. self.new.hall ≡ self.old.hall) }
     {
         if peer >= PEERS {
             return Err(Fault::NotEnabled);
@@ -88,7 +94,8 @@ impl Node {
 
     #[tactic(auto, unfolding(crate::specs::Playing::Makes))]
     pub fn kick(&mut self, peer: u16) -> Result<Reply, Fault>
-        ensures { MatchResult result (λ reply. Makes (calls.Kick peer) self.old.hall self.new.hall) (λ fault. self.new.hall ≡ self.old.hall) }
+        ensures { MatchResult result (λ reply. Makes (calls.Kick peer) self.old.hall self.new.hall)
+            (λ fault. self.new.hall ≡ self.old.hall) }
     {
         if peer >= PEERS {
             return Err(Fault::NotEnabled);
@@ -99,7 +106,9 @@ impl Node {
 
     #[tactic(auto, unfolding(crate::specs::Playing::Makes))]
     pub fn submit(&mut self, local: &Local) -> Result<Reply, Fault>
-        ensures { MatchResult result (λ reply. Makes (calls.Submit local.now) self.old.hall self.new.hall) (λ fault. self.new.hall ≡ self.old.hall) }
+        ensures { MatchResult result
+            (λ reply. Makes (calls.Submit local.now) self.old.hall self.new.hall)
+            (λ fault. self.new.hall ≡ self.old.hall) }
     {
         let local = local.copy()?;
         let answer = self.hall.submit(local)?;
@@ -109,7 +118,9 @@ impl Node {
     /// Makes a block of the pool, and hands it in.
     #[tactic(auto, unfolding(crate::specs::Playing::Makes))]
     pub fn extend(&mut self, mark: u8) -> Result<Reply, Fault>
-        ensures { MatchResult result (λ reply. Makes (calls.Extend mark) self.old.hall self.new.hall) (λ fault. self.new.hall ≡ self.old.hall) }
+        ensures { MatchResult result
+            (λ reply. Makes (calls.Extend mark) self.old.hall self.new.hall)
+            (λ fault. self.new.hall ≡ self.old.hall) }
     {
         let block = self.hall.mine(mark)?;
         let answer = self.hall.submit(Local::Block(block))?;
@@ -118,7 +129,8 @@ impl Node {
 
     #[tactic(auto, unfolding(crate::specs::Playing::Makes))]
     pub fn checkpoint(&mut self) -> Result<Reply, Fault>
-        ensures { MatchResult result (λ reply. Makes calls.Checkpoint self.old.hall self.new.hall) (λ fault. self.new.hall ≡ self.old.hall) }
+        ensures { MatchResult result (λ reply. Makes calls.Checkpoint self.old.hall self.new.hall)
+            (λ fault. self.new.hall ≡ self.old.hall) }
     {
         self.hall.checkpoint()?;
         Ok(Reply::Checkpoint)

@@ -83,7 +83,7 @@ impl Notes {
         }
     }
 
-    // The journal begins anew where it doesn't have one entry more.
+    /// The journal begins anew where it doesn't have one entry more.
     fn note_entries(&mut self, had: usize, has: usize) {
         if had > 0 && has != had.wrapping_add(1) {
             self.anew = true;
@@ -91,7 +91,7 @@ impl Notes {
         }
     }
 
-    // One answer more. Pairs are kept.
+    /// One answer more. Pairs are kept.
     fn note_answer(&mut self, answer: &Answer, printed: bool) -> Result<(), Fault> {
         if printed {
             push_answer(self.alloc, &mut self.answer_lines, answer)?;

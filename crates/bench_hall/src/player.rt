@@ -59,7 +59,7 @@ impl Player {
         }
     }
 
-    // Calls are made of a new hall from now on.
+    /// Calls are made of a new hall from now on.
     fn begin(&mut self) -> Result<(), Fault>
         ensures { OnOk result (IsNew self.new.node.hall) }
     {
@@ -69,7 +69,7 @@ impl Player {
         Ok(())
     }
 
-    // Makes a call of this kind, and prints its line.
+    /// Makes a call of this kind, and prints its line.
     fn play_call<'a>(&mut self, kind: u8, cursor: &mut Cursor<'a>) -> Result<(), Fault>
         ensures { OnOk result (Plays kind self.old.node.hall self.new.node.hall) }
     {
@@ -79,7 +79,7 @@ impl Player {
         told
     }
 
-    // Makes a call, and notes how it ended.
+    /// Makes a call, and notes how it ended.
     fn tell(&mut self, call: &Call, printed: bool) -> Result<(), Fault>
         ensures { OnOk result (Makes call.now self.old.node.hall self.new.node.hall) }
     {
@@ -90,7 +90,7 @@ impl Player {
         noted
     }
 
-    // Makes a call so often, and prints nothing.
+    /// Makes a call so often, and prints nothing.
     fn repeat<'a>(&mut self, cursor: &mut Cursor<'a>) -> Result<(), Fault>
         ensures { OnOk result (MakesOften self.old.node.hall self.new.node.hall) }
     {
@@ -112,9 +112,10 @@ impl Player {
         Ok(())
     }
 
-    // Makes a call. A refused one changes nothing.
+    /// Makes a call. A refused one changes nothing.
     fn perform(&mut self, call: &Call) -> Result<Reply, Fault>
-        ensures { MatchResult result (λ reply. Makes call.now self.old.node.hall self.new.node.hall) (λ fault. self.new.node.hall ≡ self.old.node.hall) }
+        ensures { MatchResult result (λ reply. Makes call.now self.old.node.hall self.new.node.hall)
+            (λ fault. self.new.node.hall ≡ self.old.node.hall) }
     {
         if self.notes.careful {
             let before = view(&self.node, &self.notes)?;
@@ -123,9 +124,10 @@ impl Player {
         self.make(call)
     }
 
-    // Where memory runs out the hall must be as it was, and the call is made again.
+    /// Where memory runs out the hall must be as it was, and the call is made again.
     fn perform_beside(&mut self, call: &Call, before: &str) -> Result<Reply, Fault>
-        ensures { MatchResult result (λ reply. Makes call.now self.old.node.hall self.new.node.hall) (λ fault. self.new.node.hall ≡ self.old.node.hall) }
+        ensures { MatchResult result (λ reply. Makes call.now self.old.node.hall self.new.node.hall)
+            (λ fault. self.new.node.hall ≡ self.old.node.hall) }
     {
         match self.make(call) {
             Err(fault) if fault == Fault::Memory => self.make_again(call, before),
@@ -134,7 +136,8 @@ impl Player {
     }
 
     fn make_again(&mut self, call: &Call, before: &str) -> Result<Reply, Fault>
-        ensures { MatchResult result (λ reply. Makes call.now self.old.node.hall self.new.node.hall) (λ fault. self.new.node.hall ≡ self.old.node.hall) }
+        ensures { MatchResult result (λ reply. Makes call.now self.old.node.hall self.new.node.hall)
+            (λ fault. self.new.node.hall ≡ self.old.node.hall) }
     {
         let after = view(&self.node, &self.notes)?;
         self.notes.changed |= after.as_str() != before;
@@ -142,7 +145,8 @@ impl Player {
     }
 
     fn make(&mut self, call: &Call) -> Result<Reply, Fault>
-        ensures { MatchResult result (λ reply. Makes call.now self.old.node.hall self.new.node.hall) (λ fault. self.new.node.hall ≡ self.old.node.hall) }
+        ensures { MatchResult result (λ reply. Makes call.now self.old.node.hall self.new.node.hall)
+            (λ fault. self.new.node.hall ≡ self.old.node.hall) }
     {
         match call {
             Call::Ask(connection, question) => self.node.ask(*connection, question),
@@ -155,10 +159,12 @@ impl Player {
         }
     }
 
-    // Looking changes nothing.
+    /// Looking changes nothing.
     #[tactic(auto, unfolding(crate::specs::Playing::Makes))]
     fn look_at(&mut self, sight: Sight) -> Result<Reply, Fault>
-        ensures { MatchResult result (λ reply. Makes (calls.See sight) self.old.node.hall self.new.node.hall) (λ fault. self.new.node.hall ≡ self.old.node.hall) }
+        ensures { MatchResult result
+            (λ reply. Makes (calls.See sight) self.old.node.hall self.new.node.hall)
+            (λ fault. self.new.node.hall ≡ self.old.node.hall) }
     {
         Ok(Reply::Seen(see(&self.node, &self.notes, sight)?))
     }

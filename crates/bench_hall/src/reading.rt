@@ -11,14 +11,14 @@ use cb_state::{Connection, Inventories, Inventory};
 use cb_tx::{Tx, read_hash, read_tx};
 use std::alloc::Global;
 
-// A peer and a generation.
+/// A peer and a generation.
 fn read_connection(cursor: &mut Cursor) -> Result<Connection, Fault> {
     let peer = cursor.u16()?;
     let generation = cursor.u64()?;
     Ok(Connection { peer, generation })
 }
 
-// An entry of inventory: a type in four bytes, and a hash.
+/// An entry of inventory: a type in four bytes, and a hash.
 fn read_entry(cursor: &mut Cursor) -> Result<Inventory, Fault> {
     let kind = cursor.u32()?;
     let hash = read_hash(cursor)?;
@@ -50,7 +50,7 @@ fn read_headers(alloc: Global, cursor: &mut Cursor) -> Result<HeaderList, Fault>
     as_listed(headers)
 }
 
-// Short ids, or differences of places, each in eight bytes.
+/// Short ids, or differences of places, each in eight bytes.
 fn read_listed<const MOST: usize>(
     alloc: Global,
     cursor: &mut Cursor,
@@ -58,7 +58,7 @@ fn read_listed<const MOST: usize>(
     as_listed(read_numbers(alloc, cursor)?)
 }
 
-// A header, a nonce, and short ids.
+/// A header, a nonce, and short ids.
 fn read_sought<'a>(alloc: Global, cursor: &mut Cursor<'a>) -> Result<Sought, Fault> {
     let header = read_header(cursor)?;
     let nonce = cursor.u64()?;
@@ -66,7 +66,7 @@ fn read_sought<'a>(alloc: Global, cursor: &mut Cursor<'a>) -> Result<Sought, Fau
     Ok(Sought { header, nonce, ids })
 }
 
-// The list, if it isn't too long.
+/// The list, if it isn't too long.
 fn as_listed<T: Drop, const MOST: usize>(list: Vec<T>) -> Result<Listed<T, MOST>, Fault> {
     match Listed::new(list) {
         Ok(listed) => Ok(listed),
@@ -79,15 +79,15 @@ fn read_shared_tx<'a>(alloc: Global, cursor: &mut Cursor<'a>) -> Result<Shared<T
     Ok(Shared::new(alloc, tx)?)
 }
 
-// Whether the peer knows compact blocks in a byte, and the block.
+/// Whether the peer knows compact blocks in a byte, and the block.
 fn read_given<'a>(alloc: Global, cursor: &mut Cursor<'a>) -> Result<Given, Fault> {
     let capable = cursor.u8()? != 0;
     let block = read_sound(alloc, cursor)?;
     Ok(Given { block, capable })
 }
 
-// Whether the block is asked for in a byte, the number of the first transaction that wasn't told, and the tip that was told, if
-// one was.
+/// Whether the block is asked for in a byte, the number of the first transaction that wasn't told, and the tip that was told, if
+/// one was.
 fn read_told(cursor: &mut Cursor) -> Result<Told, Fault> {
     let whole = cursor.u8()? != 0;
     let from = cursor.u64()?;

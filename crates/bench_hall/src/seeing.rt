@@ -12,10 +12,10 @@ use cb_state::Connection;
 use cb_tx::TxIn;
 use std::alloc::Global;
 
-// How many peers ask a hall that was computed again.
+/// How many peers ask a hall that was computed again.
 const WATCHERS: u16 = 4;
 
-// What is asked of all that waits in the pool.
+/// What is asked of all that waits in the pool.
 const ALL: Told = Told {
     tip: None,
     from: 0,
@@ -32,7 +32,7 @@ pub fn push_look(alloc: Global, lines: &mut String, hall: &Hall) -> Result<(), F
     Ok(())
 }
 
-// How often a connection has asked, 0 where there is no such one.
+/// How often a connection has asked, 0 where there is no such one.
 fn count_of(connections: &Connections, connection: Connection) -> u64 {
     match connections.get(connection) {
         Some(connected) => connected.count,
@@ -40,7 +40,7 @@ fn count_of(connections: &Connections, connection: Connection) -> u64 {
     }
 }
 
-// Of a connection that has asked: how often before the journal, by now, and by its badge, and whether it was kicked.
+/// Of a connection that has asked: how often before the journal, by now, and by its badge, and whether it was kicked.
 fn push_badge(lines: &mut String, hall: &Hall, badge: &Badge) -> Result<(), Fault> {
     let (connection, count) = (badge.connection(), badge.count());
     if count > 0 {
@@ -56,7 +56,7 @@ fn push_badge(lines: &mut String, hall: &Hall, badge: &Badge) -> Result<(), Faul
     Ok(())
 }
 
-// The line of how many entries the journal has, and how often the holders of these badges have asked.
+/// The line of how many entries the journal has, and how often the holders of these badges have asked.
 fn push_counts(lines: &mut String, hall: &Hall, badges: &[Badge]) -> Result<(), Fault> {
     let length = hall.journal().len();
     write!(lines, "journal {length}")?;
@@ -67,7 +67,7 @@ fn push_counts(lines: &mut String, hall: &Hall, badges: &[Badge]) -> Result<(), 
     Ok(())
 }
 
-// The lines of `push_look` and `push_counts`.
+/// The lines of `push_look` and `push_counts`.
 fn push_standing(
     alloc: Global,
     lines: &mut String,
@@ -86,7 +86,7 @@ fn push_script(alloc: Global, line: &mut String, input: &TxIn) -> Result<(), Fau
     Ok(())
 }
 
-// A coinbase's script and size.
+/// A coinbase's script and size.
 fn push_coinbase(alloc: Global, line: &mut String, block: &Block) -> Result<(), Fault> {
     let Some(coinbase) = block.txs.as_slice().first() else {
         return Ok(());
@@ -99,7 +99,7 @@ fn push_coinbase(alloc: Global, line: &mut String, block: &Block) -> Result<(), 
     Ok(())
 }
 
-// A block that was made: its hash, its size, how many transactions it has, its time, and its coinbase's script and size.
+/// A block that was made: its hash, its size, how many transactions it has, its time, and its coinbase's script and size.
 fn push_block(alloc: Global, line: &mut String, block: &Block) -> Result<(), Fault> {
     line.push_str("mined")?;
     push_hash(alloc, line, &block.header.hash())?;
@@ -110,13 +110,13 @@ fn push_block(alloc: Global, line: &mut String, block: &Block) -> Result<(), Fau
     Ok(())
 }
 
-// The line of the block that is made with this mark.
+/// The line of the block that is made with this mark.
 fn push_mined(alloc: Global, lines: &mut String, hall: &Hall, mark: u8) -> Result<(), Fault> {
     let block: SoundBlock = hall.mine(mark)?;
     push_block(alloc, lines, block.block())
 }
 
-// Asks a question.
+/// Asks a question.
 fn push_asked(
     alloc: Global,
     lines: &mut String,
@@ -130,7 +130,7 @@ fn push_asked(
     pushed
 }
 
-// What the holders of these badges are answered of the locator and of all that waits.
+/// What the holders of these badges are answered of the locator and of all that waits.
 fn push_all_asked(
     alloc: Global,
     lines: &mut String,
@@ -144,20 +144,20 @@ fn push_all_asked(
     Ok(())
 }
 
-// The badges of a few peers' first connections.
+/// The badges of a few peers' first connections.
 fn watchers(alloc: Global) -> Result<Vec<Badge>, Fault> {
     let (hall, badges) = new_hall(alloc, WATCHERS)?;
     drop(hall);
     Ok(badges)
 }
 
-// What the first connections of a few peers are answered.
+/// What the first connections of a few peers are answered.
 fn push_watched(alloc: Global, lines: &mut String, hall: &mut Hall) -> Result<(), Fault> {
     let mut watchers = watchers(alloc)?;
     push_all_asked(alloc, lines, hall, watchers.as_mut_slice())
 }
 
-// What is told of the hall that is computed again: what is answered by it, or whether it is the same (`push_same`).
+/// What is told of the hall that is computed again: what is answered by it, or whether it is the same (`push_same`).
 #[derive(Clone, Copy)]
 enum Again {
     Asked,
@@ -178,7 +178,7 @@ fn push_of_again(
     }
 }
 
-// Computes all again.
+/// Computes all again.
 fn push_again(lines: &mut String, node: &Node, notes: &Notes, told: Again) -> Result<(), Fault> {
     let (mut again, answers) = node.hall.again()?;
     let pushed = push_of_again(lines, node, notes, &mut again, answers.as_slice(), told);
@@ -199,14 +199,14 @@ fn push_view(lines: &mut String, node: &Node, notes: &Notes) -> Result<(), Fault
     push_again(lines, node, notes, Again::Asked)
 }
 
-// How a hall stands.
+/// How a hall stands.
 fn standing(alloc: Global, hall: &Hall, badges: &[Badge]) -> Result<String, Fault> {
     let mut lines = String::new(alloc);
     push_standing(alloc, &mut lines, hall, badges)?;
     Ok(lines)
 }
 
-// Whether another hall stands as this one.
+/// Whether another hall stands as this one.
 fn stands_as(node: &Node, other: &Hall) -> Result<bool, Fault> {
     let badges = node.badges.as_slice();
     let here = standing(node.alloc, &node.hall, badges)?;
@@ -214,7 +214,7 @@ fn stands_as(node: &Node, other: &Hall) -> Result<bool, Fault> {
     Ok(here.as_str() == there.as_str())
 }
 
-// The line of what was computed again: how it stands, and whether the hall and the answers are those that were told.
+/// The line of what was computed again: how it stands, and whether the hall and the answers are those that were told.
 fn push_same(
     lines: &mut String,
     node: &Node,
@@ -228,7 +228,7 @@ fn push_same(
     Ok(())
 }
 
-// The pairs that were told last, in a list.
+/// The pairs that were told last, in a list.
 fn push_last_pairs(lines: &mut String, notes: &Notes) -> Result<(), Fault> {
     match &notes.pairs {
         Some(pairs) => push_pairs(notes.alloc, lines, pairs)?,

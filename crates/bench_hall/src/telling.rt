@@ -9,7 +9,7 @@ use cb_state::{Excerpt, Heads, Inventory, Need, News, Part, Piece};
 use cb_tx::Tx;
 use std::alloc::Global;
 
-// Why something was refused, `-` where it wasn't.
+/// Why something was refused, `-` where it wasn't.
 fn push_refusal(line: &mut String, word: &str, refused: Option<Fault>) -> Result<(), Fault> {
     match refused {
         Some(fault) => write!(line, "{word} {fault}")?,
@@ -18,7 +18,7 @@ fn push_refusal(line: &mut String, word: &str, refused: Option<Fault>) -> Result
     Ok(())
 }
 
-// An entry of inventory: its type and its hash.
+/// An entry of inventory: its type and its hash.
 fn push_entry(alloc: Global, line: &mut String, entry: &Inventory) -> Result<(), Fault> {
     let (kind, hash) = match entry {
         Inventory::Tx(txid) => (1, txid),
@@ -30,7 +30,7 @@ fn push_entry(alloc: Global, line: &mut String, entry: &Inventory) -> Result<(),
     push_hash(alloc, line, hash)
 }
 
-// A hash, and a size in bytes.
+/// A hash, and a size in bytes.
 fn push_sized(
     alloc: Global,
     line: &mut String,
@@ -131,7 +131,7 @@ fn push_tx(alloc: Global, line: &mut String, tx: &Tx) -> Result<(), Fault> {
     push_sized(alloc, line, " tx", &tx.txid(alloc)?, tx.size())
 }
 
-// The hash of the block, and each transaction with its size.
+/// The hash of the block, and each transaction with its size.
 fn push_part(alloc: Global, line: &mut String, part: &Part) -> Result<(), Fault> {
     push_hashes(alloc, line, "part", &[part.hash()])?;
     for tx in part.txs().as_slice() {

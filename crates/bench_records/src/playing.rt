@@ -41,7 +41,7 @@ pub trait Play {
     fn told(&self) -> Result<String, Fault>;
 }
 
-// Reads the next record: its kind, or none at the end of the input.
+/// Reads the next record: its kind, or none at the end of the input.
 fn read_record<R: Read>(reader: &mut R, payload: &mut Vec<u8>) -> Result<Option<u8>, Stop> {
     let mut kind = [0u8; 1];
     if reader.read(&mut kind)? == 0 {

@@ -15,7 +15,9 @@ use std::process::ExitCode;
 
 /// How many transactions the sound block has that these bytes spell; else the first fault.
 fn count_sound(alloc: Global, bytes: &[u8]) -> Result<usize, Fault>
-    ensures { IfOk result (λ count. (block : Block) × (bytes.now ≡ block_text block) × IsSoundBlock block × (count ≡ length block.txs)) }
+    ensures { IfOk result
+        (λ count. (block : Block) × (bytes.now ≡ block_text block) × IsSoundBlock block
+        × (count ≡ length block.txs)) }
 {
     let mut cursor = Cursor::new(bytes);
     let block = read_block(alloc, &mut cursor)?;

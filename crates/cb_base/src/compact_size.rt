@@ -12,7 +12,8 @@ pub fn put_compact(out: &mut Vec<u8>, number: u64) -> Result<(), Fault>
     ensures ok { OnOk result (out.new.items ≡ out.old.items ++ compact_text number) }
     ensures err { OnErr result (out.new.items ≡ out.old.items) }
     ensures memory { IsOkUnless result Memory }
-    ensures full { OnErr result (vec_capacity out.old < vec_len out.old + length (compact_text number)) }
+    ensures full { OnErr result
+        (vec_capacity out.old < vec_len out.old + length (compact_text number)) }
     ensures capacity { vec_capacity out.old ≤ vec_capacity out.new }
 {
     if number < 253 {
@@ -32,6 +33,7 @@ pub fn put_compact(out: &mut Vec<u8>, number: u64) -> Result<(), Fault>
 
 /// One number has one CompactSize, and none begins another.
 pub fn one_spelling()
-    ensures { (m n : ℕ) (x y : List ℕ) → m < 2 ^ 64 → n < 2 ^ 64 → compact_text m ++ x ≡ compact_text n ++ y
+    ensures { (m n : ℕ) (x y : List ℕ) → m < 2 ^ 64 → n < 2 ^ 64 →
+        compact_text m ++ x ≡ compact_text n ++ y
         → (m ≡ n) × (x ≡ y) }
 {}

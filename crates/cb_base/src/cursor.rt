@@ -113,7 +113,8 @@ impl<'a> Cursor<'a> {
         // What is read is spelled so, in the shortest way.
         ensures found { IfOk result (λ number. self.old ≡ compact_text number ++ self.new) }
         // What is spelled so is read, whatever follows it.
-        ensures only { (number : ℕ) (rest : List ℕ) → number < 2 ^ 64 → self.old ≡ compact_text number ++ rest
+        ensures only { (number : ℕ) (rest : List ℕ) → number < 2 ^ 64 →
+            self.old ≡ compact_text number ++ rest
             → (result ≡ Ok number) × (self.new ≡ rest) }
         ensures longer { (result ≡ Err NotShortest) ↔ BeginsLonger self.old }
         ensures short { (result ≡ Err Truncated) ↔ (length self.old < wanted self.old) }
@@ -123,7 +124,7 @@ impl<'a> Cursor<'a> {
         Ok(number)
     }
 
-    // A CompactSize. After a fault the cursor may stand anywhere.
+    /// A CompactSize. After a fault the cursor may stand anywhere.
     #[tactic(auto, unfolding(crate::specs::CompactSize::compact_at, crate::specs::CompactSize::wide_at))]
     fn compact_or_fault(&mut self) -> Result<u64, Fault>
         ensures { Gives (compact_at self.old) result self.new }
@@ -144,7 +145,7 @@ impl<'a> Cursor<'a> {
     }
 }
 
-// The CompactSize at the front, and the bytes after it.
+/// The CompactSize at the front, and the bytes after it.
 fn compact_of(bytes: &[u8]) -> Result<(u64, &[u8]), Fault>
     ensures exact { MatchResult result (λ read. compact_at bytes.now ≡ Ok (read.0, read.1.now))
         (λ fault. compact_at bytes.now ≡ Err fault) }

@@ -38,7 +38,7 @@ impl SipState {
         self.v2 = self.v2.rotate_left(32);
     }
 
-    // A word of the message, with two rounds.
+    /// A word of the message, with two rounds.
     fn absorb(&mut self, word: u64)
         ensures { self.new ≡ with_word self.old word }
     {
@@ -48,7 +48,7 @@ impl SipState {
         self.v0 ^= word;
     }
 
-    // Four rounds, and what the words give.
+    /// Four rounds, and what the words give.
     fn finish(mut self) -> u64
         ensures { result ≡ sip_end self }
     {
@@ -61,7 +61,7 @@ impl SipState {
     }
 }
 
-// The bytes of a message's last word: those that fill no word, and at the top the message's length.
+/// The bytes of a message's last word: those that fill no word, and at the top the message's length.
 fn last_bytes(rest: &[u8], length_byte: u8) -> [u8; 8]
     requires { length rest.now < 8 }
     ensures { result ≡ rest.now ++ replicate (7 - length rest.now) 0 ++ length_byte ∷ [] }

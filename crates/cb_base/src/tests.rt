@@ -7,7 +7,7 @@ fn hash_of(text: &str) -> Result<[u8; 32], Fail> {
     Ok(<[u8; 32] as FromHex>::from_hex(text)?)
 }
 
-// The example of one block in FIPS 180-4's list of test values.
+/// The example of one block in FIPS 180-4's list of test values.
 #[test]
 fn sha_of_abc(rt: HostRuntime) -> Result<(), Fail> {
     let expected = hash_of("ba7816bf8f01cfea414140de5dae2223b00361a396177a9cb410ff61f20015ad")?;
@@ -135,7 +135,7 @@ fn shared_values(rt: HostRuntime) -> Result<(), Fail> {
     Ok(())
 }
 
-// The table of SipHash's reference code (vectors_sip64): the key 00 to 0f, and as inputs nothing, 00, 00 01, .. and 00 to 3e.
+/// The table of SipHash's reference code (vectors_sip64): the key 00 to 0f, and as inputs nothing, 00, 00 01, .. and 00 to 3e.
 const SIP_TABLE: [u64; 64] = [
     0x726f_db47_dd0e_0e31,
     0x74f8_39c5_93dc_67fd,
@@ -223,7 +223,7 @@ fn sip24_of_the_published_table(rt: HostRuntime) -> Result<(), Fail> {
     Ok(())
 }
 
-// The paper's own example, and what a compact block takes of it: the low six bytes.
+/// The paper's own example, and what a compact block takes of it: the low six bytes.
 #[test]
 fn row_5(rt: HostRuntime) -> Result<(), Fail> {
     let bytes = [0, 1, 2, 3, 4, 5, 6, 7, 8, 9, 10, 11, 12, 13, 14];

@@ -15,7 +15,7 @@ use cb_base::{Cursor, Fault, Shared, put_compact};
 use cb_tx::{Tx, compact_size, read_count, read_tx, write_tx};
 use std::alloc::Global;
 
-// So many transactions, one after the other.
+/// So many transactions, one after the other.
 fn txs_of(alloc: Global, cursor: &mut Cursor, count: usize) -> Result<Txs, Fault>
     ensures exact { GivesInMemory (items_at tx_at count cursor.old) result cursor.new }
     ensures unpaid { count ≡ 0 → IsOk result }
@@ -48,7 +48,7 @@ fn block_or_fault(alloc: Global, cursor: &mut Cursor) -> Result<Block, Fault>
     Ok(Block { header, txs })
 }
 
-// The block at the front, and a cursor at the bytes after it.
+/// The block at the front, and a cursor at the bytes after it.
 fn block_of(alloc: Global, bytes: &[u8]) -> Result<(Block, Cursor<'_>), Fault>
     ensures exact { MatchResult result (λ read. block_at bytes.now ≡ Ok (read.0, read.1))
         (λ fault. (fault ≡ Memory) ⊎ (block_at bytes.now ≡ Err fault)) }
@@ -69,9 +69,11 @@ fn block_of(alloc: Global, bytes: &[u8]) -> Result<(Block, Cursor<'_>), Fault>
 pub fn read_block<'a>(alloc: Global, cursor: &mut Cursor<'a>) -> Result<Block, Fault>
     ensures exact { ReadsInMemory (block_at cursor.old) cursor.old result cursor.new }
     // What is read is spelled so.
-    ensures found { IfOk result (λ block. IsBlock block × (cursor.old ≡ block_text block ++ cursor.new)) }
+    ensures found { IfOk result
+        (λ block. IsBlock block × (cursor.old ≡ block_text block ++ cursor.new)) }
     // What is spelled so is read, whatever follows it, unless memory runs out.
-    ensures only { (block : Block) (rest : List ℕ) → IsBlock block → cursor.old ≡ block_text block ++ rest
+    ensures only { (block : Block) (rest : List ℕ) → IsBlock block →
+        cursor.old ≡ block_text block ++ rest
         → (result ≡ Err Memory) ⊎ ((result ≡ Ok block) × (cursor.new ≡ rest)) }
     // Up to the first count no memory is taken.
     ensures unpaid { (fault : Fault) → first_count_at cursor.old ≡ Err fault → result ≡ Err fault }
@@ -97,7 +99,8 @@ fn put_txs(out: &mut Vec<u8>, txs: &[Shared<Tx>]) -> Result<(), Fault>
     ensures ok { OnOk result (out.new.items ≡ out.old.items ++ list_text tx_text txs.now) }
     ensures err { OnErr result (Extends out.old.items out.new.items) }
     ensures memory { IsOkUnless result Memory }
-    ensures full { OnErr result (vec_capacity out.old < vec_len out.old + length (list_text tx_text txs.now)) }
+    ensures full { OnErr result
+        (vec_capacity out.old < vec_len out.old + length (list_text tx_text txs.now)) }
     ensures capacity { vec_capacity out.old ≤ vec_capacity out.new }
     ensures few { length txs.now < 2 ^ 64 }
     ensures fits { OnOk result (All IsTx txs.now) }
@@ -109,7 +112,7 @@ fn put_txs(out: &mut Vec<u8>, txs: &[Shared<Tx>]) -> Result<(), Fault>
     Ok(())
 }
 
-// A header's 80 bytes. Each of its numbers is one of its field, and each hash has 32 bytes.
+/// A header's 80 bytes. Each of its numbers is one of its field, and each hash has 32 bytes.
 fn header_bytes(header: Header) -> [u8; 80]
     ensures text { result ≡ header_text header }
     ensures fits { IsHeader header }
@@ -122,7 +125,8 @@ fn put_block(out: &mut Vec<u8>, block: &Block) -> Result<(), Fault>
     ensures ok { OnOk result (out.new.items ≡ out.old.items ++ block_text block.now) }
     ensures err { OnErr result (Extends out.old.items out.new.items) }
     ensures memory { IsOkUnless result Memory }
-    ensures full { OnErr result (vec_capacity out.old < vec_len out.old + length (block_text block.now)) }
+    ensures full { OnErr result
+        (vec_capacity out.old < vec_len out.old + length (block_text block.now)) }
     ensures capacity { vec_capacity out.old ≤ vec_capacity out.new }
     ensures fits { OnOk result (IsBlock block.now) }
 {
@@ -136,7 +140,8 @@ pub fn write_block(out: &mut Vec<u8>, block: &Block) -> Result<(), Fault>
     ensures err { OnErr result (out.new.items ≡ out.old.items) }
     ensures memory { IsOkUnless result Memory }
     // It comes only where the vector has no room for the text.
-    ensures full { OnErr result (vec_capacity out.old < vec_len out.old + length (block_text block.now)) }
+    ensures full { OnErr result
+        (vec_capacity out.old < vec_len out.old + length (block_text block.now)) }
     ensures capacity { vec_capacity out.old ≤ vec_capacity out.new }
     // Each number is one of its field, and each hash has 32 bytes.
     ensures fits { OnOk result (IsBlock block.now) }

@@ -78,7 +78,7 @@ fn header_or_fault(cursor: &mut Cursor) -> Result<Header, Fault>
     })
 }
 
-// The header at the front, and a cursor at the bytes after it.
+/// The header at the front, and a cursor at the bytes after it.
 fn header_of(bytes: &[u8]) -> Result<(Header, Cursor<'_>), Fault>
     ensures exact { MatchResult result (λ read. header_at bytes.now ≡ Ok (read.0, read.1))
         (λ fault. header_at bytes.now ≡ Err fault) }
@@ -93,9 +93,11 @@ fn header_of(bytes: &[u8]) -> Result<(Header, Cursor<'_>), Fault>
 pub fn read_header<'a>(cursor: &mut Cursor<'a>) -> Result<Header, Fault>
     ensures exact { Reads (header_at cursor.old) cursor.old result cursor.new }
     // What is read is spelled so.
-    ensures found { IfOk result (λ header. IsHeader header × (cursor.old ≡ header_text header ++ cursor.new)) }
+    ensures found { IfOk result
+        (λ header. IsHeader header × (cursor.old ≡ header_text header ++ cursor.new)) }
     // What is spelled so is read, whatever follows it.
-    ensures only { (header : Header) (rest : List ℕ) → IsHeader header → cursor.old ≡ header_text header ++ rest
+    ensures only { (header : Header) (rest : List ℕ) → IsHeader header →
+        cursor.old ≡ header_text header ++ rest
         → (result ≡ Ok header) × (cursor.new ≡ rest) }
 {
     let left = cursor.left();
@@ -118,7 +120,7 @@ fn are_zero(bytes: &[u8]) -> bool
     bytes.iter().all(|byte| *byte == 0)
 }
 
-// Whether the hash, as a number with its lowest byte first, is at most 7fffff followed by 29 zero bytes.
+/// Whether the hash, as a number with its lowest byte first, is at most 7fffff followed by 29 zero bytes.
 fn meets_target(hash: &[u8]) -> bool
     requires { length hash.now ≡ 32 }
     ensures { IsTrue result ↔ (little_endian hash.now ≤ 8388607 * 256 ^ 29) }
@@ -133,7 +135,9 @@ fn meets_target(hash: &[u8]) -> bool
 
 /// The hash of a header that has the network's bits, where it meets their target: else `Fault::BadWork`.
 pub fn hash_with_work(header: &Header) -> Result<Hash256, Fault>
-    ensures { MatchResult result (λ hash. (hash ≡ double_hash (header_text header.now)) × HasWork header.now) (λ fault. (fault ≡ BadWork) × (¬ HasWork header.now)) }
+    ensures { MatchResult result
+        (λ hash. (hash ≡ double_hash (header_text header.now)) × HasWork header.now)
+        (λ fault. (fault ≡ BadWork) × (¬ HasWork header.now)) }
 {
     if header.bits != BITS {
         return Err(Fault::BadWork);
@@ -147,7 +151,8 @@ pub fn hash_with_work(header: &Header) -> Result<Hash256, Fault>
 
 /// Whether the header has the network's bits and a hash that meets their target: else `Fault::BadWork`.
 pub fn check_header(header: &Header) -> Result<(), Fault>
-    ensures { MatchResult result (λ _. HasWork header.now) (λ fault. (fault ≡ BadWork) × (¬ HasWork header.now)) }
+    ensures { MatchResult result (λ _. HasWork header.now)
+        (λ fault. (fault ≡ BadWork) × (¬ HasWork header.now)) }
 {
     hash_with_work(header)?;
     Ok(())

@@ -22,16 +22,19 @@ pub fn one_sound_list()
 
 /// One block has one text, and no text begins another.
 pub fn one_block_text()
-    ensures { (a b : Block) (x y : List ℕ) → IsBlock a → IsBlock b → block_text a ++ x ≡ block_text b ++ y
+    ensures { (a b : Block) (x y : List ℕ) → IsBlock a → IsBlock b →
+        block_text a ++ x ≡ block_text b ++ y
         → (a ≡ b) × (x ≡ y) }
 {}
 
 /// A strict beginning of a header's text is too short to be read: `Fault::Truncated`.
 pub fn beginning_of_header_is_truncated()
-    ensures { (header : Header) (b c : List ℕ) → IsHeader header → header_text header ≡ b ++ c → c ≢ [] → header_at b ≡ Err Truncated }
+    ensures { (header : Header) (b c : List ℕ) → IsHeader header → header_text header ≡ b ++ c →
+        c ≢ [] → header_at b ≡ Err Truncated }
 {}
 
 /// The same of a block's text.
 pub fn beginning_of_block_is_truncated()
-    ensures { (block : Block) (b c : List ℕ) → IsBlock block → block_text block ≡ b ++ c → c ≢ [] → block_at b ≡ Err Truncated }
+    ensures { (block : Block) (b c : List ℕ) → IsBlock block → block_text block ≡ b ++ c → c ≢ [] →
+        block_at b ≡ Err Truncated }
 {}

@@ -7,7 +7,7 @@ use cb_base::{Fault, Hash256, sha};
 use sha2::{Digest, Sha256};
 use std::alloc::Global;
 
-// The hash above two hashes.
+/// The hash above two hashes.
 fn hash_above(left: &Hash256, right: &Hash256) -> Hash256
     ensures { result ≡ double_hash (left.now.0 ++ right.now.0) }
 {
@@ -18,7 +18,7 @@ fn hash_above(left: &Hash256, right: &Hash256) -> Hash256
     Hash256(sha(once.as_slice()))
 }
 
-// Puts the level above in the place of a level, and answers whether that had equal neighbours.
+/// Puts the level above in the place of a level, and answers whether that had equal neighbours.
 fn raise(level: &mut Vec<Hash256>) -> bool
     ensures raised { level.new.items ≡ up level.old.items }
     ensures equal { IsTrue result ↔ HasEqualPair level.old.items }
@@ -42,8 +42,8 @@ fn raise(level: &mut Vec<Hash256>) -> bool
     equal
 }
 
-// The root over the leaves, and whether the tree is mutated, in one pass. The leaves' vector is used up: each level takes
-// the place of the one below it.
+/// The root over the leaves, and whether the tree is mutated, in one pass. The leaves' vector is used up: each level takes
+/// the place of the one below it.
 pub(crate) fn tree(leaves: Vec<Hash256>) -> (Hash256, bool)
     requires { 0 < vec_len leaves }
     ensures root { IsRoot leaves.items result.0 }

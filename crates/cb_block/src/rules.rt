@@ -19,10 +19,11 @@ fn has_one_coinbase(txs: &[Shared<Tx>]) -> bool
     }
 }
 
-// Whether each transaction meets its rules: else the first fault of the first that doesn't.
+/// Whether each transaction meets its rules: else the first fault of the first that doesn't.
 fn check_txs(alloc: Global, txs: &[Shared<Tx>]) -> Result<(), Fault>
     ensures exact { MatchResult result (λ _. All MeetsRules txs.now)
-        (λ fault. (fault ≡ Memory) ⊎ ((rule : TxRule) × (fault ≡ BadTx rule) × BreaksFirst txs.now rule)) }
+        (λ fault. (fault ≡ Memory)
+        ⊎ ((rule : TxRule) × (fault ≡ BadTx rule) × BreaksFirst txs.now rule)) }
     ensures paid { result ≡ Err Memory → AsksMemory txs.now }
 {
     for tx in txs {
@@ -37,9 +38,11 @@ fn check_txs(alloc: Global, txs: &[Shared<Tx>]) -> Result<(), Fault>
 /// is no coinbase or another is one, and then the fault of the first transaction that `check_tx` refuses; that call may
 /// also answer `Fault::Memory`.
 pub fn check_block(alloc: Global, block: &SoundBlock) -> Result<(), Fault>
-    ensures exact { MatchResult result (λ _. MeetsBlockRules block.now) (λ fault. (fault ≡ Memory) ⊎ IsRefused block.now fault) }
+    ensures exact { MatchResult result (λ _. MeetsBlockRules block.now)
+        (λ fault. (fault ≡ Memory) ⊎ IsRefused block.now fault) }
     // Size and coinbase are looked at without memory.
-    ensures unpaid { result ≡ Err Memory → (length (block_text block.now) ≤ 1000000) × HasOneCoinbase block.now.txs }
+    ensures unpaid { result ≡ Err Memory →
+        (length (block_text block.now) ≤ 1000000) × HasOneCoinbase block.now.txs }
     // A transaction takes memory where it has two inputs or more, and is looked at where those before it meet their rules.
     ensures paid { result ≡ Err Memory → AsksMemory block.now.txs }
 {

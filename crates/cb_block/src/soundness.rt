@@ -84,7 +84,7 @@ fn has_size_64(txs: &[Shared<Tx>]) -> bool
     txs.iter().any(|tx| tx.size() == 64)
 }
 
-// The txids, each by one hashing of the transaction's text, which is written to one buffer.
+/// The txids, each by one hashing of the transaction's text, which is written to one buffer.
 fn txids_of(alloc: Global, txs: &[Shared<Tx>]) -> Result<Vec<Hash256>, Fault>
     ensures names { IfOk result (λ txids. txids.items ≡ names (map tx_text txs.now)) }
     ensures fits { IfOk result (λ _. All IsTx txs.now) }
@@ -100,7 +100,7 @@ fn txids_of(alloc: Global, txs: &[Shared<Tx>]) -> Result<Vec<Hash256>, Fault>
     Ok(txids)
 }
 
-// Whether the block has transactions, and none of 64 bytes. It takes no memory.
+/// Whether the block has transactions, and none of 64 bytes. It takes no memory.
 fn check_sizes(block: &Block) -> Result<(), Fault>
     ensures some { IfOk result (λ _. 0 < length block.now.txs) }
     ensures sizes { IfOk result (λ _. All (λ tx. length (tx_text tx) ≢ 64) block.now.txs) }
@@ -116,7 +116,7 @@ fn check_sizes(block: &Block) -> Result<(), Fault>
     Ok(())
 }
 
-// The txids, where the tree over them isn't mutated and has the header's root.
+/// The txids, where the tree over them isn't mutated and has the header's root.
 fn tree_txids(
     alloc: Global,
     block: &Block,
@@ -139,20 +139,21 @@ fn tree_txids(
     Ok(Shared::new(alloc, txids)?)
 }
 
-// The txids of a sound block: else the first reason why it isn't sound.
+/// The txids of a sound block: else the first reason why it isn't sound.
 fn sound_txids(alloc: Global, block: &Block) -> Result<Shared<Vec<Hash256>>, Fault>
     ensures sound { IfOk result (λ _. IsSoundBlock block.now) }
     ensures names { IfOk result (λ txids. txids.items ≡ names (texts block.now.txs)) }
     ensures fits { IfOk result (λ _. All IsTx block.now.txs) }
     ensures err { IfErr result (λ fault. (fault ≡ Memory) ⊎ IsUnsound block.now fault) }
-    ensures unpaid { (IsUnsound block.now Empty ⊎ IsUnsound block.now Size64) → IsErrAnd result (λ fault. fault ≢ Memory) }
+    ensures unpaid { (IsUnsound block.now Empty ⊎ IsUnsound block.now Size64) →
+        IsErrAnd result (λ fault. fault ≢ Memory) }
 {
     check_sizes(block)?;
     let txids = txids_of(alloc, block.txs.as_slice())?;
     tree_txids(alloc, block, txids)
 }
 
-// The same, where the txids are known.
+/// The same, where the txids are known.
 fn known_txids(
     alloc: Global,
     block: &Block,
@@ -162,7 +163,8 @@ fn known_txids(
     ensures sound { IfOk result (λ _. IsSoundBlock block.now) }
     ensures names { IfOk result (λ txids. txids.items ≡ names (texts block.now.txs)) }
     ensures err { IfErr result (λ fault. (fault ≡ Memory) ⊎ IsUnsound block.now fault) }
-    ensures unpaid { (IsUnsound block.now Empty ⊎ IsUnsound block.now Size64) → IsErrAnd result (λ fault. fault ≢ Memory) }
+    ensures unpaid { (IsUnsound block.now Empty ⊎ IsUnsound block.now Size64) →
+        IsErrAnd result (λ fault. fault ≢ Memory) }
 {
     check_sizes(block)?;
     tree_txids(alloc, block, txids)
@@ -175,14 +177,17 @@ fn known_txids(
 /// holds, or with `Fault::Memory` where there was no memory for the tree.
 pub fn sound(alloc: Global, block: Shared<Block>) -> Result<SoundBlock, (Shared<Block>, Fault)>
     ensures ok { IfOk result (λ sound. (sound ≡ block) × IsSoundBlock block) }
-    ensures err { IfErr result (λ back. (back.0 ≡ block) × ((back.1 ≡ Memory) ⊎ IsUnsound block back.1)) }
+    ensures err { IfErr result
+        (λ back. (back.0 ≡ block) × ((back.1 ≡ Memory) ⊎ IsUnsound block back.1)) }
     // The first two reasons are told without memory.
-    ensures unpaid { (IsUnsound block Empty ⊎ IsUnsound block Size64) → IsErrAnd result (λ back. back.1 ≢ Memory) }
+    ensures unpaid { (IsUnsound block Empty ⊎ IsUnsound block Size64) →
+        IsErrAnd result (λ back. back.1 ≢ Memory) }
     // Each list of byte strings that is sound under this header, and apart from this block's, is this block's.
     ensures only { IfOk result (λ sound. (others : List (List ℕ)) → IsSound sound.header.root others
         → AreApart (texts sound.txs) others → others ≡ texts sound.txs) }
     // The same of transactions.
-    ensures only_txs { IfOk result (λ sound. (txs : List Tx) → All IsTx txs → IsSound sound.header.root (texts txs)
+    ensures only_txs { IfOk result
+        (λ sound. (txs : List Tx) → All IsTx txs → IsSound sound.header.root (texts txs)
         → AreApart (texts sound.txs) (texts txs) → txs ≡ sound.txs) }
 {
     match sound_txids(alloc, &block) {
@@ -199,8 +204,10 @@ pub fn sound_by(
 ) -> Result<SoundBlock, (Shared<Block>, Fault)>
     requires { txids.items ≡ names (texts block.txs) }
     ensures ok { IfOk result (λ sound. (sound ≡ block) × IsSoundBlock block) }
-    ensures err { IfErr result (λ back. (back.0 ≡ block) × ((back.1 ≡ Memory) ⊎ IsUnsound block back.1)) }
-    ensures unpaid { (IsUnsound block Empty ⊎ IsUnsound block Size64) → IsErrAnd result (λ back. back.1 ≢ Memory) }
+    ensures err { IfErr result
+        (λ back. (back.0 ≡ block) × ((back.1 ≡ Memory) ⊎ IsUnsound block back.1)) }
+    ensures unpaid { (IsUnsound block Empty ⊎ IsUnsound block Size64) →
+        IsErrAnd result (λ back. back.1 ≢ Memory) }
     // Each list of byte strings that is sound under this header, and apart from this block's, is this block's.
     ensures only { IfOk result (λ sound. (others : List (List ℕ)) → IsSound sound.header.root others
         → AreApart (texts sound.txs) others → others ≡ texts sound.txs) }

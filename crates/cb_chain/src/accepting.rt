@@ -19,7 +19,7 @@ use cb_block::{Header, SoundBlock, check_block, hash_with_work};
 /// The greatest height.
 pub const MOST_HEIGHT: u32 = 1_000_000_000;
 
-// Where a header will stand in the tree.
+/// Where a header will stand in the tree.
 #[derive(Clone, Copy)]
 pub(crate) struct Spot {
     pub(crate) header: Header,
@@ -29,7 +29,7 @@ pub(crate) struct Spot {
 }
 
 impl Spot {
-    // The node of a header that stands here.
+    /// The node of a header that stands here.
     pub(crate) fn node(self, kept: Option<Kept>, marked: bool) -> Node
         ensures { result ≡ node_on self kept marked }
     {
@@ -45,12 +45,14 @@ impl Spot {
 }
 
 impl Tree {
-    // Where a header stands on its parent, or the first reason against that. Its parent's block may be asked for.
+    /// Where a header stands on its parent, or the first reason against that. Its parent's block may be asked for.
     fn spot_on_parent(&self, header: Header, hash: Hash256, block: bool) -> Result<Spot, Fault>
         requires { hash ≡ block_hash header }
         ensures ok { IfOk result (λ spot. IsSpot spot header (tree_of self.now.nodes)) }
-        ensures none { OnOk result (parent_fault (tree_of self.now.nodes) header.prev block ≡ None) }
-        ensures err { IfErr result (λ fault. parent_fault (tree_of self.now.nodes) header.prev block ≡ Some fault) }
+        ensures none { OnOk result
+            (parent_fault (tree_of self.now.nodes) header.prev block ≡ None) }
+        ensures err { IfErr result
+            (λ fault. parent_fault (tree_of self.now.nodes) header.prev block ≡ Some fault) }
     {
         let Some(parent) = self.place(&header.prev) else {
             return Err(Fault::NoParent);
@@ -73,12 +75,13 @@ impl Tree {
         })
     }
 
-    // Where a header will stand, or the first reason against it.
+    /// Where a header will stand, or the first reason against it.
     pub(crate) fn header_spot(&self, header: Header, hash: Hash256) -> Result<Spot, Fault>
         requires { hash ≡ block_hash header }
         ensures ok { IfOk result (λ spot. IsSpot spot header (tree_of self.now.nodes)) }
         ensures none { OnOk result (header_fault (tree_of self.now.nodes) header ≡ None) }
-        ensures err { IfErr result (λ fault. header_fault (tree_of self.now.nodes) header ≡ Some fault) }
+        ensures err { IfErr result
+            (λ fault. header_fault (tree_of self.now.nodes) header ≡ Some fault) }
         ensures tree { IsTree self.now.nodes }
     {
         if let Some(place) = self.place(&hash) {
@@ -92,7 +95,7 @@ impl Tree {
 }
 
 impl Chain {
-    // Where a block will stand, or the first reason against it.
+    /// Where a block will stand, or the first reason against it.
     fn block_spot(&self, header: Header, hash: Hash256) -> Result<Spot, Fault>
         requires { hash ≡ block_hash header }
         ensures ok { IfOk result (λ spot. IsSpot spot header self.now) }
@@ -125,10 +128,12 @@ impl Chain {
         // What is kept is that of the calls so far with this one, or without it where memory was wanting.
         ensures history { (calls : List Call) → IsHistory calls self.old
             → MatchResult result (λ _. IsHistory (HeaderCall header ∷ calls) self.new)
-            (λ fault. ((fault ≡ Memory) × IsHistory calls self.new) ⊎ IsHistory (HeaderCall header ∷ calls) self.new) }
+            (λ fault. ((fault ≡ Memory) × IsHistory calls self.new)
+            ⊎ IsHistory (HeaderCall header ∷ calls) self.new) }
         ensures unchanged { result ≡ Err Memory → self.new ≡ self.old }
         // Memory is wanted only of a header that nothing speaks against.
-        ensures unpaid { result ≡ Err Memory → HasWork header × (header_fault self.old header ≡ None) }
+        ensures unpaid { result ≡ Err Memory →
+            HasWork header × (header_fault self.old header ≡ None) }
     {
         let hash = hash_with_work(&header)?;
         let spot = self.tree.header_spot(header, hash)?;
@@ -149,7 +154,8 @@ impl Chain {
     pub fn accept_block(&mut self, block: SoundBlock) -> Result<Change, Fault>
         ensures ok { IfOk result (λ change. AcceptsBlock self.old block (Ok change) self.new) }
         // From the old active chain to the new one.
-        ensures moves { IfOk result (λ change. LeadsOver (active_hashes self.old) change (active_hashes self.new)) }
+        ensures moves { IfOk result
+            (λ change. LeadsOver (active_hashes self.old) change (active_hashes self.new)) }
         // What leaves the active chain for it stood above its parent's branch. Else the active chain stays.
         ensures leads { IfOk result (λ change. change.on ≢ [] → MayLead self.old block.header.prev
             × (change.off ≡ reverse (map block_hash (headers_above self.old block.header.prev)))) }
@@ -159,10 +165,12 @@ impl Chain {
         // What is kept is that of the calls so far with this one, or without it where memory was wanting.
         ensures history { (calls : List Call) → IsHistory calls self.old
             → MatchResult result (λ _. IsHistory (BlockCall block ∷ calls) self.new)
-            (λ fault. ((fault ≡ Memory) × IsHistory calls self.new) ⊎ IsHistory (BlockCall block ∷ calls) self.new) }
+            (λ fault. ((fault ≡ Memory) × IsHistory calls self.new)
+            ⊎ IsHistory (BlockCall block ∷ calls) self.new) }
         ensures unchanged { result ≡ Err Memory → self.new ≡ self.old }
         // Memory is wanted only of a block whose header nothing speaks against.
-        ensures unpaid { result ≡ Err Memory → HasWork block.header × (block_fault self.old block.header ≡ None) }
+        ensures unpaid { result ≡ Err Memory →
+            HasWork block.header × (block_fault self.old block.header ≡ None) }
     {
         let header = block.block().header;
         let hash = hash_with_work(&header)?;
@@ -178,15 +186,18 @@ impl Chain {
         }
     }
 
-    // Keeps a block that meets its rules.
+    /// Keeps a block that meets its rules.
     fn join(&mut self, spot: Spot, kept: Kept) -> Result<Change, Fault>
         requires spot { IsSpot spot kept.header self.old }
         requires none { block_fault self.old kept.header ≡ None }
         requires tip { is_kept self.old (best self.old) ≡ true }
         requires calls { IsHistoric (joined self.old kept).1 }
         ensures ok { IfOk result (λ change. (Ok change, self.new) ≡ joined self.old kept) }
-        ensures moves { IfOk result (λ change. LeadsOver (active_hashes self.old) change (active_hashes self.new)) }
-        ensures err { IfErr result (λ fault. ((fault ≡ Memory) × (self.new ≡ self.old)) ⊎ ((Err fault, self.new) ≡ joined self.old kept)) }
+        ensures moves { IfOk result
+            (λ change. LeadsOver (active_hashes self.old) change (active_hashes self.new)) }
+        ensures err { IfErr result
+            (λ fault. ((fault ≡ Memory) × (self.new ≡ self.old))
+            ⊎ ((Err fault, self.new) ≡ joined self.old kept)) }
         ensures unchanged { result ≡ Err Memory → self.new ≡ self.old }
     {
         if spot.height > self.tip_height() {

@@ -11,7 +11,7 @@ use crate::tree::Tree;
 use cb_base::Fault;
 use std::alloc::Global;
 
-// Whether the active chain, of nodes by their heights, has this node's hash at its height.
+/// Whether the active chain, of nodes by their heights, has this node's hash at its height.
 fn stands(tree: &Tree, places: &[usize], place: usize) -> bool
     requires place { place < length tree.now.nodes }
     requires places { places.now ≡ active_places (tree_of tree.now.nodes) }
@@ -25,11 +25,12 @@ fn stands(tree: &Tree, places: &[usize], place: usize) -> bool
     }
 }
 
-// The height of the highest node of a branch that stands on the active chain.
+/// The height of the highest node of a branch that stands on the active chain.
 pub(crate) fn fork_of(tree: &Tree, places: &[usize], from: usize) -> usize
     requires place { from < length tree.now.nodes }
     requires places { places.now ≡ active_places (tree_of tree.now.nodes) }
-    ensures { (hash : Hash256) → place_of (tree_of tree.now.nodes) hash ≡ Some from → IsFork (tree_of tree.now.nodes) hash result }
+    ensures { (hash : Hash256) → place_of (tree_of tree.now.nodes) hash ≡ Some from →
+        IsFork (tree_of tree.now.nodes) hash result }
 {
     let mut place = from;
     while !stands(tree, places, place) {
@@ -38,7 +39,7 @@ pub(crate) fn fork_of(tree: &Tree, places: &[usize], from: usize) -> usize
     tree.node(place).height as usize
 }
 
-// The places of a kept block's branch above a height, from the lowest up to its own.
+/// The places of a kept block's branch above a height, from the lowest up to its own.
 pub(crate) fn branch_above(
     alloc: Global,
     tree: &Tree,
@@ -46,8 +47,11 @@ pub(crate) fn branch_above(
     fork: usize,
 ) -> Result<Vec<usize>, Fault>
     requires place { from < length tree.now.nodes }
-    ensures places { IfOk result (λ branch. (hash : Hash256) → place_of (tree_of tree.now.nodes) hash ≡ Some from → is_kept (tree_of tree.now.nodes) hash ≡ true
-        → branch.items ≡ map (λ step. step.place) (drop fork (climb (tree_of tree.now.nodes) hash))) }
+    ensures places { IfOk result
+        (λ branch. (hash : Hash256) → place_of (tree_of tree.now.nodes) hash ≡ Some from →
+        is_kept (tree_of tree.now.nodes) hash ≡ true
+        → branch.items
+        ≡ map (λ step. step.place) (drop fork (climb (tree_of tree.now.nodes) hash))) }
     ensures memory { IsOkUnless result Memory }
 {
     let mut branch = Vec::new(alloc);

@@ -63,7 +63,7 @@ impl Chain {
         })
     }
 
-    // The node of the tip.
+    /// The node of the tip.
     fn tip_node(&self) -> &Node
         ensures hash { result.now.hash ≡ best self.now }
         ensures height { height_of self.now (best self.now) ≡ Some result.now.height }
@@ -97,7 +97,8 @@ impl Chain {
 
     /// The header of this hash, where it is known.
     pub fn header(&self, hash: &Hash256) -> Option<&Header>
-        ensures { option_copied result ≡ option_map (λ entry. entry.header) (entry_of self.now hash.now) }
+        ensures { option_copied result
+            ≡ option_map (λ entry. entry.header) (entry_of self.now hash.now) }
     {
         match self.tree.find(hash) {
             Some(node) => Some(&node.header),
@@ -150,7 +151,7 @@ impl Chain {
     }
 }
 
-// The block of a node that isn't marked.
+/// The block of a node that isn't marked.
 fn shown_block(node: &Node) -> Option<&SoundBlock>
     ensures { option_copied result ≡ sound_block (entry_from node.now) }
 {

@@ -15,7 +15,7 @@ use std::alloc::Global;
 /// How many headers `Chain::after` answers at the most.
 pub const MOST_HEADERS: usize = 2_000;
 
-// The active headers above a height, of nodes by their heights.
+/// The active headers above a height, of nodes by their heights.
 fn headers_from(
     alloc: Global,
     tree: &Tree,
@@ -25,7 +25,8 @@ fn headers_from(
     requires tree { IsTree tree.now.nodes }
     requires places { places.now ≡ active_places (tree_of tree.now.nodes) }
     requires height { height < length places.now }
-    ensures exact { IfOk result (λ headers. headers.items ≡ drop (suc height) (active (tree_of tree.now.nodes))) }
+    ensures exact { IfOk result
+        (λ headers. headers.items ≡ drop (suc height) (active (tree_of tree.now.nodes))) }
     ensures none { drop (suc height) (active (tree_of tree.now.nodes)) ≡ [] → IsOk result }
     ensures memory { IsOkUnless result Memory }
 {
@@ -36,7 +37,7 @@ fn headers_from(
     Ok(headers)
 }
 
-// The same up to the stop and with it, and at most 2,000.
+/// The same up to the stop and with it, and at most 2,000.
 fn headers_to(
     alloc: Global,
     tree: &Tree,
@@ -47,8 +48,11 @@ fn headers_to(
     requires tree { IsTree tree.now.nodes }
     requires places { places.now ≡ active_places (tree_of tree.now.nodes) }
     requires height { height < length places.now }
-    ensures exact { IfOk result (λ headers. headers.items ≡ take 2000 (up_to stop.now (drop (suc height) (active (tree_of tree.now.nodes))))) }
-    ensures none { take 2000 (up_to stop.now (drop (suc height) (active (tree_of tree.now.nodes)))) ≡ [] → IsOk result }
+    ensures exact { IfOk result
+        (λ headers. headers.items
+        ≡ take 2000 (up_to stop.now (drop (suc height) (active (tree_of tree.now.nodes))))) }
+    ensures none { take 2000 (up_to stop.now (drop (suc height) (active (tree_of tree.now.nodes))))
+        ≡ [] → IsOk result }
     ensures memory { IsOkUnless result Memory }
 {
     let mut headers = Vec::new(alloc);
@@ -66,7 +70,7 @@ fn headers_to(
 }
 
 impl Chain {
-    // The height of a hash, where it stands on the best chain.
+    /// The height of a hash, where it stands on the best chain.
     fn active_height(&self, hash: &Hash256) -> Option<usize>
         ensures height { result ≡ place_in (active self.now) 0 hash.now }
         ensures low { IfSome result (λ height. height < length (active_places self.now)) }
@@ -79,7 +83,7 @@ impl Chain {
         }
     }
 
-    // The height of the first of these hashes that stands on the best chain, or else 0.
+    /// The height of the first of these hashes that stands on the best chain, or else 0.
     fn start(&self, locator: &[Hash256]) -> usize
         ensures height { result ≡ start_of (active self.now) locator.now }
         ensures low { result < length (active_places self.now) }
@@ -97,7 +101,8 @@ impl Chain {
     ///
     /// The only error is `Fault::Memory`, and only where there are such headers.
     pub fn after(&self, locator: &[Hash256], stop: &Hash256) -> Result<Vec<Header>, Fault>
-        ensures exact { IfOk result (λ headers. headers.items ≡ headers_after self.now locator.now stop.now) }
+        ensures exact { IfOk result
+            (λ headers. headers.items ≡ headers_after self.now locator.now stop.now) }
         ensures none { headers_after self.now locator.now stop.now ≡ [] → IsOk result }
         ensures memory { IsOkUnless result Memory }
     {

@@ -22,13 +22,15 @@ pub struct Accepted {
     pub refused: Option<Fault>,
 }
 
-// Keeps a header, for which there is room, or passes over one that is known, and answers its hash. Any other refusal is told.
+/// Keeps a header, for which there is room, or passes over one that is known, and answers its hash. Any other refusal is told.
 fn meet_header(tree: &mut Tree, header: Header) -> Result<Hash256, Fault>
     requires { 0 < tree.old.room }
     ensures hash { IfOk result (λ hash. hash ≡ block_hash header) }
     ensures ok { OnOk result (Meets (tree_of tree.old.nodes) header (tree_of tree.new.nodes)) }
     ensures against { IfErr result (λ fault. goes_on (Some fault) ≡ false) }
-    ensures err { IfErr result (λ fault. AcceptsHeader (tree_of tree.old.nodes) header (Some fault) (tree_of tree.new.nodes)) }
+    ensures err { IfErr result
+        (λ fault. AcceptsHeader (tree_of tree.old.nodes) header (Some fault)
+        (tree_of tree.new.nodes)) }
     ensures chains { KeepsChains tree.old tree.new }
     ensures room { tree.old.room ≤ tree.new.room + 1 }
 {
@@ -43,13 +45,14 @@ fn meet_header(tree: &mut Tree, header: Header) -> Result<Hash256, Fault>
     }
 }
 
-// Keeps headers in turn, for which there is room, and pushes the hashes of those that are kept or known. The first other
-// refusal ends it, and is answered.
+/// Keeps headers in turn, for which there is room, and pushes the hashes of those that are kept or known. The first other
+/// refusal ends it, and is answered.
 fn meet_headers(tree: &mut Tree, headers: &[Header], met: &mut Vec<Hash256>) -> Option<Fault>
     requires room { length headers.now ≤ tree.old.room }
     requires none { met.old.items ≡ [] }
     requires capacity { length headers.now ≤ vec_capacity met.old }
-    ensures takes { TakesHeaders (tree_of tree.old.nodes) headers.now result met.new.items (tree_of tree.new.nodes) }
+    ensures takes { TakesHeaders (tree_of tree.old.nodes) headers.now result met.new.items
+        (tree_of tree.new.nodes) }
     ensures chains { KeepsChains tree.old tree.new }
 {
     for header in headers {
@@ -66,7 +69,8 @@ impl Chain {
     ///
     /// The only error is `Fault::Memory`, which changes nothing: none of them is kept.
     pub fn accept_headers(&mut self, headers: &[Header]) -> Result<Accepted, Fault>
-        ensures ok { IfOk result (λ accepted. TakesHeaders self.old headers.now accepted.refused accepted.met self.new) }
+        ensures ok { IfOk result
+            (λ accepted. TakesHeaders self.old headers.now accepted.refused accepted.met self.new) }
         ensures stays { Stays self.old self.new }
         ensures err { OnErr result (self.new ≡ self.old) }
         ensures memory { IsOkUnless result Memory }

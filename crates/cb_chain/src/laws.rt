@@ -28,13 +28,16 @@ pub fn has_history(chain: &Chain)
 /// One list of calls leaves one tree, and to a call over a tree there is one answer: to headers in turn too, which leave one
 /// tree.
 pub fn one_tree()
-    ensures tree { (calls : List Call) (one other : Tree) → IsHistory calls one → IsHistory calls other → one ≡ other }
+    ensures tree { (calls : List Call) (one other : Tree) → IsHistory calls one →
+        IsHistory calls other → one ≡ other }
     ensures header { (old one other : Tree) (header : Header) (answer again : Option Fault)
-        → AcceptsHeader old header answer one → AcceptsHeader old header again other → answer ≡ again }
+        → AcceptsHeader old header answer one → AcceptsHeader old header again other →
+        answer ≡ again }
     ensures block { (old one other : Tree) (block : Block) (answer again : Result Change Fault)
         → AcceptsBlock old block answer one → AcceptsBlock old block again other → answer ≡ again }
     ensures headers { (old one other : Tree) (headers : List Header) (against again : Option Fault) (met others : List Hash256)
-        → TakesHeaders old headers against met one → TakesHeaders old headers again others other → (against ≡ again) × (met ≡ others) × (one ≡ other) }
+        → TakesHeaders old headers against met one → TakesHeaders old headers again others other →
+        (against ≡ again) × (met ≡ others) × (one ≡ other) }
 {}
 
 /// The active headers are linked: the first is the network's first header, each next one names the one before it by its
@@ -48,7 +51,8 @@ pub fn active_is_linked(chain: &Chain)
 /// What is unspent after the tip, which `Chain::ledger` shows, is what the blocks of the active chain above the first one
 /// leave: their transactions as one list, spent in order and from nothing, with no fault.
 pub fn ledger_is_folded(chain: &Chain)
-    ensures { (unspent : Unspent) → unspent_after chain.now (best chain.now) ≡ Ok unspent → IsLeftBy chain.now unspent }
+    ensures { (unspent : Unspent) → unspent_after chain.now (best chain.now) ≡ Ok unspent →
+        IsLeftBy chain.now unspent }
 {
     has_history(chain);
 }
@@ -59,7 +63,8 @@ pub fn none_higher(chain: &Chain)
     ensures highest { (hash : Hash256) → IsOk (unspent_after chain.now hash)
         → height_in chain.now hash ≤ height_in chain.now (best chain.now) }
     ensures first { (newer older : Tree) (entry : Entry) → chain.now ≡ newer ++ entry ∷ older
-        → IsOk (unspent_after (entry ∷ older) (block_hash entry.header)) → ComesAfter chain.now entry older }
+        → IsOk (unspent_after (entry ∷ older) (block_hash entry.header)) →
+        ComesAfter chain.now entry older }
 {
     has_history(chain);
 }
@@ -68,10 +73,13 @@ pub fn none_higher(chain: &Chain)
 /// that isn't known. Of a kept block no block of the path is missing, and it is marked just where the first of them that
 /// can't be connected is.
 pub fn marked_is_never_spent(chain: &Chain)
-    ensures marked { (hash : Hash256) → is_marked chain.now hash ≡ true → IsErr (unspent_after chain.now hash) }
-    ensures unkept { (hash : Hash256) → is_kept chain.now hash ≡ false → IsErr (unspent_after chain.now hash) }
+    ensures marked { (hash : Hash256) → is_marked chain.now hash ≡ true →
+        IsErr (unspent_after chain.now hash) }
+    ensures unkept { (hash : Hash256) → is_kept chain.now hash ≡ false →
+        IsErr (unspent_after chain.now hash) }
     ensures stop { (hash first : Hash256) (fault : Fault) → is_kept chain.now hash ≡ true
-        → unspent_after chain.now hash ≡ Err (faulty first fault) → is_marked chain.now hash ≡ is_marked chain.now first }
+        → unspent_after chain.now hash ≡ Err (faulty first fault) →
+        is_marked chain.now hash ≡ is_marked chain.now first }
     ensures whole { (hash lacking : Hash256) → is_kept chain.now hash ≡ true
         → unspent_after chain.now hash ≡ Err (missing lacking) → ⊥ }
 {
@@ -81,9 +89,11 @@ pub fn marked_is_never_spent(chain: &Chain)
 /// Nothing is marked bad without a reason. Of a header alone that is marked, a block came in a call which breaks a rule by
 /// itself. A kept block that is marked can't be connected, or stands on one that can't, and that one is marked too.
 pub fn marked_for_a_reason(chain: &Chain)
-    ensures alone { (calls : List Call) (hash : Hash256) → IsHistory calls chain.now → is_kept chain.now hash ≡ false
+    ensures alone { (calls : List Call) (hash : Hash256) → IsHistory calls chain.now →
+        is_kept chain.now hash ≡ false
         → is_marked chain.now hash ≡ true → BrokeRule calls hash }
-    ensures kept { (hash : Hash256) → is_kept chain.now hash ≡ true → is_marked chain.now hash ≡ true
+    ensures kept { (hash : Hash256) → is_kept chain.now hash ≡ true →
+        is_marked chain.now hash ≡ true
         → IsMarkedFor chain.now hash }
 {
     has_history(chain);

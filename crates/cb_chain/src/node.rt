@@ -4,7 +4,7 @@ use cb_base::Hash256;
 use cb_block::{Header, SoundBlock};
 use std::marker::Model;
 
-// A block whose transactions have few outputs each, so that it may be connected. It is seen as the block.
+/// A block whose transactions have few outputs each, so that it may be connected. It is seen as the block.
 #[derive(Drop)]
 pub(crate) struct Kept {
     block: SoundBlock,
@@ -37,7 +37,7 @@ impl Kept {
     }
 }
 
-// A header in the tree.
+/// A header in the tree.
 #[derive(Drop)]
 pub(crate) struct Node {
     pub(crate) header: Header,

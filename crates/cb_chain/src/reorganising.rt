@@ -22,7 +22,7 @@ use cb_base::{Fault, Hash256};
 use cb_ledger::Ledger;
 use std::alloc::Global;
 
-// How a block becomes the tip.
+/// How a block becomes the tip.
 #[derive(Drop)]
 struct Plan {
     // The height at which its branch leaves the active chain.
@@ -32,7 +32,7 @@ struct Plan {
     change: Change,
 }
 
-// The active chain leaves what stands above a height for a branch and the node that comes next. There is room.
+/// The active chain leaves what stands above a height for a branch and the node that comes next. There is room.
 fn put_on(active: &mut Vec<usize>, fork: usize, branch: Vec<usize>, last: usize)
     requires fork { fork < length active.old.items }
     requires places { vec_len active.old + (vec_len branch + 1) ≤ vec_capacity active.old }
@@ -45,10 +45,11 @@ fn put_on(active: &mut Vec<usize>, fork: usize, branch: Vec<usize>, last: usize)
     active.push(last).unwrap();
 }
 
-// The hashes of nodes.
+/// The hashes of nodes.
 fn hashes_at(alloc: Global, tree: &Tree, places: &[usize]) -> Result<Vec<Hash256>, Fault>
     requires { All (λ place. place < length tree.now.nodes) places.now }
-    ensures hashes { IfOk result (λ hashes. hashes.items ≡ map (hash_at tree.now.nodes) places.now) }
+    ensures hashes { IfOk result
+        (λ hashes. hashes.items ≡ map (hash_at tree.now.nodes) places.now) }
     ensures memory { IsOkUnless result Memory }
 {
     let mut hashes = Vec::with_capacity(alloc, places.len())?;
@@ -58,8 +59,8 @@ fn hashes_at(alloc: Global, tree: &Tree, places: &[usize]) -> Result<Vec<Hash256
     Ok(hashes)
 }
 
-// What a block changes, where these nodes leave the active chain for a branch of these and the block: each from the lowest
-// up.
+/// What a block changes, where these nodes leave the active chain for a branch of these and the block: each from the lowest
+/// up.
 fn change_to(
     alloc: Global,
     tree: &Tree,
@@ -69,8 +70,10 @@ fn change_to(
 ) -> Result<Change, Fault>
     requires off { All (λ place. place < length tree.now.nodes) off.now }
     requires branch { All (λ place. place < length tree.now.nodes) branch.now }
-    ensures off { IfOk result (λ change. change.off ≡ reverse (map (hash_at tree.now.nodes) off.now)) }
-    ensures on { IfOk result (λ change. change.on ≡ map (hash_at tree.now.nodes) branch.now ++ hash ∷ []) }
+    ensures off { IfOk result
+        (λ change. change.off ≡ reverse (map (hash_at tree.now.nodes) off.now)) }
+    ensures on { IfOk result
+        (λ change. change.on ≡ map (hash_at tree.now.nodes) branch.now ++ hash ∷ []) }
     ensures memory { IsOkUnless result Memory }
 {
     let mut off = hashes_at(alloc, tree, off)?;
@@ -83,15 +86,20 @@ fn change_to(
     })
 }
 
-// How a block becomes the tip that stands on a kept one.
+/// How a block becomes the tip that stands on a kept one.
 fn plan_for(alloc: Global, tree: &Tree, active: &[usize], spot: Spot) -> Result<Plan, Fault>
     requires tree { IsTree tree.now.nodes }
     requires active { active.now ≡ active_places (tree_of tree.now.nodes) }
     requires spot { IsSpot spot spot.header (tree_of tree.now.nodes) }
     requires kept { is_kept (tree_of tree.now.nodes) spot.header.prev ≡ true }
-    ensures fork { IfOk result (λ plan. IsFork (tree_of tree.now.nodes) spot.header.prev plan.fork) }
-    ensures branch { IfOk result (λ plan. plan.branch.items ≡ map (λ step. step.place) (drop plan.fork (climb (tree_of tree.now.nodes) spot.header.prev))) }
-    ensures change { IfOk result (λ plan. plan.change ≡ change_at (tree_of tree.now.nodes) spot.header plan.fork) }
+    ensures fork { IfOk result
+        (λ plan. IsFork (tree_of tree.now.nodes) spot.header.prev plan.fork) }
+    ensures branch { IfOk result
+        (λ plan. plan.branch.items
+        ≡ map (λ step. step.place)
+        (drop plan.fork (climb (tree_of tree.now.nodes) spot.header.prev))) }
+    ensures change { IfOk result
+        (λ plan. plan.change ≡ change_at (tree_of tree.now.nodes) spot.header plan.fork) }
     ensures memory { IsOkUnless result Memory }
 {
     let fork = fork_of(tree, active, spot.parent);
@@ -110,14 +118,18 @@ fn plan_for(alloc: Global, tree: &Tree, active: &[usize], spot: Spot) -> Result<
     })
 }
 
-// Keeps a block whose path stops, and marks from there on. Where memory was wanting it keeps nothing.
+/// Keeps a block whose path stops, and marks from there on. Where memory was wanting it keeps nothing.
 fn mark_stop(tree: &mut Tree, node: Node, stop: Stop)
     requires room { 0 < tree.old.room }
     requires node { IsNode node (tree_of tree.old.nodes) }
-    requires place { (stop.fault ≡ Memory) ⊎ ((0 < stop.place) × IsSome (block_at (tree.old.nodes ++ node ∷ []) stop.place)) }
-    ensures { ((stop.fault ≡ Memory) × (tree.new.nodes ≡ tree.old.nodes) × (tree.new.undos ≡ tree.old.undos))
-        ⊎ ((stop.fault ≢ Memory) × (tree.new.undos ≡ tree.old.undos ++ None ∷ []) × ((first : Node) → slice_get (tree.old.nodes ++ node ∷ []) stop.place ≡ Some first
-        → tree_of tree.new.nodes ≡ marked_above first.hash (tree_of (tree.old.nodes ++ node ∷ [])))) }
+    requires place { (stop.fault ≡ Memory)
+        ⊎ ((0 < stop.place) × IsSome (block_at (tree.old.nodes ++ node ∷ []) stop.place)) }
+    ensures { ((stop.fault ≡ Memory) × (tree.new.nodes ≡ tree.old.nodes)
+        × (tree.new.undos ≡ tree.old.undos))
+        ⊎ ((stop.fault ≢ Memory) × (tree.new.undos ≡ tree.old.undos ++ None ∷ [])
+        × ((first : Node) → slice_get (tree.old.nodes ++ node ∷ []) stop.place ≡ Some first
+        → tree_of tree.new.nodes
+        ≡ marked_above first.hash (tree_of (tree.old.nodes ++ node ∷ [])))) }
 {
     if stop.fault == Fault::Memory {
         return;
@@ -126,8 +138,8 @@ fn mark_stop(tree: &mut Tree, node: Node, stop: Stop)
     tree.mark_above(stop.place);
 }
 
-// The active chain leaves for a branch that was tried and a block on it. Where memory is wanting it stays, and so does the
-// ledger. The branch that was tried last rests on the ledger anew, or else the tip that was left takes its place.
+/// The active chain leaves for a branch that was tried and a block on it. Where memory is wanting it stays, and so does the
+/// ledger. The branch that was tried last rests on the ledger anew, or else the tip that was left takes its place.
 fn switch(
     alloc: Global,
     tree: &Tree,
@@ -141,10 +153,16 @@ fn switch(
     requires active { active.old.items ≡ active_places (tree_of tree.now.nodes) }
     requires spot { IsSpot spot spot.header (tree_of tree.now.nodes) }
     requires kept { is_kept (tree_of tree.now.nodes) spot.header.prev ≡ true }
-    ensures moved { IfOk result (λ change. Moved (tree_of tree.now.nodes) spot.header active.old.items (length tree.now.nodes) active.new.items change) }
+    ensures moved { IfOk result
+        (λ change. Moved (tree_of tree.now.nodes) spot.header active.old.items
+        (length tree.now.nodes) active.new.items change) }
     ensures ledger { OnOk result (ledger.new.unspent ≡ changed ledger.old.unspent tried.overlay) }
-    ensures side { OnOk result (IfSome side.new (RestsOn active.old.items ledger.old.unspent ledger.new.unspent side.old)) }
-    ensures same { OnErr result ((active.new.items ≡ active.old.items) × (ledger.new.unspent ≡ ledger.old.unspent) × (side.new ≡ side.old)) }
+    ensures side { OnOk result
+        (IfSome side.new
+        (RestsOn active.old.items ledger.old.unspent ledger.new.unspent side.old)) }
+    ensures same { OnErr result
+        ((active.new.items ≡ active.old.items) × (ledger.new.unspent ≡ ledger.old.unspent)
+        × (side.new ≡ side.old)) }
     ensures memory { IsOkUnless result Memory }
 {
     let mut back = tried.into_changes(alloc)?;
@@ -164,16 +182,20 @@ fn switch(
 }
 
 impl Chain {
-    // Keeps a block that stands on the tip: it becomes the tip, or can't be spent.
+    /// Keeps a block that stands on the tip: it becomes the tip, or can't be spent.
     fn extend(&mut self, spot: Spot, kept: Kept) -> Result<Change, Fault>
         requires spot { IsSpot spot kept.header self.old }
         requires none { block_fault self.old kept.header ≡ None }
-        requires higher { is_higher (block_entry kept ∷ self.old) (block_hash kept.header) (best self.old) ≡ true }
+        requires higher { is_higher (block_entry kept ∷ self.old) (block_hash kept.header)
+            (best self.old) ≡ true }
         requires calls { IsHistoric (joined self.old kept).1 }
         requires tip { kept.header.prev ≡ best self.old }
         ensures ok { IfOk result (λ change. (Ok change, self.new) ≡ joined self.old kept) }
-        ensures moves { IfOk result (λ change. LeadsOver (active_hashes self.old) change (active_hashes self.new)) }
-        ensures err { IfErr result (λ fault. ((fault ≡ Memory) × (self.new ≡ self.old)) ⊎ ((Err fault, self.new) ≡ joined self.old kept)) }
+        ensures moves { IfOk result
+            (λ change. LeadsOver (active_hashes self.old) change (active_hashes self.new)) }
+        ensures err { IfErr result
+            (λ fault. ((fault ≡ Memory) × (self.new ≡ self.old))
+            ⊎ ((Err fault, self.new) ≡ joined self.old kept)) }
         ensures unchanged { result ≡ Err Memory → self.new ≡ self.old }
     {
         self.tree.reserve(1)?;
@@ -199,15 +221,19 @@ impl Chain {
         Ok(change)
     }
 
-    // Keeps a block that stands on another branch: that becomes the active chain, or its path stops.
+    /// Keeps a block that stands on another branch: that becomes the active chain, or its path stops.
     fn turn(&mut self, spot: Spot, kept: Kept) -> Result<Change, Fault>
         requires spot { IsSpot spot kept.header self.old }
         requires none { block_fault self.old kept.header ≡ None }
-        requires higher { is_higher (block_entry kept ∷ self.old) (block_hash kept.header) (best self.old) ≡ true }
+        requires higher { is_higher (block_entry kept ∷ self.old) (block_hash kept.header)
+            (best self.old) ≡ true }
         requires calls { IsHistoric (joined self.old kept).1 }
         ensures ok { IfOk result (λ change. (Ok change, self.new) ≡ joined self.old kept) }
-        ensures moves { IfOk result (λ change. LeadsOver (active_hashes self.old) change (active_hashes self.new)) }
-        ensures err { IfErr result (λ fault. ((fault ≡ Memory) × (self.new ≡ self.old)) ⊎ ((Err fault, self.new) ≡ joined self.old kept)) }
+        ensures moves { IfOk result
+            (λ change. LeadsOver (active_hashes self.old) change (active_hashes self.new)) }
+        ensures err { IfErr result
+            (λ fault. ((fault ≡ Memory) × (self.new ≡ self.old))
+            ⊎ ((Err fault, self.new) ≡ joined self.old kept)) }
         ensures unchanged { result ≡ Err Memory → self.new ≡ self.old }
     {
         self.tree.reserve(1)?;
@@ -235,15 +261,19 @@ impl Chain {
         Ok(change)
     }
 
-    // Keeps a block that is higher than the tip: it becomes the tip, or its path stops.
+    /// Keeps a block that is higher than the tip: it becomes the tip, or its path stops.
     pub(crate) fn lead(&mut self, spot: Spot, kept: Kept) -> Result<Change, Fault>
         requires spot { IsSpot spot kept.header self.old }
         requires none { block_fault self.old kept.header ≡ None }
-        requires higher { is_higher (block_entry kept ∷ self.old) (block_hash kept.header) (best self.old) ≡ true }
+        requires higher { is_higher (block_entry kept ∷ self.old) (block_hash kept.header)
+            (best self.old) ≡ true }
         requires calls { IsHistoric (joined self.old kept).1 }
         ensures ok { IfOk result (λ change. (Ok change, self.new) ≡ joined self.old kept) }
-        ensures moves { IfOk result (λ change. LeadsOver (active_hashes self.old) change (active_hashes self.new)) }
-        ensures err { IfErr result (λ fault. ((fault ≡ Memory) × (self.new ≡ self.old)) ⊎ ((Err fault, self.new) ≡ joined self.old kept)) }
+        ensures moves { IfOk result
+            (λ change. LeadsOver (active_hashes self.old) change (active_hashes self.new)) }
+        ensures err { IfErr result
+            (λ fault. ((fault ≡ Memory) × (self.new ≡ self.old))
+            ⊎ ((Err fault, self.new) ≡ joined self.old kept)) }
         ensures unchanged { result ≡ Err Memory → self.new ≡ self.old }
     {
         if spot.parent == self.active[self.active.len() - 1] {

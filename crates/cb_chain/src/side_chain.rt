@@ -12,24 +12,24 @@ use cb_base::Fault;
 use cb_ledger::{Ledger, Overlay, Undo};
 use std::alloc::Global;
 
-// So many steps from a block to another are few.
+/// So many steps from a block to another are few.
 const FEW_STEPS: usize = 20;
 
-// How often the steps are doubled that are looked at: then they are more than a tree has.
+/// How often the steps are doubled that are looked at: then they are more than a tree has.
 const DOUBLINGS: usize = 31;
 
-// A branch is kept while it ends at most so far below the tip.
+/// A branch is kept while it ends at most so far below the tip.
 const MOST_BELOW: u32 = 1_000;
 
-// The place of the first block that can't be spent, and why.
+/// The place of the first block that can't be spent, and why.
 #[derive(Clone, Copy)]
 pub(crate) struct Stop {
     pub(crate) place: usize,
     pub(crate) fault: Fault,
 }
 
-// The last block of a branch that was connected, and what is unspent after it: as changes over the ledger of the active
-// chain. It goes up and down the tree block by block, so that a block on a branch that was tried costs what the block costs.
+/// The last block of a branch that was connected, and what is unspent after it: as changes over the ledger of the active
+/// chain. It goes up and down the tree block by block, so that a block on a branch that was tried costs what the block costs.
 #[derive(Drop)]
 pub(crate) struct Side {
     pub(crate) end: usize,
@@ -37,7 +37,7 @@ pub(crate) struct Side {
 }
 
 impl Side {
-    // At the tip itself nothing is changed.
+    /// At the tip itself nothing is changed.
     pub(crate) fn at(alloc: Global, tip: usize) -> Side
         ensures end { result.end ≡ tip }
         ensures overlay { result.overlay ≡ [] }
@@ -48,7 +48,7 @@ impl Side {
         }
     }
 
-    // The same over a ledger that has changed: this record leads back to what it was. None where memory was wanting.
+    /// The same over a ledger that has changed: this record leads back to what it was. None where memory was wanting.
     fn rest_on(self, undo: &Undo) -> Option<Side>
         ensures { IfSome result (λ side. IsRested self undo.now side) }
     {
@@ -59,7 +59,7 @@ impl Side {
         }
     }
 
-    // Its changes, as a record for the ledger.
+    /// Its changes, as a record for the ledger.
     pub(crate) fn into_changes(self, alloc: Global) -> Result<Undo, Fault>
         ensures same { IfOk result (λ changes. changes ≡ self.overlay) }
         ensures memory { IsOkUnless result Memory }
@@ -68,13 +68,15 @@ impl Side {
         overlay.into_undo(alloc)
     }
 
-    // Takes the last block back.
+    /// Takes the last block back.
     fn lower(&mut self, tree: &Tree) -> Result<(), Fault>
         requires tree { IsTree tree.now.nodes }
         requires undos { AreUndos (tree_of tree.now.nodes) tree.now.undos }
-        requires side { (unspent : Unspent) × IsSide (tree_of tree.now.nodes) tree.now.undos unspent self.old }
+        requires side { (unspent : Unspent)
+            × IsSide (tree_of tree.now.nodes) tree.now.undos unspent self.old }
         requires above { 0 < self.old.end }
-        ensures side { (unspent : Unspent) → IsSide (tree_of tree.now.nodes) tree.now.undos unspent self.old
+        ensures side { (unspent : Unspent) →
+            IsSide (tree_of tree.now.nodes) tree.now.undos unspent self.old
             → IsSide (tree_of tree.now.nodes) tree.now.undos unspent self.new }
         ensures lower { OnOk result (self.new.end < self.old.end) }
         ensures memory { IsOkUnless result Memory }
@@ -86,16 +88,19 @@ impl Side {
         Ok(())
     }
 
-    // Takes blocks back until the last one stands on the path of another, and answers the places from that one's down to the
-    // lowest above the last one's.
+    /// Takes blocks back until the last one stands on the path of another, and answers the places from that one's down to the
+    /// lowest above the last one's.
     fn lower_to(&mut self, alloc: Global, tree: &Tree, target: usize) -> Result<Vec<usize>, Fault>
         requires tree { IsTree tree.now.nodes }
         requires undos { AreUndos (tree_of tree.now.nodes) tree.now.undos }
-        requires side { (unspent : Unspent) × IsSide (tree_of tree.now.nodes) tree.now.undos unspent self.old }
+        requires side { (unspent : Unspent)
+            × IsSide (tree_of tree.now.nodes) tree.now.undos unspent self.old }
         requires target { IsKeptPlace tree.now.nodes target }
-        ensures side { (unspent : Unspent) → IsSide (tree_of tree.now.nodes) tree.now.undos unspent self.old
+        ensures side { (unspent : Unspent) →
+            IsSide (tree_of tree.now.nodes) tree.now.undos unspent self.old
             → IsSide (tree_of tree.now.nodes) tree.now.undos unspent self.new }
-        ensures up { IfOk result (λ down. LeadUp tree.now.nodes self.new.end (reverse down.items) target) }
+        ensures up { IfOk result
+            (λ down. LeadUp tree.now.nodes self.new.end (reverse down.items) target) }
         ensures memory { IsOkUnless result Memory }
     {
         let mut down = Vec::new(alloc);
@@ -111,7 +116,7 @@ impl Side {
         Ok(down)
     }
 
-    // Connects a block that stands on the last one.
+    /// Connects a block that stands on the last one.
     fn raise(&mut self, ledger: &Ledger, tree: &mut Tree, place: usize) -> Result<(), Fault>
         requires tree { IsTree tree.old.nodes }
         requires undos { AreUndos (tree_of tree.old.nodes) tree.old.undos }
@@ -123,7 +128,8 @@ impl Side {
         ensures room { tree.new.room ≡ tree.old.room }
         ensures side { IsSide (tree_of tree.new.nodes) tree.new.undos ledger.now.unspent self.new }
         ensures end { OnOk result (self.new.end ≡ place) }
-        ensures err { IfErr result (λ fault. (fault ≡ Memory) ⊎ FailsAt tree.old.nodes place fault) }
+        ensures err { IfErr result
+            (λ fault. (fault ≡ Memory) ⊎ FailsAt tree.old.nodes place fault) }
     {
         let Some(kept) = &tree.node(place).kept else {
             return Ok(());
@@ -134,7 +140,7 @@ impl Side {
         Ok(())
     }
 
-    // Goes to a block, or stays where the path to it stops.
+    /// Goes to a block, or stays where the path to it stops.
     fn reach(
         &mut self,
         alloc: Global,
@@ -152,7 +158,9 @@ impl Side {
         ensures room { tree.new.room ≡ tree.old.room }
         ensures side { IsSide (tree_of tree.new.nodes) tree.new.undos ledger.now.unspent self.new }
         ensures end { OnOk result (self.new.end ≡ target) }
-        ensures err { IfErr result (λ stop. (stop.fault ≡ Memory) ⊎ StopsBelow tree.old.nodes target stop.place stop.fault) }
+        ensures err { IfErr result
+            (λ stop. (stop.fault ≡ Memory)
+            ⊎ StopsBelow tree.old.nodes target stop.place stop.fault) }
     {
         let down = match self.lower_to(alloc, tree, target) {
             Ok(down) => down,
@@ -170,8 +178,8 @@ impl Side {
         Ok(())
     }
 
-    // Goes to a block and connects one on it that isn't in the tree yet: what takes that one back. The overlay is then what
-    // it leaves.
+    /// Goes to a block and connects one on it that isn't in the tree yet: what takes that one back. The overlay is then what
+    /// it leaves.
     pub(crate) fn try_on(
         &mut self,
         alloc: Global,
@@ -189,9 +197,13 @@ impl Side {
         ensures undos { AreUndos (tree_of tree.new.nodes) tree.new.undos }
         ensures records { KeepRecords tree.old.undos tree.new.undos }
         ensures room { tree.new.room ≡ tree.old.room }
-        ensures ok { IfOk result (λ undo. Tops (tree_of tree.old.nodes) tree.new.undos kept.now undo (changed ledger.now.unspent self.new.overlay)) }
-        ensures side { OnErr result (IsSide (tree_of tree.new.nodes) tree.new.undos ledger.now.unspent self.new) }
-        ensures err { IfErr result (λ stop. (stop.fault ≡ Memory) ⊎ Stops tree.old.nodes kept.now stop.place stop.fault) }
+        ensures ok { IfOk result
+            (λ undo. Tops (tree_of tree.old.nodes) tree.new.undos kept.now undo
+            (changed ledger.now.unspent self.new.overlay)) }
+        ensures side { OnErr result
+            (IsSide (tree_of tree.new.nodes) tree.new.undos ledger.now.unspent self.new) }
+        ensures err { IfErr result
+            (λ stop. (stop.fault ≡ Memory) ⊎ Stops tree.old.nodes kept.now stop.place stop.fault) }
     {
         self.reach(alloc, ledger, tree, parent)?;
         match self.overlay.connect(ledger, kept.block()) {
@@ -204,7 +216,7 @@ impl Side {
     }
 }
 
-// A branch that ends far below a height is let go: what it keeps grows with all that comes on the tip.
+/// A branch that ends far below a height is let go: what it keeps grows with all that comes on the tip.
 pub(crate) fn not_far_below(tree: &Tree, side: Option<Side>, height: u32) -> Option<Side>
     requires tree { IsTree tree.now.nodes }
     requires side { IfSome side (λ side. side.end < length tree.now.nodes) }
@@ -217,14 +229,14 @@ pub(crate) fn not_far_below(tree: &Tree, side: Option<Side>, height: u32) -> Opt
     Some(side)
 }
 
-// A branch over a ledger that has changed, where there is one: the record leads back to what the ledger was.
+/// A branch over a ledger that has changed, where there is one: the record leads back to what the ledger was.
 pub(crate) fn rest_on(side: Option<Side>, undo: &Undo) -> Option<Side>
     ensures { IfSome result (λ new. (old : Side) × (side ≡ Some old) × IsRested old undo.now new) }
 {
     side?.rest_on(undo)
 }
 
-// Whether at the most so many steps of the tree lie between two blocks.
+/// Whether at the most so many steps of the tree lie between two blocks.
 fn is_near(tree: &Tree, one: usize, other: usize, steps: usize) -> bool
     requires tree { IsTree tree.now.nodes }
     requires one { one < length tree.now.nodes }
@@ -244,8 +256,8 @@ fn is_near(tree: &Tree, one: usize, other: usize, steps: usize) -> bool
     low == high
 }
 
-// Whether a block is found from the end of a branch before it is from the tip, where ever longer ways are looked at: this
-// takes as long as the shorter way is.
+/// Whether a block is found from the end of a branch before it is from the tip, where ever longer ways are looked at: this
+/// takes as long as the shorter way is.
 fn is_found_first(tree: &Tree, end: usize, tip: usize, block: usize) -> bool
     requires tree { IsTree tree.now.nodes }
     requires end { end < length tree.now.nodes }
@@ -265,8 +277,8 @@ fn is_found_first(tree: &Tree, end: usize, tip: usize, block: usize) -> bool
     false
 }
 
-// From where a block is tried. Near the tip it is the tip, and the branch that was tried last stays as it is: what that one
-// changes may be much more than what a few blocks do. Else it is that branch, or the tip where that is nearer.
+/// From where a block is tried. Near the tip it is the tip, and the branch that was tried last stays as it is: what that one
+/// changes may be much more than what a few blocks do. Else it is that branch, or the tip where that is nearer.
 pub(crate) fn starts_from(
     alloc: Global,
     tree: &Tree,
@@ -295,7 +307,7 @@ pub(crate) fn starts_from(
     fresh
 }
 
-// Keeps a branch that was tried, where none is kept that was left aside for it.
+/// Keeps a branch that was tried, where none is kept that was left aside for it.
 pub(crate) fn keep_side(side: &mut Option<Side>, tried: Side)
     ensures { (side.new ≡ Some tried) ⊎ (side.new ≡ side.old) }
 {

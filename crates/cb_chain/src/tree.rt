@@ -14,8 +14,8 @@ use std::alloc::Global;
 use std::collections::HashMap;
 use std::marker::Model;
 
-// The headers and blocks, in the order in which they came. A header comes before those that stand on it. It is seen as the
-// list of its nodes, the records at their places, and for how many more there is room.
+/// The headers and blocks, in the order in which they came. A header comes before those that stand on it. It is seen as the
+/// list of its nodes, the records at their places, and for how many more there is room.
 #[derive(Drop)]
 pub(crate) struct Tree {
     alloc: Global,
@@ -51,7 +51,7 @@ impl Model for Tree {
         × (vec_len tree.nodes ≤ vec_capacity tree.found) };
 }
 
-// The first node.
+/// The first node.
 fn first_node(alloc: Global) -> Result<Node, Fault>
     ensures first { IfOk result IsFirst }
     ensures memory { IsOkUnless result Memory }
@@ -69,7 +69,7 @@ fn first_node(alloc: Global) -> Result<Node, Fault>
 }
 
 impl Tree {
-    // The tree of the first block alone.
+    /// The tree of the first block alone.
     pub(crate) fn new(alloc: Global) -> Result<Tree, Fault>
         ensures nodes { IfOk result (λ tree. tree_of tree.nodes ≡ []) }
         ensures undos { IfOk result (λ tree. tree.undos ≡ None ∷ []) }
@@ -99,14 +99,14 @@ impl Tree {
         })
     }
 
-    // How many nodes there are.
+    /// How many nodes there are.
     pub(crate) fn len(&self) -> usize
         ensures { result ≡ length self.now.nodes }
     {
         self.nodes.len()
     }
 
-    // The place of a hash.
+    /// The place of a hash.
     pub(crate) fn place(&self, hash: &Hash256) -> Option<usize>
         ensures place { result ≡ place_of (tree_of self.now.nodes) hash.now }
         ensures within { IfSome result (λ place. place < length self.now.nodes) }
@@ -115,7 +115,7 @@ impl Tree {
         self.places.get(hash).copied()
     }
 
-    // The node at a place.
+    /// The node at a place.
     pub(crate) fn node(&self, place: usize) -> &Node
         requires { IsTree self.now.nodes → place < length self.now.nodes }
         ensures node { slice_get self.now.nodes place ≡ Some result.now }
@@ -124,10 +124,12 @@ impl Tree {
         &self.nodes[place]
     }
 
-    // The newest node of a hash.
+    /// The newest node of a hash.
     pub(crate) fn find(&self, hash: &Hash256) -> Option<&Node>
-        ensures entry { entry_of (tree_of self.now.nodes) hash.now ≡ option_map entry_from (option_copied result) }
-        ensures height { height_of (tree_of self.now.nodes) hash.now ≡ option_map (λ node. node.height) (option_copied result) }
+        ensures entry { entry_of (tree_of self.now.nodes) hash.now
+            ≡ option_map entry_from (option_copied result) }
+        ensures height { height_of (tree_of self.now.nodes) hash.now
+            ≡ option_map (λ node. node.height) (option_copied result) }
     {
         match self.places.get(hash) {
             Some(place) => Some(&self.nodes[*place]),
@@ -135,7 +137,7 @@ impl Tree {
         }
     }
 
-    // What takes the block at a place back, where it was connected once.
+    /// What takes the block at a place back, where it was connected once.
     pub(crate) fn undo(&self, place: usize) -> Option<&Undo>
         ensures { option_copied result ≡ record_at self.now.undos place }
     {
@@ -145,7 +147,7 @@ impl Tree {
         }
     }
 
-    // Notes what takes the block at a place back.
+    /// Notes what takes the block at a place back.
     pub(crate) fn note(&mut self, place: usize, undo: Undo)
         requires { place < length self.old.undos }
         ensures nodes { self.new.nodes ≡ self.old.nodes }
@@ -155,7 +157,7 @@ impl Tree {
         self.undos[place] = Some(undo);
     }
 
-    // Room for so many nodes more.
+    /// Room for so many nodes more.
     pub(crate) fn reserve(&mut self, count: usize) -> Result<(), Fault>
         ensures same { self.new.nodes ≡ self.old.nodes }
         ensures undos { self.new.undos ≡ self.old.undos }
@@ -172,7 +174,7 @@ impl Tree {
         Ok(())
     }
 
-    // One node more, for which there is room, and what takes its block back, where that is connected.
+    /// One node more, for which there is room, and what takes its block back, where that is connected.
     pub(crate) fn add(&mut self, node: Node, undo: Option<Undo>)
         requires room { 0 < self.old.room }
         requires node { IsNode node (tree_of self.old.nodes) }
@@ -190,7 +192,7 @@ impl Tree {
         self.nodes.push(node).unwrap();
     }
 
-    // Marks the block at a place and all kept blocks above it.
+    /// Marks the block at a place and all kept blocks above it.
     pub(crate) fn mark_above(&mut self, first: usize)
         requires above { 0 < first }
         requires kept { IsSome (block_at self.old.nodes first) }
@@ -209,7 +211,7 @@ impl Tree {
         );
     }
 
-    // A tree that equals it.
+    /// A tree that equals it.
     pub(crate) fn copy(&self) -> Result<Tree, Fault>
         ensures same { IfOk result (λ copy. copy.nodes ≡ self.now.nodes) }
         ensures undos { IfOk result (λ copy. copy.undos ≡ self.now.undos) }
@@ -236,11 +238,12 @@ impl Tree {
     }
 }
 
-// Makes the next node, where its block is kept, the newest on its parent. Answers which was the newest before.
+/// Makes the next node, where its block is kept, the newest on its parent. Answers which was the newest before.
 fn put_above(newest: &mut [usize], node: &Node, place: usize) -> usize
     requires { node.now.parent < length newest.old }
     ensures len { length newest.new ≡ length newest.old }
-    ensures links { (nodes : List Node) (elder : List ℕ) → place ≡ length nodes → IsTree nodes → IsNode node.now (tree_of nodes) → AreLinks nodes newest.old elder
+    ensures links { (nodes : List Node) (elder : List ℕ) → place ≡ length nodes → IsTree nodes →
+        IsNode node.now (tree_of nodes) → AreLinks nodes newest.old elder
         → AreLinks (nodes ++ node.now ∷ []) (newest.new ++ 0 ∷ []) (elder ++ result ∷ []) }
 {
     if node.kept.is_none() {
@@ -251,10 +254,12 @@ fn put_above(newest: &mut [usize], node: &Node, place: usize) -> usize
     elder
 }
 
-// Adds the places of kept blocks on one parent, from the newest on. There is room.
+/// Adds the places of kept blocks on one parent, from the newest on. There is room.
 fn push_linked(found: &mut Vec<usize>, elder: &[usize], newest: usize)
-    requires links { (places : List ℕ) × AreLinked elder.now newest places × (vec_len found.old + length places ≤ vec_capacity found.old) }
-    ensures found { (places : List ℕ) → AreLinked elder.now newest places → found.new.items ≡ found.old.items ++ places }
+    requires links { (places : List ℕ) × AreLinked elder.now newest places
+        × (vec_len found.old + length places ≤ vec_capacity found.old) }
+    ensures found { (places : List ℕ) → AreLinked elder.now newest places →
+        found.new.items ≡ found.old.items ++ places }
     ensures room { vec_capacity found.old ≤ vec_capacity found.new }
 {
     let mut place = newest;
@@ -264,7 +269,7 @@ fn push_linked(found: &mut Vec<usize>, elder: &[usize], newest: usize)
     }
 }
 
-// Marks the block at a place and all kept blocks above it, whose places it leaves in `found`. There is room for all.
+/// Marks the block at a place and all kept blocks above it, whose places it leaves in `found`. There is room for all.
 fn mark_from(
     nodes: &mut [Node],
     newest: &[usize],
@@ -277,7 +282,8 @@ fn mark_from(
     requires above { 0 < first }
     requires kept { IsSome (block_at nodes.old first) }
     requires room { length nodes.old ≤ vec_capacity found.old }
-    ensures marks { (node : Node) → slice_get nodes.old first ≡ Some node → nodes.new ≡ marked_nodes node.hash nodes.old }
+    ensures marks { (node : Node) → slice_get nodes.old first ≡ Some node →
+        nodes.new ≡ marked_nodes node.hash nodes.old }
     ensures room { vec_capacity found.old ≤ vec_capacity found.new }
 {
     found.clear();

@@ -64,26 +64,44 @@ pub fn command<R: Source, W: Sink, E: Sink>(
     errors: &mut E,
 ) -> u8
     // Over every reader, writer and standard error: where the status is 1, clap refuses the words.
-    ensures refused { result ≡ 1 → AreRefused (map string_bytes words.items) × (reader.new ≡ reader.old) × (writer.new ≡ writer.old) }
+    ensures refused { result ≡ 1 →
+        AreRefused (map string_bytes words.items) × (reader.new ≡ reader.old)
+        × (writer.new ≡ writer.old) }
     // The words were refused; or memory ran out before their command began; or clap finds no fault in them, and their
     // command came to its end, or ended early for a cause.
-    ensures ran { (AreRefused (map string_bytes words.items) × Refuses (E.has_failed errors.new) result × (reader.new ≡ reader.old) × (writer.new ≡ writer.old))
-        ⊎ ((EndsEarly (E.contents errors.old) (E.contents errors.new) (E.has_failed errors.new) result Memory × (reader.new ≡ reader.old) × (writer.new ≡ writer.old))
-        ⊎ ((fault_of program (map string_bytes words.items) ≡ []) × ByTask (task_in (map string_bytes words.items))
-        ((PrintsReport (R.remaining reader.old) (W.contents writer.old) (W.contents writer.new) result × (errors.new ≡ errors.old))
-        ⊎ Halts (R.remaining reader.old) (R.has_failed reader.new) (W.has_failed writer.new) (E.contents errors.old) (E.contents errors.new) (E.has_failed errors.new) result)
+    ensures ran { (AreRefused (map string_bytes words.items)
+        × Refuses (E.has_failed errors.new) result × (reader.new ≡ reader.old)
+        × (writer.new ≡ writer.old))
+        ⊎ ((EndsEarly (E.contents errors.old) (E.contents errors.new)
+        (E.has_failed errors.new) result Memory × (reader.new ≡ reader.old)
+        × (writer.new ≡ writer.old))
+        ⊎ ((fault_of program (map string_bytes words.items) ≡ [])
+        × ByTask (task_in (map string_bytes words.items))
+        ((PrintsReport (R.remaining reader.old) (W.contents writer.old)
+        (W.contents writer.new) result × (errors.new ≡ errors.old))
+        ⊎ Halts (R.remaining reader.old) (R.has_failed reader.new) (W.has_failed writer.new)
+        (E.contents errors.old) (E.contents errors.new) (E.has_failed errors.new) result)
         ((reason : CloseReason)
-        × (WasServed (R.remaining reader.old) (R.remaining reader.new) (R.has_failed reader.new) (W.contents writer.old) (W.contents writer.new) (W.has_failed writer.old) (W.has_failed writer.new) reason
+        × (WasServed (R.remaining reader.old) (R.remaining reader.new) (R.has_failed reader.new)
+        (W.contents writer.old) (W.contents writer.new) (W.has_failed writer.old)
+        (W.has_failed writer.new) reason
         ⊎ ((reason ≡ reasons.Memory) × (reader.new ≡ reader.old) × (writer.new ≡ writer.old)))
-        × TellsPeer (R.has_failed reader.new) (W.has_failed writer.new) (E.contents errors.old) (E.contents errors.new) (E.has_failed errors.new) result reason)
-        ((SimulatesKnown (R.remaining reader.old) (W.contents writer.old) (W.contents writer.new) result × (errors.new ≡ errors.old))
-        ⊎ Halts (R.remaining reader.old) (R.has_failed reader.new) (W.has_failed writer.new) (E.contents errors.old) (E.contents errors.new) (E.has_failed errors.new) result))) }
+        × TellsPeer (R.has_failed reader.new) (W.has_failed writer.new) (E.contents errors.old)
+        (E.contents errors.new) (E.has_failed errors.new) result reason)
+        ((SimulatesKnown (R.remaining reader.old) (W.contents writer.old)
+        (W.contents writer.new) result × (errors.new ≡ errors.old))
+        ⊎ Halts (R.remaining reader.old) (R.has_failed reader.new) (W.has_failed writer.new)
+        (E.contents errors.old) (E.contents errors.new) (E.has_failed errors.new) result))) }
     // The commands by their words.
-    ensures named { (name : List ℕ) → (task_in (name ∷ []) ≡ Task.Decode) × (task_in (name ∷ codes "decode" ∷ []) ≡ Task.Decode)
-        × (task_in (name ∷ codes "serve" ∷ []) ≡ Task.Serve) × (task_in (name ∷ codes "sim" ∷ []) ≡ Task.Sim) }
+    ensures named { (name : List ℕ) →
+        (task_in (name ∷ []) ≡ Task.Decode) × (task_in (name ∷ codes "decode" ∷ []) ≡ Task.Decode)
+        × (task_in (name ∷ codes "serve" ∷ []) ≡ Task.Serve)
+        × (task_in (name ∷ codes "sim" ∷ []) ≡ Task.Sim) }
     // They are taken.
-    ensures taken { (name : List ℕ) → (takes program (name ∷ []) ≡ true) × (takes program (name ∷ codes "decode" ∷ []) ≡ true)
-        × (takes program (name ∷ codes "serve" ∷ []) ≡ true) × (takes program (name ∷ codes "sim" ∷ []) ≡ true) }
+    ensures taken { (name : List ℕ) →
+        (takes program (name ∷ []) ≡ true) × (takes program (name ∷ codes "decode" ∷ []) ≡ true)
+        × (takes program (name ∷ codes "serve" ∷ []) ≡ true)
+        × (takes program (name ∷ codes "sim" ∷ []) ≡ true) }
 {
     match task_of(alloc, words.as_slice()) {
         Ok(Task::Decode) => settle(code_of(decode(alloc, reader, writer)), errors),
@@ -95,7 +113,9 @@ pub fn command<R: Source, W: Sink, E: Sink>(
 
 /// Refuses a command line of which a word isn't UTF-8: says so on `errors`, and answers the exit status.
 pub fn refuse_foreign<E: Sink>(errors: &mut E) -> u8
-    ensures { ((result ≡ 1) × Appends (E.contents errors.old) (E.contents errors.new) (codes "error: a word of the command line isn't UTF-8\n"))
+    ensures { ((result ≡ 1)
+        × Appends (E.contents errors.old) (E.contents errors.new)
+        (codes "error: a word of the command line isn't UTF-8\n"))
         ⊎ ((result ≡ 3) × (E.has_failed errors.new ≡ true)) }
 {
     match write_all(errors, b"error: a word of the command line isn't UTF-8\n") {
@@ -112,9 +132,12 @@ fn answer_peer<R: Source, W: Sink, E: Sink>(
     errors: &mut E,
 ) -> u8
     ensures { (reason : CloseReason)
-        × (WasServed (R.remaining reader.old) (R.remaining reader.new) (R.has_failed reader.new) (W.contents writer.old) (W.contents writer.new) (W.has_failed writer.old) (W.has_failed writer.new) reason
+        × (WasServed (R.remaining reader.old) (R.remaining reader.new) (R.has_failed reader.new)
+        (W.contents writer.old) (W.contents writer.new) (W.has_failed writer.old)
+        (W.has_failed writer.new) reason
         ⊎ ((reason ≡ reasons.Memory) × (reader.new ≡ reader.old) × (writer.new ≡ writer.old)))
-        × TellsPeer (R.has_failed reader.new) (W.has_failed writer.new) (E.contents errors.old) (E.contents errors.new) (E.has_failed errors.new) result reason }
+        × TellsPeer (R.has_failed reader.new) (W.has_failed writer.new) (E.contents errors.old)
+        (E.contents errors.new) (E.has_failed errors.new) result reason }
 {
     let ended = serve_peer(alloc, reader, writer, errors);
     settle(code_of(ended), errors)
@@ -122,8 +145,12 @@ fn answer_peer<R: Source, W: Sink, E: Sink>(
 
 /// Says why the command line was refused, or gives the help that it asked for.
 fn settle_refusal<E: Sink>(alloc: Global, error: &clap::Error, errors: &mut E) -> u8
-    ensures ends { Refuses (E.has_failed errors.new) result ⊎ EndsEarly (E.contents errors.old) (E.contents errors.new) (E.has_failed errors.new) result Memory }
-    ensures memory { kind_of error.now ≡ OutOfMemory → EndsEarly (E.contents errors.old) (E.contents errors.new) (E.has_failed errors.new) result Memory }
+    ensures ends { Refuses (E.has_failed errors.new) result
+        ⊎ EndsEarly (E.contents errors.old) (E.contents errors.new)
+        (E.has_failed errors.new) result Memory }
+    ensures memory { kind_of error.now ≡ OutOfMemory →
+        EndsEarly (E.contents errors.old) (E.contents errors.new)
+        (E.has_failed errors.new) result Memory }
 {
     let ended = refuse(alloc, error, errors);
     settle(code_of(ended), errors)
@@ -132,7 +159,8 @@ fn settle_refusal<E: Sink>(alloc: Global, error: &clap::Error, errors: &mut E) -
 /// The exit status of a run. Where it ended early, standard error is told why.
 fn settle<E: Sink>(ended: Result<u8, Halt>, errors: &mut E) -> u8
     ensures settled { MatchResult ended (λ code. (result ≡ code) × (errors.new ≡ errors.old))
-        (EndsEarly (E.contents errors.old) (E.contents errors.new) (E.has_failed errors.new) result) }
+        (EndsEarly (E.contents errors.old) (E.contents errors.new)
+        (E.has_failed errors.new) result) }
     ensures stays { E.has_failed errors.old ≡ true → E.has_failed errors.new ≡ true }
 {
     match ended {
@@ -169,7 +197,8 @@ fn command_line<'a>(alloc: Global) -> Result<Command<'a>, AllocError>
 fn task_of(alloc: Global, words: &[String]) -> Result<Task, clap::Error>
     ensures task { IfOk result (λ task. task ≡ task_in (map string_bytes words.now)) }
     ensures kinds { FailsBy (fault_of program (map string_bytes words.now)) result }
-    ensures passes { IfErr result (λ error. takes program (map string_bytes words.now) ≡ true → kind_of error ≡ OutOfMemory) }
+    ensures passes { IfErr result
+        (λ error. takes program (map string_bytes words.now) ≡ true → kind_of error ≡ OutOfMemory) }
 {
     let line = command_line(alloc)?;
     match line.try_get_matches_from(words) {
@@ -192,7 +221,9 @@ fn task_named(name: Option<&str>) -> Task
 /// Prints why the command line was refused, or the help that it asked for.
 fn refuse<E: Sink>(alloc: Global, error: &clap::Error, errors: &mut E) -> Result<Status, Halt>
     ensures usage { IfOk result (λ status. status ≡ Usage) }
-    ensures err { IfErr result (λ halt. ((halt ≡ Memory) × (errors.new ≡ errors.old)) ⊎ ((halt ≡ WriteFailed) × (E.has_failed errors.new ≡ true))) }
+    ensures err { IfErr result
+        (λ halt. ((halt ≡ Memory) × (errors.new ≡ errors.old))
+        ⊎ ((halt ≡ WriteFailed) × (E.has_failed errors.new ≡ true))) }
     ensures memory { kind_of error.now ≡ OutOfMemory → IsErrOf result Memory }
 {
     if error.kind() == ErrorKind::OutOfMemory {
@@ -205,7 +236,8 @@ fn refuse<E: Sink>(alloc: Global, error: &clap::Error, errors: &mut E) -> Result
 
 /// Says on standard error why the run ended early, and answers the status.
 fn tell<E: Sink>(halt: Halt, errors: &mut E) -> Status
-    ensures told { Appends (E.contents errors.old) (E.contents errors.new) (halt_line halt) ⊎ (E.has_failed errors.new ≡ true) }
+    ensures told { Appends (E.contents errors.old) (E.contents errors.new) (halt_line halt)
+        ⊎ (E.has_failed errors.new ≡ true) }
     ensures status { result ≡ halt_status halt }
     ensures stays { E.has_failed errors.old ≡ true → E.has_failed errors.new ≡ true }
 {

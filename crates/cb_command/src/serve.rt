@@ -36,9 +36,13 @@ pub fn serve_peer<R: Source, W: Sink, E: Sink>(
 ) -> Result<Status, Halt>
     // The connection was served whole; or there was no memory before the first read, and nothing was read or written.
     // In both cases its end is told.
-    ensures { (reason : CloseReason) × (WasServed (R.remaining reader.old) (R.remaining reader.new) (R.has_failed reader.new) (W.contents writer.old) (W.contents writer.new) (W.has_failed writer.old) (W.has_failed writer.new) reason
+    ensures { (reason : CloseReason)
+        × (WasServed (R.remaining reader.old) (R.remaining reader.new) (R.has_failed reader.new)
+        (W.contents writer.old) (W.contents writer.new) (W.has_failed writer.old)
+        (W.has_failed writer.new) reason
         ⊎ ((reason ≡ reasons.Memory) × (reader.new ≡ reader.old) × (writer.new ≡ writer.old)))
-        × PeerEnds (R.has_failed reader.new) (W.has_failed writer.new) (E.contents errors.old) (E.contents errors.new) (E.has_failed errors.new) reason result }
+        × PeerEnds (R.has_failed reader.new) (W.has_failed writer.new) (E.contents errors.old)
+        (E.contents errors.new) (E.has_failed errors.new) reason result }
 {
     let reason = connection(alloc, reader, writer);
     tell_closed(errors, reason)?;
@@ -47,7 +51,9 @@ pub fn serve_peer<R: Source, W: Sink, E: Sink>(
 
 /// Serves the connection with a hall of its own. Want of memory before the first read closes it as later.
 fn connection<R: Source, W: Sink>(alloc: Global, reader: &mut R, writer: &mut W) -> CloseReason
-    ensures { WasServed (R.remaining reader.old) (R.remaining reader.new) (R.has_failed reader.new) (W.contents writer.old) (W.contents writer.new) (W.has_failed writer.old) (W.has_failed writer.new) result
+    ensures { WasServed (R.remaining reader.old) (R.remaining reader.new) (R.has_failed reader.new)
+        (W.contents writer.old) (W.contents writer.new) (W.has_failed writer.old)
+        (W.has_failed writer.new) result
         ⊎ ((result ≡ reasons.Memory) × (reader.new ≡ reader.old) × (writer.new ≡ writer.old)) }
 {
     let Some((mut hall, mut badge)) = new_node(alloc) else {
@@ -75,7 +81,8 @@ fn new_node(alloc: Global) -> Option<(Hall, Badge)>
 
 /// The last of badges.
 fn last_of(mut badges: Vec<Badge>) -> Option<Badge>
-    ensures { IfSome result (λ badge. (front : List BadgeState) × (badges.items ≡ front ++ badge ∷ [])) }
+    ensures { IfSome result
+        (λ badge. (front : List BadgeState) × (badges.items ≡ front ++ badge ∷ [])) }
 {
     badges.pop()
 }
@@ -90,7 +97,9 @@ fn converse<R: Source, W: Sink>(
 ) -> CloseReason
     requires hall { hall.old ≡ new_journal }
     requires badge { badge.old ≡ fresh_badge (first_of 0) }
-    ensures { WasServed (R.remaining reader.old) (R.remaining reader.new) (R.has_failed reader.new) (W.contents writer.old) (W.contents writer.new) (W.has_failed writer.old) (W.has_failed writer.new) result
+    ensures { WasServed (R.remaining reader.old) (R.remaining reader.new) (R.has_failed reader.new)
+        (W.contents writer.old) (W.contents writer.new) (W.has_failed writer.old)
+        (W.has_failed writer.new) result
         ⊎ ((result ≡ reasons.Memory) × (reader.new ≡ reader.old) × (writer.new ≡ writer.old)) }
 {
     match serve(alloc, reader, writer, hall, badge, SETTINGS) {
@@ -101,7 +110,8 @@ fn converse<R: Source, W: Sink>(
 
 /// Tells why a session is over. The only error is that a write failed.
 fn tell_closed<E: Sink>(errors: &mut E, reason: CloseReason) -> Result<(), Halt>
-    ensures told { OnOk result (Appends (E.contents errors.old) (E.contents errors.new) (closed_text reason)) }
+    ensures told { OnOk result
+        (Appends (E.contents errors.old) (E.contents errors.new) (closed_text reason)) }
     ensures failed { IsOkUnless result WriteFailed }
     ensures marked { OnErr result (E.has_failed errors.new ≡ true) }
 {

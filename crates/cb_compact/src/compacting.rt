@@ -11,15 +11,16 @@ use cb_block::SoundBlock;
 use cb_tx::Tx;
 use std::alloc::Global;
 
-// Whether the first place that wasn't passed is this one.
+/// Whether the first place that wasn't passed is this one.
 fn is_next(places: &[u64], passed: usize, place: u64) -> bool
-    ensures { MatchBool result ((passed < length places.now) × (slice_index places.now passed ≡ place))
+    ensures { MatchBool result
+        ((passed < length places.now) × (slice_index places.now passed ≡ place))
         (passed < length places.now → slice_index places.now passed ≢ place) }
 {
     passed < places.len() && places[passed] == place
 }
 
-// The short ids of the txids at all other places, in order.
+/// The short ids of the txids at all other places, in order.
 fn ids_outside(
     alloc: Global,
     key: (u64, u64),
@@ -27,7 +28,8 @@ fn ids_outside(
     places: &[u64],
 ) -> Result<Vec<u64>, Fault>
     requires { Rise 0 (length txids.now) places.now }
-    ensures same { IfOk result (λ ids. ids.items ≡ map (short_id_of key) (left_out 0 places.now txids.now)) }
+    ensures same { IfOk result
+        (λ ids. ids.items ≡ map (short_id_of key) (left_out 0 places.now txids.now)) }
     ensures memory { IsOkUnless result Memory }
 {
     let mut ids = Vec::with_capacity(alloc, txids.len())?;
@@ -42,11 +44,13 @@ fn ids_outside(
     Ok(ids)
 }
 
-// The transactions at these places, with them.
+/// The transactions at these places, with them.
 fn prefilled_at(alloc: Global, txs: &[Shared<Tx>], places: &[u64]) -> Result<Vec<Prefilled>, Fault>
     requires { Rise 0 (length txs.now) places.now }
     ensures places { IfOk result (λ prefilled. places_of prefilled.items ≡ places.now) }
-    ensures whole { IfOk result (λ prefilled. All (λ given. slice_get txs.now given.place ≡ Some given.tx) prefilled.items) }
+    ensures whole { IfOk result
+        (λ prefilled. All
+        (λ given. slice_get txs.now given.place ≡ Some given.tx) prefilled.items) }
     ensures memory { IsOkUnless result Memory }
 {
     let mut prefilled = Vec::with_capacity(alloc, places.len())?;

@@ -26,7 +26,7 @@ pub fn differ(alloc: Global, indexes: &[u64]) -> Result<Vec<u64>, Fault>
     Ok(list)
 }
 
-// Whether each index is below the total. It takes no memory.
+/// Whether each index is below the total. It takes no memory.
 fn check_sums(differences: &[u64], total: u64) -> Result<(), Fault>
     ensures { MatchResult result (λ _. All (λ index. index < total) (sums 0 differences.now))
         (λ fault. (fault ≡ BadIndex) × Any (λ index. total ≤ index) (sums 0 differences.now)) }
@@ -48,7 +48,8 @@ fn check_sums(differences: &[u64], total: u64) -> Result<(), Fault>
 pub fn undiffer(alloc: Global, differences: &[u64], total: u64) -> Result<Vec<u64>, Fault>
     ensures found { IfOk result (λ indexes. (indexes.items ≡ sums 0 differences.now)
         × All (λ index. index < total) (sums 0 differences.now)) }
-    ensures refused { IfErr result (λ fault. ((fault ≡ Memory) × All (λ index. index < total) (sums 0 differences.now))
+    ensures refused { IfErr result
+        (λ fault. ((fault ≡ Memory) × All (λ index. index < total) (sums 0 differences.now))
         ⊎ ((fault ≡ BadIndex) × Any (λ index. total ≤ index) (sums 0 differences.now))) }
     ensures unpaid { length differences.now ≡ 0 → IsOk result }
 {

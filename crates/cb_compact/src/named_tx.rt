@@ -62,7 +62,7 @@ impl NamedTx {
         self.txid
     }
 
-    // The transaction and its txid.
+    /// The transaction and its txid.
     pub(crate) fn into_parts(self) -> (Shared<Tx>, Hash256)
         ensures tx { result.0 ≡ self }
         ensures txid { result.1 ≡ double_hash (tx_text self) }
@@ -86,7 +86,7 @@ impl Clone for NamedTx {
     }
 }
 
-// The txid. One piece of memory is taken for the text.
+/// The txid. One piece of memory is taken for the text.
 fn txid_of(alloc: Global, tx: &Tx) -> Result<Hash256, Fault>
     ensures same { IfOk result (λ txid. txid ≡ double_hash (tx_text tx.now)) }
     ensures memory { IsOkUnless result Memory }

@@ -53,7 +53,7 @@ impl Model for Partial {
     ghost invariant = { λ partial. partial.lacking ≡ length (slotting.missing 0 partial.slots.items) };
 }
 
-// The transactions of a block in order, and their txids.
+/// The transactions of a block in order, and their txids.
 #[derive(Drop)]
 struct Listed {
     txs: Vec<Shared<Tx>>,
@@ -63,7 +63,8 @@ struct Listed {
 impl Listed {
     fn push(&mut self, named: NamedTx) -> Result<(), Fault>
         ensures txs { OnOk result (self.new.txs.items ≡ self.old.txs.items ++ named ∷ []) }
-        ensures txids { OnOk result (self.new.txids.items ≡ self.old.txids.items ++ double_hash (tx_text named) ∷ []) }
+        ensures txids { OnOk result
+            (self.new.txids.items ≡ self.old.txids.items ++ double_hash (tx_text named) ∷ []) }
         ensures memory { IsOkUnless result Memory }
     {
         let (tx, txid) = named.into_parts();
@@ -73,7 +74,7 @@ impl Listed {
     }
 }
 
-// The whole list, with these transactions at the places at which nothing stands. Those alone are hashed.
+/// The whole list, with these transactions at the places at which nothing stands. Those alone are hashed.
 fn fill_in(
     alloc: Global,
     slots: Vec<Option<NamedTx>>,
@@ -102,7 +103,7 @@ fn fill_in(
     Ok(listed)
 }
 
-// What comes of a list at which nothing is missing.
+/// What comes of a list at which nothing is missing.
 pub(crate) fn whole(
     alloc: Global,
     header: Header,
@@ -116,7 +117,7 @@ pub(crate) fn whole(
     judge(alloc, header, listed)
 }
 
-// What comes of the whole list under the header.
+/// What comes of the whole list under the header.
 fn judge(alloc: Global, header: Header, listed: Listed) -> Result<Filled, Fault>
     requires { listed.txids.items ≡ names (texts listed.txs.items) }
     ensures filled { IfOk result (IsFilled header listed.txs.items) }
@@ -161,7 +162,8 @@ impl Partial {
     pub fn fill(self, txs: Vec<Shared<Tx>>) -> Result<Filled, Fault>
         ensures filled { IfOk result (IsFilled self.header (filled self.slots txs.items)) }
         ensures counted { IfOk result (λ _. length txs.items ≡ length (missing 0 self.slots)) }
-        ensures refused { IfErr result (λ fault. ((fault ≡ WrongCount) × (length txs.items ≢ length (missing 0 self.slots)))
+        ensures refused { IfErr result
+            (λ fault. ((fault ≡ WrongCount) × (length txs.items ≢ length (missing 0 self.slots)))
             ⊎ ((fault ≡ Memory) × (length txs.items ≡ length (missing 0 self.slots)))) }
     {
         if txs.len() != self.lacking {

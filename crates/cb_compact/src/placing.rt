@@ -14,22 +14,24 @@ use cb_base::Fault;
 use cb_block::Header;
 use std::alloc::Global;
 
-// Whether the first of the prefilled transactions that wasn't passed stands at this place.
+/// Whether the first of the prefilled transactions that wasn't passed stands at this place.
 fn is_given(prefilled: &[Prefilled], passed: usize, place: u64) -> bool
-    ensures { MatchBool result ((passed < length prefilled.now) × (slice_index (places_of prefilled.now) passed ≡ place))
+    ensures { MatchBool result
+        ((passed < length prefilled.now) × (slice_index (places_of prefilled.now) passed ≡ place))
         (passed < length prefilled.now → slice_index (places_of prefilled.now) passed ≢ place) }
 {
     passed < prefilled.len() && prefilled[passed].place == place
 }
 
-// All places in order: the prefilled transactions at theirs, each hashed here, and between them what was found for each id.
+/// All places in order: the prefilled transactions at theirs, each hashed here, and between them what was found for each id.
 fn lay_out(
     alloc: Global,
     prefilled: &[Prefilled],
     found: Vec<Found>,
 ) -> Result<Vec<Option<NamedTx>>, Fault>
     requires { Rise 0 (length found.items + length prefilled.now) (places_of prefilled.now) }
-    ensures same { IfOk result (λ list. list.items ≡ laid_out 0 prefilled.now (map found_tx found.items)) }
+    ensures same { IfOk result
+        (λ list. list.items ≡ laid_out 0 prefilled.now (map found_tx found.items)) }
     ensures memory { IsOkUnless result Memory }
 {
     let total = found.len() + prefilled.len();
@@ -50,7 +52,7 @@ fn lay_out(
     Ok(list)
 }
 
-// The places at which nothing stands.
+/// The places at which nothing stands.
 fn missing_of(alloc: Global, list: &[Option<NamedTx>]) -> Result<Vec<u64>, Fault>
     ensures same { IfOk result (λ places. places.items ≡ missing 0 list.now) }
     ensures memory { IsOkUnless result Memory }

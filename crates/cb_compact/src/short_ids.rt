@@ -6,7 +6,7 @@ ghost use Rattle.cb_compact.specs.ShortIds.{key_of, short_id_of};
 use cb_base::{Hash256, sha, sip24};
 use cb_block::Header;
 
-// What is hashed for the key.
+/// What is hashed for the key.
 fn key_text(header: &Header, nonce: u64) -> [u8; 88]
     ensures { result ≡ header_text header.now ++ to_le_bytes w64 nonce }
 {

@@ -21,7 +21,7 @@ pub enum Found {
 }
 
 impl Found {
-    // One more pair has it.
+    /// One more pair has it.
     fn add(&mut self, tx: NamedTx)
         ensures { self.new ≡ one_more self.old tx }
     {
@@ -31,7 +31,7 @@ impl Found {
         };
     }
 
-    // The transaction, where exactly one pair has it.
+    /// The transaction, where exactly one pair has it.
     pub(crate) fn into_tx(self) -> Option<NamedTx>
         ensures { result ≡ found_tx self }
     {
@@ -42,18 +42,21 @@ impl Found {
     }
 }
 
-// The place of each of a compact block's ids among them, and what was found for each, in order. So each pair is looked up once.
+/// The place of each of a compact block's ids among them, and what was found for each, in order. So each pair is looked up once.
 #[derive(Drop)]
 pub(crate) struct Table {
     places: HashMap<u64, usize, IdSeed>,
     found: Vec<Found>,
 }
 
-// The table of some ids, for which no pair was looked up yet: none where an id stands twice.
+/// The table of some ids, for which no pair was looked up yet: none where an id stands twice.
 pub(crate) fn table_of(alloc: Global, ids: &[u64]) -> Result<Option<Table>, Fault>
-    ensures exact { IfOk result (λ table. MatchOption table (¬ AreDifferent ids.now) (λ table. AreDifferent ids.now × IsTable ids.now [] table)) }
+    ensures exact { IfOk result
+        (λ table. MatchOption table (¬ AreDifferent ids.now)
+        (λ table. AreDifferent ids.now × IsTable ids.now [] table)) }
     // No answer tells what the ids are hashed under.
-    ensures seed { IfOk result (λ table. MatchOption table ⊤ (λ table. hasher_of table.places ≡ seed_of ids.now)) }
+    ensures seed { IfOk result
+        (λ table. MatchOption table ⊤ (λ table. hasher_of table.places ≡ seed_of ids.now)) }
     ensures memory { IsOkUnless result Memory }
 {
     let mut places = HashMap::with_capacity_and_hasher(alloc, ids.len(), IdSeed::of(ids))?;
@@ -68,10 +71,12 @@ pub(crate) fn table_of(alloc: Global, ids: &[u64]) -> Result<Option<Table>, Faul
 }
 
 impl Table {
-    // One pair more.
+    /// One pair more.
     fn add(&mut self, pair: Pair)
         ensures places { self.new.places.entries ≡ self.old.places.entries }
-        ensures found { self.new.found.items ≡ with_pair (lookup (nat_eq pair.id) self.old.places.entries) pair.tx self.old.found.items }
+        ensures found { self.new.found.items
+            ≡ with_pair (lookup
+            (nat_eq pair.id) self.old.places.entries) pair.tx self.old.found.items }
     {
         let Some(place) = self.places.get(&pair.id).copied() else {
             return;
@@ -81,9 +86,10 @@ impl Table {
         }
     }
 
-    // What the pairs have for each id, in order: each of them is looked up.
+    /// What the pairs have for each id, in order: each of them is looked up.
     pub(crate) fn found_among(self, pairs: Vec<Pair>) -> Vec<Found>
-        ensures found { (ids : List ℕ) → AreDifferent ids → IsTable ids [] self → result.items ≡ all_found ids pairs.items }
+        ensures found { (ids : List ℕ) → AreDifferent ids → IsTable ids [] self →
+            result.items ≡ all_found ids pairs.items }
     {
         let mut table = self;
         for pair in pairs {

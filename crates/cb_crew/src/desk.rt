@@ -219,10 +219,12 @@ impl<W: Work> Desk<W> {
 
 /// Makes room in an open work for its next step, and tells whether the work is open still.
 fn make_ready<W: Work>(work: &mut W) -> bool
-    ensures ready { result ≡ true → (W.is_closed work.old ≡ false) × (W.is_closed work.new ≡ false) × W.primed work.new }
+    ensures ready { result ≡ true →
+        (W.is_closed work.old ≡ false) × (W.is_closed work.new ≡ false) × W.primed work.new }
     ensures closed { result ≡ false → W.is_closed work.new ≡ true }
     ensures live { W.is_closed work.new ≡ false → W.is_closed work.old ≡ false }
-    ensures given { (items : List (Given W.Item)) → W.given work.old items → W.given work.new items }
+    ensures given { (items : List (Given W.Item)) → W.given work.old items →
+        W.given work.new items }
     ensures label { W.label work.new ≡ W.label work.old }
     ensures ticked { IsUnticked W.ticked work.old work.new }
 {
@@ -232,7 +234,10 @@ fn make_ready<W: Work>(work: &mut W) -> bool
 /// Gives an item to a work that is ready; a closed one is passed over.
 fn give<W: Work, R: Wait>(rt: &R, work: &mut W, ready: bool, item: Given<W::Item>) -> Step
     requires { ready ≡ true → (W.is_closed work.old ≡ false) × W.primed work.old }
-    ensures worked { ready ≡ true → (result ≡ Worked) × ((items : List (Given W.Item)) → W.given work.old items → W.given work.new (items ++ item ∷ [])) × (IsEnd item → W.is_closed work.new ≡ true) }
+    ensures worked { ready ≡ true →
+        (result ≡ Worked)
+        × ((items : List (Given W.Item)) → W.given work.old items →
+        W.given work.new (items ++ item ∷ [])) × (IsEnd item → W.is_closed work.new ≡ true) }
     ensures passed { ready ≡ false → (result ≡ Passed) × (work.new ≡ work.old) }
     ensures label { W.label work.new ≡ W.label work.old }
     ensures ticked { IsUnticked W.ticked work.old work.new }

@@ -135,7 +135,8 @@ impl<W: Work> Handler<W> {
     fn begin<R: Wait>(&mut self, rt: &R, crew: &Crew<W>) -> Result<Desk<W>, Turn>
         requires { IsHandlerOf crew.now self.old }
         ensures begins { Begins W.label W.is_closed self.old self.new result }
-        ensures hand { IfOk result (λ _. IsHandOf crew.now.ring self.new.hand × (self.new.hand.stage ≡ running)) }
+        ensures hand { IfOk result
+            (λ _. IsHandOf crew.now.ring self.new.hand × (self.new.hand.stage ≡ running)) }
         ensures room { self.new.room ≡ self.old.room }
     {
         if self.turns == MOST_TURNS {

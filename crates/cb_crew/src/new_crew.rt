@@ -99,10 +99,12 @@ impl<W: Work> Crew<W> {
         requires fresh { All (IsFresh W.given W.ticked W.is_closed) works.items }
         requires handlers { (1 ≤ handlers) × (handlers ≤ 16) }
         requires capacity { (1 ≤ capacity) × (capacity ≤ 1024) }
-        ensures crew { IfOk result (λ made. IsNewCrew (length works.items) handlers capacity made.crew) }
+        ensures crew { IfOk result
+            (λ made. IsNewCrew (length works.items) handlers capacity made.crew) }
         ensures labels { IfOk result (λ made. made.crew.labels ≡ map W.label works.items) }
         ensures seats { IfOk result (λ made. AreOpeningSeats made.crew made.readers.items) }
-        ensures handlers { IfOk result (λ made. AreHandlersOf made.crew made.handlers.items × MadeNoTurn made.handlers.items) }
+        ensures handlers { IfOk result
+            (λ made. AreHandlersOf made.crew made.handlers.items × MadeNoTurn made.handlers.items) }
         ensures refused { IfErr result (λ back. (back.0.items ≡ works.items) × (back.1 ≡ Memory)) }
     {
         match Unmanned::new(alloc, &works, handlers, capacity) {
@@ -121,7 +123,8 @@ impl<W: Work> Crew<W> {
     )
         requires hand { IsOpeningHandOf self.now hand.old }
         requires vacancies { vacancies.items ≡ self.now.inboxes }
-        requires works { (length works.items ≡ length self.now.inboxes) × All (IsFresh W.given W.ticked W.is_closed) works.items }
+        requires works { (length works.items ≡ length self.now.inboxes)
+            × All (IsFresh W.given W.ticked W.is_closed) works.items }
         requires labels { map W.label works.items ≡ self.now.labels }
         ensures { IsFreeHandOf self.now hand.new × StandsForAll hand.new }
     {
@@ -217,7 +220,8 @@ impl<W: Work> Unmanned<W> {
         requires peers { (1 ≤ length works.now.items) × (length works.now.items ≤ 64) }
         requires handlers { (1 ≤ handlers) × (handlers ≤ 16) }
         requires capacity { (1 ≤ capacity) × (capacity ≤ 1024) }
-        ensures crew { IfOk result (λ made. IsNewCrew (length works.now.items) handlers capacity made) }
+        ensures crew { IfOk result
+            (λ made. IsNewCrew (length works.now.items) handlers capacity made) }
         ensures labels { IfOk result (λ made. made.labels ≡ map W.label works.now.items) }
         ensures memory { IsOkUnless result Memory }
     {
@@ -242,11 +246,13 @@ impl<W: Work> Unmanned<W> {
 
     /// The crew with these works. It takes no memory.
     fn man<R: Wait>(self, rt: &R, alloc: Global, works: Vec<W>) -> NewCrew<W>
-        requires works { (length works.items ≡ length self.inboxes) × All (IsFresh W.given W.ticked W.is_closed) works.items }
+        requires works { (length works.items ≡ length self.inboxes)
+            × All (IsFresh W.given W.ticked W.is_closed) works.items }
         requires labels { map W.label works.items ≡ self.labels }
         ensures crew { result.crew ≡ self }
         ensures seats { AreOpeningSeats result.crew result.readers.items }
-        ensures handlers { AreHandlersOf result.crew result.handlers.items × MadeNoTurn result.handlers.items }
+        ensures handlers { AreHandlersOf result.crew result.handlers.items
+            × MadeNoTurn result.handlers.items }
     {
         let crew = self.crew;
         let mut hand = self.hand;

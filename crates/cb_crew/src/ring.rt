@@ -70,7 +70,8 @@ impl<D: Travels + Drop> Ring<D> {
     pub fn make<R: Wait>(&self, rt: &R, hand: &mut Hand<D>, desk: D)
         requires hand { IsHandOf self.now hand.old × StandsForAll hand.old }
         requires stage { hand.old.stage ≡ making }
-        requires next { ((D.shown desk).peer ≡ length hand.old.names) × (length hand.old.names < self.now.capacity) }
+        requires next { ((D.shown desk).peer ≡ length hand.old.names)
+            × (length hand.old.names < self.now.capacity) }
         ensures hand { hand.new ≡ made_hand hand.old (D.shown desk) }
         ensures ring { IsHandOf self.now hand.new }
     {
@@ -107,8 +108,11 @@ impl<D: Travels + Drop> Ring<D> {
     pub fn claim<R: Wait>(&self, rt: &R, hand: &mut Hand<D>) -> Option<D>
         requires hand { IsHandOf self.now hand.old × (hand.old.held ≡ []) }
         requires stage { hand.old.stage ≡ running }
-        ensures claimed { IfSome result (λ desk. (hand.new ≡ claimed_hand hand.old (D.shown desk)) × IsOfCrew hand.old.names (D.shown desk)) }
-        ensures empty { IfNone result ((hand.new ≡ hand.old) × (length hand.old.names < hand.old.handlers)) }
+        ensures claimed { IfSome result
+            (λ desk. (hand.new ≡ claimed_hand hand.old (D.shown desk))
+            × IsOfCrew hand.old.names (D.shown desk)) }
+        ensures empty { IfNone result
+            ((hand.new ≡ hand.old) × (length hand.old.names < hand.old.handlers)) }
     {
         self.queue.pop_as::<Claims, R>(rt, &mut hand.pass)
     }
@@ -139,7 +143,10 @@ impl<D: Travels + Drop> Ring<D> {
     /// None only where no desk is left: the hand holds the desks of all peers, each once.
     pub fn keep<R: Wait>(&self, rt: &R, hand: &mut Hand<D>) -> Option<D>
         requires { IsHandOf self.now hand.old × StandsForAll hand.old }
-        ensures kept { IfSome result (λ desk. (hand.new ≡ kept_hand hand.old (D.shown desk)) × IsOfCrew hand.old.names (D.shown desk) × (length hand.old.held < length hand.old.names)) }
+        ensures kept { IfSome result
+            (λ desk. (hand.new ≡ kept_hand hand.old (D.shown desk))
+            × IsOfCrew hand.old.names (D.shown desk)
+            × (length hand.old.held < length hand.old.names)) }
         ensures empty { IfNone result ((hand.new ≡ hand.old) × HoldsAll hand.old) }
     {
         self.queue.pop_as::<Keeps, R>(rt, &mut hand.pass)

@@ -56,14 +56,16 @@ pub trait Work: Drop {
         ensures ready { result ≡ true → (is_closed self.new ≡ false) × primed self.new }
         ensures closed { result ≡ false → is_closed self.new ≡ true }
         ensures label { label self.new ≡ label self.old }
-        ensures given { (items : List (Given Self.Item)) → given self.old items → given self.new items }
+        ensures given { (items : List (Given Self.Item)) → given self.old items →
+            given self.new items }
         ensures ticked { (at : List ℕ) → ticked self.old at → ticked self.new at };
 
     /// Takes the next item, or the end, which closes it.
     fn step<R: Wait>(&mut self, rt: &R, item: Given<Self::Item>)
         requires open { is_closed self.old ≡ false }
         requires primed { primed self.old }
-        ensures given { (items : List (Given Self.Item)) → given self.old items → given self.new (items ++ item ∷ []) }
+        ensures given { (items : List (Given Self.Item)) → given self.old items →
+            given self.new (items ++ item ∷ []) }
         ensures end { IsEnd item → is_closed self.new ≡ true }
         ensures label { label self.new ≡ label self.old }
         ensures ticked { (at : List ℕ) → ticked self.old at → ticked self.new at };
@@ -72,8 +74,10 @@ pub trait Work: Drop {
     fn tick<R: Wait>(&mut self, rt: &R)
         requires { is_closed self.old ≡ false }
         ensures label { label self.new ≡ label self.old }
-        ensures given { (items : List (Given Self.Item)) → given self.old items → given self.new items }
-        ensures ticked { (items : List (Given Self.Item)) (at : List ℕ) → given self.old items → ticked self.old at → ticked self.new (at ++ length items ∷ []) };
+        ensures given { (items : List (Given Self.Item)) → given self.old items →
+            given self.new items }
+        ensures ticked { (items : List (Given Self.Item)) (at : List ℕ) → given self.old items →
+            ticked self.old at → ticked self.new (at ++ length items ∷ []) };
 }
 
 /// A work that may begin a connection: it is open, and was given nothing and not ticked.

@@ -26,10 +26,13 @@ pub fn decode<R: Source, W: Sink>(
     writer: &mut W,
 ) -> Result<Status, Halt>
     // Over a reader and a writer that tell their bytes: what is printed for the whole input, and the status.
-    ensures report { IfOk result (ReportsKnown (R.remaining reader.old) (W.contents writer.old) (W.contents writer.new)) }
+    ensures report { IfOk result
+        (ReportsKnown (R.remaining reader.old) (W.contents writer.old) (W.contents writer.new)) }
     // Over every reader and writer: the status, and why a run ends early.
-    ensures status { IfOk result (λ status. (status ≡ Status.Success) ⊎ (status ≡ Status.BadInput)) }
-    ensures halts { IfErr result (HasCause (R.remaining reader.old) (R.has_failed reader.new) (W.has_failed writer.new)) }
+    ensures status { IfOk result
+        (λ status. (status ≡ Status.Success) ⊎ (status ≡ Status.BadInput)) }
+    ensures halts { IfErr result
+        (HasCause (R.remaining reader.old) (R.has_failed reader.new) (W.has_failed writer.new)) }
 {
     let mut lines = LineReader::new(alloc)?;
     let mut decoding = Decoding::new(alloc);
@@ -51,8 +54,10 @@ pub fn decode<R: Source, W: Sink>(
 
 /// Prints how many bytes are left over.
 fn print_rest<W: Sink>(alloc: Global, rest: usize, writer: &mut W) -> Result<(), Halt>
-    ensures text { OnOk result (Appends (W.contents writer.old) (W.contents writer.new) (rest_text rest)) }
-    ensures err { IfErr result (λ halt. (halt ≡ Memory) ⊎ ((halt ≡ WriteFailed) × (W.has_failed writer.new ≡ true))) }
+    ensures text { OnOk result
+        (Appends (W.contents writer.old) (W.contents writer.new) (rest_text rest)) }
+    ensures err { IfErr result
+        (λ halt. (halt ≡ Memory) ⊎ ((halt ≡ WriteFailed) × (W.has_failed writer.new ≡ true))) }
 {
     let text = format!(in alloc; "rest {rest}\n")?;
     write_all(writer, text.as_bytes())
@@ -60,8 +65,10 @@ fn print_rest<W: Sink>(alloc: Global, rest: usize, writer: &mut W) -> Result<(),
 
 /// Prints that a line isn't hex.
 fn print_not_hex<W: Sink>(alloc: Global, number: u64, writer: &mut W) -> Result<(), Halt>
-    ensures text { OnOk result (Appends (W.contents writer.old) (W.contents writer.new) (not_hex_text number)) }
-    ensures err { IfErr result (λ halt. (halt ≡ Memory) ⊎ ((halt ≡ WriteFailed) × (W.has_failed writer.new ≡ true))) }
+    ensures text { OnOk result
+        (Appends (W.contents writer.old) (W.contents writer.new) (not_hex_text number)) }
+    ensures err { IfErr result
+        (λ halt. (halt ≡ Memory) ⊎ ((halt ≡ WriteFailed) × (W.has_failed writer.new ≡ true))) }
 {
     let text = format!(in alloc; "line {number} not hex\n")?;
     write_all(writer, text.as_bytes())
@@ -106,9 +113,13 @@ impl Decoding {
     /// The only error is want of memory.
     pub fn line(&mut self, line: &[u8]) -> Result<Option<String>, Halt>
         // Behind what was printed for all bytes so far.
-        ensures hex { IfOk result (λ printed. MatchOption printed (IsNotHex line.now) (λ text. (piece : List ℕ) × (decode_of line.now ≡ Ok piece)
-            × ((bytes out : List ℕ) → Decodes bytes out self.old → Decodes (bytes ++ piece) (out ++ string_bytes text) self.new))) }
-        ensures not_hex { IfOk result (λ printed. MatchOption printed (self.new ≡ self.old) (λ text. ⊤)) }
+        ensures hex { IfOk result
+            (λ printed. MatchOption printed (IsNotHex line.now)
+            (λ text. (piece : List ℕ) × (decode_of line.now ≡ Ok piece)
+            × ((bytes out : List ℕ) → Decodes bytes out self.old →
+            Decodes (bytes ++ piece) (out ++ string_bytes text) self.new))) }
+        ensures not_hex { IfOk result
+            (λ printed. MatchOption printed (self.new ≡ self.old) (λ text. ⊤)) }
         ensures memory { IsOkUnless result Memory }
         // For a line of an odd length no memory is taken.
         ensures odd { length line.now % 2 ≡ 1 → IsOk result }

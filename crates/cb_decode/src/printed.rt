@@ -17,7 +17,8 @@ use std::alloc::Global;
 
 /// Appends what is printed of items, one after another. The only error is want of memory.
 pub fn push_items(alloc: Global, text: &mut String, items: &[Item]) -> Result<(), Halt>
-    ensures text { OnOk result (string_bytes text.new ≡ string_bytes text.old ++ items_text items.now) }
+    ensures text { OnOk result
+        (string_bytes text.new ≡ string_bytes text.old ++ items_text items.now) }
     ensures memory { IsOkUnless result Memory }
     ensures nothing { items.now ≡ [] → IsOk result }
 {
@@ -29,7 +30,8 @@ pub fn push_items(alloc: Global, text: &mut String, items: &[Item]) -> Result<()
 
 /// Appends the line of an item. The only error is want of memory.
 pub fn push_item(alloc: Global, text: &mut String, item: &Item) -> Result<(), Halt>
-    ensures text { OnOk result (string_bytes text.new ≡ string_bytes text.old ++ item_text item.now) }
+    ensures text { OnOk result
+        (string_bytes text.new ≡ string_bytes text.old ++ item_text item.now) }
     ensures memory { IsOkUnless result Memory }
 {
     match item {
@@ -45,7 +47,8 @@ pub fn push_item(alloc: Global, text: &mut String, item: &Item) -> Result<(), Ha
 
 /// Appends the line of a message: one arm for each command. The only error is want of memory.
 fn push_message(alloc: Global, text: &mut String, message: &Message) -> Result<(), Halt>
-    ensures text { OnOk result (string_bytes text.new ≡ string_bytes text.old ++ message_text message.now) }
+    ensures text { OnOk result
+        (string_bytes text.new ≡ string_bytes text.old ++ message_text message.now) }
     ensures memory { IsOkUnless result Memory }
 {
     match message {
@@ -77,7 +80,8 @@ fn push_message(alloc: Global, text: &mut String, message: &Message) -> Result<(
 /// Appends the line of a version: its number, the services, the height, and the agent in hex. The only error is want of
 /// memory.
 fn push_version(alloc: Global, text: &mut String, version: &Version) -> Result<(), Halt>
-    ensures text { OnOk result (string_bytes text.new ≡ string_bytes text.old ++ version_line version.now) }
+    ensures text { OnOk result
+        (string_bytes text.new ≡ string_bytes text.old ++ version_line version.now) }
     ensures memory { IsOkUnless result Memory }
 {
     let number = version.version;
@@ -102,7 +106,8 @@ fn hex_of(alloc: Global, agent: &Agent) -> Result<String, Halt>
 
 /// Appends the line of how a peer wants to be told of blocks. The only error is want of memory.
 fn push_compact_relay(text: &mut String, relay: &CompactRelay) -> Result<(), Halt>
-    ensures text { OnOk result (string_bytes text.new ≡ string_bytes text.old ++ compact_relay_line relay.now) }
+    ensures text { OnOk result
+        (string_bytes text.new ≡ string_bytes text.old ++ compact_relay_line relay.now) }
     ensures memory { IsOkUnless result Memory }
 {
     let flag = if relay.high_bandwidth { "1 " } else { "0 " };
@@ -114,7 +119,8 @@ fn push_compact_relay(text: &mut String, relay: &CompactRelay) -> Result<(), Hal
 /// Appends the line of a request for headers: how many hashes its locator has, and where to stop. The only error is want of
 /// memory.
 fn push_request(alloc: Global, text: &mut String, request: &HeadersRequest) -> Result<(), Halt>
-    ensures text { OnOk result (string_bytes text.new ≡ string_bytes text.old ++ request_line request.now) }
+    ensures text { OnOk result
+        (string_bytes text.new ≡ string_bytes text.old ++ request_line request.now) }
     ensures memory { IsOkUnless result Memory }
 {
     push_count_and_stop(alloc, text, locator_len(&request.locator), &request.stop)
@@ -127,7 +133,8 @@ fn push_count_and_stop(
     count: usize,
     stop: &Hash256,
 ) -> Result<(), Halt>
-    ensures text { OnOk result (string_bytes text.new ≡ string_bytes text.old ++ counted_line count stop.now) }
+    ensures text { OnOk result
+        (string_bytes text.new ≡ string_bytes text.old ++ counted_line count stop.now) }
     ensures memory { IsOkUnless result Memory }
 {
     let stop = stop.show(alloc).map_err(Halt::of_memory)?;
@@ -149,7 +156,8 @@ fn push_entries(
     name: &str,
     entries: &[InvEntry],
 ) -> Result<(), Halt>
-    ensures text { OnOk result (string_bytes text.new ≡ string_bytes text.old ++ entries_text name.now entries.now) }
+    ensures text { OnOk result
+        (string_bytes text.new ≡ string_bytes text.old ++ entries_text name.now entries.now) }
     ensures memory { IsOkUnless result Memory }
 {
     let count = entries.len();
@@ -162,7 +170,8 @@ fn push_entries(
 
 /// Appends the line of an entry of inventory. The only error is want of memory.
 fn push_entry(alloc: Global, text: &mut String, entry: &InvEntry) -> Result<(), Halt>
-    ensures text { OnOk result (string_bytes text.new ≡ string_bytes text.old ++ entry_line entry.now) }
+    ensures text { OnOk result
+        (string_bytes text.new ≡ string_bytes text.old ++ entry_line entry.now) }
     ensures memory { IsOkUnless result Memory }
 {
     let kind = entry.kind;
@@ -173,7 +182,8 @@ fn push_entry(alloc: Global, text: &mut String, entry: &InvEntry) -> Result<(), 
 
 /// Appends the lines of headers: their number, and the hash of each. The only error is want of memory.
 fn push_headers(alloc: Global, text: &mut String, headers: &[Header]) -> Result<(), Halt>
-    ensures text { OnOk result (string_bytes text.new ≡ string_bytes text.old ++ headers_text headers.now) }
+    ensures text { OnOk result
+        (string_bytes text.new ≡ string_bytes text.old ++ headers_text headers.now) }
     ensures memory { IsOkUnless result Memory }
 {
     let count = headers.len();
@@ -186,7 +196,8 @@ fn push_headers(alloc: Global, text: &mut String, headers: &[Header]) -> Result<
 
 /// Appends the line of a header: its hash. The only error is want of memory.
 fn push_header(alloc: Global, text: &mut String, header: &Header) -> Result<(), Halt>
-    ensures text { OnOk result (string_bytes text.new ≡ string_bytes text.old ++ header_line header.now) }
+    ensures text { OnOk result
+        (string_bytes text.new ≡ string_bytes text.old ++ header_line header.now) }
     ensures memory { IsOkUnless result Memory }
 {
     let hash = header.hash().show(alloc).map_err(Halt::of_memory)?;
@@ -210,7 +221,8 @@ fn push_tx(alloc: Global, text: &mut String, tx: &Tx) -> Result<(), Halt>
 
 /// Appends the line of a block: its hash, and how many transactions it has. The only error is want of memory.
 fn push_block(alloc: Global, text: &mut String, block: &Block) -> Result<(), Halt>
-    ensures text { OnOk result (string_bytes text.new ≡ string_bytes text.old ++ block_line block.now) }
+    ensures text { OnOk result
+        (string_bytes text.new ≡ string_bytes text.old ++ block_line block.now) }
     ensures memory { IsOkUnless result Memory }
 {
     let hash = block.header.hash().show(alloc).map_err(Halt::of_memory)?;
@@ -226,7 +238,8 @@ fn push_compact_block(
     text: &mut String,
     block: &HeaderAndShortIds,
 ) -> Result<(), Halt>
-    ensures text { OnOk result (string_bytes text.new ≡ string_bytes text.old ++ compact_block_line block.now) }
+    ensures text { OnOk result
+        (string_bytes text.new ≡ string_bytes text.old ++ compact_block_line block.now) }
     ensures memory { IsOkUnless result Memory }
 {
     let name = block.header.hash().show(alloc).map_err(Halt::of_memory)?;
@@ -244,7 +257,8 @@ fn push_txs_request(
     text: &mut String,
     request: &BlockTransactionsRequest,
 ) -> Result<(), Halt>
-    ensures text { OnOk result (string_bytes text.new ≡ string_bytes text.old ++ txs_request_line request.now) }
+    ensures text { OnOk result
+        (string_bytes text.new ≡ string_bytes text.old ++ txs_request_line request.now) }
     ensures memory { IsOkUnless result Memory }
 {
     let hash = request.block.show(alloc).map_err(Halt::of_memory)?;
@@ -262,7 +276,8 @@ fn differences_len(differences: &Differences) -> usize
 
 /// Appends the line of a block's transactions: the block's hash, and how many they are. The only error is want of memory.
 fn push_block_txs(alloc: Global, text: &mut String, txs: &BlockTransactions) -> Result<(), Halt>
-    ensures text { OnOk result (string_bytes text.new ≡ string_bytes text.old ++ block_txs_line txs.now) }
+    ensures text { OnOk result
+        (string_bytes text.new ≡ string_bytes text.old ++ block_txs_line txs.now) }
     ensures memory { IsOkUnless result Memory }
 {
     let hash = txs.block.show(alloc).map_err(Halt::of_memory)?;
@@ -273,7 +288,8 @@ fn push_block_txs(alloc: Global, text: &mut String, txs: &BlockTransactions) -> 
 
 /// Appends the line of a stream's fault, if it has one. The only error is want of memory.
 pub fn push_fault(text: &mut String, fault: Option<Fault>) -> Result<(), Halt>
-    ensures text { OnOk result (string_bytes text.new ≡ string_bytes text.old ++ broken_text fault) }
+    ensures text { OnOk result
+        (string_bytes text.new ≡ string_bytes text.old ++ broken_text fault) }
     ensures memory { IsOkUnless result Memory }
     ensures nothing { fault ≡ None → IsOk result }
 {

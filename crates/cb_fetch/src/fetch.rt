@@ -15,7 +15,7 @@ pub const MOST_IN_FLIGHT: usize = 16;
 /// How many blocks are wanted at the most, beside those in flight.
 pub const MOST_WANTED: usize = 2_000;
 
-// The type of a block among the entries of `getdata`.
+/// The type of a block among the entries of `getdata`.
 const BLOCK: u32 = 2;
 
 /// The blocks that a session fetches from its peer, by their hashes (Bitcoin's peer-to-peer protocol, `getdata`). Those that lack
@@ -72,14 +72,14 @@ impl Fetch {
         self.flight.retain(|other| *hash != *other);
     }
 
-    // Whether the block is in flight or wanted.
+    /// Whether the block is in flight or wanted.
     fn is_fetched(&self, hash: &Hash256) -> bool
         ensures { result ≡ is_fetched self.now hash.now }
     {
         self.flight.iter().any(|other| *hash == *other) || self.wanted.contains(hash)
     }
 
-    // A block that isn't in flight or wanted is wanted as the last one, where there is room.
+    /// A block that isn't in flight or wanted is wanted as the last one, where there is room.
     fn put_wanted(&mut self, hash: Hash256) -> Result<(), Fault>
         requires { is_fetched self.old hash ≡ false }
         ensures wanted { OnOk result (self.new ≡ with_wanted self.old hash) }
@@ -91,7 +91,7 @@ impl Fetch {
         Ok(())
     }
 
-    // A block that isn't in flight or wanted goes in flight as the last one. There must be room for it.
+    /// A block that isn't in flight or wanted goes in flight as the last one. There must be room for it.
     fn put_flight(&mut self, hash: Hash256) -> Result<(), Fault>
         requires fresh { is_fetched self.old hash ≡ false }
         requires room { length self.old.flight < 16 }
@@ -102,7 +102,7 @@ impl Fetch {
         Ok(())
     }
 
-    // A block is wanted, unless it is in flight or wanted.
+    /// A block is wanted, unless it is in flight or wanted.
     fn want_one(&mut self, hash: Hash256) -> Result<(), Fault>
         ensures wanted { OnOk result (self.new ≡ wanting self.old hash) }
         ensures memory { IsOkUnless result Memory }
@@ -113,7 +113,7 @@ impl Fetch {
         self.put_wanted(hash)
     }
 
-    // A block goes in flight where there is room, and else is wanted, unless it is in flight or wanted.
+    /// A block goes in flight where there is room, and else is wanted, unless it is in flight or wanted.
     fn take_one(&mut self, hash: Hash256) -> Result<(), Fault>
         ensures taken { OnOk result (self.new ≡ taking_on self.old hash) }
         ensures memory { IsOkUnless result Memory }
@@ -141,7 +141,7 @@ impl Fetch {
         Ok(())
     }
 
-    // An entry of a block is taken on as its hash, another is passed over.
+    /// An entry of a block is taken on as its hash, another is passed over.
     fn take_entry(&mut self, entry: Inventory) -> Result<(), Fault>
         ensures taken { OnOk result (self.new ≡ fold taking_on self.old (block_in entry)) }
         ensures memory { IsOkUnless result Memory }
@@ -216,7 +216,7 @@ impl Fetch {
     }
 }
 
-// The entries of inventory of blocks with these hashes.
+/// The entries of inventory of blocks with these hashes.
 fn block_entries(alloc: Global, hashes: &[Hash256]) -> Result<Vec<Inventory>, Fault>
     ensures entries { IfOk result (λ entries. entries.items ≡ as_blocks hashes.now) }
     ensures memory { IsOkUnless result Memory }
@@ -229,7 +229,7 @@ fn block_entries(alloc: Global, hashes: &[Hash256]) -> Result<Vec<Inventory>, Fa
     Ok(entries)
 }
 
-// The entries of `getdata` that ask for the blocks with these hashes, of type 2.
+/// The entries of `getdata` that ask for the blocks with these hashes, of type 2.
 fn request_entries(alloc: Global, hashes: &[Hash256]) -> Result<Vec<InvEntry>, Fault>
     ensures entries { IfOk result (λ entries. entries.items ≡ requests_of hashes.now) }
     ensures memory { IsOkUnless result Memory }

@@ -24,15 +24,19 @@ pub fn limits_hold()
 
 /// A block in flight isn't wanted once more, and what is wanted is asked for only when nothing is in flight.
 pub fn none_is_asked_for_twice()
-    ensures same { (fetch : FetchState) (hash : Hash256) → has fetch.flight hash ≡ true → wanting fetch hash ≡ fetch }
-    ensures flight { (fetch : FetchState) (hashes : List Hash256) → (wanting_all fetch hashes).flight ≡ fetch.flight }
+    ensures same { (fetch : FetchState) (hash : Hash256) → has fetch.flight hash ≡ true →
+        wanting fetch hash ≡ fetch }
+    ensures flight { (fetch : FetchState) (hashes : List Hash256) →
+        (wanting_all fetch hashes).flight ≡ fetch.flight }
     ensures due { (fetch : FetchState) → is_due fetch ≡ true → fetch.flight ≡ [] }
 {}
 
 /// What is asked for is what was needed: the first 16 different blocks are in flight, and the next 2,000 stay wanted.
 pub fn what_is_needed_is_fetched()
     ensures flight { (hashes : List Hash256) → (taken_on hashes).flight ≡ take 16 (once hashes) }
-    ensures wanted { (hashes : List Hash256) → (taken_on hashes).wanted ≡ take 2000 (drop 16 (once hashes)) }
-    ensures among { (hashes : List Hash256) (hash : Hash256) → has (taken_on hashes).flight hash ≡ true → has hashes hash ≡ true }
+    ensures wanted { (hashes : List Hash256) →
+        (taken_on hashes).wanted ≡ take 2000 (drop 16 (once hashes)) }
+    ensures among { (hashes : List Hash256) (hash : Hash256) →
+        has (taken_on hashes).flight hash ≡ true → has hashes hash ≡ true }
     ensures different { (hashes : List Hash256) → AreDifferent (once hashes) }
 {}

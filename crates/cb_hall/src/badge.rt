@@ -59,7 +59,7 @@ impl Badge {
         self.full
     }
 
-    // One question more was granted.
+    /// One question more was granted.
     pub(crate) fn grant(&mut self)
         requires { self.old.count < 2 ^ 62 }
         ensures { self.new ≡ counted self.old }
@@ -67,7 +67,7 @@ impl Badge {
         self.count += 1;
     }
 
-    // A question was refused as one too many.
+    /// A question was refused as one too many.
     pub(crate) fn mark(&mut self)
         ensures { self.new ≡ marked self.old }
     {

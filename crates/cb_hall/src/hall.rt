@@ -54,7 +54,7 @@ impl Hall {
         Ok((Hall { journal }, badges))
     }
 
-    // The generation of a peer's latest connection.
+    /// The generation of a peer's latest connection.
     fn latest_generation(&self, peer: u16) -> u64
         ensures { result ≡ latest_of self.now.latest.connections peer }
     {
@@ -68,11 +68,16 @@ impl Hall {
     pub fn open(&mut self, peer: u16) -> Result<Badge, Fault>
         requires { peer < 64 }
         ensures badge { IfOk result (λ badge. badge ≡ fresh_badge (next_connection self.old peer)) }
-        ensures grows { OnOk result (Grows self.old (entries.Opened (next_connection self.old peer)) None self.new) }
-        ensures no_more { IsErrOf result NoMore ↔ (latest_of self.old.latest.connections peer ≡ 2 ^ 64 - 1) }
-        ensures full { IsErrOf result JournalFull ↔ ((latest_of self.old.latest.connections peer ≢ 2 ^ 64 - 1) × (2 ^ 62 ≤ self.old.latest.entries)) }
+        ensures grows { OnOk result
+            (Grows self.old (entries.Opened (next_connection self.old peer)) None self.new) }
+        ensures no_more { IsErrOf result NoMore ↔
+            (latest_of self.old.latest.connections peer ≡ 2 ^ 64 - 1) }
+        ensures full { IsErrOf result JournalFull ↔
+            ((latest_of self.old.latest.connections peer ≢ 2 ^ 64 - 1)
+            × (2 ^ 62 ≤ self.old.latest.entries)) }
         ensures err { OnErr result (self.new ≡ self.old) }
-        ensures kinds { IfErr result (λ fault. (fault ≡ NoMore) ⊎ (fault ≡ JournalFull) ⊎ (fault ≡ Memory)) }
+        ensures kinds { IfErr result
+            (λ fault. (fault ≡ NoMore) ⊎ (fault ≡ JournalFull) ⊎ (fault ≡ Memory)) }
     {
         let latest = self.latest_generation(peer);
         if latest == u64::MAX {
@@ -115,7 +120,8 @@ impl Hall {
     /// `Fault::JournalFull` where 2^62 calls were granted, and `Fault::Memory`: nothing has changed then.
     pub fn kick(&mut self, peer: u16) -> Result<(), Fault>
         requires { peer < 64 }
-        ensures ok { OnOk result (Grows self.old (entries.Kick (latest_connection self.old peer)) None self.new) }
+        ensures ok { OnOk result
+            (Grows self.old (entries.Kick (latest_connection self.old peer)) None self.new) }
         ensures full { IsErrOf result JournalFull ↔ (2 ^ 62 ≤ self.old.latest.entries) }
         ensures err { OnErr result (self.new ≡ self.old) }
         ensures kinds { IfErr result (λ fault. (fault ≡ JournalFull) ⊎ (fault ≡ Memory)) }
@@ -145,7 +151,8 @@ impl Hall {
     pub fn journal(&self) -> &[Entry]
         ensures entries { result.now ≡ self.now.entries }
         // They are the last of all calls since the beginning, which led to the state as it is.
-        ensures past { (past : List Entry) × (answers : List Answer) × HasHistory self.now past answers }
+        ensures past { (past : List Entry) × (answers : List Answer)
+            × HasHistory self.now past answers }
         ensures bounded { IsBounded self.now.entries }
     {
         self.journal.entries()
@@ -165,7 +172,7 @@ impl Hall {
         self.journal.latest().connections()
     }
 
-    // The chain, the pool and the announcers.
+    /// The chain, the pool and the announcers.
     pub(crate) fn state(&self) -> &State
         ensures { result.now ≡ self.now.latest.node }
     {
@@ -186,15 +193,19 @@ impl Hall {
     /// are equal (CVE-2012-2459), and `Fault::Memory`.
     pub fn mine(&self, mark: u8) -> Result<SoundBlock, Fault>
         ensures mined { IfOk result (λ block. IsMined self.now.latest.node mark block) }
-        ensures err { IfErr result (λ fault. (fault ≡ Memory) ⊎ CannotMine self.now.latest.node mark fault) }
+        ensures err { IfErr result
+            (λ fault. (fault ≡ Memory) ⊎ CannotMine self.now.latest.node mark fault) }
     {
         self.state().mine(mark)
     }
 
     /// The journal begins anew: the state stays, and no entry does. The only error is `Fault::Memory`, which changes nothing.
     pub fn checkpoint(&mut self) -> Result<(), Fault>
-        ensures ok { OnOk result (self.new ≡ record { base = self.old.latest; entries = []; latest = self.old.latest }) }
-        ensures past { OnOk result ((past : List Entry) (answers : List Answer) → HasHistory self.old past answers → HasHistory self.new past answers) }
+        ensures ok { OnOk result
+            (self.new ≡ record { base = self.old.latest; entries = []; latest = self.old.latest }) }
+        ensures past { OnOk result
+            ((past : List Entry) (answers : List Answer) → HasHistory self.old past answers →
+            HasHistory self.new past answers) }
         ensures err { OnErr result (self.new ≡ self.old) }
         ensures memory { IsOkUnless result Memory }
     {
@@ -205,7 +216,8 @@ impl Hall {
     /// the entries, in order. The only error is `Fault::Memory`.
     pub fn again(&self) -> Result<(Hall, Vec<Answer>), Fault>
         ensures same { IfOk result (λ made. made.0 ≡ self.now) }
-        ensures answers { IfOk result (λ made. Leads self.now.base self.now.entries made.1.items self.now.latest) }
+        ensures answers { IfOk result
+            (λ made. Leads self.now.base self.now.entries made.1.items self.now.latest) }
         ensures memory { IsOkUnless result Memory }
     {
         let (journal, answers) = self.journal.again()?;
@@ -217,7 +229,8 @@ impl Hall {
     /// `Fault::JournalFull` where there are more than 2^62 of them, and `Fault::Memory`.
     pub fn replay(alloc: Global, calls: &[Entry]) -> Result<Hall, Fault>
         requires { AreFit first_slots calls.now }
-        ensures past { IfOk result (λ hall. (answers : List Answer) × HasHistory hall calls.now answers) }
+        ensures past { IfOk result
+            (λ hall. (answers : List Answer) × HasHistory hall calls.now answers) }
         ensures kinds { IfErr result (λ fault. (fault ≡ JournalFull) ⊎ (fault ≡ Memory)) }
     {
         let mut journal = Journal::new(alloc)?;
@@ -228,10 +241,11 @@ impl Hall {
     }
 }
 
-// A copy of a call is one call more.
+/// A copy of a call is one call more.
 fn play(alloc: Global, journal: &mut Journal, call: &Entry) -> Result<(), Fault>
     requires { IsFit journal.old.latest.connections call.now }
-    ensures ok { OnOk result ((told : Option Answer) × Notes journal.old call.now told journal.new) }
+    ensures ok { OnOk result
+        ((told : Option Answer) × Notes journal.old call.now told journal.new) }
     ensures kinds { IfErr result (λ fault. (fault ≡ JournalFull) ⊎ (fault ≡ Memory)) }
 {
     journal.note(call.copy(alloc)?)?;

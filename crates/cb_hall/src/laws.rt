@@ -21,9 +21,11 @@ use cb_journal::one_end;
 
 /// All calls of a hall, from the beginning, lead to its state, with the answers that were given; and to one state alone.
 pub fn one_hall()
-    ensures leads { (hall : JournalState) (past : List Entry) (answers : List Answer) → HasHistory hall past answers → Leads opening past answers hall.latest }
+    ensures leads { (hall : JournalState) (past : List Entry) (answers : List Answer) →
+        HasHistory hall past answers → Leads opening past answers hall.latest }
     ensures one { (hall other : JournalState) (past : List Entry) (answers again : List Answer)
-        → HasHistory hall past answers → HasHistory other past again → (answers ≡ again) × (hall.latest ≡ other.latest) }
+        → HasHistory hall past answers → HasHistory other past again →
+        (answers ≡ again) × (hall.latest ≡ other.latest) }
 {
     one_end();
 }
@@ -32,10 +34,13 @@ pub fn one_hall()
 /// No question of another is answered so, and a connection comes to stand as kicked only by an entry that names it.
 pub fn who_was_kicked()
     ensures turned_away { (old new : ReplicaState) (calls : List Entry) (answers : List Answer) (connection : Connection)
-        → Leads old calls answers new → is_kicked old.connections connection ≡ true → AreTurnedAway old calls connection new }
-    ensures let_in { (asked : ReplicaState) (connection : Connection) → is_kicked asked.connections connection ≡ false → IsLetIn asked connection }
+        → Leads old calls answers new → is_kicked old.connections connection ≡ true →
+        AreTurnedAway old calls connection new }
+    ensures let_in { (asked : ReplicaState) (connection : Connection) →
+        is_kicked asked.connections connection ≡ false → IsLetIn asked connection }
     ensures for_a_reason { (old new : ReplicaState) (calls : List Entry) (answers : List Answer) (connection : Connection)
-        → Leads old calls answers new → is_kicked old.connections connection ≡ false → is_kicked new.connections connection ≡ true → WasKicked calls connection }
+        → Leads old calls answers new → is_kicked old.connections connection ≡ false →
+        is_kicked new.connections connection ≡ true → WasKicked calls connection }
 {}
 
 /// What is kept of a connection counts the questions of it that were granted.
@@ -50,7 +55,9 @@ pub fn each_question_is_counted()
 /// (`Fault::Remade`): the coinbase's, or that of a transaction with the coinbase's name.
 pub fn mined_is_next_tip(hall: &Hall, mark: u8, block: &SoundBlock)
     requires { IsMined hall.now.latest.node mark block.now }
-    ensures { (taken : Taken) (new : NodeState) → TakesBlock hall.now.latest.node block.now None taken new → FaresAsMined hall.now.latest.node block.now taken new }
+    ensures { (taken : Taken) (new : NodeState) →
+        TakesBlock hall.now.latest.node block.now None taken new →
+        FaresAsMined hall.now.latest.node block.now taken new }
 {
     mined_fares(hall.state(), mark, block);
 }

@@ -10,10 +10,11 @@ use cb_block::SoundBlock;
 use cb_chain::has_history;
 use cb_state::{State, mined_meets_rules};
 
-// What becomes of a mined block that is given to its state at once, whoever gives it.
+/// What becomes of a mined block that is given to its state at once, whoever gives it.
 pub(crate) fn mined_fares(state: &State, mark: u8, block: &SoundBlock)
     requires { IsMined state.now mark block.now }
-    ensures { (taken : Taken) (new : NodeState) → TakesBlock state.now block.now None taken new → FaresAsMined state.now block.now taken new }
+    ensures { (taken : Taken) (new : NodeState) → TakesBlock state.now block.now None taken new →
+        FaresAsMined state.now block.now taken new }
 {
     let chain = state.chain();
     has_history(chain);

@@ -16,7 +16,7 @@ pub struct Look {
 }
 
 impl Look {
-    // What is seen of a state.
+    /// What is seen of a state.
     pub(crate) fn at(state: &State) -> Look
         ensures { result ≡ look_of state.now }
     {

@@ -45,7 +45,8 @@ impl<M: Drop, O: Opening + Drop> Inbox<M, O> {
     ) -> Result<(Inbox<M, O>, ReaderSeat<M, O>, TakerSeat<M, O>), Fault>
         requires { (1 ≤ capacity) × (capacity ≤ 1024) }
         ensures inbox { IfOk result (λ made. (made.0.peer ≡ peer) × (made.0.capacity ≡ capacity)) }
-        ensures seats { IfOk result (λ made. (made.1 ≡ opening_seat made.0.name) × (made.2 ≡ opening_seat made.0.name)) }
+        ensures seats { IfOk result
+            (λ made. (made.1 ≡ opening_seat made.0.name) × (made.2 ≡ opening_seat made.0.name)) }
         ensures memory { IsOkUnless result Memory }
     {
         let (line, mut pass) = Line::<M, O>::ruled(alloc, capacity)?;

@@ -50,7 +50,8 @@ impl<M: Drop, O: Opening + Drop> Queueing<M, O> {
         requires fresh { IsFresh O.fresh mark }
         requires count { length self.old.queued < 2 ^ 48 }
         ensures ok { OnOk result (self.new ≡ queued_more self.old mark) }
-        ensures full { IfErr result (λ back. (back ≡ mark) × (self.new ≡ self.old) × IsFullBy self.old inbox.now.capacity) }
+        ensures full { IfErr result
+            (λ back. (back ≡ mark) × (self.new ≡ self.old) × IsFullBy self.old inbox.now.capacity) }
     {
         let opens = mark.is_open();
         inbox.line.push_as::<Queues, R>(rt, &mut self.pass, mark)?;
@@ -166,7 +167,9 @@ impl<M: Drop, O: Opening + Drop> ReaderSeat<M, O> {
         requires inbox { self.old.inbox ≡ inbox.now.name }
         requires count { length self.old.queued < 2 ^ 48 }
         ensures ok { OnOk result (self.new ≡ queued_more self.old (Item item)) }
-        ensures full { IfErr result (λ full. (full.item ≡ item) × (self.new ≡ self.old) × IsFullBy self.old inbox.now.capacity) }
+        ensures full { IfErr result
+            (λ full. (full.item ≡ item) × (self.new ≡ self.old)
+            × IsFullBy self.old inbox.now.capacity) }
     {
         match self.queueing.queue(rt, inbox, Queued::Item(item)) {
             Ok(()) => Ok(()),
@@ -242,10 +245,16 @@ impl<M: Drop, O: Opening + Drop> EndedSeat<M, O> {
         requires inbox { self.inbox ≡ inbox.now.name }
         requires fresh { O.fresh opening }
         requires count { length self.queued < 2 ^ 48 }
-        ensures ok { IfOk result (λ seat. (seat ≡ queued_more self (Open opening)) × (connections is_open self.queued < 256)) }
-        ensures back { IfErr result (λ refused. (refused.seat ≡ self) × (refused.opening ≡ opening)) }
-        ensures no_more { IfErr result (λ refused. (refused.cause ≡ faults.NoMore) ↔ (256 ≤ connections is_open self.queued)) }
-        ensures full { IfErr result (λ refused. (refused.cause ≡ faults.NoMore) ⊎ ((refused.cause ≡ faults.Full) × IsFullBy self inbox.now.capacity)) }
+        ensures ok { IfOk result
+            (λ seat. (seat ≡ queued_more self (Open opening))
+            × (connections is_open self.queued < 256)) }
+        ensures back { IfErr result
+            (λ refused. (refused.seat ≡ self) × (refused.opening ≡ opening)) }
+        ensures no_more { IfErr result
+            (λ refused. (refused.cause ≡ faults.NoMore) ↔ (256 ≤ connections is_open self.queued)) }
+        ensures full { IfErr result
+            (λ refused. (refused.cause ≡ faults.NoMore)
+            ⊎ ((refused.cause ≡ faults.Full) × IsFullBy self inbox.now.capacity)) }
     {
         let mut queueing = self.queueing;
         if queueing.connections >= MOST_CONNECTIONS {

@@ -45,8 +45,10 @@ impl<M: Drop, O: Opening + Drop> TakerSeat<M, O> {
     /// None only where the inbox was empty at some moment of the call: all that this seat was told of was taken.
     pub fn take<R: Wait>(&mut self, rt: &R, inbox: &Inbox<M, O>) -> Option<Queued<M, O>>
         requires { self.old.inbox ≡ inbox.now.name }
-        ensures some { IfSome result (λ mark. (self.new ≡ taken_more self.old mark) × IsFresh O.fresh mark) }
-        ensures none { IfNone result ((self.new ≡ self.old) × IsBeginning self.old.queued self.old.taken) }
+        ensures some { IfSome result
+            (λ mark. (self.new ≡ taken_more self.old mark) × IsFresh O.fresh mark) }
+        ensures none { IfNone result
+            ((self.new ≡ self.old) × IsBeginning self.old.queued self.old.taken) }
     {
         inbox.line.pop_as::<Takes, R>(rt, &mut self.pass)
     }

@@ -37,7 +37,8 @@ pub trait Sink {
     fn write(&mut self, piece: &[u8]) -> Option<usize>
         ensures taken { IfSome result (λ n. n ≤ length piece.now) }
         ensures bytes { SinkTakes (contents self.old) (contents self.new) result piece.now }
-        ensures failed { has_failed self.new ≡ (has_failed self.old || is_refusal result piece.now) }
+        ensures failed { has_failed self.new
+            ≡ (has_failed self.old || is_refusal result piece.now) }
         ensures cause { failure self.new ≡ failure_after (failure self.old) result piece.now }
         ensures heeds { has_failed self.old ≡ false → heeds_failure self.old self.new };
 

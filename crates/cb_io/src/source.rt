@@ -65,7 +65,8 @@ impl<R: Read> Source for In<R> {
 /// One read that wasn't interrupted; None where it failed.
 fn read_again<R: Read>(reader: &mut R, buffer: &mut [u8]) -> Option<usize>
     ensures given { IfSome result (λ n. n ≤ length buffer.new) }
-    ensures bytes { SourceGives (R.remaining reader.old) (R.remaining reader.new) result buffer.new }
+    ensures bytes { SourceGives (R.remaining reader.old)
+        (R.remaining reader.new) result buffer.new }
 {
     for _ in 0..TRIES {
         match reader.read(buffer) {

@@ -50,9 +50,12 @@ pub struct WriteEnd {
 /// were.
 pub fn write_all<W: Sink>(writer: &mut W, piece: &[u8]) -> Result<(), Unwritten>
     ensures ok { OnOk result (Appends (W.contents writer.old) (W.contents writer.new) piece.now) }
-    ensures err { IfErr result (λ end. Appends (W.contents writer.old) (W.contents writer.new) (take end.taken piece.now)) }
+    ensures err { IfErr result
+        (λ end. Appends (W.contents writer.old) (W.contents writer.new)
+        (take end.taken piece.now)) }
     ensures short { IfErr result (λ end. end.taken < length piece.now) }
-    ensures cause { IfErr result (λ end. W.failure writer.new ≡ first (W.failure writer.old) end.failure) }
+    ensures cause { IfErr result
+        (λ end. W.failure writer.new ≡ first (W.failure writer.old) end.failure) }
     ensures unfailed { OnOk result (W.failure writer.new ≡ W.failure writer.old) }
     ensures marked { OnErr result (W.has_failed writer.new ≡ true) }
     ensures unmarked { OnOk result (W.has_failed writer.new ≡ W.has_failed writer.old) }
@@ -96,14 +99,20 @@ pub fn write_out<W: Sink>(
     writer: &mut W,
     messages: &[BoundedMessage],
 ) -> Result<u64, WriteEnd>
-    ensures ok { IfOk result (λ written. Wrote (W.contents writer.old) (W.contents writer.new) (texts messages.now) written []) }
-    ensures err { IfErr result (λ end. WrotePart (W.contents writer.old) (W.contents writer.new) (texts messages.now) end.written) }
+    ensures ok { IfOk result
+        (λ written. Wrote (W.contents writer.old) (W.contents writer.new)
+        (texts messages.now) written []) }
+    ensures err { IfErr result
+        (λ end. WrotePart (W.contents writer.old) (W.contents writer.new)
+        (texts messages.now) end.written) }
     // Which fault it is, by what the sink first failed by.
-    ensures cause { IfErr result (λ end. EndsBy (W.failure writer.old) (W.failure writer.new) end.fault) }
+    ensures cause { IfErr result
+        (λ end. EndsBy (W.failure writer.old) (W.failure writer.new) end.fault) }
     // A fault of the sink comes only where the sink has failed.
     ensures failed { IfErr result (λ end. IsOfSink end.fault → W.has_failed writer.new ≡ true) }
     // Where memory lacked nothing was written, and the sink is as it was.
-    ensures starved { IfErr result (λ end. end.fault ≡ WriteFault.Memory → (end.written ≡ 0) × (writer.new ≡ writer.old)) }
+    ensures starved { IfErr result
+        (λ end. end.fault ≡ WriteFault.Memory → (end.written ≡ 0) × (writer.new ≡ writer.old)) }
     // All went out only where the sink didn't fail in this call.
     ensures unfailed { OnOk result (W.failure writer.new ≡ W.failure writer.old) }
     ensures unmarked { OnOk result (W.has_failed writer.new ≡ W.has_failed writer.old) }
@@ -144,7 +153,8 @@ fn encode_all(alloc: Global, messages: &[BoundedMessage]) -> Result<Vec<u8>, Fau
 
 /// What a failure of the sink is to who writes messages.
 fn fault_of(failure: SinkFailure) -> WriteFault
-    ensures cause { (old new : Option SinkFailure) → new ≡ first old failure → EndsBy old new result }
+    ensures cause { (old new : Option SinkFailure) → new ≡ first old failure →
+        EndsBy old new result }
     ensures sink { IsOfSink result }
 {
     match failure {

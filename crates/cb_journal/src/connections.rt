@@ -19,7 +19,7 @@ pub struct Connected {
     pub kicked: bool,
 }
 
-// The connections of a peer, by their generations. They are seen as their list.
+/// The connections of a peer, by their generations. They are seen as their list.
 #[derive(Drop)]
 struct Slot {
     list: Vec<Connected>,
@@ -34,14 +34,14 @@ impl Model for Slot {
     ghost view = { λ slot. slot.list.items };
 }
 
-// A connection that has asked nothing.
+/// A connection that has asked nothing.
 const FRESH: Connected = Connected {
     count: 0,
     kicked: false,
 };
 
 impl Slot {
-    // A peer's first connection.
+    /// A peer's first connection.
     fn new(alloc: Global) -> Result<Slot, Fault>
         ensures first { IfOk result (λ slot. slot ≡ fresh ∷ []) }
         ensures memory { IsOkUnless result Memory }
@@ -51,7 +51,7 @@ impl Slot {
         Ok(Slot { list })
     }
 
-    // The connection of a generation.
+    /// The connection of a generation.
     fn get(&self, generation: u64) -> Option<Connected>
         ensures { result ≡ connected_at self.now generation }
     {
@@ -64,7 +64,7 @@ impl Slot {
         Some(self.list[(generation - 1) as usize])
     }
 
-    // Another in place of the connection of a generation, if there is one.
+    /// Another in place of the connection of a generation, if there is one.
     fn put(&mut self, generation: u64, connected: Connected)
         ensures { self.new ≡ in_slot (λ _. connected) generation self.old }
     {
@@ -77,7 +77,7 @@ impl Slot {
         self.list[(generation - 1) as usize] = connected;
     }
 
-    // One connection more. The only error is `Fault::Memory`, which changes nothing.
+    /// One connection more. The only error is `Fault::Memory`, which changes nothing.
     fn open(&mut self) -> Result<(), Fault>
         ensures ok { OnOk result (self.new ≡ self.old ++ fresh ∷ []) }
         ensures err { OnErr result (self.new ≡ self.old) }
@@ -87,7 +87,7 @@ impl Slot {
         Ok(())
     }
 
-    // The same connections. The only error is `Fault::Memory`.
+    /// The same connections. The only error is `Fault::Memory`.
     fn copy(&self, alloc: Global) -> Result<Slot, Fault>
         ensures same { IfOk result (λ copy. copy ≡ self.now) }
         ensures memory { IsOkUnless result Memory }
@@ -156,7 +156,7 @@ impl Connections {
         }
     }
 
-    // Something else is known of a connection, if there is such a one.
+    /// Something else is known of a connection, if there is such a one.
     fn put(&mut self, connection: Connection, connected: Connected)
         ensures { self.new ≡ put_in (λ _. connected) connection self.old }
     {
@@ -166,9 +166,10 @@ impl Connections {
         }
     }
 
-    // One question more.
+    /// One question more.
     pub(crate) fn count(&mut self, connection: Connection)
-        requires { IfSome (connected_of self.old connection) (λ connected. connected.count < 2 ^ 64 - 1) }
+        requires { IfSome (connected_of self.old connection)
+            (λ connected. connected.count < 2 ^ 64 - 1) }
         ensures { self.new ≡ put_in counted connection self.old }
     {
         if let Some(connected) = self.get(connection) {
@@ -182,7 +183,7 @@ impl Connections {
         }
     }
 
-    // It is kicked.
+    /// It is kicked.
     pub(crate) fn kick(&mut self, connection: Connection)
         ensures { self.new ≡ put_in kicked connection self.old }
     {
@@ -197,7 +198,7 @@ impl Connections {
         }
     }
 
-    // A peer's next connection. The only error is `Fault::Memory`, which changes nothing.
+    /// A peer's next connection. The only error is `Fault::Memory`, which changes nothing.
     pub(crate) fn open(&mut self, peer: u16) -> Result<(), Fault>
         requires { peer < 64 }
         ensures ok { OnOk result (self.new ≡ changed_at opened peer self.old) }
@@ -218,7 +219,7 @@ impl Connections {
     }
 }
 
-// Each peer's first connection. The only error is `Fault::Memory`.
+/// Each peer's first connection. The only error is `Fault::Memory`.
 fn first_slots(alloc: Global) -> Result<Vec<Slot>, Fault>
     ensures first { IfOk result (λ slots. slots.items ≡ replicate 64 (fresh ∷ [])) }
     ensures memory { IsOkUnless result Memory }
@@ -230,7 +231,7 @@ fn first_slots(alloc: Global) -> Result<Vec<Slot>, Fault>
     Ok(slots)
 }
 
-// The same connections of each peer. The only error is `Fault::Memory`.
+/// The same connections of each peer. The only error is `Fault::Memory`.
 fn copy_slots(alloc: Global, slots: &[Slot]) -> Result<Vec<Slot>, Fault>
     ensures same { IfOk result (λ copies. copies.items ≡ slots.now) }
     ensures memory { IsOkUnless result Memory }

@@ -10,7 +10,7 @@ use cb_chain::Hashes;
 use cb_state::{BoundedBlock, Excerpt, Heads, Need, News, Piece, Pieces, Taken};
 use std::alloc::Global;
 
-// The same hashes once more. The only error is `Fault::Memory`.
+/// The same hashes once more. The only error is `Fault::Memory`.
 fn copy_hashes(alloc: Global, hashes: &Hashes) -> Result<Hashes, Fault>
     ensures same { IfOk result (λ copy. copy ≡ hashes.now) }
     ensures memory { IsOkUnless result Memory }
@@ -18,7 +18,7 @@ fn copy_hashes(alloc: Global, hashes: &Hashes) -> Result<Hashes, Fault>
     Ok(Hashes::new(Vec::from_slice(alloc, hashes.as_slice())?))
 }
 
-// The same block once more, where there is one. The only error is `Fault::Memory`.
+/// The same block once more, where there is one. The only error is `Fault::Memory`.
 fn copy_block(block: Option<&BoundedBlock>) -> Result<Option<BoundedBlock>, Fault>
     ensures same { IfOk result (λ copy. copy ≡ option_copied block.entry) }
     ensures memory { IsOkUnless result Memory }
@@ -117,7 +117,7 @@ impl Entry {
     }
 }
 
-// The same calls once more, in order. The only error is `Fault::Memory`.
+/// The same calls once more, in order. The only error is `Fault::Memory`.
 pub(crate) fn copy_entries(alloc: Global, entries: &[Entry]) -> Result<Vec<Entry>, Fault>
     ensures same { IfOk result (λ copies. copies.items ≡ entries.now) }
     ensures memory { IsOkUnless result Memory }
@@ -131,7 +131,7 @@ pub(crate) fn copy_entries(alloc: Global, entries: &[Entry]) -> Result<Vec<Entry
 
 // ---- what is answered
 
-// What headers met, once more. The only error is `Fault::Memory`.
+/// What headers met, once more. The only error is `Fault::Memory`.
 fn copy_heads(alloc: Global, heads: &Heads) -> Result<Heads, Fault>
     ensures same { IfOk result (λ copy. copy ≡ heads.now) }
     ensures memory { IsOkUnless result Memory }
@@ -143,7 +143,7 @@ fn copy_heads(alloc: Global, heads: &Heads) -> Result<Heads, Fault>
     })
 }
 
-// What a block met, once more. The only error is `Fault::Memory`.
+/// What a block met, once more. The only error is `Fault::Memory`.
 fn copy_taken(alloc: Global, taken: &Taken) -> Result<Taken, Fault>
     ensures same { IfOk result (λ copy. copy ≡ taken.now) }
     ensures memory { IsOkUnless result Memory }
@@ -154,7 +154,7 @@ fn copy_taken(alloc: Global, taken: &Taken) -> Result<Taken, Fault>
     })
 }
 
-// What is wanted, once more. The only error is `Fault::Memory`.
+/// What is wanted, once more. The only error is `Fault::Memory`.
 fn copy_need(alloc: Global, need: &Need) -> Result<Need, Fault>
     ensures same { IfOk result (λ copy. copy ≡ need.now) }
     ensures memory { IsOkUnless result Memory }
@@ -166,7 +166,7 @@ fn copy_need(alloc: Global, need: &Need) -> Result<Need, Fault>
     })
 }
 
-// What is new, once more, where its block is shared. The only error is `Fault::Memory`.
+/// What is new, once more, where its block is shared. The only error is `Fault::Memory`.
 fn copy_news(alloc: Global, news: &News) -> Result<News, Fault>
     ensures same { IfOk result (λ copy. copy ≡ news.now) }
     ensures memory { IsOkUnless result Memory }
@@ -182,7 +182,7 @@ fn copy_news(alloc: Global, news: &News) -> Result<News, Fault>
     })
 }
 
-// What is served of an entry, once more, where a transaction or block is shared. The only error is `Fault::Memory`.
+/// What is served of an entry, once more, where a transaction or block is shared. The only error is `Fault::Memory`.
 fn copy_piece(piece: &Piece) -> Result<Piece, Fault>
     ensures same { IfOk result (λ copy. copy ≡ piece.now) }
     ensures memory { IsOkUnless result Memory }
@@ -195,7 +195,7 @@ fn copy_piece(piece: &Piece) -> Result<Piece, Fault>
     }
 }
 
-// The same pieces once more, in order. The only error is `Fault::Memory`.
+/// The same pieces once more, in order. The only error is `Fault::Memory`.
 fn copy_pieces(alloc: Global, pieces: &Pieces) -> Result<Pieces, Fault>
     ensures same { IfOk result (λ copy. copy ≡ pieces.now) }
     ensures memory { IsOkUnless result Memory }
@@ -208,7 +208,7 @@ fn copy_pieces(alloc: Global, pieces: &Pieces) -> Result<Pieces, Fault>
     Ok(Pieces::from_few(copies))
 }
 
-// What is served of places of a block, once more, where transactions and a block are shared. The only error is `Fault::Memory`.
+/// What is served of places of a block, once more, where transactions and a block are shared. The only error is `Fault::Memory`.
 fn copy_excerpt(alloc: Global, excerpt: &Excerpt) -> Result<Excerpt, Fault>
     ensures same { IfOk result (λ copy. copy ≡ excerpt.now) }
     ensures memory { IsOkUnless result Memory }

@@ -20,7 +20,7 @@ pub enum Local {
 }
 
 impl Local {
-    // For how many bytes it counts.
+    /// For how many bytes it counts.
     fn weight(&self) -> u64
         ensures { result ≡ min (local_weight self.now) (2 ^ 64 - 1) }
     {

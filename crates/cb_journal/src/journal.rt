@@ -108,7 +108,7 @@ impl Journal {
         Ok(told)
     }
 
-    // The journal begins anew with a call. The only error is `Fault::Memory`, which changes nothing.
+    /// The journal begins anew with a call. The only error is `Fault::Memory`, which changes nothing.
     fn begin_with(&mut self, entry: Entry) -> Result<Option<Answer>, Fault>
         requires fit { IsFit self.old.latest.connections entry }
         requires few { self.old.latest.entries < 2 ^ 62 }
@@ -128,7 +128,8 @@ impl Journal {
 
     /// The journal begins anew: no entry stands, and the state stays. The only error is `Fault::Memory`, which changes nothing.
     pub fn checkpoint(&mut self) -> Result<(), Fault>
-        ensures ok { OnOk result (self.new ≡ record { base = self.old.latest; entries = []; latest = self.old.latest }) }
+        ensures ok { OnOk result
+            (self.new ≡ record { base = self.old.latest; entries = []; latest = self.old.latest }) }
         ensures err { OnErr result (self.new ≡ self.old) }
         ensures memory { IsOkUnless result Memory }
     {
@@ -144,7 +145,8 @@ impl Journal {
     /// The only error is `Fault::Memory`.
     pub fn again(&self) -> Result<(Journal, Vec<Answer>), Fault>
         ensures same { IfOk result (λ made. made.0 ≡ self.now) }
-        ensures answers { IfOk result (λ made. Leads self.now.base self.now.entries made.1.items self.now.latest) }
+        ensures answers { IfOk result
+            (λ made. Leads self.now.base self.now.entries made.1.items self.now.latest) }
         ensures memory { IsOkUnless result Memory }
     {
         let entries = copy_entries(self.alloc, self.entries.as_slice())?;
@@ -160,11 +162,12 @@ impl Journal {
         Ok((journal, answers))
     }
 
-    // The state to which the entries lead from the one before them, and the answers to their questions, in order. The only
-    // error is `Fault::Memory`.
+    /// The state to which the entries lead from the one before them, and the answers to their questions, in order. The only
+    /// error is `Fault::Memory`.
     fn replayed(&self) -> Result<(Replica, Vec<Answer>), Fault>
         ensures same { IfOk result (λ made. made.0 ≡ self.now.latest) }
-        ensures answers { IfOk result (λ made. Leads self.now.base self.now.entries made.1.items self.now.latest) }
+        ensures answers { IfOk result
+            (λ made. Leads self.now.base self.now.entries made.1.items self.now.latest) }
         ensures memory { IsOkUnless result Memory }
     {
         let mut replica = self.base.copy()?;
@@ -176,7 +179,7 @@ impl Journal {
     }
 }
 
-// One entry more, and the state before it. The only error is `Fault::Memory`, which changes nothing.
+/// One entry more, and the state before it. The only error is `Fault::Memory`, which changes nothing.
 fn apply_to_one(replica: &mut Replica, entry: &Entry) -> Result<(Replica, Option<Answer>), Fault>
     requires fit { IsFit replica.old.connections entry.now }
     requires few { replica.old.entries < 2 ^ 62 }
@@ -190,18 +193,19 @@ fn apply_to_one(replica: &mut Replica, entry: &Entry) -> Result<(Replica, Option
     Ok((before, told))
 }
 
-// One entry more, whose answer is pushed if it is a question. The only error is `Fault::Memory`.
+/// One entry more, whose answer is pushed if it is a question. The only error is `Fault::Memory`.
 fn apply_again(replica: &mut Replica, entry: &Entry, answers: &mut Vec<Answer>) -> Result<(), Fault>
     requires fit { IsFit replica.old.connections entry.now }
     requires few { replica.old.entries < 2 ^ 62 }
-    ensures ok { OnOk result (Again replica.old entry.now answers.old.items replica.new answers.new.items) }
+    ensures ok { OnOk result
+        (Again replica.old entry.now answers.old.items replica.new answers.new.items) }
     ensures memory { IsOkUnless result Memory }
 {
     let told = replica.apply(entry)?;
     push_heard(answers, entry, told)
 }
 
-// Pushes the answer to a question. The only error is `Fault::Memory`.
+/// Pushes the answer to a question. The only error is `Fault::Memory`.
 fn push_heard(answers: &mut Vec<Answer>, entry: &Entry, told: Option<Answer>) -> Result<(), Fault>
     ensures pushed { OnOk result (answers.new.items ≡ answers.old.items ++ heard entry.now told) }
     ensures memory { IsOkUnless result Memory }

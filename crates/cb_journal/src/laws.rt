@@ -17,7 +17,8 @@ pub fn one_step()
 /// A journal leads from a state to one state, and its questions have one list of answers.
 pub fn one_end()
     ensures { (old new other : ReplicaState) (entries : List Entry) (answers again : List Answer)
-        → Leads old entries answers new → Leads old entries again other → (answers ≡ again) × (new ≡ other) }
+        → Leads old entries answers new → Leads old entries again other →
+        (answers ≡ again) × (new ≡ other) }
 {
     one_step();
 }

@@ -76,7 +76,7 @@ pub enum Question {
     Match(Shared<Sought>),
 }
 
-// For how many bytes a list of so many entries counts.
+/// For how many bytes a list of so many entries counts.
 fn list_weight(count: usize) -> u64
     ensures { result ≡ min (40 * count) (2 ^ 64 - 1) }
 {
@@ -102,7 +102,7 @@ impl Question {
 }
 
 impl Request {
-    // For how many bytes its list counts.
+    /// For how many bytes its list counts.
     fn weight(&self) -> u64
         ensures { result ≡ min (request_weight self.now) (2 ^ 64 - 1) }
     {

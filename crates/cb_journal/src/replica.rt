@@ -105,7 +105,7 @@ impl Replica {
     }
 }
 
-// What an entry does. The only error is `Fault::Memory`, which changes nothing.
+/// What an entry does. The only error is `Fault::Memory`, which changes nothing.
 fn change(
     state: &mut State,
     connections: &mut Connections,
@@ -113,7 +113,8 @@ fn change(
 ) -> Result<Option<Answer>, Fault>
     requires fit { IsFit connections.old entry.now }
     requires few { AreCounted (2 ^ 62) connections.old }
-    ensures ok { IfOk result (λ told. Does state.old connections.old entry.now told state.new connections.new) }
+    ensures ok { IfOk result
+        (λ told. Does state.old connections.old entry.now told state.new connections.new) }
     ensures state { OnErr result (state.new ≡ state.old) }
     ensures connections { OnErr result (connections.new ≡ connections.old) }
     ensures memory { IsOkUnless result Memory }
@@ -136,7 +137,7 @@ fn change(
     }
 }
 
-// Answers a question, and counts it. The only error is `Fault::Memory`, which changes nothing.
+/// Answers a question, and counts it. The only error is `Fault::Memory`, which changes nothing.
 fn ask(
     state: &mut State,
     connections: &mut Connections,
@@ -144,7 +145,9 @@ fn ask(
     question: &Question,
 ) -> Result<Answer, Fault>
     requires few { AreCounted (2 ^ 62) connections.old }
-    ensures replies { IfOk result (λ answer. Replies (is_kicked connections.old connection) state.old connection question.now answer state.new) }
+    ensures replies { IfOk result
+        (λ answer. Replies
+        (is_kicked connections.old connection) state.old connection question.now answer state.new) }
     ensures counted { OnOk result (connections.new ≡ put_in counted connection connections.old) }
     ensures state { OnErr result (state.new ≡ state.old) }
     ensures connections { OnErr result (connections.new ≡ connections.old) }

@@ -28,10 +28,12 @@ pub fn sum_of(outputs: &[TxOut]) -> i128
     sum
 }
 
-// Spends the inputs in order, and adds up what they are worth.
+/// Spends the inputs in order, and adds up what they are worth.
 fn spend_inputs(base: &Base<'_>, draft: &mut Overlay, inputs: &[TxIn]) -> Result<i128, Fault>
-    ensures told { Tells (inputs_spent (changed base.now draft.old) inputs.now) (λ sum. (sum, changed base.now draft.new)) result }
-    ensures unpaid { SpendsFirst (changed base.now draft.old) inputs.now ⊎ ((draft.new ≡ draft.old) × (result ≢ Err Memory)) }
+    ensures told { Tells (inputs_spent (changed base.now draft.old) inputs.now)
+        (λ sum. (sum, changed base.now draft.new)) result }
+    ensures unpaid { SpendsFirst (changed base.now draft.old) inputs.now
+        ⊎ ((draft.new ≡ draft.old) × (result ≢ Err Memory)) }
 {
     let mut sum = 0i128;
     for input in inputs {
@@ -46,7 +48,7 @@ fn spend_inputs(base: &Base<'_>, draft: &mut Overlay, inputs: &[TxIn]) -> Result
     Ok(sum)
 }
 
-// Makes the outputs in order.
+/// Makes the outputs in order.
 fn make_outputs(
     base: &Base<'_>,
     draft: &mut Overlay,
@@ -54,8 +56,10 @@ fn make_outputs(
     outputs: &[TxOut],
 ) -> Result<(), Fault>
     requires { length outputs.now < 2 ^ 32 }
-    ensures told { Tells (outputs_made (changed base.now draft.old) txid 0 outputs.now) (λ _. changed base.now draft.new) result }
-    ensures unpaid { MakesFirst (changed base.now draft.old) txid outputs.now ⊎ ((draft.new ≡ draft.old) × (result ≢ Err Memory)) }
+    ensures told { Tells (outputs_made (changed base.now draft.old) txid 0 outputs.now)
+        (λ _. changed base.now draft.new) result }
+    ensures unpaid { MakesFirst (changed base.now draft.old) txid outputs.now
+        ⊎ ((draft.new ≡ draft.old) × (result ≢ Err Memory)) }
 {
     let mut index = 0u32;
     for output in outputs {
@@ -69,12 +73,14 @@ fn make_outputs(
     Ok(())
 }
 
-// Spends a transaction's inputs and makes its outputs.
+/// Spends a transaction's inputs and makes its outputs.
 fn spend_tx(base: &Base<'_>, draft: &mut Overlay, txid: Hash256, tx: &Tx) -> Result<(), Fault>
     requires name { txid ≡ double_hash (tx_text tx.now) }
     requires few { length tx.now.outputs < 2 ^ 32 }
-    ensures told { Tells (tx_spent (changed base.now draft.old) tx.now) (λ _. changed base.now draft.new) result }
-    ensures unpaid { TouchesOne (changed base.now draft.old) tx.now ⊎ ((draft.new ≡ draft.old) × (result ≢ Err Memory)) }
+    ensures told { Tells (tx_spent (changed base.now draft.old) tx.now)
+        (λ _. changed base.now draft.new) result }
+    ensures unpaid { TouchesOne (changed base.now draft.old) tx.now
+        ⊎ ((draft.new ≡ draft.old) × (result ≢ Err Memory)) }
 {
     let outputs = tx.outputs.as_slice();
     if tx.is_coinbase() {
@@ -87,7 +93,7 @@ fn spend_tx(base: &Base<'_>, draft: &mut Overlay, txid: Hash256, tx: &Tx) -> Res
     make_outputs(base, draft, txid, outputs)
 }
 
-// The transactions in order, over the base: what they change, or the first fault.
+/// The transactions in order, over the base: what they change, or the first fault.
 fn spend_txs(
     base: &Base<'_>,
     draft: &mut Overlay,
@@ -96,8 +102,10 @@ fn spend_txs(
 ) -> Result<(), Fault>
     requires named { txids.now ≡ names (texts txs.now) }
     requires few { All (λ tx. length tx.outputs < 2 ^ 32) txs.now }
-    ensures told { Tells (spend (changed base.now draft.old) txs.now) (λ _. changed base.now draft.new) result }
-    ensures unpaid { Touches (changed base.now draft.old) txs.now ⊎ ((draft.new ≡ draft.old) × (result ≢ Err Memory)) }
+    ensures told { Tells (spend (changed base.now draft.old) txs.now)
+        (λ _. changed base.now draft.new) result }
+    ensures unpaid { Touches (changed base.now draft.old) txs.now
+        ⊎ ((draft.new ≡ draft.old) × (result ≢ Err Memory)) }
 {
     for place in 0..txs.len() {
         spend_tx(base, draft, txids[place], &txs[place])?;
@@ -105,15 +113,17 @@ fn spend_txs(
     Ok(())
 }
 
-// What a block changes over the base, which stays as it is, or its first fault.
+/// What a block changes over the base, which stays as it is, or its first fault.
 pub(crate) fn changes_over(
     alloc: Global,
     base: &Base<'_>,
     block: &SoundBlock,
 ) -> Result<Undo, Fault>
     requires { All (λ tx. length tx.outputs < 2 ^ 32) block.now.txs }
-    ensures told { Tells (spend base.now block.now.txs) (λ changes. changed base.now changes) result }
-    ensures unpaid { Touches base.now block.now.txs ⊎ (IfOk result (λ changes. changes ≡ []) × (result ≢ Err Memory)) }
+    ensures told { Tells (spend base.now block.now.txs)
+        (λ changes. changed base.now changes) result }
+    ensures unpaid { Touches base.now block.now.txs
+        ⊎ (IfOk result (λ changes. changes ≡ []) × (result ≢ Err Memory)) }
 {
     let mut draft = Overlay::new(alloc);
     let txs = block.block().txs.as_slice();

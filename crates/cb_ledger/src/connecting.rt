@@ -13,7 +13,7 @@ use crate::undo::{CoinChange, Undo};
 use cb_base::Fault;
 use cb_block::SoundBlock;
 
-// Gives each outpoint what stands at it, and puts in its place what it had.
+/// Gives each outpoint what stands at it, and puts in its place what it had.
 fn exchange_all(ledger: &mut Ledger, changes: &mut [CoinChange])
     requires once { StandOnce changes.old }
     requires room { length changes.old ≤ ledger.old.room }
@@ -29,17 +29,19 @@ fn exchange_all(ledger: &mut Ledger, changes: &mut [CoinChange])
     }
 }
 
-// What a block changes over the ledger, which stays as it is, or its first fault.
+/// What a block changes over the ledger, which stays as it is, or its first fault.
 fn changes_of(ledger: &Ledger, block: &SoundBlock) -> Result<Undo, Fault>
     requires { All (λ tx. length tx.outputs < 2 ^ 32) block.now.txs }
-    ensures told { Tells (spend ledger.now.unspent block.now.txs) (λ changes. changed ledger.now.unspent changes) result }
-    ensures unpaid { Touches ledger.now.unspent block.now.txs ⊎ (IfOk result (λ changes. changes ≡ []) × (result ≢ Err Memory)) }
+    ensures told { Tells (spend ledger.now.unspent block.now.txs)
+        (λ changes. changed ledger.now.unspent changes) result }
+    ensures unpaid { Touches ledger.now.unspent block.now.txs
+        ⊎ (IfOk result (λ changes. changes ≡ []) × (result ≢ Err Memory)) }
 {
     let none = Overlay::new(ledger.alloc);
     changes_over(ledger.alloc, &Base::new(ledger, &none), block)
 }
 
-// Room for the changes, for taking them back, and for so many more.
+/// Room for the changes, for taking them back, and for so many more.
 fn places_for(changes: usize, more: usize) -> Result<usize, Fault>
     ensures places { IfOk result (λ places. places ≡ changes + changes + more) }
     ensures none { changes ≡ 0 → IsOk result }
@@ -70,13 +72,16 @@ impl Ledger {
     /// Connects a block, as `connect` does, and keeps room for taking it back and for so many places more.
     pub fn connect_with_room(&mut self, block: &SoundBlock, places: usize) -> Result<Undo, Fault>
         requires { All (λ tx. length tx.outputs < 2 ^ 32) block.now.txs }
-        ensures exact { Tells (spend self.old.unspent block.now.txs) (λ _. self.new.unspent) result }
+        ensures exact { Tells (spend self.old.unspent block.now.txs)
+            (λ _. self.new.unspent) result }
         ensures err { OnErr result (self.new.unspent ≡ self.old.unspent) }
-        ensures undo { IfOk result (λ undo. LeadsBack undo block.now.txs self.old.unspent self.new.unspent) }
+        ensures undo { IfOk result
+            (λ undo. LeadsBack undo block.now.txs self.old.unspent self.new.unspent) }
         ensures kept { IfOk result (λ undo. places + length undo ≤ self.new.room) }
         ensures fits { IfOk result (λ undo. places + length undo < 2 ^ 64) }
         ensures room { OnErr result (self.old.room ≤ self.new.room) }
-        ensures unpaid { result ≡ Err Memory → Touches self.old.unspent block.now.txs ⊎ (self.old.room < places) }
+        ensures unpaid { result ≡ Err Memory →
+            Touches self.old.unspent block.now.txs ⊎ (self.old.room < places) }
     {
         let mut undo = changes_of(self, block)?;
         self.reserve(places_for(undo.changes.len(), places)?)?;
@@ -92,9 +97,11 @@ impl Ledger {
     /// unspent already. The first of these is told, or `Fault::Memory`, and then nothing has changed.
     pub fn connect(&mut self, block: &SoundBlock) -> Result<Undo, Fault>
         requires { All (λ tx. length tx.outputs < 2 ^ 32) block.now.txs }
-        ensures exact { Tells (spend self.old.unspent block.now.txs) (λ _. self.new.unspent) result }
+        ensures exact { Tells (spend self.old.unspent block.now.txs)
+            (λ _. self.new.unspent) result }
         ensures err { OnErr result (self.new.unspent ≡ self.old.unspent) }
-        ensures undo { IfOk result (λ undo. LeadsBack undo block.now.txs self.old.unspent self.new.unspent) }
+        ensures undo { IfOk result
+            (λ undo. LeadsBack undo block.now.txs self.old.unspent self.new.unspent) }
         // There is room for taking the block back.
         ensures kept { IfOk result (λ undo. length undo ≤ self.new.room) }
         // No memory is taken before an outpoint is spent or made.
@@ -107,8 +114,11 @@ impl Ledger {
     ///
     /// The only error is `Fault::Memory`, with the undo record: then nothing has changed.
     pub fn disconnect(&mut self, block: &SoundBlock, undo: Undo) -> Result<(), (Undo, Fault)>
-        ensures ok { OnOk result ((before : Unspent) → LeadsBack undo block.now.txs before self.old.unspent → self.new.unspent ≡ before) }
-        ensures err { IfErr result (λ back. (back.0 ≡ undo) × (back.1 ≡ Memory) × (self.new.unspent ≡ self.old.unspent)) }
+        ensures ok { OnOk result
+            ((before : Unspent) → LeadsBack undo block.now.txs before self.old.unspent →
+            self.new.unspent ≡ before) }
+        ensures err { IfErr result
+            (λ back. (back.0 ≡ undo) × (back.1 ≡ Memory) × (self.new.unspent ≡ self.old.unspent)) }
         // Where there is room for it, it succeeds.
         ensures enough { length undo ≤ self.old.room → IsOk result }
     {

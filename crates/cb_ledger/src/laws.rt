@@ -34,10 +34,13 @@ pub fn no_value_made()
 /// What transactions leave at an outpoint that none of them makes: where none spends it, it is as before; where one does,
 /// it was unspent before, and no longer is.
 pub fn spent_once()
-    ensures kept { (before after : Unspent) (txs : List Tx) (point : OutPoint) → spend before txs ≡ Ok after
+    ensures kept { (before after : Unspent) (txs : List Tx) (point : OutPoint) →
+        spend before txs ≡ Ok after
         → ¬ IsSpent txs point → ¬ IsMade txs point → map.get after point ≡ map.get before point }
-    ensures spent { (before after : Unspent) (txs : List Tx) (point : OutPoint) → spend before txs ≡ Ok after
-        → IsSpent txs point → ¬ IsMade txs point → (map.get before point ≢ None) × (map.get after point ≡ None) }
+    ensures spent { (before after : Unspent) (txs : List Tx) (point : OutPoint) →
+        spend before txs ≡ Ok after
+        → IsSpent txs point → ¬ IsMade txs point →
+        (map.get before point ≢ None) × (map.get after point ≡ None) }
 {}
 
 /// A transaction that meets its rules has fewer than 2^32 outputs, as `connect` wants it.

@@ -65,7 +65,7 @@ impl Ledger {
         Ok(())
     }
 
-    // Gives an outpoint a value or none, and answers what it had.
+    /// Gives an outpoint a value or none, and answers what it had.
     pub(crate) fn set(&mut self, point: OutPoint, value: Option<i64>) -> Option<i64>
         requires { 0 < self.old.room }
         ensures before { result ≡ map.get self.old.unspent point }

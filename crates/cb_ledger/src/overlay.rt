@@ -35,10 +35,12 @@ impl Model for Overlay {
     ghost view = { λ overlay. changes_of overlay.touched.entries };
 }
 
-// Puts changes over those that are there. There must be room for each of them.
+/// Puts changes over those that are there. There must be room for each of them.
 fn put_over(touched: &mut HashMap<OutPoint, Option<i64>>, changes: &[CoinChange])
     requires { length changes.now ≤ spare touched.old }
-    ensures { (u : Unspent) → changed u (changes_of touched.new.entries) ≡ changed (changed u (changes_of touched.old.entries)) changes.now }
+    ensures { (u : Unspent) →
+        changed u (changes_of touched.new.entries)
+        ≡ changed (changed u (changes_of touched.old.entries)) changes.now }
 {
     let mut left = changes.len();
     while left > 0 {
@@ -49,10 +51,12 @@ fn put_over(touched: &mut HashMap<OutPoint, Option<i64>>, changes: &[CoinChange]
     }
 }
 
-// Puts changes under those that are there. There must be room for each of them.
+/// Puts changes under those that are there. There must be room for each of them.
 fn put_under(touched: &mut HashMap<OutPoint, Option<i64>>, changes: &[CoinChange])
     requires { length changes.now ≤ spare touched.old }
-    ensures { (u : Unspent) → changed u (changes_of touched.new.entries) ≡ changed (changed u changes.now) (changes_of touched.old.entries) }
+    ensures { (u : Unspent) →
+        changed u (changes_of touched.new.entries)
+        ≡ changed (changed u changes.now) (changes_of touched.old.entries) }
 {
     for change in changes {
         if !touched.contains_key(&change.point) {
@@ -72,9 +76,10 @@ impl Overlay {
         }
     }
 
-    // What the outpoint has after the changes, if they touch it.
+    /// What the outpoint has after the changes, if they touch it.
     pub(crate) fn change(&self, point: &OutPoint) -> Option<Option<i64>>
-        ensures { (u : Unspent) → map.get (changed u self.now) point.now ≡ unwrap_or result (map.get u point.now) }
+        ensures { (u : Unspent) →
+            map.get (changed u self.now) point.now ≡ unwrap_or result (map.get u point.now) }
     {
         if self.touched.is_empty() {
             return None;
@@ -82,7 +87,7 @@ impl Overlay {
         self.touched.get(point).copied()
     }
 
-    // What the outpoint has after the changes, over a base.
+    /// What the outpoint has after the changes, over a base.
     pub(crate) fn value(&self, base: &Base<'_>, point: &OutPoint) -> Option<i64>
         ensures { result ≡ map.get (changed base.now self.now) point.now }
     {
@@ -92,9 +97,10 @@ impl Overlay {
         }
     }
 
-    // One change more.
+    /// One change more.
     pub(crate) fn note(&mut self, point: OutPoint, value: Option<i64>) -> Result<(), Fault>
-        ensures ok { OnOk result ((u : Unspent) → changed u self.new ≡ set_at (changed u self.old) point value) }
+        ensures ok { OnOk result
+            ((u : Unspent) → changed u self.new ≡ set_at (changed u self.old) point value) }
         ensures memory { IsOkUnless result Memory }
     {
         self.touched.insert(point, value)?;
@@ -105,11 +111,15 @@ impl Overlay {
     /// ledger stays as it is. The undo record is what `take_back` takes.
     pub fn connect(&mut self, ledger: &Ledger, block: &SoundBlock) -> Result<Undo, Fault>
         requires { All (λ tx. length tx.outputs < 2 ^ 32) block.now.txs }
-        ensures exact { Tells (spend (changed ledger.now.unspent self.old) block.now.txs) (λ _. changed ledger.now.unspent self.new) result }
+        ensures exact { Tells (spend (changed ledger.now.unspent self.old) block.now.txs)
+            (λ _. changed ledger.now.unspent self.new) result }
         ensures err { OnErr result ((u : Unspent) → changed u self.new ≡ changed u self.old) }
-        ensures undo { IfOk result (λ undo. LeadsBack undo block.now.txs (changed ledger.now.unspent self.old) (changed ledger.now.unspent self.new)) }
+        ensures undo { IfOk result
+            (λ undo. LeadsBack undo block.now.txs (changed ledger.now.unspent self.old)
+            (changed ledger.now.unspent self.new)) }
         // No memory is taken before an outpoint is spent or made.
-        ensures unpaid { result ≡ Err Memory → Touches (changed ledger.now.unspent self.old) block.now.txs }
+        ensures unpaid { result ≡ Err Memory →
+            Touches (changed ledger.now.unspent self.old) block.now.txs }
     {
         let base = Base::new(ledger, self);
         let changes = changes_over(ledger.alloc, &base, block)?;
@@ -122,7 +132,8 @@ impl Overlay {
     ///
     /// The only error is `Fault::Memory`, and only where the record has any: then nothing has changed.
     pub fn take_back(&mut self, undo: &Undo) -> Result<(), Fault>
-        ensures ok { OnOk result ((u : Unspent) → changed u self.new ≡ changed (changed u self.old) undo.now) }
+        ensures ok { OnOk result
+            ((u : Unspent) → changed u self.new ≡ changed (changed u self.old) undo.now) }
         ensures err { OnErr result ((u : Unspent) → changed u self.new ≡ changed u self.old) }
         ensures none { undo.now ≡ [] → IsOk result }
         ensures memory { IsOkUnless result Memory }
@@ -137,7 +148,8 @@ impl Overlay {
     ///
     /// The only error is `Fault::Memory`, and only where the record has any: then nothing has changed.
     pub fn rest_on(&mut self, undo: &Undo) -> Result<(), Fault>
-        ensures ok { OnOk result ((u : Unspent) → changed u self.new ≡ changed (changed u undo.now) self.old) }
+        ensures ok { OnOk result
+            ((u : Unspent) → changed u self.new ≡ changed (changed u undo.now) self.old) }
         ensures err { OnErr result ((u : Unspent) → changed u self.new ≡ changed u self.old) }
         ensures none { undo.now ≡ [] → IsOk result }
         ensures memory { IsOkUnless result Memory }

@@ -76,7 +76,8 @@ pub fn read_txs_request(
 ) -> Result<BlockTransactionsRequest, Fault>
     ensures exact { GivesInMemory (txs_request_at cursor.old) result cursor.new }
     // Up to the count no memory is taken.
-    ensures unpaid { (fault : Fault) → txs_request_count_at cursor.old ≡ Err fault → result ≡ Err fault }
+    ensures unpaid { (fault : Fault) → txs_request_count_at cursor.old ≡ Err fault →
+        result ≡ Err fault }
     // Nor is any for a count of 0.
     ensures paid { result ≡ Err Memory → TxsRequestTakesMemory cursor.old }
 {
@@ -104,7 +105,7 @@ pub fn put_txs_request(out: &mut Vec<u8>, request: &BlockTransactionsRequest) ->
     put_list(out, request.differences.as_slice())
 }
 
-// So many transactions, one after the other, behind their count.
+/// So many transactions, one after the other, behind their count.
 #[tactic(auto, unfolding(cb_tx::specs::Reading::list_at))]
 fn read_txs(alloc: Global, cursor: &mut Cursor) -> Result<Txs, Fault>
     ensures exact { GivesInMemory (list_at 10 tx_at cursor.old) result cursor.new }
@@ -124,7 +125,8 @@ fn read_txs(alloc: Global, cursor: &mut Cursor) -> Result<Txs, Fault>
 pub fn read_block_txs(alloc: Global, cursor: &mut Cursor) -> Result<BlockTransactions, Fault>
     ensures exact { GivesInMemory (block_txs_at cursor.old) result cursor.new }
     // Up to the count no memory is taken.
-    ensures unpaid { (fault : Fault) → block_txs_count_at cursor.old ≡ Err fault → result ≡ Err fault }
+    ensures unpaid { (fault : Fault) → block_txs_count_at cursor.old ≡ Err fault →
+        result ≡ Err fault }
     // Nor is any for a count of 0.
     ensures paid { result ≡ Err Memory → BlockTxsTakesMemory cursor.old }
 {

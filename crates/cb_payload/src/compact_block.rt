@@ -35,7 +35,8 @@ pub struct HeaderAndShortIds {
 pub fn read_compact_block(alloc: Global, cursor: &mut Cursor) -> Result<HeaderAndShortIds, Fault>
     ensures exact { GivesInMemory (compact_block_at cursor.old) result cursor.new }
     // Up to the count of ids no memory is taken.
-    ensures unpaid { (fault : Fault) → compact_block_count_at cursor.old ≡ Err fault → result ≡ Err fault }
+    ensures unpaid { (fault : Fault) → compact_block_count_at cursor.old ≡ Err fault →
+        result ≡ Err fault }
     // Nor is any where there are no ids and no prefilled transactions that can be read.
     ensures paid { result ≡ Err Memory → CompactBlockTakesMemory cursor.old }
 {

@@ -20,7 +20,10 @@ pub fn compact_blocks_are_read_as_written()
 
 /// A strict beginning of the text of one is too short to be read: `Fault::Truncated`.
 pub fn beginnings_of_compact_blocks_are_truncated()
-    ensures block { (block : HeaderAndShortIds) (b c : List ℕ) → IsCompactBlock block → compact_block_text block ≡ b ++ c → c ≢ [] → compact_block_at b ≡ Err Truncated }
-    ensures request { (request : BlockTransactionsRequest) (b c : List ℕ) → IsTxsRequest request → txs_request_text request ≡ b ++ c → c ≢ [] → txs_request_at b ≡ Err Truncated }
-    ensures txs { (txs : BlockTransactions) (b c : List ℕ) → IsBlockTxs txs → block_txs_text txs ≡ b ++ c → c ≢ [] → block_txs_at b ≡ Err Truncated }
+    ensures block { (block : HeaderAndShortIds) (b c : List ℕ) → IsCompactBlock block →
+        compact_block_text block ≡ b ++ c → c ≢ [] → compact_block_at b ≡ Err Truncated }
+    ensures request { (request : BlockTransactionsRequest) (b c : List ℕ) → IsTxsRequest request →
+        txs_request_text request ≡ b ++ c → c ≢ [] → txs_request_at b ≡ Err Truncated }
+    ensures txs { (txs : BlockTransactions) (b c : List ℕ) → IsBlockTxs txs →
+        block_txs_text txs ≡ b ++ c → c ≢ [] → block_txs_at b ≡ Err Truncated }
 {}

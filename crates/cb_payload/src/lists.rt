@@ -220,7 +220,8 @@ pub fn read_limited(cursor: &mut Cursor, most: usize, size: u32) -> Result<usize
 
 /// So many items, one after the other.
 fn items_of<T: ListItem>(alloc: Global, cursor: &mut Cursor, count: usize) -> Result<Vec<T>, Fault>
-    ensures exact { MatchResult result (λ items. items_at T.item_at count cursor.old ≡ Ok (items.items, cursor.new))
+    ensures exact { MatchResult result
+        (λ items. items_at T.item_at count cursor.old ≡ Ok (items.items, cursor.new))
         (λ fault. (fault ≡ Memory) ⊎ (items_at T.item_at count cursor.old ≡ Err fault)) }
     ensures few { IfOk result (λ items. length items.items ≡ count) }
     ensures unpaid { count ≡ 0 → IsOk result }
@@ -245,7 +246,8 @@ pub fn read_list<T: ListItem, const MOST: usize>(
 ) -> Result<Listed<T, MOST>, Fault>
     ensures exact { GivesInMemory (listed_at MOST T.WIDTH T.item_at cursor.old) result cursor.new }
     // Up to the count no memory is taken.
-    ensures unpaid { (fault : Fault) → limited_at MOST T.WIDTH cursor.old ≡ Err fault → result ≡ Err fault }
+    ensures unpaid { (fault : Fault) → limited_at MOST T.WIDTH cursor.old ≡ Err fault →
+        result ≡ Err fault }
     // Nor is any for a count of 0.
     ensures paid { result ≡ Err Memory → CountsSome MOST T.WIDTH cursor.old }
 {

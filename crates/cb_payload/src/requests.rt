@@ -85,7 +85,8 @@ pub fn put_compact_relay(out: &mut Vec<u8>, relay: &CompactRelay) -> Result<(), 
 pub fn read_request(alloc: Global, cursor: &mut Cursor) -> Result<HeadersRequest, Fault>
     ensures exact { GivesInMemory (request_at cursor.old) result cursor.new }
     // Up to the count no memory is taken.
-    ensures unpaid { (fault : Fault) → request_count_at cursor.old ≡ Err fault → result ≡ Err fault }
+    ensures unpaid { (fault : Fault) → request_count_at cursor.old ≡ Err fault →
+        result ≡ Err fault }
     // Nor is any for a count of 0.
     ensures paid { result ≡ Err Memory → TakesMemory cursor.old }
 {

@@ -40,9 +40,11 @@ impl CompactTxs {
         ids: Vec<u64>,
         prefilled: Vec<PrefilledTransaction>,
     ) -> Result<CompactTxs, (Vec<u64>, Vec<PrefilledTransaction>)>
-        ensures same { IfOk result (λ txs. txs ≡ record { ids = ids.items; prefilled = prefilled.items }) }
+        ensures same { IfOk result
+            (λ txs. txs ≡ record { ids = ids.items; prefilled = prefilled.items }) }
         ensures back { IfErr result (λ back. (back.0 ≡ ids) × (back.1 ≡ prefilled)) }
-        ensures few { IsShortForm (record { ids = ids.items; prefilled = prefilled.items }) → IsOk result }
+        ensures few { IsShortForm (record { ids = ids.items; prefilled = prefilled.items }) →
+            IsOk result }
     {
         let total = ids.len().saturating_add(prefilled.len());
         if total == 0 || total > MOST_BLOCK_TXS || !are_short(ids.as_slice()) {

@@ -22,9 +22,10 @@ fn read_short_id(cursor: &mut Cursor) -> Result<u64, Fault>
     ]))
 }
 
-// So many ids, one after the other.
+/// So many ids, one after the other.
 fn ids_of(alloc: Global, cursor: &mut Cursor, count: usize) -> Result<Vec<u64>, Fault>
-    ensures exact { MatchResult result (λ ids. items_at short_id_at count cursor.old ≡ Ok (ids.items, cursor.new))
+    ensures exact { MatchResult result
+        (λ ids. items_at short_id_at count cursor.old ≡ Ok (ids.items, cursor.new))
         (λ fault. (fault ≡ Memory) ⊎ (items_at short_id_at count cursor.old ≡ Err fault)) }
     ensures low { IfOk result (λ ids. All IsShortId ids.items) }
     ensures unpaid { count ≡ 0 → IsOk result }
@@ -40,7 +41,8 @@ fn ids_of(alloc: Global, cursor: &mut Cursor, count: usize) -> Result<Vec<u64>, 
 /// may stand anywhere.
 #[tactic(auto, unfolding(cb_tx::specs::Reading::list_at))]
 pub fn read_ids(alloc: Global, cursor: &mut Cursor) -> Result<Vec<u64>, Fault>
-    ensures exact { MatchResult result (λ ids. list_at 6 short_id_at cursor.old ≡ Ok (ids.items, cursor.new))
+    ensures exact { MatchResult result
+        (λ ids. list_at 6 short_id_at cursor.old ≡ Ok (ids.items, cursor.new))
         (λ fault. (fault ≡ Memory) ⊎ (list_at 6 short_id_at cursor.old ≡ Err fault)) }
     ensures low { IfOk result (λ ids. All IsShortId ids.items) }
     ensures unpaid { (fault : Fault) → count_at 6 cursor.old ≡ Err fault → result ≡ Err fault }

@@ -137,7 +137,8 @@ pub fn tx_items_of<T: TxItem>(
     cursor: &mut Cursor,
     count: usize,
 ) -> Result<Vec<T>, Fault>
-    ensures exact { MatchResult result (λ items. items_at T.item_at count cursor.old ≡ Ok (items.items, cursor.new))
+    ensures exact { MatchResult result
+        (λ items. items_at T.item_at count cursor.old ≡ Ok (items.items, cursor.new))
         (λ fault. (fault ≡ Memory) ⊎ (items_at T.item_at count cursor.old ≡ Err fault)) }
     ensures few { IfOk result (λ items. length items.items ≡ count) }
     ensures unpaid { count ≡ 0 → IsOk result }

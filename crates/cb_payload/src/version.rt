@@ -80,7 +80,8 @@ fn read_address(cursor: &mut Cursor) -> Result<NetAddress, Fault>
 /// The agent, in the payload. One of more than 256 bytes is `Fault::TooMany`, whether they are there or not.
 #[tactic(auto, unfolding(crate::specs::Version::agent_at))]
 fn read_agent<'a>(cursor: &mut Cursor<'a>) -> Result<&'a [u8], Fault>
-    ensures exact { MatchResult result (λ agent. agent_at cursor.old ≡ Ok (agent.now, cursor.new)) (λ fault. agent_at cursor.old ≡ Err fault) }
+    ensures exact { MatchResult result (λ agent. agent_at cursor.old ≡ Ok (agent.now, cursor.new))
+        (λ fault. agent_at cursor.old ≡ Err fault) }
     ensures few { IfOk result (λ agent. length agent.now ≤ 256) }
 {
     let len = cursor.compact()?;
@@ -182,7 +183,11 @@ fn put_agent(out: &mut Vec<u8>, agent: &Agent) -> Result<(), Fault>
 /// The first three numbers. The only error is `Fault::Memory`.
 #[tactic(auto, using(cb_tx::proofs::Appends::appends))]
 fn put_numbers(out: &mut Vec<u8>, version: &Version) -> Result<(), Fault>
-    ensures ok { OnOk result (out.new.items ≡ out.old.items ++ (to_le_bytes w32 (cast_unsigned w32 version.now.version) ++ (to_le_bytes w64 version.now.services
+    ensures ok { OnOk result
+        (out.new.items
+        ≡ out.old.items
+        ++ (to_le_bytes w32 (cast_unsigned w32 version.now.version)
+        ++ (to_le_bytes w64 version.now.services
         ++ to_le_bytes w64 (cast_unsigned w64 version.now.time)))) }
     ensures memory { IsOkUnless result Memory }
     ensures version { OnOk result (FitsSigned w32 version.now.version) }
@@ -198,7 +203,9 @@ fn put_numbers(out: &mut Vec<u8>, version: &Version) -> Result<(), Fault>
 /// What stands behind the addresses, but for the relay byte. The only error is `Fault::Memory`.
 #[tactic(auto, using(cb_tx::proofs::Appends::appends))]
 fn put_tail(out: &mut Vec<u8>, version: &Version) -> Result<(), Fault>
-    ensures ok { OnOk result (out.new.items ≡ out.old.items ++ (to_le_bytes w64 version.now.nonce ++ (agent_text version.now.agent
+    ensures ok { OnOk result
+        (out.new.items
+        ≡ out.old.items ++ (to_le_bytes w64 version.now.nonce ++ (agent_text version.now.agent
         ++ to_le_bytes w32 (cast_unsigned w32 version.now.height)))) }
     ensures memory { IsOkUnless result Memory }
     ensures nonce { OnOk result (version.now.nonce < 2 ^ 64) }

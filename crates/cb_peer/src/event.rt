@@ -79,7 +79,7 @@ impl Event {
     }
 }
 
-// How many payload bytes an item holds.
+/// How many payload bytes an item holds.
 fn payload_of(item: &Item) -> u64
     ensures payload { result ≡ payload_of item.now }
     ensures limit { result ≤ 4000000 }
@@ -90,7 +90,7 @@ fn payload_of(item: &Item) -> u64
     }
 }
 
-// How many entries the lists of an answer have; 18,446,744,073,709,551,615 where they are more.
+/// How many entries the lists of an answer have; 18,446,744,073,709,551,615 where they are more.
 fn entries_of(answer: &Answer) -> u64
     ensures { result ≡ min (answer_entries answer.now) (2 ^ 64 - 1) }
 {
@@ -115,7 +115,7 @@ fn entries_of(answer: &Answer) -> u64
     }
 }
 
-// How many transactions of a block's places an answer has.
+/// How many transactions of a block's places an answer has.
 fn places_of(excerpt: &Excerpt) -> u64
     ensures { result ≡ min (excerpt_entries excerpt.now) (2 ^ 64 - 1) }
 {
@@ -125,7 +125,7 @@ fn places_of(excerpt: &Excerpt) -> u64
     }
 }
 
-// For how many bytes so many entries of a list count.
+/// For how many bytes so many entries of a list count.
 fn list_weight(count: u64) -> u64
     ensures { result ≡ min (40 * count) (2 ^ 64 - 1) }
 {

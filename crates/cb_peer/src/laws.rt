@@ -30,46 +30,62 @@ ghost use Rattle.cb_peer.specs.State.{SessionState, is_closed, is_ready, with_pe
 /// Before the handshake is done nothing counts but it and pings: other messages change nothing, send nothing and ask nothing.
 /// How the peer wants to be told of blocks (BIP 130, BIP 152) is noted at the most.
 pub fn only_the_handshake_counts()
-    ensures nothing { (s : SessionState) (message : Message) → is_ready s.state ≡ false → greets message ≡ false → wishes_for message ≡ false → received s message ≡ sends s [] }
-    ensures noted { (s : SessionState) (message : Message) → is_ready s.state ≡ false → wishes_for message ≡ true → received s message ≡ sends (with_peer (received s message).session.peer s) [] }
-    ensures pinged { (s : SessionState) (nonce : ℕ) → is_ready s.state ≡ false → received s (messages.Ping nonce) ≡ sends s (messages.Pong nonce ∷ []) }
+    ensures nothing { (s : SessionState) (message : Message) → is_ready s.state ≡ false →
+        greets message ≡ false → wishes_for message ≡ false → received s message ≡ sends s [] }
+    ensures noted { (s : SessionState) (message : Message) → is_ready s.state ≡ false →
+        wishes_for message ≡ true →
+        received s message ≡ sends (with_peer (received s message).session.peer s) [] }
+    ensures pinged { (s : SessionState) (nonce : ℕ) → is_ready s.state ≡ false →
+        received s (messages.Ping nonce) ≡ sends s (messages.Pong nonce ∷ []) }
 {}
 
 /// A tip isn't told to the peer that it was heard of from last.
 pub fn a_tip_is_not_told_to_its_source()
-    ensures { (s : SessionState) (item : Option Item) (news : News) → s.marks.heard ≡ Some news.tip → (news_told s item news).messages ≡ telling (without_brought item news.txids) }
+    ensures { (s : SessionState) (item : Option Item) (news : News) →
+        s.marks.heard ≡ Some news.tip →
+        (news_told s item news).messages ≡ telling (without_brought item news.txids) }
 {}
 
 /// A peer that didn't ask to be told of blocks by their headers (BIP 130) is sent headers only where it asked for these.
 pub fn headers_are_sent_where_asked_for()
-    ensures { (s : SessionState) (event : Event) → s.peer.by_headers ≡ false → is_following event ≡ false → list_any is_headers (step_of s event).messages ≡ false }
+    ensures { (s : SessionState) (event : Event) → s.peer.by_headers ≡ false →
+        is_following event ≡ false → list_any is_headers (step_of s event).messages ≡ false }
 {}
 
 /// What answers a `getdata` is what the hall has, in order, and then one `notfound` of all that it lacks (own).
 pub fn what_the_hall_has_is_served()
-    ensures { (s : SessionState) (item : Option Item) (pieces : List Piece) → (answered s item About (answers.Served pieces)).messages ≡ filter_map served_as pieces ++ not_found (filter_map lacking_in pieces) }
+    ensures { (s : SessionState) (item : Option Item) (pieces : List Piece) →
+        (answered s item About (answers.Served pieces)).messages
+        ≡ filter_map served_as pieces ++ not_found (filter_map lacking_in pieces) }
 {}
 
 /// In every session that events lead to, at most 16 blocks are in flight and at most 2,000 are wanted, each once.
 pub fn few_blocks_are_fetched()
     ensures flight { (s : SessionState) → IsReached s → length s.fetch.flight ≤ 16 }
     ensures wanted { (s : SessionState) → IsReached s → length s.fetch.wanted ≤ 2000 }
-    ensures once { (s : SessionState) → IsReached s → AreDifferent (s.fetch.flight ++ s.fetch.wanted) }
+    ensures once { (s : SessionState) → IsReached s →
+        AreDifferent (s.fetch.flight ++ s.fetch.wanted) }
 {}
 
 /// In every session that events lead to, no block is asked for while it is in flight.
 pub fn no_block_in_flight_is_asked_for()
-    ensures { (s : SessionState) (event : Event) (hash : Hash256) → IsReached s → list_any (asks_for_block hash) (step_of s event).messages ≡ true → has s.fetch.flight hash ≡ false }
+    ensures { (s : SessionState) (event : Event) (hash : Hash256) → IsReached s →
+        list_any (asks_for_block hash) (step_of s event).messages ≡ true →
+        has s.fetch.flight hash ≡ false }
 {}
 
 /// In every session that events lead to, the hall is given sound blocks alone.
 pub fn sound_blocks_are_given()
-    ensures { (s : SessionState) (given : Given) → IsReached s → standing_question s ≡ Some (questions.GiveBlock given) → IsSoundBlock given.block }
+    ensures { (s : SessionState) (given : Given) → IsReached s →
+        standing_question s ≡ Some (questions.GiveBlock given) → IsSoundBlock given.block }
 {}
 
 /// Each answer that fits leaves fewer answers to be waited for, or ends the session. So an item asks six questions at the most.
 pub fn questions_run_out()
-    ensures fewer { (s : SessionState) (question : Question) (answer : Answer) → is_closed s.state ≡ false → standing_question s ≡ Some question → fits question answer ≡ true
-        → is_closed (step_of s (Told answer)).session.state ≡ false → questions_left (step_of s (Told answer)).session.standing < questions_left s.standing }
+    ensures fewer { (s : SessionState) (question : Question) (answer : Answer) →
+        is_closed s.state ≡ false → standing_question s ≡ Some question →
+        fits question answer ≡ true
+        → is_closed (step_of s (Told answer)).session.state ≡ false →
+        questions_left (step_of s (Told answer)).session.standing < questions_left s.standing }
     ensures few { (standing : Option Standing) → questions_left standing ≤ 6 }
 {}

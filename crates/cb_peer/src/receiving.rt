@@ -37,9 +37,12 @@ impl Session {
         alloc: Global,
         item: &Option<Shared<Item>>,
     ) -> Result<Made, Fault>
-        ensures ok { IfOk result (λ made. Makes (processed self.old item.now) item.now self.new made.messages.items made.next) }
+        ensures ok { IfOk result
+            (λ made. Makes
+            (processed self.old item.now) item.now self.new made.messages.items made.next) }
         ensures memory { IsOkUnless result Memory }
-        ensures silent { weighs_item item.now ≡ false → IsLightPlan (processed self.old item.now) → IsOk result }
+        ensures silent { weighs_item item.now ≡ false → IsLightPlan (processed self.old item.now) →
+            IsOk result }
     {
         let Some(shared) = item else {
             return self.end(alloc, Vec::new(alloc));
@@ -51,13 +54,16 @@ impl Session {
         }
     }
 
-    // A message; a ping has its pong in any phase (BIP 31; before the handshake: own).
+    /// A message; a ping has its pong in any phase (BIP 31; before the handshake: own).
     #[tactic(auto, unfolding(crate::specs::Receiving::received))]
     #[inline(never)]
     fn receive(&mut self, alloc: Global, message: &Message) -> Result<Made, Fault>
-        ensures ok { IfOk result (λ made. Makes (received self.old message.now) (Some (Good message.now)) self.new made.messages.items made.next) }
+        ensures ok { IfOk result
+            (λ made. Makes (received self.old message.now)
+            (Some (Good message.now)) self.new made.messages.items made.next) }
         ensures memory { IsOkUnless result Memory }
-        ensures silent { weighs_item (Some (Good message.now)) ≡ false → IsLightPlan (received self.old message.now) → IsOk result }
+        ensures silent { weighs_item (Some (Good message.now)) ≡ false →
+            IsLightPlan (received self.old message.now) → IsOk result }
     {
         if let Message::Ping(nonce) = message {
             let pong = one_message(alloc, BoundedMessage::new(Message::Pong(*nonce)))?;
@@ -71,11 +77,13 @@ impl Session {
         }
     }
 
-    // Before the handshake only a version is heard.
+    /// Before the handshake only a version is heard.
     #[tactic(auto, unfolding(crate::specs::Receiving::in_start))]
     #[inline(never)]
     fn hear_first(&mut self, alloc: Global, message: &Message) -> Result<Made, Fault>
-        ensures ok { (item : Option Item) → IfOk result (λ made. Makes (in_start self.old message.now) item self.new made.messages.items made.next) }
+        ensures ok { (item : Option Item) →
+            IfOk result (λ made. Makes
+            (in_start self.old message.now) item self.new made.messages.items made.next) }
         ensures memory { IsOkUnless result Memory }
         ensures silent { IsLightPlan (in_start self.old message.now) → IsOk result }
     {
@@ -100,10 +108,12 @@ impl Session {
         }
     }
 
-    // The peer's version: not this node's own, which its nonce tells, and not too old.
+    /// The peer's version: not this node's own, which its nonce tells, and not too old.
     #[tactic(auto, unfolding(crate::specs::Receiving::introduced))]
     fn greet(&mut self, alloc: Global, version: &Version) -> Result<Made, Fault>
-        ensures ok { (item : Option Item) → IfOk result (λ made. Makes (introduced self.old version.now) item self.new made.messages.items made.next) }
+        ensures ok { (item : Option Item) →
+            IfOk result (λ made. Makes
+            (introduced self.old version.now) item self.new made.messages.items made.next) }
         ensures memory { IsOkUnless result Memory }
         ensures silent { IsLightPlan (introduced self.old version.now) → IsOk result }
     {
@@ -119,11 +129,13 @@ impl Session {
         Ok(Made::sends(messages))
     }
 
-    // Behind the peer's version: its verack makes the session ready, and it may tell how it wants to be told of blocks.
+    /// Behind the peer's version: its verack makes the session ready, and it may tell how it wants to be told of blocks.
     #[tactic(auto, unfolding(crate::specs::Receiving::in_greeted))]
     #[inline(never)]
     fn hear_greeted(&mut self, alloc: Global, message: &Message) -> Result<Made, Fault>
-        ensures ok { IfOk result (λ made. Makes (in_greeted self.old message.now) (Some (Good message.now)) self.new made.messages.items made.next) }
+        ensures ok { IfOk result
+            (λ made. Makes (in_greeted self.old message.now)
+            (Some (Good message.now)) self.new made.messages.items made.next) }
         ensures memory { IsOkUnless result Memory }
         ensures silent { IsLightPlan (in_greeted self.old message.now) → IsOk result }
     {
@@ -161,7 +173,7 @@ impl Session {
         }
     }
 
-    // The peer knows compact blocks of version 1; another version is as not received (BIP 152).
+    /// The peer knows compact blocks of version 1; another version is as not received (BIP 152).
     fn note_compact(&mut self, relay: CompactRelay)
         ensures { self.new ≡ by_compact relay self.old }
     {
@@ -171,13 +183,16 @@ impl Session {
         }
     }
 
-    // Once the session is ready.
+    /// Once the session is ready.
     #[tactic(auto, unfolding(crate::specs::Receiving::in_ready))]
     #[inline(never)]
     fn hear_ready(&mut self, alloc: Global, message: &Message) -> Result<Made, Fault>
-        ensures ok { IfOk result (λ made. Makes (in_ready self.old message.now) (Some (Good message.now)) self.new made.messages.items made.next) }
+        ensures ok { IfOk result
+            (λ made. Makes (in_ready self.old message.now)
+            (Some (Good message.now)) self.new made.messages.items made.next) }
         ensures memory { IsOkUnless result Memory }
-        ensures silent { weighs_item (Some (Good message.now)) ≡ false → IsLightPlan (in_ready self.old message.now) → IsOk result }
+        ensures silent { weighs_item (Some (Good message.now)) ≡ false →
+            IsLightPlan (in_ready self.old message.now) → IsOk result }
     {
         match message {
             Message::SendHeaders => {
@@ -218,12 +233,15 @@ impl Session {
         }
     }
 
-    // Headers: the last one is heard of, and the hall is asked what they lack.
+    /// Headers: the last one is heard of, and the hall is asked what they lack.
     #[tactic(auto, unfolding(crate::specs::Receiving::in_ready))]
     fn hear_headers(&mut self, alloc: Global, headers: &HeaderList) -> Result<Made, Fault>
-        ensures ok { IfOk result (λ made. Makes (in_ready self.old (messages.Headers headers.now)) (Some (Good (messages.Headers headers.now))) self.new made.messages.items made.next) }
+        ensures ok { IfOk result
+            (λ made. Makes (in_ready self.old (messages.Headers headers.now))
+            (Some (Good (messages.Headers headers.now))) self.new made.messages.items made.next) }
         ensures memory { IsOkUnless result Memory }
-        ensures silent { IsLightPlan (in_ready self.old (messages.Headers headers.now)) → IsOk result }
+        ensures silent { IsLightPlan (in_ready self.old (messages.Headers headers.now)) →
+            IsOk result }
     {
         let Some(hash) = hash_of_last(headers.as_slice()) else {
             return self.end(alloc, Vec::new(alloc));
@@ -233,10 +251,12 @@ impl Session {
         Ok(Made::about(alloc, Question::Headers(list)))
     }
 
-    // Inventory: the hall is asked what of its transactions and blocks is wanted.
+    /// Inventory: the hall is asked what of its transactions and blocks is wanted.
     #[tactic(auto, unfolding(crate::specs::Receiving::in_ready))]
     fn hear_inventory(&mut self, alloc: Global, entries: &Entries) -> Result<Made, Fault>
-        ensures ok { IfOk result (λ made. Makes (in_ready self.old (messages.Inv entries.now)) (Some (Good (messages.Inv entries.now))) self.new made.messages.items made.next) }
+        ensures ok { IfOk result
+            (λ made. Makes (in_ready self.old (messages.Inv entries.now))
+            (Some (Good (messages.Inv entries.now))) self.new made.messages.items made.next) }
         ensures memory { IsOkUnless result Memory }
         ensures silent { IsLightPlan (in_ready self.old (messages.Inv entries.now)) → IsOk result }
     {
@@ -247,10 +267,12 @@ impl Session {
         Ok(Made::about(alloc, Question::Want(known)))
     }
 
-    // A block: where its transactions aren't those of its header the session is over, and else the hall is given it.
+    /// A block: where its transactions aren't those of its header the session is over, and else the hall is given it.
     #[tactic(auto, unfolding(crate::specs::Receiving::brought))]
     fn bring(&mut self, alloc: Global, block: &Shared<Block>) -> Result<Made, Fault>
-        ensures ok { IfOk result (λ made. Makes (brought self.old block.now) (Some (Good (messages.Block block.now))) self.new made.messages.items made.next) }
+        ensures ok { IfOk result
+            (λ made. Makes (brought self.old block.now)
+            (Some (Good (messages.Block block.now))) self.new made.messages.items made.next) }
         ensures memory { IsOkUnless result Memory }
     {
         let Some(sound) = sound_of(alloc, block)? else {
@@ -269,7 +291,7 @@ impl Session {
     }
 }
 
-// The answer to the peer's version: who took the connection introduces itself now. The only error is `Fault::Memory`.
+/// The answer to the peer's version: who took the connection introduces itself now. The only error is `Fault::Memory`.
 fn greeting_of(alloc: Global, settings: Settings) -> Result<Vec<BoundedMessage>, Fault>
     ensures messages { IfOk result (λ made. made.items ≡ greeting settings) }
     ensures memory { IsOkUnless result Memory }
@@ -282,10 +304,11 @@ fn greeting_of(alloc: Global, settings: Settings) -> Result<Vec<BoundedMessage>,
     Ok(made)
 }
 
-// The hash of the last header, if there is one.
+/// The hash of the last header, if there is one.
 pub(crate) fn hash_of_last(headers: &[Header]) -> Option<Hash256>
     ensures none { headers.now ≡ [] → result ≡ None }
-    ensures some { (first : Header) (others : List Header) → headers.now ≡ first ∷ others → result ≡ Some (last_hash first others) }
+    ensures some { (first : Header) (others : List Header) → headers.now ≡ first ∷ others →
+        result ≡ Some (last_hash first others) }
 {
     match headers.last() {
         None => None,
@@ -293,7 +316,7 @@ pub(crate) fn hash_of_last(headers: &[Header]) -> Option<Hash256>
     }
 }
 
-// The entries as they are read. The only error is `Fault::Memory`.
+/// The entries as they are read. The only error is `Fault::Memory`.
 fn understood_of(alloc: Global, entries: &Entries) -> Result<cb_state::Inventories, Fault>
     ensures entries { IfOk result (λ made. made ≡ map understood entries.now) }
     ensures memory { IsOkUnless result Memory }
@@ -302,7 +325,7 @@ fn understood_of(alloc: Global, entries: &Entries) -> Result<cb_state::Inventori
     Ok(cb_state::Inventories::from_few(made))
 }
 
-// The same of a slice.
+/// The same of a slice.
 fn all_understood(alloc: Global, entries: &[InvEntry]) -> Result<Vec<Inventory>, Fault>
     ensures entries { IfOk result (λ made. made.items ≡ map understood entries.now) }
     ensures memory { IsOkUnless result Memory }
@@ -314,7 +337,7 @@ fn all_understood(alloc: Global, entries: &[InvEntry]) -> Result<Vec<Inventory>,
     Ok(made)
 }
 
-// The entries of transactions and blocks, as they are read. The only error is `Fault::Memory`.
+/// The entries of transactions and blocks, as they are read. The only error is `Fault::Memory`.
 fn known_of(alloc: Global, entries: &Entries) -> Result<cb_state::Inventories, Fault>
     ensures entries { IfOk result (λ made. made ≡ told_of entries.now) }
     ensures memory { IsOkUnless result Memory }
@@ -324,7 +347,7 @@ fn known_of(alloc: Global, entries: &Entries) -> Result<cb_state::Inventories, F
     Ok(cb_state::Inventories::from_few(made))
 }
 
-// The same of a slice.
+/// The same of a slice.
 fn all_known(alloc: Global, entries: &[InvEntry]) -> Result<Vec<Inventory>, Fault>
     ensures entries { IfOk result (λ made. made.items ≡ told_of entries.now) }
     ensures few { IfOk result (λ made. length made.items ≤ length entries.now) }
@@ -340,7 +363,7 @@ fn all_known(alloc: Global, entries: &[InvEntry]) -> Result<Vec<Inventory>, Faul
     Ok(made)
 }
 
-// The entry as it is read, where it is of a transaction or a block.
+/// The entry as it is read, where it is of a transaction or a block.
 fn known(entry: InvEntry) -> Option<Inventory>
     ensures { result ≡ known entry }
 {
@@ -351,7 +374,7 @@ fn known(entry: InvEntry) -> Option<Inventory>
     }
 }
 
-// What isn't there is no longer in flight.
+/// What isn't there is no longer in flight.
 fn give_up(fetch: &mut Fetch, entries: &[InvEntry])
     ensures { fetch.new ≡ given_up entries.now fetch.old }
 {

@@ -47,7 +47,8 @@ impl Session {
         ensures ok { IfOk result (λ made. Makes (answered self.old item.now ask answer.now) item.now self.new made.messages.items made.next) }
         ensures memory { IsOkUnless result Memory }
         ensures calm { answer.now ≡ answers.Kicked → IsOk result }
-        ensures silent { weighs_item item.now ≡ false → weighs_answer answer.now ≡ false → IsLightPlan (answered self.old item.now ask answer.now) → IsOk result }
+        ensures silent { weighs_item item.now ≡ false → weighs_answer answer.now ≡ false →
+            IsLightPlan (answered self.old item.now ask answer.now) → IsOk result }
     {
         if let Answer::Kicked = answer {
             return Ok(self.end_by(alloc, CloseReason::Kicked));
@@ -69,7 +70,7 @@ impl Session {
         }
     }
 
-    // What the hall answers about an item.
+    /// What the hall answers about an item.
     #[tactic(auto, unfolding(crate::specs::Replying::answered))]
     #[inline(never)]
     fn hear_about(
@@ -80,7 +81,8 @@ impl Session {
     ) -> Result<Made, Fault>
         ensures ok { IfOk result (λ made. Makes (answered self.old item.now asks.About answer.now) item.now self.new made.messages.items made.next) }
         ensures memory { IsOkUnless result Memory }
-        ensures silent { weighs_item item.now ≡ false → weighs_answer answer.now ≡ false → IsLightPlan (answered self.old item.now asks.About answer.now) → IsOk result }
+        ensures silent { weighs_item item.now ≡ false → weighs_answer answer.now ≡ false →
+            IsLightPlan (answered self.old item.now asks.About answer.now) → IsOk result }
     {
         match answer {
             Answer::Heads(heads) => self.hear_heads(alloc, item, heads),
@@ -97,9 +99,11 @@ impl Session {
         }
     }
 
-    // What the hall has of what was asked for is sent.
+    /// What the hall has of what was asked for is sent.
     fn send_served(&self, alloc: Global, pieces: &Pieces) -> Result<Made, Fault>
-        ensures ok { (item : Option Item) → IfOk result (λ made. Makes (ends self.now (served pieces.now)) item self.now made.messages.items made.next) }
+        ensures ok { (item : Option Item) →
+            IfOk result (λ made. Makes
+            (ends self.now (served pieces.now)) item self.now made.messages.items made.next) }
         ensures memory { IsOkUnless result Memory }
         ensures silent { IsLightPlan (ends self.now (served pieces.now)) → IsOk result }
     {
@@ -110,9 +114,12 @@ impl Session {
         self.end(alloc, messages)
     }
 
-    // The headers that were asked for are sent.
+    /// The headers that were asked for are sent.
     fn send_headers(&self, alloc: Global, headers: &HeaderList) -> Result<Made, Fault>
-        ensures ok { (item : Option Item) → IfOk result (λ made. Makes (ends self.now (messages.Headers headers.now ∷ [])) item self.now made.messages.items made.next) }
+        ensures ok { (item : Option Item) →
+            IfOk result (λ made. Makes
+            (ends self.now
+            (messages.Headers headers.now ∷ [])) item self.now made.messages.items made.next) }
         ensures memory { IsOkUnless result Memory }
     {
         let message = BoundedMessage::new(Message::Headers(headers.copy(alloc)?));
@@ -120,16 +127,19 @@ impl Session {
         self.end(alloc, messages)
     }
 
-    // The headers behind a locator are asked for, at the end of an item.
+    /// The headers behind a locator are asked for, at the end of an item.
     fn ask_headers(&self, alloc: Global, locator: &Locator) -> Result<Made, Fault>
-        ensures ok { (item : Option Item) → IfOk result (λ made. Makes (ends self.now (asking_headers locator.now ∷ [])) item self.now made.messages.items made.next) }
+        ensures ok { (item : Option Item) →
+            IfOk result (λ made. Makes
+            (ends self.now
+            (asking_headers locator.now ∷ [])) item self.now made.messages.items made.next) }
         ensures memory { IsOkUnless result Memory }
     {
         let messages = one_message(alloc, asking_headers(locator.copy(alloc)?))?;
         self.end(alloc, messages)
     }
 
-    // Headers were accepted up to the first that was refused, and what they lack is wanted.
+    /// Headers were accepted up to the first that was refused, and what they lack is wanted.
     #[tactic(auto, unfolding(crate::specs::Replying::heads_told))]
     fn hear_heads(
         &mut self,
@@ -139,7 +149,8 @@ impl Session {
     ) -> Result<Made, Fault>
         ensures ok { IfOk result (λ made. Makes (heads_told self.old item.now heads.now) item.now self.new made.messages.items made.next) }
         ensures memory { IsOkUnless result Memory }
-        ensures silent { weighs_answer (answers.Heads heads.now) ≡ false → IsLightPlan (heads_told self.old item.now heads.now) → IsOk result }
+        ensures silent { weighs_answer (answers.Heads heads.now) ≡ false →
+            IsLightPlan (heads_told self.old item.now heads.now) → IsOk result }
     {
         if heads.refused == Some(Fault::BadWork) {
             return Ok(self.end_by(alloc, CloseReason::BadBlock));
@@ -155,12 +166,13 @@ impl Session {
         }
     }
 
-    // What became of a block that the hall was given.
+    /// What became of a block that the hall was given.
     #[tactic(auto, unfolding(crate::specs::Replying::taken_told))]
     fn hear_taken(&mut self, alloc: Global, taken: &Taken) -> Result<Made, Fault>
         ensures ok { (item : Option Item) → IfOk result (λ made. Makes (taken_told self.old taken.now.refused taken.now.locator) item self.new made.messages.items made.next) }
         ensures memory { IsOkUnless result Memory }
-        ensures silent { IsLightPlan (taken_told self.old taken.now.refused taken.now.locator) → IsOk result }
+        ensures silent { IsLightPlan (taken_told self.old taken.now.refused taken.now.locator) →
+            IsOk result }
     {
         match taken.refused {
             None => self.end(alloc, Vec::new(alloc)),
@@ -170,12 +182,15 @@ impl Session {
         }
     }
 
-    // What is wanted of what the peer told of.
+    /// What is wanted of what the peer told of.
     #[tactic(auto, unfolding(crate::specs::Replying::need_told))]
     fn hear_need(&mut self, alloc: Global, need: &Need) -> Result<Made, Fault>
-        ensures ok { (item : Option Item) → IfOk result (λ made. Makes (need_told self.old need.now) item self.new made.messages.items made.next) }
+        ensures ok { (item : Option Item) →
+            IfOk result (λ made. Makes
+            (need_told self.old need.now) item self.new made.messages.items made.next) }
         ensures memory { IsOkUnless result Memory }
-        ensures silent { weighs_answer (answers.Need need.now) ≡ false → IsLightPlan (need_told self.old need.now) → IsOk result }
+        ensures silent { weighs_answer (answers.Need need.now) ≡ false →
+            IsLightPlan (need_told self.old need.now) → IsOk result }
     {
         let mut messages = Vec::new(alloc);
         push_some(&mut messages, requests_of_txs(alloc, &need.entries)?)?;
@@ -185,13 +200,16 @@ impl Session {
         self.end(alloc, messages)
     }
 
-    // The wanted blocks that are still needed are asked for, by type 2.
+    /// The wanted blocks that are still needed are asked for, by type 2.
     #[tactic(auto, unfolding(crate::specs::Replying::wanted_told))]
     #[inline(never)]
     fn hear_wanted(&mut self, alloc: Global, need: &Need) -> Result<Made, Fault>
-        ensures ok { (item : Option Item) → IfOk result (λ made. Makes (wanted_told self.old need.now) item self.new made.messages.items made.next) }
+        ensures ok { (item : Option Item) →
+            IfOk result (λ made. Makes
+            (wanted_told self.old need.now) item self.new made.messages.items made.next) }
         ensures memory { IsOkUnless result Memory }
-        ensures silent { weighs_answer (answers.Need need.now) ≡ false → IsLightPlan (wanted_told self.old need.now) → IsOk result }
+        ensures silent { weighs_answer (answers.Need need.now) ≡ false →
+            IsLightPlan (wanted_told self.old need.now) → IsOk result }
     {
         self.fetch.take_on(need.entries.as_slice())?;
         let mut messages = Vec::new(alloc);
@@ -202,7 +220,7 @@ impl Session {
         })
     }
 
-    // What is new: the tip, and transactions.
+    /// What is new: the tip, and transactions.
     #[tactic(auto, unfolding(crate::specs::Replying::news_told))]
     #[inline(never)]
     fn hear_news(
@@ -213,7 +231,8 @@ impl Session {
     ) -> Result<Made, Fault>
         ensures ok { IfOk result (λ made. Makes (news_told self.old item.now news.now) item.now self.new made.messages.items made.next) }
         ensures memory { IsOkUnless result Memory }
-        ensures silent { weighs_item item.now ≡ false → IsLightPlan (news_told self.old item.now news.now) → IsOk result }
+        ensures silent { weighs_item item.now ≡ false →
+            IsLightPlan (news_told self.old item.now news.now) → IsOk result }
     {
         let mut messages = Vec::new(alloc);
         push_some(&mut messages, self.told_tip(alloc, news)?)?;
@@ -223,7 +242,7 @@ impl Session {
         Ok(Made::sends(messages))
     }
 
-    // A new tip is told, but to the peer that it was heard from.
+    /// A new tip is told, but to the peer that it was heard from.
     fn told_tip(&self, alloc: Global, news: &News) -> Result<Option<BoundedMessage>, Fault>
         ensures message { IfOk result (λ made. as_list made ≡ tip_told self.now news.now) }
         ensures memory { IsOkUnless result Memory }
@@ -241,7 +260,7 @@ impl Session {
     }
 }
 
-// After as many headers as a message has, those behind them are asked for. The only error is `Fault::Memory`.
+/// After as many headers as a message has, those behind them are asked for. The only error is `Fault::Memory`.
 fn request_behind(alloc: Global, item: &Option<Shared<Item>>) -> Result<Vec<BoundedMessage>, Fault>
     ensures messages { IfOk result (λ made. made.items ≡ more_headers item.now) }
     ensures memory { IsOkUnless result Memory }
@@ -266,7 +285,7 @@ fn request_behind(alloc: Global, item: &Option<Shared<Item>>) -> Result<Vec<Boun
     one_message(alloc, asking_headers(locator_of(alloc, hash)?))
 }
 
-// A locator of one hash. The only error is `Fault::Memory`.
+/// A locator of one hash. The only error is `Fault::Memory`.
 fn locator_of(alloc: Global, hash: Hash256) -> Result<Locator, Fault>
     ensures locator { IfOk result (λ locator. locator ≡ hash ∷ []) }
     ensures memory { IsOkUnless result Memory }
@@ -276,12 +295,13 @@ fn locator_of(alloc: Global, hash: Hash256) -> Result<Locator, Fault>
     Ok(Locator::from_few(list))
 }
 
-// The request for the transactions among entries, if there are any. The only error is `Fault::Memory`.
+/// The request for the transactions among entries, if there are any. The only error is `Fault::Memory`.
 fn requests_of_txs(
     alloc: Global,
     entries: &cb_state::Inventories,
 ) -> Result<Option<BoundedMessage>, Fault>
-    ensures message { IfOk result (λ made. as_list made ≡ asking_for (filter_map tx_request entries.now)) }
+    ensures message { IfOk result
+        (λ made. as_list made ≡ asking_for (filter_map tx_request entries.now)) }
     ensures memory { IsOkUnless result Memory }
     ensures unpaid { entries.now ≡ [] → IsOk result }
 {
@@ -289,7 +309,7 @@ fn requests_of_txs(
     Ok(asking_for(cb_payload::Entries::from_few(wanted)))
 }
 
-// The entries that ask for the transactions among entries. The only error is `Fault::Memory`.
+/// The entries that ask for the transactions among entries. The only error is `Fault::Memory`.
 fn tx_requests(alloc: Global, entries: &[Inventory]) -> Result<Vec<InvEntry>, Fault>
     ensures wanted { IfOk result (λ made. made.items ≡ filter_map tx_request entries.now) }
     ensures few { IfOk result (λ made. length made.items ≤ length entries.now) }
@@ -305,7 +325,7 @@ fn tx_requests(alloc: Global, entries: &[Inventory]) -> Result<Vec<InvEntry>, Fa
     Ok(wanted)
 }
 
-// Whether a block is among entries.
+/// Whether a block is among entries.
 fn names_block(entries: &[Inventory]) -> bool
     ensures { result ≡ list_any is_block entries.now }
 {
@@ -314,15 +334,17 @@ fn names_block(entries: &[Inventory]) -> bool
         .any(|entry| matches!(entry, Inventory::Block(_)))
 }
 
-// How transactions are told, if there are any beside the one that the item brought. The only error is `Fault::Memory`.
+/// How transactions are told, if there are any beside the one that the item brought. The only error is `Fault::Memory`.
 fn told_txs(
     alloc: Global,
     item: &Option<Shared<Item>>,
     txids: &Txids,
 ) -> Result<Option<BoundedMessage>, Fault>
-    ensures message { IfOk result (λ made. as_list made ≡ telling (without_brought item.now txids.now)) }
+    ensures message { IfOk result
+        (λ made. as_list made ≡ telling (without_brought item.now txids.now)) }
     ensures memory { IsOkUnless result Memory }
-    ensures silent { weighs_item item.now ≡ false → telling (without_brought item.now txids.now) ≡ [] → IsOk result }
+    ensures silent { weighs_item item.now ≡ false →
+        telling (without_brought item.now txids.now) ≡ [] → IsOk result }
 {
     if txids.as_slice().is_empty() {
         return Ok(None);
@@ -339,9 +361,11 @@ fn told_txs(
     told_beside(alloc, tx, txids)
 }
 
-// How transactions are told, if there are any beside this one. The only error is `Fault::Memory`.
+/// How transactions are told, if there are any beside this one. The only error is `Fault::Memory`.
 fn told_beside(alloc: Global, tx: &Tx, txids: &Txids) -> Result<Option<BoundedMessage>, Fault>
-    ensures message { IfOk result (λ made. as_list made ≡ telling (filter (λ txid. not (same (double_hash (tx_text tx.now)) txid)) txids.now)) }
+    ensures message { IfOk result
+        (λ made. as_list made
+        ≡ telling (filter (λ txid. not (same (double_hash (tx_text tx.now)) txid)) txids.now)) }
     ensures memory { IsOkUnless result Memory }
 {
     let brought = tx.txid(alloc)?;
@@ -349,7 +373,7 @@ fn told_beside(alloc: Global, tx: &Tx, txids: &Txids) -> Result<Option<BoundedMe
     announce_all(alloc, &others)
 }
 
-// How transactions are told, if there are any. The only error is `Fault::Memory`.
+/// How transactions are told, if there are any. The only error is `Fault::Memory`.
 fn announce_all(alloc: Global, txids: &Txids) -> Result<Option<BoundedMessage>, Fault>
     ensures message { IfOk result (λ made. as_list made ≡ telling txids.now) }
     ensures memory { IsOkUnless result Memory }
@@ -357,18 +381,20 @@ fn announce_all(alloc: Global, txids: &Txids) -> Result<Option<BoundedMessage>, 
     announce_txs(alloc, txids)
 }
 
-// The txids but this one. The only error is `Fault::Memory`.
+/// The txids but this one. The only error is `Fault::Memory`.
 fn without(alloc: Global, txids: &Txids, brought: &Hash256) -> Result<Txids, Fault>
-    ensures others { IfOk result (λ others. others ≡ filter (λ txid. not (same brought.now txid)) txids.now) }
+    ensures others { IfOk result
+        (λ others. others ≡ filter (λ txid. not (same brought.now txid)) txids.now) }
     ensures memory { IsOkUnless result Memory }
 {
     let others = all_without(alloc, txids.as_slice(), brought)?;
     Ok(Listed::from_few(others))
 }
 
-// The same of a slice.
+/// The same of a slice.
 fn all_without(alloc: Global, txids: &[Hash256], brought: &Hash256) -> Result<Vec<Hash256>, Fault>
-    ensures others { IfOk result (λ others. others.items ≡ filter (λ txid. not (same brought.now txid)) txids.now) }
+    ensures others { IfOk result
+        (λ others. others.items ≡ filter (λ txid. not (same brought.now txid)) txids.now) }
     ensures few { IfOk result (λ others. length others.items ≤ length txids.now) }
     ensures memory { IsOkUnless result Memory }
 {

@@ -88,7 +88,7 @@ impl Session {
         Ok((Session::bare(alloc, settings, State::Start), messages))
     }
 
-    // A session of which only this is known: how far it is.
+    /// A session of which only this is known: how far it is.
     fn bare(alloc: Global, settings: Settings, state: State) -> Session
         ensures { result ≡ bare settings state }
     {
@@ -155,12 +155,15 @@ impl Session {
         alloc: Global,
         event: &Event,
     ) -> Result<(Vec<BoundedMessage>, Option<Question>), Fault>
-        ensures ok { IfOk result (λ made. Answers (step_of self.old event.now) self.new made.0.items made.1) }
+        ensures ok { IfOk result
+            (λ made. Answers (step_of self.old event.now) self.new made.0.items made.1) }
         ensures err { OnErr result (self.new ≡ over reasons.Memory self.old) }
         ensures memory { IsOkUnless result Memory }
         ensures calm { takes_no_memory event.now ≡ true → IsOk result }
         // An answer by which little comes, to which nothing is sent and by which nothing is asked but what is new, takes no memory.
-        ensures silent { spares self.old event.now ≡ true → (step_of self.old event.now).messages ≡ [] → is_light (step_of self.old event.now).question ≡ true → IsOk result }
+        ensures silent { spares self.old event.now ≡ true →
+            (step_of self.old event.now).messages ≡ [] →
+            is_light (step_of self.old event.now).question ≡ true → IsOk result }
     {
         if self.state.is_closed() {
             return Ok((Vec::new(alloc), None));
@@ -180,7 +183,7 @@ impl Session {
         }
     }
 
-    // Ends the session, which was given these settings, for want of memory.
+    /// Ends the session, which was given these settings, for want of memory.
     #[cold]
     fn starve(&mut self, alloc: Global, settings: Settings) -> Fault
         ensures over { self.new ≡ bare settings (states.Closed reasons.Memory) }
@@ -202,7 +205,7 @@ impl Session {
         (Vec::new(alloc), None)
     }
 
-    // Ends the session on a message or an answer.
+    /// Ends the session on a message or an answer.
     pub(crate) fn end_by(&mut self, alloc: Global, why: CloseReason) -> Made
         ensures over { self.new ≡ over why self.old }
         ensures messages { result.messages.items ≡ [] }
@@ -212,7 +215,7 @@ impl Session {
         Made::nothing(alloc)
     }
 
-    // An item or a tick comes: the hall is asked for leave, unless a question stands.
+    /// An item or a tick comes: the hall is asked for leave, unless a question stands.
     fn arrive(
         &mut self,
         alloc: Global,
@@ -230,17 +233,21 @@ impl Session {
         (Vec::new(alloc), Some(Question::Admit))
     }
 
-    // The hall's answer comes. Where it doesn't fit what stands, nothing changes and nothing is sent: that goes on standing.
+    /// The hall's answer comes. Where it doesn't fit what stands, nothing changes and nothing is sent: that goes on standing.
     fn hear_answer(
         &mut self,
         alloc: Global,
         answer: &Answer,
     ) -> Result<(Vec<BoundedMessage>, Option<Question>), Fault>
-        ensures ok { IfOk result (λ made. Answers (told self.old.standing self.old answer.now) self.new made.0.items made.1) }
+        ensures ok { IfOk result
+            (λ made. Answers
+            (told self.old.standing self.old answer.now) self.new made.0.items made.1) }
         ensures err { OnErr result (self.new ≡ over reasons.Memory self.old) }
         ensures memory { IsOkUnless result Memory }
         ensures calm { answer.now ≡ answers.Kicked → IsOk result }
-        ensures silent { spares self.old (events.Told answer.now) ≡ true → (told self.old.standing self.old answer.now).messages ≡ [] → is_light (told self.old.standing self.old answer.now).question ≡ true → IsOk result }
+        ensures silent { spares self.old (events.Told answer.now) ≡ true →
+            (told self.old.standing self.old answer.now).messages ≡ [] →
+            is_light (told self.old.standing self.old answer.now).question ≡ true → IsOk result }
     {
         let Some(standing) = self.standing.take() else {
             return Ok((Vec::new(alloc), None));
@@ -252,7 +259,7 @@ impl Session {
         self.follow(alloc, standing, answer)
     }
 
-    // An answer that is of the kind that was waited for. Nothing stands any more.
+    /// An answer that is of the kind that was waited for. Nothing stands any more.
     fn follow(
         &mut self,
         alloc: Global,
@@ -263,7 +270,8 @@ impl Session {
         ensures err { OnErr result (self.new ≡ over reasons.Memory self.old) }
         ensures memory { IsOkUnless result Memory }
         ensures calm { answer.now ≡ answers.Kicked → IsOk result }
-        ensures silent { weighs_item standing.item ≡ false → weighs_answer answer.now ≡ false → IsLightPlan (answered self.old standing.item standing.ask answer.now) → IsOk result }
+        ensures silent { weighs_item standing.item ≡ false → weighs_answer answer.now ≡ false →
+            IsLightPlan (answered self.old standing.item standing.ask answer.now) → IsOk result }
     {
         let Standing { item, ask } = standing;
         let settings = self.settings;
@@ -273,13 +281,14 @@ impl Session {
         }
     }
 
-    // What is asked stands with the item. The answer is what the step sends and asks.
+    /// What is asked stands with the item. The answer is what the step sends and asks.
     fn stand(
         &mut self,
         item: Option<Shared<Item>>,
         made: Made,
     ) -> (Vec<BoundedMessage>, Option<Question>)
-        ensures { (plan : Plan) → Makes plan item self.old made.messages.items made.next → Answers (for_item item plan) self.new result.0.items result.1 }
+        ensures { (plan : Plan) → Makes plan item self.old made.messages.items made.next →
+            Answers (for_item item plan) self.new result.0.items result.1 }
     {
         let Made { messages, next } = made;
         let Some(Next { ask, question }) = next else {
@@ -290,10 +299,12 @@ impl Session {
         (messages, Some(question))
     }
 
-    // The end of an item or a tick: once the session is ready, wanted blocks are asked for, or news.
+    /// The end of an item or a tick: once the session is ready, wanted blocks are asked for, or news.
     #[tactic(auto, unfolding(crate::specs::Receiving::ends))]
     pub(crate) fn end(&self, alloc: Global, messages: Vec<BoundedMessage>) -> Result<Made, Fault>
-        ensures ok { (item : Option Item) → IfOk result (λ made. Makes (ends self.now messages.items) item self.now made.messages.items made.next) }
+        ensures ok { (item : Option Item) →
+            IfOk result (λ made. Makes
+            (ends self.now messages.items) item self.now made.messages.items made.next) }
         ensures memory { IsOkUnless result Memory }
         ensures silent { is_light_ask (ends self.now messages.items).next ≡ true → IsOk result }
     {
@@ -316,9 +327,13 @@ impl Session {
         })
     }
 
-    // The question what is new. The tip's block isn't asked for with it.
+    /// The question what is new. The tip's block isn't asked for with it.
     pub(crate) fn look(&self) -> Next
-        ensures { result ≡ record { ask = asks.Fresh; question = questions.News (record { tip = self.now.marks.tip; from = self.now.marks.next; whole = false }) } }
+        ensures { result ≡ record {
+          ask = asks.Fresh;
+          question = questions.News
+              (record { tip = self.now.marks.tip; from = self.now.marks.next; whole = false });
+        } }
     {
         Next {
             ask: Ask::Fresh,
@@ -331,7 +346,7 @@ impl Session {
     }
 }
 
-// Why an event ends a session that is neither an item, a tick nor an answer.
+/// Why an event ends a session that is neither an item, a tick nor an answer.
 #[tactic(auto, unfolding(crate::specs::Session::open_step))]
 fn end_of(event: &Event) -> CloseReason
     requires { ends_at_once event.now ≡ true }

@@ -39,7 +39,8 @@ impl Standing {
 
     /// Whether an answer is of the kind that is waited for.
     pub(crate) fn is_met_by(&self, answer: &Answer) -> bool
-        ensures { (s : SessionState) → result ≡ fits (question_of s self.now.item self.now.ask) answer.now }
+        ensures { (s : SessionState) →
+            result ≡ fits (question_of s self.now.item self.now.ask) answer.now }
     {
         match self.ask {
             Ask::Admit => matches!(answer, Answer::Kicked | Answer::Go),
@@ -50,7 +51,7 @@ impl Standing {
     }
 }
 
-// Whether an answer is of the kind that is asked for about an item.
+/// Whether an answer is of the kind that is asked for about an item.
 fn meets_item(item: &Option<Shared<Item>>, answer: &Answer) -> bool
     ensures { (s : SessionState) → result ≡ fits (about_item s item.now) answer.now }
 {
@@ -63,7 +64,7 @@ fn meets_item(item: &Option<Shared<Item>>, answer: &Answer) -> bool
     }
 }
 
-// Whether an answer is of the kind that is asked for about a message.
+/// Whether an answer is of the kind that is asked for about a message.
 fn meets_message(message: &Message, answer: &Answer) -> bool
     ensures { (s : SessionState) → result ≡ fits (about s message.now) answer.now }
 {
@@ -88,7 +89,7 @@ fn meets_message(message: &Message, answer: &Answer) -> bool
     }
 }
 
-// Whether an answer is of the kind that is asked for where a locator is.
+/// Whether an answer is of the kind that is asked for where a locator is.
 fn meets_locator(answer: &Answer) -> bool
     ensures { result ≡ fits questions.Locator answer.now }
 {

@@ -15,11 +15,12 @@ use cb_block::SoundBlock;
 use cb_tx::{OutPoint, Tx, TxIn, TxOut};
 use std::collections::HashMap;
 
-// Whether none of the outputs that inputs name has changed.
+/// Whether none of the outputs that inputs name has changed.
 fn keep_inputs(coins: &HashMap<OutPoint, Option<i64>>, inputs: &[TxIn]) -> bool
     ensures kept { IsTrue result → (u : Unspent) (point : OutPoint) → IsNamed inputs.now point
         → map.get (changed u (changes_of coins.now.entries)) point ≡ map.get u point }
-    ensures seen { result ≡ false → (point : OutPoint) × IsNamed inputs.now point × IsChanged coins.now.entries point }
+    ensures seen { result ≡ false →
+        (point : OutPoint) × IsNamed inputs.now point × IsChanged coins.now.entries point }
 {
     for input in inputs {
         if coins.contains_key(&input.prev) {
@@ -29,12 +30,14 @@ fn keep_inputs(coins: &HashMap<OutPoint, Option<i64>>, inputs: &[TxIn]) -> bool
     true
 }
 
-// Whether none of the outputs that a transaction of this name makes has changed.
+/// Whether none of the outputs that a transaction of this name makes has changed.
 fn keep_outputs(coins: &HashMap<OutPoint, Option<i64>>, txid: Hash256, outputs: &[TxOut]) -> bool
     ensures kept { IsTrue result → (u : Unspent) (place : ℕ) → place < length outputs.now
-        → map.get (changed u (changes_of coins.now.entries)) (record { txid = txid; index = place }) ≡ map.get u (record { txid = txid; index = place }) }
+        → map.get (changed u (changes_of coins.now.entries)) (record { txid = txid; index = place })
+        ≡ map.get u (record { txid = txid; index = place }) }
     ensures seen { length outputs.now ≤ 2 ^ 32 → result ≡ false
-        → (place : ℕ) × (place < length outputs.now) × IsChanged coins.now.entries (record { txid = txid; index = place }) }
+        → (place : ℕ) × (place < length outputs.now)
+        × IsChanged coins.now.entries (record { txid = txid; index = place }) }
 {
     for place in 0..outputs.len() {
         let Ok(index) = u32::try_from(place) else {
@@ -47,7 +50,7 @@ fn keep_outputs(coins: &HashMap<OutPoint, Option<i64>>, txid: Hash256, outputs: 
     true
 }
 
-// Whether none of the outputs that a transaction of this name spends or makes has changed.
+/// Whether none of the outputs that a transaction of this name spends or makes has changed.
 pub(crate) fn keeps(coins: &HashMap<OutPoint, Option<i64>>, txid: Hash256, tx: &Tx) -> bool
     requires name { txid ≡ txid_of tx.now }
     ensures kept { IsTrue result → (u : Unspent) (point : OutPoint) → IsTouchedBy tx.now point
@@ -65,7 +68,8 @@ impl Pool {
     /// It looks each input and output of the block up once, until it finds one of the pool's, and takes no memory.
     pub fn is_apart_from(&self, block: &SoundBlock) -> bool
         ensures apart { IsTrue result → AreApart (txs_of self.now.list) block.now.txs }
-        ensures seen { AreApart (txs_of self.now.list) block.now.txs → All (λ tx. length tx.outputs ≤ 2 ^ 32) block.now.txs → IsTrue result }
+        ensures seen { AreApart (txs_of self.now.list) block.now.txs →
+            All (λ tx. length tx.outputs ≤ 2 ^ 32) block.now.txs → IsTrue result }
     {
         for place in 0..block.block().txs.as_slice().len() {
             let (txid, tx) = (block.txids()[place], &block.block().txs.as_slice()[place]);

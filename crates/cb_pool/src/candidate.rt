@@ -81,8 +81,8 @@ impl Candidate {
         &self.tx
     }
 
-    // The transaction with its name, shared. No memory is taken: the only error is `Fault::Memory`, where a count of owners is
-    // full.
+    /// The transaction with its name, shared. No memory is taken: the only error is `Fault::Memory`, where a count of owners is
+    /// full.
     pub(crate) fn named(&self) -> Result<NamedTx, Fault>
         ensures same { IfOk result (λ named. named ≡ self.now) }
         ensures memory { IsOkUnless result Memory }
@@ -91,7 +91,7 @@ impl Candidate {
         Ok(NamedTx::known(self.txid, tx))
     }
 
-    // How many outputs it spends or makes.
+    /// How many outputs it spends or makes.
     pub(crate) fn touched(&self) -> usize
         ensures { result ≡ touched_by self.now }
     {

@@ -12,13 +12,18 @@ use cb_ledger::{Ledger, sum_of};
 use cb_tx::{OutPoint, Tx, TxIn, TxOut};
 use std::collections::HashMap;
 
-// What inputs are worth that name different outputs, where each of these is unspent.
+/// What inputs are worth that name different outputs, where each of these is unspent.
 fn worth(coins: &HashMap<OutPoint, Option<i64>>, ledger: &Ledger, inputs: &[TxIn]) -> Option<i128>
     requires { ¬ SpendsTwice inputs.now }
     ensures { MatchOption result
-        (inputs_spent (changed ledger.now.unspent (changes_of coins.now.entries)) inputs.now ≡ Err NoInput)
+        (inputs_spent (changed ledger.now.unspent (changes_of coins.now.entries)) inputs.now
+        ≡ Err NoInput)
         (λ sum. inputs_spent (changed ledger.now.unspent (changes_of coins.now.entries)) inputs.now
-        ≡ Ok (sum, without_inputs (changed ledger.now.unspent (changes_of coins.now.entries)) inputs.now)) }
+        ≡ Ok (
+          sum,
+          without_inputs
+              (changed ledger.now.unspent (changes_of coins.now.entries)) inputs.now,
+        )) }
 {
     let mut sum = 0i128;
     for input in inputs {
@@ -30,14 +35,14 @@ fn worth(coins: &HashMap<OutPoint, Option<i64>>, ledger: &Ledger, inputs: &[TxIn
     Some(sum)
 }
 
-// Whether an input names the output.
+/// Whether an input names the output.
 fn is_spent_by(inputs: &[TxIn], point: &OutPoint) -> bool
     ensures { IsTrue result ↔ Any (λ input. input.prev ≡ point.now) inputs.now }
 {
     inputs.iter().any(|input| input.prev == *point)
 }
 
-// Whether one of a transaction's outputs is unspent already, once its inputs are spent.
+/// Whether one of a transaction's outputs is unspent already, once its inputs are spent.
 fn is_remade(
     coins: &HashMap<OutPoint, Option<i64>>,
     ledger: &Ledger,
@@ -46,8 +51,14 @@ fn is_remade(
     outputs: &[TxOut],
 ) -> bool
     requires { length outputs.now < 2 ^ 32 }
-    ensures { outputs_made (without_inputs (changed ledger.now.unspent (changes_of coins.now.entries)) inputs.now) txid 0 outputs.now
-        ≡ (if result then Err Remade else Ok (with_outputs (without_inputs (changed ledger.now.unspent (changes_of coins.now.entries)) inputs.now) txid 0 outputs.now)) }
+    ensures { outputs_made
+        (without_inputs
+        (changed ledger.now.unspent (changes_of coins.now.entries)) inputs.now) txid 0 outputs.now
+        ≡ (if result then Err Remade else Ok
+        (with_outputs
+        (without_inputs
+        (changed ledger.now.unspent
+        (changes_of coins.now.entries)) inputs.now) txid 0 outputs.now)) }
 {
     let mut index = 0u32;
     for output in outputs {
@@ -60,8 +71,8 @@ fn is_remade(
     false
 }
 
-// Why a transaction can't be spent over the ledger after these changes. It looks up each input and each output once, and
-// takes no memory.
+/// Why a transaction can't be spent over the ledger after these changes. It looks up each input and each output once, and
+/// takes no memory.
 pub(crate) fn fault_over(
     coins: &HashMap<OutPoint, Option<i64>>,
     ledger: &Ledger,
@@ -73,8 +84,10 @@ pub(crate) fn fault_over(
     ensures exact { MatchOption result
         (spend_tx (changed ledger.now.unspent (changes_of coins.now.entries)) tx.now
         ≡ Ok (after_tx (changed ledger.now.unspent (changes_of coins.now.entries)) tx.now))
-        (λ fault. spend_tx (changed ledger.now.unspent (changes_of coins.now.entries)) tx.now ≡ Err fault) }
-    ensures named { MatchOption result ⊤ (λ fault. (fault ≡ NoInput) ⊎ ((fault ≡ Overspent) ⊎ (fault ≡ Remade))) }
+        (λ fault. spend_tx (changed ledger.now.unspent (changes_of coins.now.entries)) tx.now
+        ≡ Err fault) }
+    ensures named { MatchOption result ⊤
+        (λ fault. (fault ≡ NoInput) ⊎ ((fault ≡ Overspent) ⊎ (fault ≡ Remade))) }
 {
     let (inputs, outputs) = (tx.inputs.as_slice(), tx.outputs.as_slice());
     let Some(sum) = worth(coins, ledger, inputs) else {

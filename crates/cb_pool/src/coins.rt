@@ -10,13 +10,14 @@ use cb_ledger::Ledger;
 use cb_tx::{OutPoint, TxIn, TxOut};
 use std::collections::HashMap;
 
-// The value of an output that is unspent in the ledger after these changes.
+/// The value of an output that is unspent in the ledger after these changes.
 pub(crate) fn value_of(
     coins: &HashMap<OutPoint, Option<i64>>,
     ledger: &Ledger,
     point: &OutPoint,
 ) -> Option<i64>
-    ensures { result ≡ map.get (changed ledger.now.unspent (changes_of coins.now.entries)) point.now }
+    ensures { result ≡ map.get
+        (changed ledger.now.unspent (changes_of coins.now.entries)) point.now }
 {
     match coins.get(point).copied() {
         Some(value) => value,
@@ -24,10 +25,12 @@ pub(crate) fn value_of(
     }
 }
 
-// The outputs that inputs name are gone. There must be room for each of them.
+/// The outputs that inputs name are gone. There must be room for each of them.
 pub(crate) fn spend_outputs(coins: &mut HashMap<OutPoint, Option<i64>>, inputs: &[TxIn])
     requires { length inputs.now ≤ spare coins.old }
-    ensures after { (u : Unspent) → changed u (changes_of coins.new.entries) ≡ without_inputs (changed u (changes_of coins.old.entries)) inputs.now }
+    ensures after { (u : Unspent) →
+        changed u (changes_of coins.new.entries)
+        ≡ without_inputs (changed u (changes_of coins.old.entries)) inputs.now }
     ensures room { spare coins.old ≤ spare coins.new + length inputs.now }
 {
     for input in inputs {
@@ -36,7 +39,7 @@ pub(crate) fn spend_outputs(coins: &mut HashMap<OutPoint, Option<i64>>, inputs: 
     }
 }
 
-// A transaction's outputs are there. There must be room for each of them.
+/// A transaction's outputs are there. There must be room for each of them.
 pub(crate) fn make_outputs(
     coins: &mut HashMap<OutPoint, Option<i64>>,
     txid: Hash256,
@@ -44,7 +47,9 @@ pub(crate) fn make_outputs(
 )
     requires few { length outputs.now < 2 ^ 32 }
     requires room { length outputs.now ≤ spare coins.old }
-    ensures after { (u : Unspent) → changed u (changes_of coins.new.entries) ≡ with_outputs (changed u (changes_of coins.old.entries)) txid 0 outputs.now }
+    ensures after { (u : Unspent) →
+        changed u (changes_of coins.new.entries)
+        ≡ with_outputs (changed u (changes_of coins.old.entries)) txid 0 outputs.now }
     ensures room { spare coins.old ≤ spare coins.new + length outputs.now }
 {
     let mut index = 0u32;

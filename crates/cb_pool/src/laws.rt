@@ -33,8 +33,10 @@ pub fn numbers_differ(pool: &Pool)
 /// A transaction of a pool spends only what is unspent in the ledger, or what earlier ones of the pool make.
 pub fn each_spends_what_is_there(pool: &Pool, ledger: &Ledger)
     requires { IsOk (spend ledger.now.unspent (txs_of pool.now.list)) }
-    ensures { (before after : List Tx) (tx : Tx) (point : OutPoint) → txs_of pool.now.list ≡ before ++ tx ∷ after
-        → IsNamed tx.inputs point → ¬ IsMade before point → finite.get ledger.now.unspent point ≢ None }
+    ensures { (before after : List Tx) (tx : Tx) (point : OutPoint) →
+        txs_of pool.now.list ≡ before ++ tx ∷ after
+        → IsNamed tx.inputs point → ¬ IsMade before point →
+        finite.get ledger.now.unspent point ≢ None }
 {
     each_stands_alone(pool);
 }
@@ -70,7 +72,8 @@ pub fn stays_as_it_is(pool: &Pool, ledger: &Ledger)
 /// its list applies in turn, so it is folded into itself.
 pub fn stays_behind_others(pool: &Pool, ledger: &Ledger)
     requires { IsOk (spend ledger.now.unspent (txs_of pool.now.list)) }
-    ensures { (others : List Tx) (after : Unspent) → AreApart (txs_of pool.now.list) others → spend ledger.now.unspent others ≡ Ok after
+    ensures { (others : List Tx) (after : Unspent) → AreApart (txs_of pool.now.list) others →
+        spend ledger.now.unspent others ≡ Ok after
         → IsOk (spend after (txs_of pool.now.list)) × Refolds after [] pool.now pool.now }
 {
     each_stands_alone(pool);

@@ -43,8 +43,8 @@ impl Clone for Pooled {
     }
 }
 
-// The transactions of a pool under their names, in order, and each output that they spend or make, with what it has after
-// them. They are seen as their list, and the room for more.
+/// The transactions of a pool under their names, in order, and each output that they spend or make, with what it has after
+/// them. They are seen as their list, and the room for more.
 #[derive(Drop)]
 pub(crate) struct Members {
     pub(crate) entries: IndexMap<Hash256, Pooled>,
@@ -75,7 +75,7 @@ impl Members {
         }
     }
 
-    // Room for so many transactions more, and for so many outputs that they touch.
+    /// Room for so many transactions more, and for so many outputs that they touch.
     pub(crate) fn reserve(&mut self, places: usize, coins: usize) -> Result<(), Fault>
         ensures same { self.new.list ≡ self.old.list }
         ensures places { OnOk result (places ≤ self.new.places) }
@@ -88,10 +88,11 @@ impl Members {
         Ok(())
     }
 
-    // Why the transaction doesn't come behind the others. It takes no memory.
+    /// Why the transaction doesn't come behind the others. It takes no memory.
     pub(crate) fn fault_of(&self, ledger: &Ledger, candidate: &Candidate) -> Option<Fault>
         requires { IsOk (spend ledger.now.unspent (txs_of self.now.list)) }
-        ensures { MatchOption result (Applies ledger.now.unspent (txs_of self.now.list) candidate.now)
+        ensures { MatchOption result
+            (Applies ledger.now.unspent (txs_of self.now.list) candidate.now)
             (λ fault. Refuses ledger.now.unspent (txs_of self.now.list) candidate.now fault) }
     {
         let (txid, tx) = (candidate.txid(), candidate.tx());
@@ -107,13 +108,14 @@ impl Members {
         None
     }
 
-    // The transaction comes behind the others. There must be room for it.
+    /// The transaction comes behind the others. There must be room for it.
     pub(crate) fn push(&mut self, candidate: Candidate, number: u64)
         requires fresh { is_named_in (txs_of self.old.list) (txid_of candidate) ≡ false }
         requires fits { length self.old.list < 10000 }
         requires places { 0 < self.old.places }
         requires coins { touched_by candidate ≤ self.old.coins }
-        ensures list { self.new.list ≡ self.old.list ++ record { tx = candidate; number = number } ∷ [] }
+        ensures list { self.new.list
+            ≡ self.old.list ++ record { tx = candidate; number = number } ∷ [] }
         ensures places { self.old.places ≤ self.new.places + 1 }
         ensures coins { self.old.coins ≤ self.new.coins + touched_by candidate }
     {
@@ -128,16 +130,17 @@ impl Members {
         had.unwrap();
     }
 
-    // Whether a transaction of this name spends and makes no output that one of them spends or makes.
+    /// Whether a transaction of this name spends and makes no output that one of them spends or makes.
     pub(crate) fn is_apart_from(&self, txid: Hash256, tx: &Tx) -> bool
         requires name { txid ≡ txid_of tx.now }
         ensures apart { IsTrue result → AreApart (txs_of self.now.list) (tx.now ∷ []) }
-        ensures seen { AreApart (txs_of self.now.list) (tx.now ∷ []) → length tx.now.outputs ≤ 2 ^ 32 → IsTrue result }
+        ensures seen { AreApart (txs_of self.now.list) (tx.now ∷ []) →
+            length tx.now.outputs ≤ 2 ^ 32 → IsTrue result }
     {
         keeps(&self.coins, txid, tx)
     }
 
-    // The transaction of this name.
+    /// The transaction of this name.
     pub(crate) fn get(&self, txid: &Hash256) -> Option<&Candidate>
         ensures { MatchOption result (named_in (txs_of self.now.list) txid.now ≡ None)
             (λ tx. named_in (txs_of self.now.list) txid.now ≡ Some tx.now) }
@@ -148,7 +151,7 @@ impl Members {
         }
     }
 
-    // The transaction at a place.
+    /// The transaction at a place.
     pub(crate) fn at(&self, place: usize) -> Option<&Candidate>
         ensures { MatchOption result (slice_get (txs_of self.now.list) place ≡ None)
             (λ tx. slice_get (txs_of self.now.list) place ≡ Some tx.now) }
@@ -159,7 +162,7 @@ impl Members {
         }
     }
 
-    // They, given out in order.
+    /// They, given out in order.
     pub(crate) fn into_list(self) -> IntoValues<Hash256, Pooled>
         ensures { result ≡ self.list }
     {
@@ -175,7 +178,7 @@ impl Members {
         self.entries.len()
     }
 
-    // They, each with its name, in order. The only error is `Fault::Memory`.
+    /// They, each with its name, in order. The only error is `Fault::Memory`.
     pub(crate) fn named(&self, alloc: Global) -> Result<Vec<NamedTx>, Fault>
         ensures exact { IfOk result (λ named. named.items ≡ txs_of self.now.list) }
         ensures memory { IsOkUnless result Memory }
@@ -187,7 +190,7 @@ impl Members {
         Ok(named)
     }
 
-    // The same. The only error is `Fault::Memory`, and only where there is one.
+    /// The same. The only error is `Fault::Memory`, and only where there is one.
     pub(crate) fn copy(&self, alloc: Global) -> Result<Members, Fault>
         ensures same { IfOk result (λ copy. copy.list ≡ self.now.list) }
         ensures none { self.now.list ≡ [] → IsOk result }

@@ -40,7 +40,7 @@ impl Model for Pairs {
 }
 
 impl Pairs {
-    // Those of the transactions whose short ids are among these.
+    /// Those of the transactions whose short ids are among these.
     pub(crate) fn new(txs: Shared<Vec<NamedTx>>, key: (u64, u64), ids: Shared<ShortIds>) -> Pairs
         ensures { result ≡ pairs_of key ids txs.items }
     {
@@ -73,9 +73,10 @@ impl Pairs {
     }
 }
 
-// The set of these ids, under a seed that all of them decide.
+/// The set of these ids, under a seed that all of them decide.
 fn set_of(alloc: Global, ids: &[u64]) -> Result<HashSet<u64, IdSeed>, Fault>
-    ensures ids { IfOk result (λ wanted. (id : ℕ) → contains nat_eq wanted id ≡ is_among id ids.now) }
+    ensures ids { IfOk result
+        (λ wanted. (id : ℕ) → contains nat_eq wanted id ≡ is_among id ids.now) }
     // No answer tells what the ids are hashed under.
     ensures seed { IfOk result (λ wanted. hasher_of wanted ≡ seed_of ids.now) }
     ensures memory { IsOkUnless result Memory }
@@ -87,14 +88,16 @@ fn set_of(alloc: Global, ids: &[u64]) -> Result<HashSet<u64, IdSeed>, Fault>
     Ok(wanted)
 }
 
-// The transactions whose short ids are wanted, in order, each with its short id.
+/// The transactions whose short ids are wanted, in order, each with its short id.
 fn paired(
     alloc: Global,
     key: (u64, u64),
     txs: &[NamedTx],
     wanted: &HashSet<u64, IdSeed>,
 ) -> Result<Vec<Pair>, Fault>
-    ensures pairs { IfOk result (λ list. list.items ≡ filter (λ pair. contains nat_eq wanted.now pair.id) (map (pair_of key) txs.now)) }
+    ensures pairs { IfOk result
+        (λ list. list.items
+        ≡ filter (λ pair. contains nat_eq wanted.now pair.id) (map (pair_of key) txs.now)) }
     ensures memory { IsOkUnless result Memory }
 {
     let mut list = Vec::new(alloc);

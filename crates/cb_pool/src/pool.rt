@@ -67,8 +67,10 @@ impl Pool {
     pub fn insert(&mut self, ledger: &Ledger, tx: Shared<Tx>) -> Result<u64, Fault>
         requires { IsOk (spend ledger.now.unspent (txs_of self.old.list)) }
         ensures exact { MatchResult result
-            (λ number. Applies ledger.now.unspent (txs_of self.old.list) tx × (number ≡ self.old.next) × (self.new ≡ with_last self.old tx))
-            (λ fault. ((fault ≡ Memory) ⊎ Refuses ledger.now.unspent (txs_of self.old.list) tx fault) × (self.new ≡ self.old)) }
+            (λ number. Applies ledger.now.unspent (txs_of self.old.list) tx
+            × (number ≡ self.old.next) × (self.new ≡ with_last self.old tx))
+            (λ fault. ((fault ≡ Memory)
+            ⊎ Refuses ledger.now.unspent (txs_of self.old.list) tx fault) × (self.new ≡ self.old)) }
         ensures applies { IsOk (spend ledger.now.unspent (txs_of self.new.list)) }
         // What can be told without memory is told first.
         ensures unpaid { result ≡ Err Memory → IsUntold tx }
@@ -83,10 +85,14 @@ impl Pool {
     pub fn insert_candidate(&mut self, ledger: &Ledger, candidate: Candidate) -> Result<u64, Fault>
         requires { IsOk (spend ledger.now.unspent (txs_of self.old.list)) }
         ensures exact { MatchResult result
-            (λ number. Applies ledger.now.unspent (txs_of self.old.list) candidate × (number ≡ self.old.next) × (self.new ≡ with_last self.old candidate))
-            (λ fault. ((fault ≡ Memory) ⊎ Refuses ledger.now.unspent (txs_of self.old.list) candidate fault) × (self.new ≡ self.old)) }
+            (λ number. Applies ledger.now.unspent (txs_of self.old.list) candidate
+            × (number ≡ self.old.next) × (self.new ≡ with_last self.old candidate))
+            (λ fault. ((fault ≡ Memory)
+            ⊎ Refuses ledger.now.unspent (txs_of self.old.list) candidate fault)
+            × (self.new ≡ self.old)) }
         ensures applies { IsOk (spend ledger.now.unspent (txs_of self.new.list)) }
-        ensures unpaid { result ≡ Err Memory → Applies ledger.now.unspent (txs_of self.old.list) candidate }
+        ensures unpaid { result ≡ Err Memory →
+            Applies ledger.now.unspent (txs_of self.old.list) candidate }
     {
         if let Some(fault) = self.members.fault_of(ledger, &candidate) {
             return Err(fault);
@@ -144,8 +150,8 @@ impl Pool {
         self.next
     }
 
-    // Whether it is seen by the next number alone that each transaction's is below this one. So who has heard of all may ask again
-    // and again, and the pool isn't walked.
+    /// Whether it is seen by the next number alone that each transaction's is below this one. So who has heard of all may ask again
+    /// and again, and the pool isn't walked.
     fn is_before(&self, number: u64) -> bool
         ensures { IsTrue result → since_of self.now.list number ≡ [] }
     {
@@ -185,7 +191,7 @@ impl Pool {
         Ok(Pairs::new(txs, key, ids.clone()?))
     }
 
-    // Its transactions with their names.
+    /// Its transactions with their names.
     fn shared_list(&mut self) -> Result<Shared<Vec<NamedTx>>, Fault>
         ensures exact { IfOk result (λ txs. txs.items ≡ txs_of self.old.list) }
         ensures same { self.new ≡ self.old }

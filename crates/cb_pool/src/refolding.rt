@@ -33,7 +33,7 @@ impl Model for Refolding {
     ghost invariant = { λ plan. plan.members.list ≡ [] };
 }
 
-// How many outputs these touch.
+/// How many outputs these touch.
 fn touched_by_first(first: &[Candidate]) -> Result<usize, Fault>
     ensures sum { IfOk result (λ sum. sum ≡ touched_by_all first.now) }
     ensures none { first.now ≡ [] → IsOk result }
@@ -49,7 +49,7 @@ fn touched_by_first(first: &[Candidate]) -> Result<usize, Fault>
     Ok(sum)
 }
 
-// How many outputs a pool's transactions touch, and so many more.
+/// How many outputs a pool's transactions touch, and so many more.
 fn touched_by_members(members: &Members, more: usize) -> Result<usize, Fault>
     ensures sum { IfOk result (λ sum. sum ≡ more + touched_by_all (txs_of members.now.list)) }
     ensures none { members.now.list ≡ [] → IsOk result }
@@ -65,14 +65,16 @@ fn touched_by_members(members: &Members, more: usize) -> Result<usize, Fault>
     Ok(sum)
 }
 
-// Takes those that apply in turn behind the members, each with the next number, and answers the number after them.
+/// Takes those that apply in turn behind the members, each with the next number, and answers the number after them.
 fn take_new(members: &mut Members, ledger: &Ledger, first: Vec<Candidate>, next: u64) -> u64
     requires applies { IsOk (spend ledger.now.unspent (txs_of members.old.list)) }
     requires places { length first.items ≤ members.old.places }
     requires coins { touched_by_all first.items ≤ members.old.coins }
-    ensures took { Took ledger.now.unspent (map new_offer first.items) [] next members.old.list members.new.list result }
+    ensures took { Took ledger.now.unspent
+        (map new_offer first.items) [] next members.old.list members.new.list result }
     ensures applies { IsOk (spend ledger.now.unspent (txs_of members.new.list)) }
-    ensures numbers { (others : List Pooled) → AreNumbered (members.old.list ++ others) next → AreNumbered (members.new.list ++ others) result }
+    ensures numbers { (others : List Pooled) → AreNumbered (members.old.list ++ others) next →
+        AreNumbered (members.new.list ++ others) result }
     ensures places { members.old.places ≤ members.new.places + length first.items }
     ensures coins { members.old.coins ≤ members.new.coins + touched_by_all first.items }
 {
@@ -86,13 +88,14 @@ fn take_new(members: &mut Members, ledger: &Ledger, first: Vec<Candidate>, next:
     next
 }
 
-// Takes those of a pool that apply in turn behind the members, each with its number.
+/// Takes those of a pool that apply in turn behind the members, each with its number.
 fn take_old(members: &mut Members, ledger: &Ledger, old: Members, next: u64)
     requires applies { IsOk (spend ledger.now.unspent (txs_of members.old.list)) }
     requires places { length old.list ≤ members.old.places }
     requires coins { touched_by_all (txs_of old.list) ≤ members.old.coins }
     requires numbers { AreNumbered (members.old.list ++ old.list) next }
-    ensures took { Took ledger.now.unspent (map old_offer old.list) [] next members.old.list members.new.list next }
+    ensures took { Took ledger.now.unspent
+        (map old_offer old.list) [] next members.old.list members.new.list next }
     ensures applies { IsOk (spend ledger.now.unspent (txs_of members.new.list)) }
     ensures numbers { AreNumbered members.new.list next }
 {

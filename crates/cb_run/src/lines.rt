@@ -65,8 +65,10 @@ impl LineReader {
     /// A line ends at LF, or at CR LF; the last one needs no end. An error is want of memory, or that a read failed.
     pub fn advance<R: Source>(&mut self, source: &mut R) -> Result<bool, Halt>
         ensures next { IfOk result (λ found. NextLine found
-            (prepend_known self.old.ahead (R.remaining source.old)) (prepend_known self.new.ahead (R.remaining source.new)) self.new.line) }
-        ensures err { IfErr result (λ halt. (halt ≡ Memory) ⊎ ((halt ≡ ReadFailed) × (R.has_failed source.new ≡ true))) }
+            (prepend_known self.old.ahead (R.remaining source.old))
+            (prepend_known self.new.ahead (R.remaining source.new)) self.new.line) }
+        ensures err { IfErr result
+            (λ halt. (halt ≡ Memory) ⊎ ((halt ≡ ReadFailed) × (R.has_failed source.new ≡ true))) }
     {
         self.start_line();
         // Each block that comes makes the line longer, until memory lacks.
@@ -122,10 +124,12 @@ impl LineReader {
     /// Reads the next block, where nothing is left of the last one; false at the source's end.
     fn read_ahead<R: Source>(&mut self, source: &mut R) -> Result<bool, Halt>
         requires { self.old.ahead ≡ [] }
-        ensures read { IfOk result (λ more. Consumes (R.remaining source.old) (R.remaining source.new) self.new.ahead) }
+        ensures read { IfOk result
+            (λ more. Consumes (R.remaining source.old) (R.remaining source.new) self.new.ahead) }
         ensures line { self.new.line ≡ self.old.line }
         ensures more { IfOk result (λ more. OnTrue more (0 < length self.new.ahead)) }
-        ensures end { IfOk result (λ more. OnFalse more ((self.new.ahead ≡ []) × IsAtEnd (R.remaining source.new))) }
+        ensures end { IfOk result
+            (λ more. OnFalse more ((self.new.ahead ≡ []) × IsAtEnd (R.remaining source.new))) }
         ensures failed { IsOkUnless result ReadFailed }
         ensures marked { OnErr result (R.has_failed source.new ≡ true) }
     {

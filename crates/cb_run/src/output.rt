@@ -9,7 +9,8 @@ use cb_io::Sink;
 
 /// Writes all of a piece. The only error is that a write failed, or took nothing.
 pub fn write_all<W: Sink>(writer: &mut W, piece: &[u8]) -> Result<(), Halt>
-    ensures written { OnOk result (Appends (W.contents writer.old) (W.contents writer.new) piece.now) }
+    ensures written { OnOk result
+        (Appends (W.contents writer.old) (W.contents writer.new) piece.now) }
     ensures failed { IsOkUnless result WriteFailed }
     ensures marked { OnErr result (W.has_failed writer.new ≡ true) }
     ensures stays { W.has_failed writer.old ≡ true → W.has_failed writer.new ≡ true }

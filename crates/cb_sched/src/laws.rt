@@ -11,71 +11,107 @@ ghost use Rattle.cb_sched.specs.Laws.{Reaches, IsBeginning, OpensFollowEnds, end
 
 /// From each state an act leads to one state where it can come, and to none where it can't.
 pub fn one_step_for_each_act()
-    ensures leads { (capacity : ℕ) (s : Crew) (a : Act) → IsEnabled capacity s a → (t : Crew) × Step capacity s a t }
-    ensures only_then { (capacity : ℕ) (s t : Crew) (a : Act) → Step capacity s a t → IsEnabled capacity s a }
-    ensures one { (capacity : ℕ) (s t u : Crew) (a : Act) → Step capacity s a t → Step capacity s a u → t ≡ u }
+    ensures leads { (capacity : ℕ) (s : Crew) (a : Act) → IsEnabled capacity s a →
+        (t : Crew) × Step capacity s a t }
+    ensures only_then { (capacity : ℕ) (s t : Crew) (a : Act) → Step capacity s a t →
+        IsEnabled capacity s a }
+    ensures one { (capacity : ℕ) (s t u : Crew) (a : Act) → Step capacity s a t →
+        Step capacity s a u → t ≡ u }
 {}
 
 /// For each peer, what was queued is what was taken, followed by what lies in the inbox: nothing is lost, doubled, made up
 /// or out of order.
 pub fn queued_is_taken_then_inbox()
-    ensures { (peers handlers capacity : ℕ) (acts : List Act) (s : Crew) → Reaches peers handlers capacity acts s → (p : ℕ) → (line_of s p).queued ≡ (line_of s p).taken ++ (line_of s p).inbox }
+    ensures { (peers handlers capacity : ℕ) (acts : List Act) (s : Crew) →
+        Reaches peers handlers capacity acts s → (p : ℕ) →
+        (line_of s p).queued ≡ (line_of s p).taken ++ (line_of s p).inbox }
 {}
 
 /// Each open mark follows an end mark, and each end mark is last or is followed by an open mark. A peer has ended just where
 /// its last mark is an end mark, and it had 256 connections at the most.
 pub fn opens_follow_ends()
-    ensures follow { (peers handlers capacity : ℕ) (acts : List Act) (s : Crew) → Reaches peers handlers capacity acts s → (p : ℕ) → OpensFollowEnds is_end is_open false (line_of s p).queued }
-    ensures flag { (peers handlers capacity : ℕ) (acts : List Act) (s : Crew) → Reaches peers handlers capacity acts s → (p : ℕ) → (line_of s p).ended ≡ ends_last is_end false (line_of s p).queued }
-    ensures few { (peers handlers capacity : ℕ) (acts : List Act) (s : Crew) → Reaches peers handlers capacity acts s → (p : ℕ) → connections is_open (line_of s p).queued ≤ 256 }
+    ensures follow { (peers handlers capacity : ℕ) (acts : List Act) (s : Crew) →
+        Reaches peers handlers capacity acts s → (p : ℕ) →
+        OpensFollowEnds is_end is_open false (line_of s p).queued }
+    ensures flag { (peers handlers capacity : ℕ) (acts : List Act) (s : Crew) →
+        Reaches peers handlers capacity acts s → (p : ℕ) →
+        (line_of s p).ended ≡ ends_last is_end false (line_of s p).queued }
+    ensures few { (peers handlers capacity : ℕ) (acts : List Act) (s : Crew) →
+        Reaches peers handlers capacity acts s → (p : ℕ) →
+        connections is_open (line_of s p).queued ≤ 256 }
 {}
 
 /// Of each connection of a peer, what was taken is a beginning of what was queued, and it is all of it once the open mark of
 /// the next connection was taken. There are as many parts as connections.
 pub fn connections_in_order()
-    ensures begins { (peers handlers capacity : ℕ) (acts : List Act) (s : Crew) → Reaches peers handlers capacity acts s → (p k : ℕ) → IsBeginning (part is_open (line_of s p).taken k) (part is_open (line_of s p).queued k) }
-    ensures whole { (peers handlers capacity : ℕ) (acts : List Act) (s : Crew) → Reaches peers handlers capacity acts s → (p k : ℕ) → k + 1 < connections is_open (line_of s p).taken → part is_open (line_of s p).taken k ≡ part is_open (line_of s p).queued k }
+    ensures begins { (peers handlers capacity : ℕ) (acts : List Act) (s : Crew) →
+        Reaches peers handlers capacity acts s → (p k : ℕ) →
+        IsBeginning (part is_open (line_of s p).taken k) (part is_open (line_of s p).queued k) }
+    ensures whole { (peers handlers capacity : ℕ) (acts : List Act) (s : Crew) →
+        Reaches peers handlers capacity acts s → (p k : ℕ) →
+        k + 1 < connections is_open (line_of s p).taken →
+        part is_open (line_of s p).taken k ≡ part is_open (line_of s p).queued k }
     ensures count { (marks : List Mark) → length (parts is_open marks) ≡ connections is_open marks }
 {}
 
 /// No inbox holds more marks than the capacity.
 pub fn inboxes_within_capacity()
-    ensures { (peers handlers capacity : ℕ) (acts : List Act) (s : Crew) → Reaches peers handlers capacity acts s → (p : ℕ) → length (line_of s p).inbox ≤ capacity }
+    ensures { (peers handlers capacity : ℕ) (acts : List Act) (s : Crew) →
+        Reaches peers handlers capacity acts s → (p : ℕ) → length (line_of s p).inbox ≤ capacity }
 {}
 
 /// Each peer's desk stands once, in the ring or with one handler; there is no other desk, and no handler holds two.
 pub fn each_desk_once()
-    ensures once { (peers handlers capacity : ℕ) (acts : List Act) (s : Crew) → Reaches peers handlers capacity acts s → EachDeskOnce peers s.desks }
-    ensures one_each { (peers handlers capacity : ℕ) (acts : List Act) (s : Crew) → Reaches peers handlers capacity acts s → (k : ℕ) → length (held_by s.desks k) ≤ 1 }
+    ensures once { (peers handlers capacity : ℕ) (acts : List Act) (s : Crew) →
+        Reaches peers handlers capacity acts s → EachDeskOnce peers s.desks }
+    ensures one_each { (peers handlers capacity : ℕ) (acts : List Act) (s : Crew) →
+        Reaches peers handlers capacity acts s → (k : ℕ) → length (held_by s.desks k) ≤ 1 }
 
     // Whatever weights the desks are given, those in the ring and in hands weigh what all peers' desks do.
-    ensures weights { (weight : ℕ → ℕ) (peers handlers capacity : ℕ) (acts : List Act) (s : Crew) → Reaches peers handlers capacity acts s → sum_by weight s.desks.ring + sum_by (sum_by weight) s.desks.held ≡ sum_by weight (range_with_len 0 peers) }
+    ensures weights { (weight : ℕ → ℕ) (peers handlers capacity : ℕ) (acts : List Act) (s : Crew) →
+        Reaches peers handlers capacity acts s →
+        sum_by weight s.desks.ring + sum_by (sum_by weight) s.desks.held
+        ≡ sum_by weight (range_with_len 0 peers) }
 {}
 
 /// From any state on, what was queued and what was taken only grow, at their ends.
 pub fn taken_only_grows()
-    ensures queued { (capacity : ℕ) (acts : List Act) (s t : Crew) → Run capacity s acts t → (p : ℕ) → IsBeginning (line_of s p).queued (line_of t p).queued }
-    ensures taken { (capacity : ℕ) (acts : List Act) (s t : Crew) → Run capacity s acts t → (p : ℕ) → IsBeginning (line_of s p).taken (line_of t p).taken }
+    ensures queued { (capacity : ℕ) (acts : List Act) (s t : Crew) → Run capacity s acts t →
+        (p : ℕ) → IsBeginning (line_of s p).queued (line_of t p).queued }
+    ensures taken { (capacity : ℕ) (acts : List Act) (s t : Crew) → Run capacity s acts t →
+        (p : ℕ) → IsBeginning (line_of s p).taken (line_of t p).taken }
 {}
 
 /// Whatever order the acts of any number of peers and handlers come in: the items taken for a peer are a beginning of those
 /// that its reader queued, each once and in order, and further acts only take on from there.
 pub fn items_in_order()
-    ensures now { (peers handlers capacity : ℕ) (acts : List Act) (s : Crew) → Reaches peers handlers capacity acts s → (p : ℕ) → IsBeginning (line_of s p).taken (line_of s p).queued }
-    ensures later { (peers handlers capacity : ℕ) (acts more : List Act) (s t : Crew) → Reaches peers handlers capacity acts s → Run capacity s more t → (p : ℕ) → IsBeginning (line_of s p).taken (line_of t p).taken × IsBeginning (line_of t p).taken (line_of t p).queued }
+    ensures now { (peers handlers capacity : ℕ) (acts : List Act) (s : Crew) →
+        Reaches peers handlers capacity acts s → (p : ℕ) →
+        IsBeginning (line_of s p).taken (line_of s p).queued }
+    ensures later { (peers handlers capacity : ℕ) (acts more : List Act) (s t : Crew) →
+        Reaches peers handlers capacity acts s → Run capacity s more t → (p : ℕ) →
+        IsBeginning (line_of s p).taken (line_of t p).taken
+        × IsBeginning (line_of t p).taken (line_of t p).queued }
 {}
 
 /// In each state some handler's act can come, and a desk that is held can be taken from until its inbox is empty. It says
 /// that acts can come and not that they do: nothing is promised of progress or fairness.
 pub fn never_stuck()
-    ensures some { (peers handlers capacity : ℕ) (acts : List Act) (s : Crew) → 0 < peers → 0 < handlers → Reaches peers handlers capacity acts s → (k : ℕ) × CanGoOn capacity s k }
-    ensures takes { (peers handlers capacity : ℕ) (acts : List Act) (s : Crew) → Reaches peers handlers capacity acts s → (k : ℕ) → HoldsDesk s k → TakesAll capacity s k }
+    ensures some { (peers handlers capacity : ℕ) (acts : List Act) (s : Crew) → 0 < peers →
+        0 < handlers → Reaches peers handlers capacity acts s → (k : ℕ) × CanGoOn capacity s k }
+    ensures takes { (peers handlers capacity : ℕ) (acts : List Act) (s : Crew) →
+        Reaches peers handlers capacity acts s → (k : ℕ) → HoldsDesk s k → TakesAll capacity s k }
 {}
 
 /// Lists of acts and the rules by which one line, or the desks alone, go on agree on what can be reached.
 pub fn reached_as_data()
-    ensures lines { (peers handlers capacity : ℕ) (acts : List Act) (s : Crew) → Reaches peers handlers capacity acts s → (p : ℕ) → LineReached is_end is_open (line_of s p) }
-    ensures desks { (peers handlers capacity : ℕ) (acts : List Act) (s : Crew) → Reaches peers handlers capacity acts s → DesksReached peers handlers s.desks }
-    ensures line_runs { (capacity : ℕ) (l : Line Mark) → LineReached is_end is_open l → length l.queued ≤ capacity → LineRuns capacity l }
-    ensures desks_run { (peers handlers capacity : ℕ) (d : Desks) → DesksReached peers handlers d → DesksRun peers handlers capacity d }
+    ensures lines { (peers handlers capacity : ℕ) (acts : List Act) (s : Crew) →
+        Reaches peers handlers capacity acts s → (p : ℕ) →
+        LineReached is_end is_open (line_of s p) }
+    ensures desks { (peers handlers capacity : ℕ) (acts : List Act) (s : Crew) →
+        Reaches peers handlers capacity acts s → DesksReached peers handlers s.desks }
+    ensures line_runs { (capacity : ℕ) (l : Line Mark) → LineReached is_end is_open l →
+        length l.queued ≤ capacity → LineRuns capacity l }
+    ensures desks_run { (peers handlers capacity : ℕ) (d : Desks) → DesksReached peers handlers d →
+        DesksRun peers handlers capacity d }
 {}

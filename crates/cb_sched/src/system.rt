@@ -50,7 +50,8 @@ impl System {
         requires peers { (1 ≤ peers) × (peers ≤ 64) }
         requires handlers { (1 ≤ handlers) × (handlers ≤ 16) }
         requires capacity { (1 ≤ capacity) × (capacity ≤ 1024) }
-        ensures opening { IfOk result (λ system. (system.capacity ≡ capacity) × (system.crew ≡ opening_crew peers handlers)) }
+        ensures opening { IfOk result
+            (λ system. (system.capacity ≡ capacity) × (system.crew ≡ opening_crew peers handlers)) }
         ensures memory { IsOkUnless result Memory }
     {
         let inboxes = empty_inboxes(alloc, peers)?;
@@ -70,8 +71,10 @@ impl System {
     /// refused, which only a Put, an End or an Open can meet. After a refusal the system is as it was.
     pub fn apply(&mut self, act: Act) -> Result<(), Fault>
         ensures step { OnOk result (Step self.old.capacity self.old.crew act self.new.crew) }
-        ensures refused { (result ≡ Err NotEnabled) ↔ (IsEnabled self.old.capacity self.old.crew act → ⊥) }
-        ensures memory { IfErr result (λ fault. (fault ≡ NotEnabled) ⊎ ((fault ≡ Memory) × TakesMemory act)) }
+        ensures refused { (result ≡ Err NotEnabled) ↔
+            (IsEnabled self.old.capacity self.old.crew act → ⊥) }
+        ensures memory { IfErr result
+            (λ fault. (fault ≡ NotEnabled) ⊎ ((fault ≡ Memory) × TakesMemory act)) }
         ensures err { OnErr result (self.new ≡ self.old) }
         ensures capacity { self.new.capacity ≡ self.old.capacity }
     {
@@ -88,14 +91,17 @@ impl System {
     /// Tells that some list of acts leads from the opening state of as many peers and handlers to this state, so that every
     /// law of this crate holds of it.
     pub fn reached(&self)
-        ensures { IsReached (length self.now.crew.lines) (length self.now.crew.desks.held) self.now.capacity self.now.crew }
+        ensures { IsReached (length self.now.crew.lines)
+            (length self.now.crew.desks.held) self.now.capacity self.now.crew }
     {
         let _ = &self.capacity;
     }
 
     /// A mark comes on a peer's inbox.
     fn put(&mut self, peer: u16, mark: Mark) -> Result<(), Fault>
-        ensures answers { Answers (MayPut self.old.capacity self.old.crew peer mark) (Puts self.old.capacity self.old.crew peer mark self.new.crew) ⊤ (self.new ≡ self.old) result }
+        ensures answers { Answers (MayPut self.old.capacity self.old.crew peer mark)
+            (Puts self.old.capacity self.old.crew peer mark self.new.crew) ⊤
+            (self.new ≡ self.old) result }
         ensures capacity { self.new.capacity ≡ self.old.capacity }
     {
         let peer = usize::from(peer);
@@ -112,7 +118,10 @@ impl System {
 
     /// A handler takes the desk at the ring's front.
     fn claim(&mut self, handler: u16) -> Result<(), Fault>
-        ensures answers { Answers (MayClaim self.old.crew handler) (MayClaim self.old.crew handler × (self.new.crew ≡ with_desks self.old.crew (claimed self.old.crew.desks handler))) ⊥ (self.new ≡ self.old) result }
+        ensures answers { Answers (MayClaim self.old.crew handler)
+            (MayClaim self.old.crew handler
+            × (self.new.crew ≡ with_desks self.old.crew (claimed self.old.crew.desks handler))) ⊥
+            (self.new ≡ self.old) result }
         ensures capacity { self.new.capacity ≡ self.old.capacity }
     {
         let handler = usize::from(handler);
@@ -130,7 +139,12 @@ impl System {
 
     /// A handler takes the front of its desk's inbox.
     fn take(&mut self, handler: u16) -> Result<(), Fault>
-        ensures answers { Answers (MayTake self.old.crew handler) (MayTake self.old.crew handler × (self.new.crew ≡ with_line self.old.crew (desk_of self.old.crew handler) (line_taken (line_of self.old.crew (desk_of self.old.crew handler))))) ⊥ (self.new ≡ self.old) result }
+        ensures answers { Answers (MayTake self.old.crew handler)
+            (MayTake self.old.crew handler
+            × (self.new.crew
+            ≡ with_line self.old.crew (desk_of self.old.crew handler)
+            (line_taken (line_of self.old.crew (desk_of self.old.crew handler))))) ⊥
+            (self.new ≡ self.old) result }
         ensures capacity { self.new.capacity ≡ self.old.capacity }
     {
         let handler = usize::from(handler);
@@ -152,7 +166,10 @@ impl System {
 
     /// A handler puts its desk at the ring's back, where there is always room.
     fn give(&mut self, handler: u16) -> Result<(), Fault>
-        ensures answers { Answers (HoldsDesk self.old.crew handler) (HoldsDesk self.old.crew handler × (self.new.crew ≡ with_desks self.old.crew (given self.old.crew.desks handler))) ⊥ (self.new ≡ self.old) result }
+        ensures answers { Answers (HoldsDesk self.old.crew handler)
+            (HoldsDesk self.old.crew handler
+            × (self.new.crew ≡ with_desks self.old.crew (given self.old.crew.desks handler))) ⊥
+            (self.new ≡ self.old) result }
         ensures capacity { self.new.capacity ≡ self.old.capacity }
     {
         let handler = usize::from(handler);

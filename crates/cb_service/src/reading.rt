@@ -54,7 +54,8 @@ pub fn end<M: Drop, O: Opening + Drop, R: Wait>(
 ) -> Result<EndedSeat<M, O>, ReaderSeat<M, O>>
     requires inbox { seat.inbox ≡ inbox.now.name }
     requires place { length seat.queued < 2 ^ 41 }
-    ensures ended { IfOk result (λ ended. (ended.inbox ≡ seat.inbox) × (length ended.queued ≤ 2 ^ 40)) }
+    ensures ended { IfOk result
+        (λ ended. (ended.inbox ≡ seat.inbox) × (length ended.queued ≤ 2 ^ 40)) }
     ensures same { IfErr result (λ back. back ≡ seat) }
 {
     if seat.count() >= MOST_QUEUED {
@@ -89,7 +90,8 @@ pub fn open<M: Drop, O: Opening + Drop, R: Wait>(
     requires inbox { seat.inbox ≡ inbox.now.name }
     requires place { length seat.queued ≤ 2 ^ 40 }
     requires fresh { O.fresh opening }
-    ensures opened { IfOk result (λ opened. (opened.inbox ≡ seat.inbox) × (length opened.queued < 2 ^ 41)) }
+    ensures opened { IfOk result
+        (λ opened. (opened.inbox ≡ seat.inbox) × (length opened.queued < 2 ^ 41)) }
     ensures same { IfErr result (λ back. back.inbox ≡ seat.inbox) }
 {
     let mut seat = seat;

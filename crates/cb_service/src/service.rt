@@ -180,7 +180,9 @@ fn run<'s, E, W: Work<Item = u64> + Send + 's, R: Threads + Wait + Clock + Sync>
     requires budget { (1 ≤ orders.budget) × (orders.budget ≤ 64) }
     requires seats { AreOpeningSeats crew.now staff.readers.seats.items }
     requires handlers { AreHandlersOf crew.now staff.handlers.items }
-    ensures { IfOk result (λ back. AreSidesOf crew.entry.now back.0.items × AreHandlersOf crew.entry.now back.1.items) }
+    ensures { IfOk result
+        (λ back. AreSidesOf crew.entry.now back.0.items
+        × AreHandlersOf crew.entry.now back.1.items) }
 {
     let Staff { readers, handlers } = staff;
     let handling = start_handlers(scope, rt, alloc, crew, signals, orders.budget, handlers)?;
@@ -214,8 +216,12 @@ pub fn serve_peers<W: Work<Item = u64> + Send, R: Threads + Wait + Clock + Sync>
         thread::scope_env(),
         rt,
         move |scope| -> Result<(Vec<ReaderSide<u64, Fresh<W>>>, Vec<Handler<W>>), Refusal>
-            requires { (1 ≤ orders.budget) × (orders.budget ≤ 64) × AreOpeningSeats crew.now staff.readers.seats.items × AreHandlersOf crew.now staff.handlers.items }
-            ensures { IfOk result (λ back. AreSidesOf crew.entry.now back.0.items × AreHandlersOf crew.entry.now back.1.items) }
+            requires { (1 ≤ orders.budget) × (orders.budget ≤ 64)
+                × AreOpeningSeats crew.now staff.readers.seats.items
+                × AreHandlersOf crew.now staff.handlers.items }
+            ensures { IfOk result
+                (λ back. AreSidesOf crew.entry.now back.0.items
+                × AreHandlersOf crew.entry.now back.1.items) }
         {
             let back = run(scope, rt, alloc, crew, signals, orders, staff);
             signals.stop();

@@ -39,7 +39,10 @@ impl<'a, W: Sink, H: Oracle> Conversation<'a, W, H> {
         badge: &'a mut Badge,
         written: u64,
     ) -> Conversation<'a, W, H>
-        ensures ends { (result.trace.ghost_name ≡ trace.entry.ghost_name) × (result.writer.ghost_name ≡ writer.entry.ghost_name) × (result.hall.ghost_name ≡ hall.entry.ghost_name) × (result.badge.ghost_name ≡ badge.entry.ghost_name) }
+        ensures ends { (result.trace.ghost_name ≡ trace.entry.ghost_name)
+            × (result.writer.ghost_name ≡ writer.entry.ghost_name)
+            × (result.hall.ghost_name ≡ hall.entry.ghost_name)
+            × (result.badge.ghost_name ≡ badge.entry.ghost_name) }
         ensures trace { result.trace.now ≡ trace.old }
         ensures writer { result.writer.now ≡ writer.old }
         ensures hall { result.hall.now ≡ hall.old }
@@ -72,11 +75,22 @@ impl<'a, W: Sink, H: Oracle> Conversation<'a, W, H> {
     /// Gives the session an item, with all its answers. Where there is no memory for it, the session ends.
     pub fn give_item(&mut self, alloc: Global, item: Item)
         requires going { IsOpen self.old.trace.now }
-        ensures ends { (self.new.trace.ghost_name ≡ self.old.trace.ghost_name) × (self.new.writer.ghost_name ≡ self.old.writer.ghost_name) × (self.new.hall.ghost_name ≡ self.old.hall.ghost_name) × (self.new.badge.ghost_name ≡ self.old.badge.ghost_name) }
-        ensures heeds { WritesOn self.old.trace.now (W.has_failed self.old.writer.now) → W.heeds_failure self.old.writer.now self.new.writer.now × WritesOn self.new.trace.now (W.has_failed self.new.writer.now) }
+        ensures ends { (self.new.trace.ghost_name ≡ self.old.trace.ghost_name)
+            × (self.new.writer.ghost_name ≡ self.old.writer.ghost_name)
+            × (self.new.hall.ghost_name ≡ self.old.hall.ghost_name)
+            × (self.new.badge.ghost_name ≡ self.old.badge.ghost_name) }
+        ensures heeds { WritesOn self.old.trace.now (W.has_failed self.old.writer.now) →
+            W.heeds_failure self.old.writer.now self.new.writer.now
+            × WritesOn self.new.trace.now (W.has_failed self.new.writer.now) }
         ensures gave { (from : Origin _) (inputs : List Event) →
-            Settled H.told H.refused from (progress self.old.trace.now self.old.hall.now self.old.badge.now (W.contents self.old.writer.now) (W.has_failed self.old.writer.now) self.old.written) inputs false →
-            GaveItem H.told H.refused from (progress self.new.trace.now self.new.hall.now self.new.badge.now (W.contents self.new.writer.now) (W.has_failed self.new.writer.now) self.new.written) inputs item }
+            Settled H.told H.refused from
+            (progress self.old.trace.now self.old.hall.now self.old.badge.now
+            (W.contents self.old.writer.now)
+            (W.has_failed self.old.writer.now) self.old.written) inputs false →
+            GaveItem H.told H.refused from
+            (progress self.new.trace.now self.new.hall.now self.new.badge.now
+            (W.contents self.new.writer.now)
+            (W.has_failed self.new.writer.now) self.new.written) inputs item }
     {
         let Some(shared) = share(alloc, item) else {
             self.lose(Event::NoMemory);
@@ -90,12 +104,24 @@ impl<'a, W: Sink, H: Oracle> Conversation<'a, W, H> {
     pub fn give(&mut self, alloc: Global, event: Event)
         requires going { IsOpen self.old.trace.now }
         requires input { is_input (kind_of event) ≡ true }
-        ensures ends { (self.new.trace.ghost_name ≡ self.old.trace.ghost_name) × (self.new.writer.ghost_name ≡ self.old.writer.ghost_name) × (self.new.hall.ghost_name ≡ self.old.hall.ghost_name) × (self.new.badge.ghost_name ≡ self.old.badge.ghost_name) }
-        ensures heeds { WritesOn self.old.trace.now (W.has_failed self.old.writer.now) → W.heeds_failure self.old.writer.now self.new.writer.now × WritesOn self.new.trace.now (W.has_failed self.new.writer.now) }
-        ensures ended { ends_at_once event ≡ true → is_closed self.new.trace.now.session.state ≡ true }
+        ensures ends { (self.new.trace.ghost_name ≡ self.old.trace.ghost_name)
+            × (self.new.writer.ghost_name ≡ self.old.writer.ghost_name)
+            × (self.new.hall.ghost_name ≡ self.old.hall.ghost_name)
+            × (self.new.badge.ghost_name ≡ self.old.badge.ghost_name) }
+        ensures heeds { WritesOn self.old.trace.now (W.has_failed self.old.writer.now) →
+            W.heeds_failure self.old.writer.now self.new.writer.now
+            × WritesOn self.new.trace.now (W.has_failed self.new.writer.now) }
+        ensures ended { ends_at_once event ≡ true →
+            is_closed self.new.trace.now.session.state ≡ true }
         ensures gave { (from : Origin _) (inputs : List Event) →
-            Settled H.told H.refused from (progress self.old.trace.now self.old.hall.now self.old.badge.now (W.contents self.old.writer.now) (W.has_failed self.old.writer.now) self.old.written) inputs false →
-            Gave H.told H.refused from (progress self.new.trace.now self.new.hall.now self.new.badge.now (W.contents self.new.writer.now) (W.has_failed self.new.writer.now) self.new.written) inputs event }
+            Settled H.told H.refused from
+            (progress self.old.trace.now self.old.hall.now self.old.badge.now
+            (W.contents self.old.writer.now)
+            (W.has_failed self.old.writer.now) self.old.written) inputs false →
+            Gave H.told H.refused from
+            (progress self.new.trace.now self.new.hall.now self.new.badge.now
+            (W.contents self.new.writer.now)
+            (W.has_failed self.new.writer.now) self.new.written) inputs event }
     {
         if !self.trace.ready() {
             return;
@@ -109,13 +135,25 @@ impl<'a, W: Sink, H: Oracle> Conversation<'a, W, H> {
     /// what it asks then, until no question stands.
     pub fn converse(&mut self, alloc: Global, question: Option<Question>)
         requires stands { MayAsk self.old.trace.now question }
-        ensures ends { (self.new.trace.ghost_name ≡ self.old.trace.ghost_name) × (self.new.writer.ghost_name ≡ self.old.writer.ghost_name) × (self.new.hall.ghost_name ≡ self.old.hall.ghost_name) × (self.new.badge.ghost_name ≡ self.old.badge.ghost_name) }
-        ensures heeds { WritesOn self.old.trace.now (W.has_failed self.old.writer.now) → W.heeds_failure self.old.writer.now self.new.writer.now × WritesOn self.new.trace.now (W.has_failed self.new.writer.now) }
-        ensures stays { is_closed self.old.trace.now.session.state ≡ true → is_closed self.new.trace.now.session.state ≡ true }
+        ensures ends { (self.new.trace.ghost_name ≡ self.old.trace.ghost_name)
+            × (self.new.writer.ghost_name ≡ self.old.writer.ghost_name)
+            × (self.new.hall.ghost_name ≡ self.old.hall.ghost_name)
+            × (self.new.badge.ghost_name ≡ self.old.badge.ghost_name) }
+        ensures heeds { WritesOn self.old.trace.now (W.has_failed self.old.writer.now) →
+            W.heeds_failure self.old.writer.now self.new.writer.now
+            × WritesOn self.new.trace.now (W.has_failed self.new.writer.now) }
+        ensures stays { is_closed self.old.trace.now.session.state ≡ true →
+            is_closed self.new.trace.now.session.state ≡ true }
         ensures settled { (from : Origin _) (inputs : List Event) →
             IsWhatStands self.old.trace.now question →
-            Sent H.told H.refused from (progress self.old.trace.now self.old.hall.now self.old.badge.now (W.contents self.old.writer.now) (W.has_failed self.old.writer.now) self.old.written) inputs false →
-            Settled H.told H.refused from (progress self.new.trace.now self.new.hall.now self.new.badge.now (W.contents self.new.writer.now) (W.has_failed self.new.writer.now) self.new.written) inputs false }
+            Sent H.told H.refused from
+            (progress self.old.trace.now self.old.hall.now self.old.badge.now
+            (W.contents self.old.writer.now)
+            (W.has_failed self.old.writer.now) self.old.written) inputs false →
+            Settled H.told H.refused from
+            (progress self.new.trace.now self.new.hall.now self.new.badge.now
+            (W.contents self.new.writer.now)
+            (W.has_failed self.new.writer.now) self.new.written) inputs false }
     {
         let mut next = question;
         while let Some(question) = next {
@@ -132,10 +170,14 @@ impl<'a, W: Sink, H: Oracle> Conversation<'a, W, H> {
     /// place of the answer is made before the hall is asked. Nothing is on its way while the hall is asked.
     fn ask(&mut self, alloc: Global, question: Question) -> (Vec<BoundedMessage>, Option<Question>)
         requires stands { open_question self.old.trace.now ≡ Some question }
-        ensures ends { (self.new.trace.ghost_name ≡ self.old.trace.ghost_name) × (self.new.writer.ghost_name ≡ self.old.writer.ghost_name) × (self.new.hall.ghost_name ≡ self.old.hall.ghost_name) × (self.new.badge.ghost_name ≡ self.old.badge.ghost_name) }
+        ensures ends { (self.new.trace.ghost_name ≡ self.old.trace.ghost_name)
+            × (self.new.writer.ghost_name ≡ self.old.writer.ghost_name)
+            × (self.new.hall.ghost_name ≡ self.old.hall.ghost_name)
+            × (self.new.badge.ghost_name ≡ self.old.badge.ghost_name) }
         ensures sink { self.new.writer.now ≡ self.old.writer.now }
         ensures written { self.new.written ≡ self.old.written }
-        ensures accounts { (from : Origin _) (inputs : List Event) (held : Option (List ℕ)) (failed : Bool) (written : ℕ) →
+        ensures accounts { (from : Origin _) (inputs : List Event) (held : Option
+            (List ℕ)) (failed : Bool) (written : ℕ) →
             Accounts H.told H.refused from (progress self.old.trace.now self.old.hall.now self.old.badge.now held failed written) inputs [] false false →
             Underway H.told H.refused from (progress self.new.trace.now self.new.hall.now self.new.badge.now held failed written) inputs (texts result.0.items) false }
         ensures asks { IsWhatStands self.new.trace.now result.1 }
@@ -152,17 +194,27 @@ impl<'a, W: Sink, H: Oracle> Conversation<'a, W, H> {
     /// Writes the messages of a step, all in one write. Where that ends early the trace is told, which ends it.
     pub fn send(&mut self, alloc: Global, messages: &[BoundedMessage])
         requires silent { is_closed self.old.trace.now.session.state ≡ true → messages.now ≡ [] }
-        ensures ends { (self.new.trace.ghost_name ≡ self.old.trace.ghost_name) × (self.new.writer.ghost_name ≡ self.old.writer.ghost_name) × (self.new.hall.ghost_name ≡ self.old.hall.ghost_name) × (self.new.badge.ghost_name ≡ self.old.badge.ghost_name) }
+        ensures ends { (self.new.trace.ghost_name ≡ self.old.trace.ghost_name)
+            × (self.new.writer.ghost_name ≡ self.old.writer.ghost_name)
+            × (self.new.hall.ghost_name ≡ self.old.hall.ghost_name)
+            × (self.new.badge.ghost_name ≡ self.old.badge.ghost_name) }
         // Once a write has failed, no other is made.
-        ensures heeds { WritesOn self.old.trace.now (W.has_failed self.old.writer.now) → W.heeds_failure self.old.writer.now self.new.writer.now × WritesOn self.new.trace.now (W.has_failed self.new.writer.now) }
+        ensures heeds { WritesOn self.old.trace.now (W.has_failed self.old.writer.now) →
+            W.heeds_failure self.old.writer.now self.new.writer.now
+            × WritesOn self.new.trace.now (W.has_failed self.new.writer.now) }
         ensures hall { self.new.hall.now ≡ self.old.hall.now }
         ensures badge { self.new.badge.now ≡ self.old.badge.now }
         ensures accounts { (from : Origin _) (inputs : List Event) (hall : _) (badge : _) →
-            Underway H.told H.refused from (progress self.old.trace.now hall badge (W.contents self.old.writer.now) (W.has_failed self.old.writer.now) self.old.written) inputs (texts messages.now) false →
+            Underway H.told H.refused from
+            (progress self.old.trace.now hall badge (W.contents self.old.writer.now)
+            (W.has_failed self.old.writer.now) self.old.written) inputs (texts messages.now) false →
             (W.has_failed self.old.writer.now ≡ true → from.failed ≡ true) →
-            Sent H.told H.refused from (progress self.new.trace.now hall badge (W.contents self.new.writer.now) (W.has_failed self.new.writer.now) self.new.written) inputs false }
+            Sent H.told H.refused from
+            (progress self.new.trace.now hall badge (W.contents self.new.writer.now)
+            (W.has_failed self.new.writer.now) self.new.written) inputs false }
         ensures kept { IsOpen self.new.trace.now → self.new.trace.now ≡ self.old.trace.now }
-        ensures stays { is_closed self.old.trace.now.session.state ≡ true → is_closed self.new.trace.now.session.state ≡ true }
+        ensures stays { is_closed self.old.trace.now.session.state ≡ true →
+            is_closed self.new.trace.now.session.state ≡ true }
     {
         match write_out(alloc, self.writer, messages) {
             Ok(taken) => self.written = self.written.saturating_add(taken),
@@ -177,7 +229,10 @@ impl<'a, W: Sink, H: Oracle> Conversation<'a, W, H> {
     pub fn lose(&mut self, event: Event)
         requires going { IsOpen self.old.trace.now }
         requires loss { IsLoss event }
-        ensures ends { (self.new.trace.ghost_name ≡ self.old.trace.ghost_name) × (self.new.writer.ghost_name ≡ self.old.writer.ghost_name) × (self.new.hall.ghost_name ≡ self.old.hall.ghost_name) × (self.new.badge.ghost_name ≡ self.old.badge.ghost_name) }
+        ensures ends { (self.new.trace.ghost_name ≡ self.old.trace.ghost_name)
+            × (self.new.writer.ghost_name ≡ self.old.writer.ghost_name)
+            × (self.new.hall.ghost_name ≡ self.old.hall.ghost_name)
+            × (self.new.badge.ghost_name ≡ self.old.badge.ghost_name) }
         ensures hall { self.new.hall.now ≡ self.old.hall.now }
         ensures badge { self.new.badge.now ≡ self.old.badge.now }
         ensures sink { self.new.writer.now ≡ self.old.writer.now }
@@ -187,7 +242,8 @@ impl<'a, W: Sink, H: Oracle> Conversation<'a, W, H> {
         ensures accounts { (from : Origin _) (inputs : List Event) (missing : List ℕ) (lost unkept : Bool) (hall : _) (badge : _) (held : Option (List ℕ)) (failed : Bool) (written : ℕ) →
             (is_write_fault (kind_of event) ≡ true → failed ≡ true) →
             (is_no_memory (kind_of event) ≡ true → (missing ≢ []) ⊎ (unkept ≡ true)) →
-            Accounts H.told H.refused from (progress self.old.trace.now hall badge held failed written) inputs missing lost false →
+            Accounts H.told H.refused from
+            (progress self.old.trace.now hall badge held failed written) inputs missing lost false →
             Accounts H.told H.refused from (progress self.new.trace.now hall badge held failed written) inputs missing true unkept }
         ensures closed { is_closed self.new.trace.now.session.state ≡ true }
     {

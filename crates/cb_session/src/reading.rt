@@ -78,13 +78,21 @@ impl<'a, R: Source> Reading<'a, R> {
     ) -> ReadEnd
         requires room { 1 ≤ length self.old.buffer.now }
         ensures end { self.new.reader.ghost_name ≡ self.old.reader.ghost_name }
-        ensures ends { (conversation.new.trace.ghost_name ≡ conversation.old.trace.ghost_name) × (conversation.new.writer.ghost_name ≡ conversation.old.writer.ghost_name) × (conversation.new.hall.ghost_name ≡ conversation.old.hall.ghost_name) × (conversation.new.badge.ghost_name ≡ conversation.old.badge.ghost_name) }
-        ensures heeds { WritesOn conversation.old.trace.now (W.has_failed conversation.old.writer.now) → W.heeds_failure conversation.old.writer.now conversation.new.writer.now × WritesOn conversation.new.trace.now (W.has_failed conversation.new.writer.now) }
+        ensures ends { (conversation.new.trace.ghost_name ≡ conversation.old.trace.ghost_name)
+            × (conversation.new.writer.ghost_name ≡ conversation.old.writer.ghost_name)
+            × (conversation.new.hall.ghost_name ≡ conversation.old.hall.ghost_name)
+            × (conversation.new.badge.ghost_name ≡ conversation.old.badge.ghost_name) }
+        ensures heeds { WritesOn conversation.old.trace.now
+            (W.has_failed conversation.old.writer.now) →
+            W.heeds_failure conversation.old.writer.now conversation.new.writer.now
+            × WritesOn conversation.new.trace.now (W.has_failed conversation.new.writer.now) }
         ensures heard { (from : Origin _) (input : Option (List ℕ)) →
             HeardBy H.told H.refused from input (R.remaining self.old.reader.now) (progress conversation.old.trace.now conversation.old.hall.now conversation.old.badge.now (W.contents conversation.old.writer.now) (W.has_failed conversation.old.writer.now) conversation.old.written) self.old.assembler.now 0 →
             Heard H.told H.refused from input (R.remaining self.new.reader.now) (R.has_failed self.new.reader.now) (progress conversation.new.trace.now conversation.new.hall.now conversation.new.badge.now (W.contents conversation.new.writer.now) (W.has_failed conversation.new.writer.now) conversation.new.written) result }
-        ensures stopped { result ≡ ReadEnd.Stopped → is_closed conversation.new.trace.now.session.state ≡ true }
-        ensures going { result ≢ ReadEnd.Stopped → is_closed conversation.new.trace.now.session.state ≡ false }
+        ensures stopped { result ≡ ReadEnd.Stopped →
+            is_closed conversation.new.trace.now.session.state ≡ true }
+        ensures going { result ≢ ReadEnd.Stopped →
+            is_closed conversation.new.trace.now.session.state ≡ false }
     {
         let reader = &mut *self.reader;
         let buffer = &mut *self.buffer;

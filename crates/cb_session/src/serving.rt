@@ -44,10 +44,12 @@ pub fn serve<R: Source, W: Sink>(
 ) -> Result<Served, Fault>
     // All calls of the hall grew by exactly what the session asked, in order, and each answer is that of the state to which the
     // calls before it led.
-    ensures served { IfOk result (λ served. Serves (λ old had replies new has. Asks old new had has replies) IsRefused
+    ensures served { IfOk result
+        (λ served. Serves (λ old had replies new has. Asks old new had has replies) IsRefused
         (origin_of settings hall.old badge.old (W.contents writer.old) (W.has_failed writer.old))
         (R.remaining reader.old) (R.remaining reader.new) (R.has_failed reader.new)
-        (progress served.trace hall.new badge.new (W.contents writer.new) (W.has_failed writer.new) served.written) served.read) }
+        (progress served.trace hall.new badge.new (W.contents writer.new)
+        (W.has_failed writer.new) served.written) served.read) }
     // Once a write has failed, no other is made.
     ensures heeds { W.has_failed writer.old ≡ false → W.heeds_failure writer.old writer.new }
     ensures memory { IsOkUnless result Memory }
@@ -71,7 +73,8 @@ pub fn serve_by<R: Source, W: Sink, H: Oracle>(
     ensures served { IfOk result (λ served. Serves H.told H.refused
         (origin_of settings hall.old badge.old (W.contents writer.old) (W.has_failed writer.old))
         (R.remaining reader.old) (R.remaining reader.new) (R.has_failed reader.new)
-        (progress served.trace hall.new badge.new (W.contents writer.new) (W.has_failed writer.new) served.written) served.read) }
+        (progress served.trace hall.new badge.new (W.contents writer.new)
+        (W.has_failed writer.new) served.written) served.read) }
     // Once a write has failed, no other is made.
     ensures heeds { W.has_failed writer.old ≡ false → W.heeds_failure writer.old writer.new }
     ensures memory { IsOkUnless result Memory }
@@ -105,11 +108,23 @@ fn hear_all<'r, 'c, R: Source, W: Sink, H: Oracle>(
     requires new { reading.old.assembler.now ≡ record { rest = []; fault = None } }
     requires room { 1 ≤ length reading.old.buffer.now }
     ensures end { reading.new.reader.ghost_name ≡ reading.old.reader.ghost_name }
-    ensures ends { (conversation.new.trace.ghost_name ≡ conversation.old.trace.ghost_name) × (conversation.new.writer.ghost_name ≡ conversation.old.writer.ghost_name) × (conversation.new.hall.ghost_name ≡ conversation.old.hall.ghost_name) × (conversation.new.badge.ghost_name ≡ conversation.old.badge.ghost_name) }
-    ensures heeds { WritesOn conversation.old.trace.now (W.has_failed conversation.old.writer.now) → W.heeds_failure conversation.old.writer.now conversation.new.writer.now × WritesOn conversation.new.trace.now (W.has_failed conversation.new.writer.now) }
+    ensures ends { (conversation.new.trace.ghost_name ≡ conversation.old.trace.ghost_name)
+        × (conversation.new.writer.ghost_name ≡ conversation.old.writer.ghost_name)
+        × (conversation.new.hall.ghost_name ≡ conversation.old.hall.ghost_name)
+        × (conversation.new.badge.ghost_name ≡ conversation.old.badge.ghost_name) }
+    ensures heeds { WritesOn conversation.old.trace.now (W.has_failed conversation.old.writer.now) →
+        W.heeds_failure conversation.old.writer.now conversation.new.writer.now
+        × WritesOn conversation.new.trace.now (W.has_failed conversation.new.writer.now) }
     ensures serves { (from : Origin _) →
-        Settled H.told H.refused from (progress conversation.old.trace.now conversation.old.hall.now conversation.old.badge.now (W.contents conversation.old.writer.now) (W.has_failed conversation.old.writer.now) conversation.old.written) [] false →
-        Serves H.told H.refused from (R.remaining reading.old.reader.now) (R.remaining reading.new.reader.now) (R.has_failed reading.new.reader.now) (progress conversation.new.trace.now conversation.new.hall.now conversation.new.badge.now (W.contents conversation.new.writer.now) (W.has_failed conversation.new.writer.now) conversation.new.written) result }
+        Settled H.told H.refused from
+        (progress conversation.old.trace.now conversation.old.hall.now conversation.old.badge.now
+        (W.contents conversation.old.writer.now)
+        (W.has_failed conversation.old.writer.now) conversation.old.written) [] false →
+        Serves H.told H.refused from (R.remaining reading.old.reader.now)
+        (R.remaining reading.new.reader.now) (R.has_failed reading.new.reader.now)
+        (progress conversation.new.trace.now conversation.new.hall.now conversation.new.badge.now
+        (W.contents conversation.new.writer.now)
+        (W.has_failed conversation.new.writer.now) conversation.new.written) result }
 {
     let read = reading.hear(alloc, conversation);
     finish(alloc, read, conversation);
@@ -122,13 +137,26 @@ fn finish<'a, W: Sink, H: Oracle>(
     read: ReadEnd,
     conversation: &mut Conversation<'a, W, H>,
 )
-    requires stopped { read ≡ ReadEnd.Stopped → is_closed conversation.old.trace.now.session.state ≡ true }
-    requires going { read ≢ ReadEnd.Stopped → is_closed conversation.old.trace.now.session.state ≡ false }
-    ensures ends { (conversation.new.trace.ghost_name ≡ conversation.old.trace.ghost_name) × (conversation.new.writer.ghost_name ≡ conversation.old.writer.ghost_name) × (conversation.new.hall.ghost_name ≡ conversation.old.hall.ghost_name) × (conversation.new.badge.ghost_name ≡ conversation.old.badge.ghost_name) }
-    ensures heeds { WritesOn conversation.old.trace.now (W.has_failed conversation.old.writer.now) → W.heeds_failure conversation.old.writer.now conversation.new.writer.now × WritesOn conversation.new.trace.now (W.has_failed conversation.new.writer.now) }
+    requires stopped { read ≡ ReadEnd.Stopped →
+        is_closed conversation.old.trace.now.session.state ≡ true }
+    requires going { read ≢ ReadEnd.Stopped →
+        is_closed conversation.old.trace.now.session.state ≡ false }
+    ensures ends { (conversation.new.trace.ghost_name ≡ conversation.old.trace.ghost_name)
+        × (conversation.new.writer.ghost_name ≡ conversation.old.writer.ghost_name)
+        × (conversation.new.hall.ghost_name ≡ conversation.old.hall.ghost_name)
+        × (conversation.new.badge.ghost_name ≡ conversation.old.badge.ghost_name) }
+    ensures heeds { WritesOn conversation.old.trace.now (W.has_failed conversation.old.writer.now) →
+        W.heeds_failure conversation.old.writer.now conversation.new.writer.now
+        × WritesOn conversation.new.trace.now (W.has_failed conversation.new.writer.now) }
     ensures serves { (from : Origin _) (input remaining : Option (List ℕ)) (read_failed : Bool) →
-        Heard H.told H.refused from input remaining read_failed (progress conversation.old.trace.now conversation.old.hall.now conversation.old.badge.now (W.contents conversation.old.writer.now) (W.has_failed conversation.old.writer.now) conversation.old.written) read →
-        Serves H.told H.refused from input remaining read_failed (progress conversation.new.trace.now conversation.new.hall.now conversation.new.badge.now (W.contents conversation.new.writer.now) (W.has_failed conversation.new.writer.now) conversation.new.written) read }
+        Heard H.told H.refused from input remaining read_failed
+        (progress conversation.old.trace.now conversation.old.hall.now conversation.old.badge.now
+        (W.contents conversation.old.writer.now)
+        (W.has_failed conversation.old.writer.now) conversation.old.written) read →
+        Serves H.told H.refused from input remaining read_failed
+        (progress conversation.new.trace.now conversation.new.hall.now conversation.new.badge.now
+        (W.contents conversation.new.writer.now)
+        (W.has_failed conversation.new.writer.now) conversation.new.written) read }
 {
     if read.is_stopped() {
         return;

@@ -70,11 +70,15 @@ impl Simulation {
     ///
     /// The only error is `Fault::Memory`.
     pub fn line(&mut self, text: &[u8], out: &mut String) -> Result<Flow, Fault>
-        ensures does { IfOk result (λ flow. (printed : List ℕ) × (string_bytes out.new ≡ string_bytes out.old ++ printed) × DoesLine text.now self.old flow printed self.new) }
+        ensures does { IfOk result
+            (λ flow. (printed : List ℕ) × (string_bytes out.new ≡ string_bytes out.old ++ printed)
+            × DoesLine text.now self.old flow printed self.new) }
         ensures memory { IsOkUnless result Memory }
         // A line of a run that is over takes no memory, and neither does an act that can come and takes none of its own.
         ensures over { self.old.stage ≡ Stage.Unreadable → IsOk result }
-        ensures calm { (m : Machine) (act : Act) → self.old.stage ≡ Stage.Running m → TellsAct text.now act → IsEnabled m.capacity m.crew act → (TakesMemory act → ⊥) → IsOk result }
+        ensures calm { (m : Machine) (act : Act) → self.old.stage ≡ Stage.Running m →
+            TellsAct text.now act → IsEnabled m.capacity m.crew act → (TakesMemory act → ⊥) →
+            IsOk result }
     {
         self.lines = self.lines.saturating_add(1);
         let line = self.lines;
@@ -110,7 +114,9 @@ impl Simulation {
 
     /// The line that came last can't be read.
     fn unreadable(&mut self, out: &mut String) -> Result<Flow, Fault>
-        ensures stop { IfOk result (λ flow. (flow ≡ Flow.Stop) × (string_bytes out.new ≡ string_bytes out.old ++ unreadable_text self.old.lines)) }
+        ensures stop { IfOk result
+            (λ flow. (flow ≡ Flow.Stop)
+            × (string_bytes out.new ≡ string_bytes out.old ++ unreadable_text self.old.lines)) }
         ensures stage { self.new ≡ record { lines = self.old.lines; stage = Stage.Unreadable; refused = self.old.refused } }
         ensures memory { IsOkUnless result Memory }
     {
@@ -125,7 +131,8 @@ impl Simulation {
     ///
     /// The only error is `Fault::Memory`.
     pub fn finish(self, out: &mut String) -> Result<u8, Fault>
-        ensures text { OnOk result (string_bytes out.new ≡ string_bytes out.old ++ final_text self.stage) }
+        ensures text { OnOk result
+            (string_bytes out.new ≡ string_bytes out.old ++ final_text self.stage) }
         ensures status { IfOk result (λ status. status ≡ status_of self.stage self.refused) }
         ensures memory { IsOkUnless result Memory }
         ensures over { self.stage ≡ Stage.Unreadable → IsOk result }

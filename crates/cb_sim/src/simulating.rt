@@ -22,10 +22,12 @@ pub fn simulate<R: Source, W: Sink>(
     writer: &mut W,
 ) -> Result<u8, Halt>
     // Over a reader and a writer that tell their bytes: what is printed for the whole input, and the status.
-    ensures report { IfOk result (SimulatesKnown (R.remaining reader.old) (W.contents writer.old) (W.contents writer.new)) }
+    ensures report { IfOk result
+        (SimulatesKnown (R.remaining reader.old) (W.contents writer.old) (W.contents writer.new)) }
     // Over every reader and writer: the status, and why a run ends early.
     ensures status { IfOk result (λ status. (status ≡ 0) ⊎ ((status ≡ 2) ⊎ (status ≡ 3))) }
-    ensures halts { IfErr result (HasCause (R.remaining reader.old) (R.has_failed reader.new) (W.has_failed writer.new)) }
+    ensures halts { IfErr result
+        (HasCause (R.remaining reader.old) (R.has_failed reader.new) (W.has_failed writer.new)) }
 {
     let mut lines = LineReader::new(alloc)?;
     let mut simulation = Simulation::new(alloc);
@@ -47,9 +49,12 @@ pub fn simulate<R: Source, W: Sink>(
 
 /// Prints how the run stands at its end, and answers the exit status.
 fn report<W: Sink>(alloc: Global, simulation: Simulation, writer: &mut W) -> Result<u8, Halt>
-    ensures text { OnOk result (Appends (W.contents writer.old) (W.contents writer.new) (final_text simulation.stage)) }
-    ensures status { IfOk result (λ status. status ≡ status_of simulation.stage simulation.refused) }
-    ensures err { IfErr result (λ halt. (halt ≡ Memory) ⊎ ((halt ≡ WriteFailed) × (W.has_failed writer.new ≡ true))) }
+    ensures text { OnOk result
+        (Appends (W.contents writer.old) (W.contents writer.new) (final_text simulation.stage)) }
+    ensures status { IfOk result
+        (λ status. status ≡ status_of simulation.stage simulation.refused) }
+    ensures err { IfErr result
+        (λ halt. (halt ≡ Memory) ⊎ ((halt ≡ WriteFailed) × (W.has_failed writer.new ≡ true))) }
 {
     let mut text = String::new(alloc);
     let status = simulation.finish(&mut text).map_err(Halt::of_memory)?;

@@ -42,7 +42,7 @@ pub struct Heads {
     pub locator: Locator,
 }
 
-// The locator that is told with a refusal.
+/// The locator that is told with a refusal.
 fn told_locator(alloc: Global, refused: Option<Fault>, locator: Locator) -> Locator
     ensures { result ≡ locator_for refused locator }
 {
@@ -52,7 +52,7 @@ fn told_locator(alloc: Global, refused: Option<Fault>, locator: Locator) -> Loca
     }
 }
 
-// What is told of what was refused for a fault: the fault, but for want of memory, which is an error.
+/// What is told of what was refused for a fault: the fault, but for want of memory, which is an error.
 fn told(fault: Fault) -> Result<Option<Fault>, Fault>
     ensures ok { IfOk result (λ refused. (refused ≡ Some fault) × (fault ≢ Memory)) }
     ensures err { IfErr result (λ error. (error ≡ Memory) × (fault ≡ Memory)) }
@@ -63,9 +63,11 @@ fn told(fault: Fault) -> Result<Option<Fault>, Fault>
     Ok(Some(fault))
 }
 
-// What is told of a block that was refused for a fault.
+/// What is told of a block that was refused for a fault.
 fn refusal(alloc: Global, fault: Fault, locator: Locator) -> Result<Taken, Fault>
-    ensures ok { IfOk result (λ taken. (taken.refused ≡ Some fault) × (taken.locator ≡ locator_for (Some fault) locator) × (fault ≢ Memory)) }
+    ensures ok { IfOk result
+        (λ taken. (taken.refused ≡ Some fault) × (taken.locator ≡ locator_for (Some fault) locator)
+        × (fault ≢ Memory)) }
     ensures err { IfErr result (λ error. (error ≡ Memory) × (fault ≡ Memory)) }
 {
     let refused = told(fault)?;
@@ -75,10 +77,12 @@ fn refusal(alloc: Global, fault: Fault, locator: Locator) -> Result<Taken, Fault
     })
 }
 
-// Pushes a block's transactions other than its coinbase, where there is a block. The only error is `Fault::Memory`.
+/// Pushes a block's transactions other than its coinbase, where there is a block. The only error is `Fault::Memory`.
 fn push_candidates(first: &mut Vec<Candidate>, block: Option<&SoundBlock>) -> Result<(), Fault>
-    requires rules { IfSome (option_copied block) (λ block. MeetsBlockRules block ⊎ (length block.txs ≤ 1)) }
-    ensures pushed { OnOk result (first.new.items ≡ first.old.items ++ drop 1 (txs_under (option_copied block.entry))) }
+    requires rules { IfSome (option_copied block)
+        (λ block. MeetsBlockRules block ⊎ (length block.txs ≤ 1)) }
+    ensures pushed { OnOk result
+        (first.new.items ≡ first.old.items ++ drop 1 (txs_under (option_copied block.entry))) }
     ensures memory { IsOkUnless result Memory }
 {
     let Some(block) = block else {
@@ -90,7 +94,7 @@ fn push_candidates(first: &mut Vec<Candidate>, block: Option<&SoundBlock>) -> Re
     Ok(())
 }
 
-// The hashes whose blocks are neither kept nor marked bad, in order.
+/// The hashes whose blocks are neither kept nor marked bad, in order.
 fn lacking(chain: &Chain, hashes: Hashes) -> Hashes
     ensures { result ≡ filter (is_lacking chain.now) hashes }
 {
@@ -99,7 +103,7 @@ fn lacking(chain: &Chain, hashes: Hashes) -> Hashes
     Hashes::new(list)
 }
 
-// What becomes of the pool where a block becomes the tip.
+/// What becomes of the pool where a block becomes the tip.
 #[derive(Drop)]
 enum Outlook {
     // It stays: the block comes on the tip, and spends and makes no output that the pool's transactions spend or make.
@@ -108,10 +112,11 @@ enum Outlook {
     Folds(Refolding),
 }
 
-// The pool goes by an outlook, where there is one.
+/// The pool goes by an outlook, where there is one.
 fn follow(pool: &mut Pool, ledger: &Ledger, outlook: Option<Outlook>)
     requires ready { IfSome outlook (IsReady ledger.now.unspent pool.old.list) }
-    ensures { MatchOption outlook (pool.new ≡ pool.old) (λ outlook. Refolds ledger.now.unspent (first_of outlook) pool.old pool.new
+    ensures { MatchOption outlook (pool.new ≡ pool.old)
+        (λ outlook. Refolds ledger.now.unspent (first_of outlook) pool.old pool.new
         × IsOk (spend ledger.now.unspent (txs_of pool.new.list))) }
 {
     match outlook {
@@ -121,7 +126,7 @@ fn follow(pool: &mut Pool, ledger: &Ledger, outlook: Option<Outlook>)
     }
 }
 
-// The connection that gave a new tip, if one is named, becomes the last announcer.
+/// The connection that gave a new tip, if one is named, becomes the last announcer.
 fn thank(announcers: &mut Announcers, from: Option<Connection>)
     ensures { announcers.new ≡ announcers_after announcers.old true from }
 {
@@ -193,10 +198,12 @@ impl State {
         })
     }
 
-    // What becomes of the pool where a block becomes the tip. There is no outlook where that can't be, since the block's parent
-    // isn't known, or stands below the tip. The only error is `Fault::Memory`.
+    /// What becomes of the pool where a block becomes the tip. There is no outlook where that can't be, since the block's parent
+    /// isn't known, or stands below the tip. The only error is `Fault::Memory`.
     fn outlook_on(&self, block: &SoundBlock) -> Result<Option<Outlook>, Fault>
-        ensures outlook { IfOk result (λ outlook. MatchOption outlook (¬ MayLead self.now.tree block.now.header.prev) (IsOutlookOn self.now block.now)) }
+        ensures outlook { IfOk result
+            (λ outlook. MatchOption outlook (¬ MayLead self.now.tree block.now.header.prev)
+            (IsOutlookOn self.now block.now)) }
         ensures memory { IsOkUnless result Memory }
     {
         let parent = &block.block().header.prev;
@@ -217,8 +224,8 @@ impl State {
         Ok(Some(Outlook::Folds(self.pool.refolding(first)?)))
     }
 
-    // The transactions other than coinbases of the blocks above the place where the active chain left a parent's branch, the
-    // lowest block's first. The only error is `Fault::Memory`.
+    /// The transactions other than coinbases of the blocks above the place where the active chain left a parent's branch, the
+    /// lowest block's first. The only error is `Fault::Memory`.
     fn put_off_for(&self, parent: &Hash256) -> Result<Vec<Candidate>, Fault>
         ensures first { IfOk result (λ first. first.items ≡ txs_above self.now.tree parent.now) }
         ensures memory { IsOkUnless result Memory }

@@ -10,8 +10,8 @@ use std::marker::Model;
 /// How many connections are asked to announce new blocks as compact ones (BIP 152).
 pub(crate) const MOST_ANNOUNCERS: usize = 3;
 
-// The connections that are asked to announce new blocks as compact ones (BIP 152), the one that gave a new tip last stands
-// last. There is room for one more than there may be. They are seen as their list.
+/// The connections that are asked to announce new blocks as compact ones (BIP 152), the one that gave a new tip last stands
+/// last. There is room for one more than there may be. They are seen as their list.
 #[derive(Drop)]
 pub(crate) struct Announcers {
     list: Vec<Connection>,
@@ -29,7 +29,7 @@ impl Model for Announcers {
 }
 
 impl Announcers {
-    // None of them. The only error is `Fault::Memory`.
+    /// None of them. The only error is `Fault::Memory`.
     pub(crate) fn new(alloc: Global) -> Result<Announcers, Fault>
         ensures none { IfOk result (λ announcers. announcers ≡ []) }
         ensures memory { IsOkUnless result Memory }
@@ -50,7 +50,7 @@ impl Announcers {
         self.list.iter().any(|other| *other == connection)
     }
 
-    // The connection comes last, or goes there. Of four the first leaves.
+    /// The connection comes last, or goes there. Of four the first leaves.
     pub(crate) fn put_last(&mut self, connection: Connection)
         ensures { self.new ≡ with_announcer self.old connection }
     {
@@ -61,14 +61,14 @@ impl Announcers {
         }
     }
 
-    // All connections of a peer leave.
+    /// All connections of a peer leave.
     pub(crate) fn leave(&mut self, peer: u16)
         ensures { self.new ≡ without_peer self.old peer }
     {
         self.list.retain(|other| other.peer != peer);
     }
 
-    // The same announcers. The only error is `Fault::Memory`.
+    /// The same announcers. The only error is `Fault::Memory`.
     pub(crate) fn copy(&self, alloc: Global) -> Result<Announcers, Fault>
         ensures same { IfOk result (λ copy. copy ≡ self.now) }
         ensures memory { IsOkUnless result Memory }

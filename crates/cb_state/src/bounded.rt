@@ -55,7 +55,7 @@ impl BoundedBlock {
     }
 }
 
-// The block of this hash, where it is kept and isn't marked bad. It is shared and not copied. The only error is `Fault::Memory`.
+/// The block of this hash, where it is kept and isn't marked bad. It is shared and not copied. The only error is `Fault::Memory`.
 pub(crate) fn kept_block(chain: &Chain, hash: &Hash256) -> Result<Option<BoundedBlock>, Fault>
     ensures block { IfOk result (λ block. block ≡ block_of chain.now hash.now) }
     ensures memory { IsOkUnless result Memory }

@@ -13,9 +13,12 @@ ghost use Rattle.cb_state.specs.State.{NodeState};
 /// To a transaction, a block or headers over a state there is one answer, and one state that they leave.
 pub fn one_answer()
     ensures tx { (old new other : NodeState) (tx : Tx) (refused again : Option Fault)
-        → TakesTx old tx refused new → TakesTx old tx again other → (refused ≡ again) × (new ≡ other) }
+        → TakesTx old tx refused new → TakesTx old tx again other →
+        (refused ≡ again) × (new ≡ other) }
     ensures block { (old new other : NodeState) (block : Block) (from : Option Connection) (taken again : Taken)
-        → TakesBlock old block from taken new → TakesBlock old block from again other → (taken ≡ again) × (new ≡ other) }
+        → TakesBlock old block from taken new → TakesBlock old block from again other →
+        (taken ≡ again) × (new ≡ other) }
     ensures headers { (old new other : NodeState) (headers : List Header) (heads again : Heads)
-        → TakesHeads old headers heads new → TakesHeads old headers again other → (heads ≡ again) × (new ≡ other) }
+        → TakesHeads old headers heads new → TakesHeads old headers again other →
+        (heads ≡ again) × (new ≡ other) }
 {}

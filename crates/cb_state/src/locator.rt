@@ -7,7 +7,7 @@ use cb_base::Fault;
 use cb_chain::{Chain, has_history};
 use cb_payload::Locator;
 
-// A chain's locator, which is short enough for a message. The only error is `Fault::Memory`.
+/// A chain's locator, which is short enough for a message. The only error is `Fault::Memory`.
 pub(crate) fn locator_of(chain: &Chain) -> Result<Locator, Fault>
     ensures exact { IfOk result (λ locator. locator ≡ locator_of chain.now) }
     ensures memory { IsOkUnless result Memory }

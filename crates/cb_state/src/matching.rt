@@ -21,7 +21,9 @@ impl State {
         nonce: u64,
         ids: &Shared<ShortIds>,
     ) -> Result<Pairs, Fault>
-        ensures exact { IfOk result (λ pairs. pairs ≡ pairs_of (key_of header.now nonce) ids.now (txs_of self.old.pool.list)) }
+        ensures exact { IfOk result
+            (λ pairs. pairs
+            ≡ pairs_of (key_of header.now nonce) ids.now (txs_of self.old.pool.list)) }
         ensures same { self.new ≡ self.old }
         ensures memory { IsOkUnless result Memory }
     {

@@ -26,7 +26,7 @@ const HEADER_BYTES: u64 = 80;
 /// The time of the regression test network's first block.
 const FIRST_TIME: u32 = 1_296_688_602;
 
-// The height of a block on the tip.
+/// The height of a block on the tip.
 fn height_on(chain: &Chain) -> u32
     ensures height { result ≡ next_height chain.now }
     ensures low { result ≤ 1000000001 }
@@ -35,7 +35,7 @@ fn height_on(chain: &Chain) -> u32
     chain.tip_height() + 1
 }
 
-// The coinbase of a block at a height.
+/// The coinbase of a block at a height.
 fn coinbase_at(alloc: Global, height: u32, mark: u8) -> Result<Shared<Tx>, Fault>
     ensures same { IfOk result (λ tx. tx ≡ coinbase_of height mark) }
     ensures size { IfOk result (λ tx. length (tx_text tx) ≡ 66) }
@@ -67,7 +67,7 @@ fn coinbase_at(alloc: Global, height: u32, mark: u8) -> Result<Shared<Tx>, Fault
     Ok(Shared::new(alloc, tx)?)
 }
 
-// The transaction at a place of a pool.
+/// The transaction at a place of a pool.
 fn waiting_at(pool: &Pool, place: usize) -> &Candidate
     requires { place < length pool.now.list }
     ensures { slice_get (txs_of pool.now.list) place ≡ Some result.now }
@@ -78,7 +78,7 @@ fn waiting_at(pool: &Pool, place: usize) -> &Candidate
     }
 }
 
-// How many transactions of a pool fit in a block behind the coinbase.
+/// How many transactions of a pool fit in a block behind the coinbase.
 fn fitting(pool: &Pool, coinbase: &Tx) -> usize
     requires { length (tx_text coinbase.now) ≤ 1000 }
     ensures fitting { IsMostFitting coinbase.now (txs_of pool.now.list) result }
@@ -95,7 +95,7 @@ fn fitting(pool: &Pool, coinbase: &Tx) -> usize
     pool.len()
 }
 
-// The coinbase and the first transactions of a pool, which are shared.
+/// The coinbase and the first transactions of a pool, which are shared.
 fn txs_behind(
     alloc: Global,
     coinbase: Shared<Tx>,
@@ -115,7 +115,7 @@ fn txs_behind(
     Ok(txs)
 }
 
-// Their txids. Only the coinbase is hashed here.
+/// Their txids. Only the coinbase is hashed here.
 fn txids_behind(
     alloc: Global,
     coinbase: &Tx,
@@ -124,7 +124,8 @@ fn txids_behind(
 ) -> Result<Vec<Hash256>, Fault>
     requires within { count ≤ length pool.now.list }
     requires few { count ≤ 10000 }
-    ensures names { IfOk result (λ txids. txids.items ≡ names (texts (coinbase.now ∷ take count (txs_of pool.now.list)))) }
+    ensures names { IfOk result
+        (λ txids. txids.items ≡ names (texts (coinbase.now ∷ take count (txs_of pool.now.list)))) }
     ensures memory { IsOkUnless result Memory }
 {
     let mut txids = Vec::with_capacity(alloc, count + 1)?;
@@ -135,9 +136,10 @@ fn txids_behind(
     Ok(txids)
 }
 
-// The header with the least nonce with which it meets its target: else `Fault::BadWork`.
+/// The header with the least nonce with which it meets its target: else `Fault::BadWork`.
 fn with_work(header: Header) -> Result<Header, Fault>
-    ensures ok { IfOk result (λ worked. (worked ≡ with_nonce header worked.nonce) × HasLeastNonce worked) }
+    ensures ok { IfOk result
+        (λ worked. (worked ≡ with_nonce header worked.nonce) × HasLeastNonce worked) }
     ensures err { IfErr result (λ fault. (fault ≡ BadWork) × HasNoNonce header) }
 {
     for nonce in 0..0x1_0000_0000u64 {
@@ -152,7 +154,7 @@ fn with_work(header: Header) -> Result<Header, Fault>
     Err(Fault::BadWork)
 }
 
-// The block of a header and its transactions, whose txids are known. Beside `Fault::Memory` there is only `Fault::Mutated`.
+/// The block of a header and its transactions, whose txids are known. Beside `Fault::Memory` there is only `Fault::Mutated`.
 fn sealed(
     alloc: Global,
     header: Header,
@@ -164,7 +166,8 @@ fn sealed(
     requires named { txids.items ≡ names (texts txs.items) }
     requires root { IsRoot (names (texts txs.items)) header.root }
     ensures ok { IfOk result (λ block. block ≡ record { header = header; txs = txs.items }) }
-    ensures err { IfErr result (λ fault. (fault ≡ Memory) ⊎ ((fault ≡ Mutated) × IsMutated (names (texts txs.items)))) }
+    ensures err { IfErr result
+        (λ fault. (fault ≡ Memory) ⊎ ((fault ≡ Mutated) × IsMutated (names (texts txs.items)))) }
 {
     let txs = Txs::new(txs);
     let block = Shared::new(alloc, Block { header, txs })?;
@@ -204,7 +207,8 @@ impl State {
 
 /// There is one mined block: of a state and a mark no two differ.
 pub fn one_mined_block()
-    ensures { (state : NodeState) (mark : ℕ) (a b : Block) → IsMined state mark a → IsMined state mark b → a ≡ b }
+    ensures { (state : NodeState) (mark : ℕ) (a b : Block) → IsMined state mark a →
+        IsMined state mark b → a ≡ b }
 {}
 
 /// A mined block meets the rules that a block meets by itself.

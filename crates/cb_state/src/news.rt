@@ -42,7 +42,7 @@ pub struct News {
     pub high: bool,
 }
 
-// Of more than eight headers the last one alone.
+/// Of more than eight headers the last one alone.
 fn to_announce(alloc: Global, way: Vec<Header>) -> Result<Announced, Fault>
     ensures path { IfOk result (λ path. path ≡ announced way.items) }
     ensures few { length way.items ≤ 8 → IsOk result }
@@ -68,7 +68,8 @@ impl State {
         whole: bool,
     ) -> Result<News, Fault>
         ensures news { IfOk result (IsNews self.now connection told from whole) }
-        ensures none { way_from self.now.tree told ≡ [] → since_of self.now.pool.list from ≡ [] → IsOk result }
+        ensures none { way_from self.now.tree told ≡ [] → since_of self.now.pool.list from ≡ [] →
+            IsOk result }
         ensures memory { IsOkUnless result Memory }
     {
         let way = self.way_from(told)?;
@@ -85,7 +86,7 @@ impl State {
         })
     }
 
-    // The headers from the branch of the tip that was told last up to the tip.
+    /// The headers from the branch of the tip that was told last up to the tip.
     fn way_from(&self, told: Option<Hash256>) -> Result<Vec<Header>, Fault>
         ensures way { IfOk result (λ way. way.items ≡ way_from self.now.tree told) }
         ensures none { way_from self.now.tree told ≡ [] → IsOk result }
@@ -97,9 +98,11 @@ impl State {
         }
     }
 
-    // The tip's block, where it is asked for.
+    /// The tip's block, where it is asked for.
     fn tip_block(&self, asked: bool) -> Result<Option<BoundedBlock>, Fault>
-        ensures block { IfOk result (λ block. block ≡ (if asked then block_of self.now.tree (best self.now.tree) else None)) }
+        ensures block { IfOk result
+            (λ block. block
+            ≡ (if asked then block_of self.now.tree (best self.now.tree) else None)) }
         ensures unasked { asked ≡ false → IsOk result }
         ensures memory { IsOkUnless result Memory }
     {
@@ -109,7 +112,7 @@ impl State {
         kept_block(&self.chain, &self.chain.tip())
     }
 
-    // The names of the transactions from this number on. The pool has fewer than a message can carry.
+    /// The names of the transactions from this number on. The pool has fewer than a message can carry.
     fn txids_since(&self, number: u64) -> Result<Txids, Fault>
         ensures txids { IfOk result (λ txids. txids ≡ since_of self.now.pool.list number) }
         ensures none { since_of self.now.pool.list number ≡ [] → IsOk result }

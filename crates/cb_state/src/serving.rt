@@ -13,7 +13,7 @@ use cb_base::{Fault, Hash256};
 use cb_payload::Listed;
 use cb_pool::Candidate;
 
-// How far below the tip a block is served as a compact one at the most (own).
+/// How far below the tip a block is served as a compact one at the most (own).
 const MOST_COMPACT_DEPTH: u32 = 5;
 
 /// What is served of an entry, which a message can carry.
@@ -51,7 +51,7 @@ impl State {
         Ok(Listed::from_few(list))
     }
 
-    // What is served of an entry.
+    /// What is served of an entry.
     fn piece(&self, entry: Inventory) -> Result<Option<Piece>, Fault>
         ensures piece { IfOk result (λ piece. piece ≡ piece_of self.now entry) }
         ensures memory { IsOkUnless result Memory }
@@ -64,9 +64,11 @@ impl State {
         }
     }
 
-    // The transaction of this name, where it waits in the pool.
+    /// The transaction of this name, where it waits in the pool.
     fn waiting(&self, txid: Hash256) -> Result<Piece, Fault>
-        ensures piece { IfOk result (λ piece. piece ≡ tx_piece (entry.Tx txid) (named_in (txs_of self.now.pool.list) txid)) }
+        ensures piece { IfOk result
+            (λ piece. piece
+            ≡ tx_piece (entry.Tx txid) (named_in (txs_of self.now.pool.list) txid)) }
         ensures memory { IsOkUnless result Memory }
     {
         match self.pool.get(&txid) {
@@ -75,9 +77,10 @@ impl State {
         }
     }
 
-    // The block of this hash, where it is kept and isn't marked bad.
+    /// The block of this hash, where it is kept and isn't marked bad.
     fn whole(&self, hash: Hash256) -> Result<Piece, Fault>
-        ensures piece { IfOk result (λ piece. piece ≡ whole_piece (entry.Block hash) (block_of self.now.tree hash)) }
+        ensures piece { IfOk result
+            (λ piece. piece ≡ whole_piece (entry.Block hash) (block_of self.now.tree hash)) }
         ensures memory { IsOkUnless result Memory }
     {
         match kept_block(&self.chain, &hash)? {
@@ -86,10 +89,11 @@ impl State {
         }
     }
 
-    // The same, to be sent as a compact one where it is near the tip.
+    /// The same, to be sent as a compact one where it is near the tip.
     fn short(&self, hash: Hash256) -> Result<Piece, Fault>
         ensures piece { IfOk result (λ piece. piece
-            ≡ short_piece (is_within 5 self.now.tree hash) (entry.CompactBlock hash) (block_of self.now.tree hash)) }
+            ≡ short_piece (is_within 5 self.now.tree hash) (entry.CompactBlock hash)
+            (block_of self.now.tree hash)) }
         ensures memory { IsOkUnless result Memory }
     {
         match kept_block(&self.chain, &hash)? {
@@ -99,7 +103,7 @@ impl State {
         }
     }
 
-    // Whether it stands at most so far below the tip.
+    /// Whether it stands at most so far below the tip.
     pub(crate) fn is_within(&self, hash: &Hash256, depth: u32) -> bool
         ensures { result ≡ is_within depth self.now.tree hash.now }
     {

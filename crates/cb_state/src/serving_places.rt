@@ -16,7 +16,7 @@ use cb_tx::Tx;
 use std::alloc::Global;
 use std::marker::Model;
 
-// How far below the tip transactions of a block are served alone at the most (own).
+/// How far below the tip transactions of a block are served alone at the most (own).
 const MOST_PART_DEPTH: u32 = 10;
 
 /// Transactions of a block that a message can carry: the block's hash, and they behind their count, have at most 4,000,000 bytes
@@ -94,10 +94,13 @@ impl State {
     /// Where a place reaches the number of its transactions, or passes what 64 bits hold, it is refused with `Fault::BadIndex`,
     /// wherever it stands. The only error is `Fault::Memory`, and what is absent or refused takes none.
     pub fn serve_places(&self, hash: &Hash256, differences: &[u64]) -> Result<Excerpt, Fault>
-        ensures exact { IfOk result (λ excerpt. excerpt ≡ excerpt_of self.now hash.now differences.now) }
+        ensures exact { IfOk result
+            (λ excerpt. excerpt ≡ excerpt_of self.now hash.now differences.now) }
         ensures memory { IsOkUnless result Memory }
-        ensures absent { excerpt_of self.now hash.now differences.now ≡ excerpts.Absent → IsOk result }
-        ensures refused { excerpt_of self.now hash.now differences.now ≡ excerpts.Refused BadIndex → IsOk result }
+        ensures absent { excerpt_of self.now hash.now differences.now ≡ excerpts.Absent →
+            IsOk result }
+        ensures refused { excerpt_of self.now hash.now differences.now ≡ excerpts.Refused BadIndex →
+            IsOk result }
     {
         kept_meet_rules(&self.chain);
         let Some(block) = self.chain.block(hash) else {
@@ -108,7 +111,7 @@ impl State {
     }
 }
 
-// The transactions of a block at the places with these differences, or the whole block where it isn't near the tip.
+/// The transactions of a block at the places with these differences, or the whole block where it isn't near the tip.
 fn excerpt_at(
     alloc: Global,
     near: bool,
@@ -117,9 +120,11 @@ fn excerpt_at(
     block: &SoundBlock,
 ) -> Result<Excerpt, Fault>
     requires { length (block_text block.now) ≤ 4000000 }
-    ensures exact { IfOk result (λ excerpt. excerpt ≡ excerpt_at near hash (sums 0 differences.now) block.now) }
+    ensures exact { IfOk result
+        (λ excerpt. excerpt ≡ excerpt_at near hash (sums 0 differences.now) block.now) }
     ensures memory { IsOkUnless result Memory }
-    ensures refused { are_below (length block.now.txs) (sums 0 differences.now) ≡ false → IsOk result }
+    ensures refused { are_below (length block.now.txs) (sums 0 differences.now) ≡ false →
+        IsOk result }
 {
     let total = block.block().txs.as_slice().len();
     let places = match undiffer(alloc, differences, total as u64) {
@@ -136,7 +141,7 @@ fn excerpt_at(
     Ok(Excerpt::Part(Part::new(hash, Txs::new(list))))
 }
 
-// How many bytes a header has.
+/// How many bytes a header has.
 fn header_size(header: &Header) -> usize
     ensures text { result ≡ length (header_text header.now) }
     ensures size { result ≡ 80 }
@@ -144,7 +149,7 @@ fn header_size(header: &Header) -> usize
     header.text().as_slice().len()
 }
 
-// The transaction at a place, if there is one.
+/// The transaction at a place, if there is one.
 fn tx_at(txs: &[Shared<Tx>], place: u64) -> Result<Option<Shared<Tx>>, Fault>
     ensures same { IfOk result (λ tx. tx ≡ slice_get txs.now place) }
     ensures memory { IsOkUnless result Memory }
@@ -155,7 +160,7 @@ fn tx_at(txs: &[Shared<Tx>], place: u64) -> Result<Option<Shared<Tx>>, Fault>
     }
 }
 
-// The transactions at these places, in order.
+/// The transactions at these places, in order.
 fn txs_at(alloc: Global, txs: &[Shared<Tx>], places: &[u64]) -> Result<Vec<Shared<Tx>>, Fault>
     ensures exact { IfOk result (λ list. list.items ≡ txs_at txs.now places.now) }
     ensures memory { IsOkUnless result Memory }
@@ -169,7 +174,7 @@ fn txs_at(alloc: Global, txs: &[Shared<Tx>], places: &[u64]) -> Result<Vec<Share
     Ok(list)
 }
 
-// Further owners of the transactions, in order.
+/// Further owners of the transactions, in order.
 fn copy_txs(alloc: Global, txs: &[Shared<Tx>]) -> Result<Vec<Shared<Tx>>, Fault>
     ensures same { IfOk result (λ list. list.items ≡ txs.now) }
     ensures memory { IsOkUnless result Memory }

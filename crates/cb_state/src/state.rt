@@ -68,7 +68,8 @@ impl State {
 
     /// All connections of a peer leave the announcers.
     pub fn leave(&mut self, peer: u16)
-        ensures { self.new ≡ record self.old { announcers = without_peer self.old.announcers peer } }
+        ensures { self.new
+            ≡ record self.old { announcers = without_peer self.old.announcers peer } }
     {
         self.announcers.leave(peer);
     }

@@ -26,7 +26,7 @@ pub struct Need {
     pub locator: Locator,
 }
 
-// The wanted entries so far, each once, in order, and the hashes of the transactions and of the blocks among them.
+/// The wanted entries so far, each once, in order, and the hashes of the transactions and of the blocks among them.
 #[derive(Drop)]
 struct Wanted {
     list: Vec<Inventory>,
@@ -35,11 +35,15 @@ struct Wanted {
 }
 
 impl Wanted {
-    // A transaction that is wanted comes last, unless it is there. After an error it is of no use.
+    /// A transaction that is wanted comes last, unless it is there. After an error it is of no use.
     fn put_tx(&mut self, txid: Hash256) -> Result<(), Fault>
-        requires { AreNoted (contains same self.old.txs) (contains same self.old.blocks) self.old.list.items }
-        ensures list { OnOk result (self.new.list.items ≡ with_entry self.old.list.items (entry.Tx txid)) }
-        ensures noted { OnOk result (AreNoted (contains same self.new.txs) (contains same self.new.blocks) self.new.list.items) }
+        requires { AreNoted (contains same self.old.txs)
+            (contains same self.old.blocks) self.old.list.items }
+        ensures list { OnOk result
+            (self.new.list.items ≡ with_entry self.old.list.items (entry.Tx txid)) }
+        ensures noted { OnOk result
+            (AreNoted (contains same self.new.txs)
+            (contains same self.new.blocks) self.new.list.items) }
         ensures memory { IsOkUnless result Memory }
     {
         if self.txs.insert(txid)? {
@@ -48,11 +52,15 @@ impl Wanted {
         Ok(())
     }
 
-    // A block that is wanted comes last, unless it is there. After an error it is of no use.
+    /// A block that is wanted comes last, unless it is there. After an error it is of no use.
     fn put_block(&mut self, hash: Hash256) -> Result<(), Fault>
-        requires { AreNoted (contains same self.old.txs) (contains same self.old.blocks) self.old.list.items }
-        ensures list { OnOk result (self.new.list.items ≡ with_entry self.old.list.items (entry.Block hash)) }
-        ensures noted { OnOk result (AreNoted (contains same self.new.txs) (contains same self.new.blocks) self.new.list.items) }
+        requires { AreNoted (contains same self.old.txs)
+            (contains same self.old.blocks) self.old.list.items }
+        ensures list { OnOk result
+            (self.new.list.items ≡ with_entry self.old.list.items (entry.Block hash)) }
+        ensures noted { OnOk result
+            (AreNoted (contains same self.new.txs)
+            (contains same self.new.blocks) self.new.list.items) }
         ensures memory { IsOkUnless result Memory }
     {
         if self.blocks.insert(hash)? {
@@ -62,7 +70,7 @@ impl Wanted {
     }
 }
 
-// The block among entries, where there is one alone.
+/// The block among entries, where there is one alone.
 fn only_block(entries: &[Inventory]) -> Option<Hash256>
     ensures { result ≡ only_block (blocks_of entries.now) }
 {
@@ -97,7 +105,7 @@ impl State {
         })
     }
 
-    // The entries that are wanted, each once, in order.
+    /// The entries that are wanted, each once, in order.
     fn wanted(&self, entries: &[Inventory]) -> Result<Vec<Inventory>, Fault>
         ensures wanted { IfOk result (λ wanted. wanted.items ≡ wanted_of self.now entries.now) }
         ensures few { IfOk result (λ wanted. length wanted.items ≤ length entries.now) }
@@ -114,11 +122,15 @@ impl State {
         Ok(wanted.list)
     }
 
-    // One more entry, which comes last if it is wanted and isn't there.
+    /// One more entry, which comes last if it is wanted and isn't there.
     fn look_at(&self, wanted: &mut Wanted, entry: Inventory) -> Result<(), Fault>
-        requires { AreNoted (contains same wanted.old.txs) (contains same wanted.old.blocks) wanted.old.list.items }
-        ensures list { OnOk result (wanted.new.list.items ≡ with_wanted self.now wanted.old.list.items entry) }
-        ensures noted { OnOk result (AreNoted (contains same wanted.new.txs) (contains same wanted.new.blocks) wanted.new.list.items) }
+        requires { AreNoted (contains same wanted.old.txs)
+            (contains same wanted.old.blocks) wanted.old.list.items }
+        ensures list { OnOk result
+            (wanted.new.list.items ≡ with_wanted self.now wanted.old.list.items entry) }
+        ensures noted { OnOk result
+            (AreNoted (contains same wanted.new.txs)
+            (contains same wanted.new.blocks) wanted.new.list.items) }
         ensures memory { IsOkUnless result Memory }
     {
         match entry {
@@ -139,7 +151,7 @@ impl State {
         }
     }
 
-    // Whether one block alone is among the entries, whose header is known and stands on the tip.
+    /// Whether one block alone is among the entries, whose header is known and stands on the tip.
     fn is_near(&self, entries: &[Inventory]) -> bool
         ensures { result ≡ is_near self.now (blocks_of entries.now) }
     {
@@ -149,7 +161,7 @@ impl State {
         }
     }
 
-    // Whether the header of this hash is known and stands on the tip.
+    /// Whether the header of this hash is known and stands on the tip.
     fn stands_on_tip(&self, hash: &Hash256) -> bool
         ensures { result ≡ stands_on_tip self.now (entry_of self.now.tree hash.now) }
     {
@@ -159,9 +171,11 @@ impl State {
         }
     }
 
-    // The chain's locator, where a block is among the entries.
+    /// The chain's locator, where a block is among the entries.
     fn block_locator(&self, entries: &[Inventory]) -> Result<Locator, Fault>
-        ensures locator { IfOk result (λ locator. locator ≡ (if list_any is_block entries.now then locator_of self.now.tree else [])) }
+        ensures locator { IfOk result
+            (λ locator. locator
+            ≡ (if list_any is_block entries.now then locator_of self.now.tree else [])) }
         ensures memory { IsOkUnless result Memory }
     {
         if !has_block(entries) {
@@ -171,7 +185,7 @@ impl State {
     }
 }
 
-// Whether a block is among entries.
+/// Whether a block is among entries.
 fn has_block(entries: &[Inventory]) -> bool
     ensures { result ≡ list_any is_block entries.now }
 {

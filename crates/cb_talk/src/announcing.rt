@@ -18,7 +18,9 @@ pub fn announce_tip(
     tip: Hash256,
     path: &Announced,
 ) -> Result<Option<BoundedMessage>, Fault>
-    ensures message { IfOk result (λ made. MatchOption made (announcing by_headers tip path.now ≡ []) (λ message. announcing by_headers tip path.now ≡ message ∷ [])) }
+    ensures message { IfOk result
+        (λ made. MatchOption made (announcing by_headers tip path.now ≡ [])
+        (λ message. announcing by_headers tip path.now ≡ message ∷ [])) }
     ensures memory { IsOkUnless result Memory }
     ensures unpaid { announcing by_headers tip path.now ≡ [] → IsOk result }
 {
@@ -39,7 +41,9 @@ pub fn announce_tip(
 ///
 /// The only error is `Fault::Memory`, and where there are none there is no error.
 pub fn announce_txs(alloc: Global, txids: &Txids) -> Result<Option<BoundedMessage>, Fault>
-    ensures message { IfOk result (λ made. MatchOption made (telling txids.now ≡ []) (λ message. telling txids.now ≡ message ∷ [])) }
+    ensures message { IfOk result
+        (λ made. MatchOption made (telling txids.now ≡ [])
+        (λ message. telling txids.now ≡ message ∷ [])) }
     ensures memory { IsOkUnless result Memory }
     ensures unpaid { telling txids.now ≡ [] → IsOk result }
 {
@@ -50,7 +54,7 @@ pub fn announce_txs(alloc: Global, txids: &Txids) -> Result<Option<BoundedMessag
     Ok(Some(BoundedMessage::new(Message::Inv(Entries::from_few(entries)))))
 }
 
-// The entries of transactions, in order. The only error is `Fault::Memory`.
+/// The entries of transactions, in order. The only error is `Fault::Memory`.
 fn tx_entries(alloc: Global, txids: &[Hash256]) -> Result<Vec<InvEntry>, Fault>
     ensures entries { IfOk result (λ entries. entries.items ≡ map tx_entry txids.now) }
     ensures memory { IsOkUnless result Memory }

@@ -7,15 +7,15 @@ use cb_payload::{Agent, CompactRelay, NetAddress, Version};
 use cb_wire::{BoundedMessage, Message};
 use std::alloc::Global;
 
-// The version of the protocol that this node speaks.
+/// The version of the protocol that this node speaks.
 const PROTOCOL_VERSION: i32 = 70_014;
 
-// The first version that knows `sendheaders` (BIP 130), and the first that knows compact blocks (BIP 152).
+/// The first version that knows `sendheaders` (BIP 130), and the first that knows compact blocks (BIP 152).
 const SENDHEADERS_VERSION: i32 = 70_012;
 
 const COMPACT_VERSION: i32 = 70_014;
 
-// No address is told.
+/// No address is told.
 const NO_ADDRESS: NetAddress = NetAddress {
     services: 0,
     ip: [0; 16],

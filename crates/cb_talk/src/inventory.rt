@@ -33,7 +33,8 @@ pub fn understood(entry: InvEntry) -> Inventory
 
 /// The message that asks for entries (`getdata`), if there are any.
 pub fn asking_for(entries: Entries) -> Option<BoundedMessage>
-    ensures { MatchOption result (asking_for entries ≡ []) (λ message. asking_for entries ≡ message ∷ []) }
+    ensures { MatchOption result (asking_for entries ≡ [])
+        (λ message. asking_for entries ≡ message ∷ []) }
 {
     if entries.as_slice().is_empty() {
         return None;

@@ -27,7 +27,7 @@ pub fn served(alloc: Global, pieces: &Pieces) -> Result<Vec<BoundedMessage>, Fau
     Ok(messages)
 }
 
-// The messages of what is there, in order.
+/// The messages of what is there, in order.
 fn there(alloc: Global, pieces: &[Piece]) -> Result<Vec<BoundedMessage>, Fault>
     ensures messages { IfOk result (λ messages. messages.items ≡ filter_map served_as pieces.now) }
     ensures memory { IsOkUnless result Memory }
@@ -41,7 +41,7 @@ fn there(alloc: Global, pieces: &[Piece]) -> Result<Vec<BoundedMessage>, Fault>
     Ok(messages)
 }
 
-// The message of a piece that is there.
+/// The message of a piece that is there.
 fn message_of(piece: &Piece) -> Result<Option<BoundedMessage>, Fault>
     ensures message { IfOk result (λ message. message ≡ served_as piece.now) }
     ensures memory { IsOkUnless result Memory }
@@ -53,7 +53,7 @@ fn message_of(piece: &Piece) -> Result<Option<BoundedMessage>, Fault>
     }
 }
 
-// The message of a transaction.
+/// The message of a transaction.
 fn tx_message(candidate: &Candidate) -> Result<BoundedMessage, Fault>
     ensures message { IfOk result (λ message. message ≡ Tx candidate.now) }
     ensures memory { IsOkUnless result Memory }
@@ -62,7 +62,7 @@ fn tx_message(candidate: &Candidate) -> Result<BoundedMessage, Fault>
     Ok(BoundedMessage::new(Message::Tx(shared)))
 }
 
-// The message of a block.
+/// The message of a block.
 fn block_message(block: &BoundedBlock) -> Result<BoundedMessage, Fault>
     ensures message { IfOk result (λ message. message ≡ Block block.now) }
     ensures memory { IsOkUnless result Memory }
@@ -71,7 +71,7 @@ fn block_message(block: &BoundedBlock) -> Result<BoundedMessage, Fault>
     Ok(BoundedMessage::new(Message::Block(shared)))
 }
 
-// The entries of what isn't there, in order.
+/// The entries of what isn't there, in order.
 fn lacking(alloc: Global, pieces: &[Piece]) -> Result<Vec<InvEntry>, Fault>
     ensures entries { IfOk result (λ entries. entries.items ≡ filter_map lacking_in pieces.now) }
     ensures few { IfOk result (λ entries. length entries.items ≤ length pieces.now) }

@@ -23,7 +23,10 @@ pub(crate) fn questions_asked(
 ) -> Result<Vec<Option<Question>>, Fault>
     requires few { before + length entries.now ≤ 2 ^ 62 }
     requires free { session.old.standing ≡ None }
-    ensures asked { IfOk result (λ asked. asked.items ≡ asked_from (record { session = session.old; count = before; sent = []; replies = [] }) entries.now) }
+    ensures asked { IfOk result
+        (λ asked. asked.items
+        ≡ asked_from
+        (record { session = session.old; count = before; sent = []; replies = [] }) entries.now) }
     ensures memory { IsOkUnless result Memory }
 {
     let mut asked = Vec::new(alloc);
@@ -57,7 +60,8 @@ fn standing_after(
     stood: Option<Question>,
     asked: Option<Question>,
 ) -> Option<Question>
-    requires { (asked ≡ standing_question session.now) ⊎ ((asked ≡ None) × (stood ≡ standing_question session.now)) }
+    requires { (asked ≡ standing_question session.now)
+        ⊎ ((asked ≡ None) × (stood ≡ standing_question session.now)) }
     ensures { result ≡ standing_question session.now }
 {
     match asked {
@@ -77,8 +81,10 @@ fn play(
     entry: &TraceEntry,
 ) -> Result<Option<Question>, Fault>
     requires few { before < 2 ^ 62 }
-    ensures same { IfOk result (λ asked. session.new ≡ (entry_step before session.old entry.now).session) }
-    ensures asked { IfOk result (λ asked. asked ≡ (entry_step before session.old entry.now).question) }
+    ensures same { IfOk result
+        (λ asked. session.new ≡ (entry_step before session.old entry.now).session) }
+    ensures asked { IfOk result
+        (λ asked. asked ≡ (entry_step before session.old entry.now).question) }
     ensures memory { IsOkUnless result Memory }
 {
     if session.state().is_closed() {

@@ -25,7 +25,9 @@ pub trait Oracle {
     ///
     /// The errors are `Fault::JournalFull`, only where no more questions are granted, and `Fault::Memory`.
     fn ask(&mut self, badge: &mut Badge, question: Question) -> Result<Answer, Fault>
-        ensures ok { IfOk result (λ answer. told self.old badge.old (record { question = question; answer = answer } ∷ []) self.new badge.new) }
+        ensures ok { IfOk result
+            (λ answer. told self.old badge.old
+            (record { question = question; answer = answer } ∷ []) self.new badge.new) }
         ensures fits { IfOk result (λ answer. fits question answer ≡ true) }
         ensures err { OnErr result (told self.old badge.old [] self.new badge.new) }
         ensures refused { IfErr result (λ fault. refused self.new badge.new fault) }

@@ -160,7 +160,8 @@ impl Trace {
         requires { IsOpen self.old }
         ensures readied { Readied self.old self.new result }
         // Where there is room already, and no checkpoint is due or no block is fetched, no memory is taken.
-        ensures roomy { 2 ≤ self.old.room → (is_due self.old ≡ false) ⊎ (self.old.session.fetch ≡ idle) → result ≡ true }
+        ensures roomy { 2 ≤ self.old.room →
+            (is_due self.old ≡ false) ⊎ (self.old.session.fetch ≡ idle) → result ≡ true }
     {
         if !self.rest() {
             self.starve();
@@ -176,7 +177,8 @@ impl Trace {
     /// Ends the session for want of memory: the entry `NoMemory` takes the next place.
     fn starve(&mut self)
         requires going { IsOpen self.old }
-        ensures grows { Grows self.old self.new (record { event = events.NoMemory; starved = false }) }
+        ensures grows { Grows self.old self.new
+            (record { event = events.NoMemory; starved = false }) }
         ensures closed { is_closed self.new.session.state ≡ true }
     {
         let _silent = self.put(Event::NoMemory);
@@ -255,10 +257,13 @@ impl Trace {
     ///
     /// The only error is `Fault::Memory`.
     pub fn asked(&self, alloc: Global) -> Result<Vec<Option<Question>>, Fault>
-        ensures asked { IfOk result (λ asked. asked.items ≡ asked_from (base_account self.now) self.now.entries) }
+        ensures asked { IfOk result
+            (λ asked. asked.items ≡ asked_from (base_account self.now) self.now.entries) }
         ensures memory { IsOkUnless result Memory }
         // Over a history for which the trace stands, these are the last.
-        ensures last { IfOk result (λ asked. (history : List TraceEntry) → StandsFor self.now history → AskedLast self.now.settings history self.now.before.told asked.items) }
+        ensures last { IfOk result
+            (λ asked. (history : List TraceEntry) → StandsFor self.now history →
+            AskedLast self.now.settings history self.now.before.told asked.items) }
     {
         let mut session = self.base.copy(alloc)?;
         questions_asked(alloc, &mut session, self.before.entries, self.entries())
@@ -277,10 +282,19 @@ fn hear(
 ) -> Result<(Vec<BoundedMessage>, Option<Question>), Fault>
     requires going { is_closed session.old.state ≡ false }
     requires few { before < 2 ^ 62 }
-    ensures ok { IfOk result (λ made. Answers (entry_step before session.old (record { event = event.now; starved = false })) session.new made.0.items made.1) }
-    ensures err { OnErr result (Answers (entry_step before session.old (record { event = event.now; starved = true })) session.new [] None) }
+    ensures ok { IfOk result
+        (λ made. Answers
+        (entry_step before session.old
+        (record { event = event.now; starved = false })) session.new made.0.items made.1) }
+    ensures err { OnErr result
+        (Answers (entry_step before session.old
+        (record { event = event.now; starved = true })) session.new [] None) }
     ensures calm { takes_no_memory event.now ≡ true → IsOk result }
-    ensures silent { spares session.old event.now ≡ true → (entry_step before session.old (record { event = event.now; starved = false })).messages ≡ [] → is_light (entry_step before session.old (record { event = event.now; starved = false })).question ≡ true → IsOk result }
+    ensures silent { spares session.old event.now ≡ true →
+        (entry_step before session.old (record { event = event.now; starved = false })).messages
+        ≡ [] → is_light
+        (entry_step before session.old (record { event = event.now; starved = false })).question
+        ≡ true → IsOk result }
 {
     if before + 1 == LAST_ENTRY {
         return Ok(session.close(alloc, CloseReason::TraceFull));

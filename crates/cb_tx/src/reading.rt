@@ -58,7 +58,7 @@ fn read_output(alloc: Global, cursor: &mut Cursor) -> Result<TxOut, Fault>
     Ok(TxOut { value, script })
 }
 
-// So many inputs, one after the other.
+/// So many inputs, one after the other.
 fn inputs_of(alloc: Global, cursor: &mut Cursor, count: usize) -> Result<Inputs, Fault>
     ensures exact { GivesInMemory (items_at input_at count cursor.old) result cursor.new }
     ensures unpaid { count ≡ 0 → IsOk result }
@@ -70,7 +70,7 @@ fn inputs_of(alloc: Global, cursor: &mut Cursor, count: usize) -> Result<Inputs,
     Ok(Inputs::new(inputs))
 }
 
-// So many outputs, one after the other.
+/// So many outputs, one after the other.
 fn outputs_of(alloc: Global, cursor: &mut Cursor, count: usize) -> Result<Outputs, Fault>
     ensures exact { GivesInMemory (items_at output_at count cursor.old) result cursor.new }
     ensures unpaid { count ≡ 0 → IsOk result }
@@ -119,7 +119,7 @@ fn tx_or_fault(alloc: Global, cursor: &mut Cursor) -> Result<Tx, Fault>
     })
 }
 
-// The transaction at the front, and a cursor at the bytes after it.
+/// The transaction at the front, and a cursor at the bytes after it.
 fn tx_of(alloc: Global, bytes: &[u8]) -> Result<(Tx, Cursor<'_>), Fault>
     ensures exact { MatchResult result (λ read. tx_at bytes.now ≡ Ok (read.0, read.1))
         (λ fault. (fault ≡ Memory) ⊎ (tx_at bytes.now ≡ Err fault)) }

@@ -80,7 +80,7 @@ fn has_null(inputs: &[TxIn]) -> bool
     inputs.iter().any(|input| is_null(&input.prev))
 }
 
-// The least of the first five rules that is broken.
+/// The least of the first five rules that is broken.
 fn broken_size_or_value(tx: &Tx) -> Option<TxRule>
     ensures { MatchOption result (MeetsFirst tx.now)
         (λ rule. (rule_number rule < 6) × IsLeastBroken tx.now rule) }
@@ -100,7 +100,7 @@ fn broken_size_or_value(tx: &Tx) -> Option<TxRule>
     has_bad_sum(tx.outputs.as_slice()).then_some(TxRule::BadSum)
 }
 
-// The least of the last two rules that is broken, where the others are met.
+/// The least of the last two rules that is broken, where the others are met.
 fn broken_coinbase(tx: &Tx) -> Option<TxRule>
     requires first { MeetsFirst tx.now }
     requires once { ¬ SpendsTwice tx.now.inputs }
@@ -119,9 +119,11 @@ fn broken_coinbase(tx: &Tx) -> Option<TxRule>
 /// comes twice.
 pub fn check_tx(alloc: Global, tx: &Tx) -> Result<(), Fault>
     ensures exact { MatchResult result (λ _. MeetsRules tx.now)
-        (λ fault. (fault ≡ Memory) ⊎ ((rule : TxRule) × (fault ≡ BadTx rule) × IsLeastBroken tx.now rule)) }
+        (λ fault. (fault ≡ Memory)
+        ⊎ ((rule : TxRule) × (fault ≡ BadTx rule) × IsLeastBroken tx.now rule)) }
     // The first five rules take no memory.
-    ensures unpaid { (rule : TxRule) → rule_number rule < 6 → IsLeastBroken tx.now rule → result ≡ Err (BadTx rule) }
+    ensures unpaid { (rule : TxRule) → rule_number rule < 6 → IsLeastBroken tx.now rule →
+        result ≡ Err (BadTx rule) }
     // Nor does the sixth, where there is one input.
     ensures paid { result ≡ Err Memory → MeetsFirst tx.now × (2 ≤ length tx.now.inputs) }
 {

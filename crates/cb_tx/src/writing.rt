@@ -16,7 +16,8 @@ fn put_script(out: &mut Vec<u8>, script: &Script) -> Result<(), Fault>
     ensures ok { OnOk result (out.new.items ≡ out.old.items ++ script_text script.now) }
     ensures err { OnErr result (Extends out.old.items out.new.items) }
     ensures memory { IsOkUnless result Memory }
-    ensures full { OnErr result (vec_capacity out.old < vec_len out.old + length (script_text script.now)) }
+    ensures full { OnErr result
+        (vec_capacity out.old < vec_len out.old + length (script_text script.now)) }
     ensures capacity { vec_capacity out.old ≤ vec_capacity out.new }
     ensures fits { length script.now < 2 ^ 64 }
 {
@@ -37,7 +38,8 @@ fn put_input(out: &mut Vec<u8>, input: &TxIn) -> Result<(), Fault>
     ensures ok { OnOk result (out.new.items ≡ out.old.items ++ input_text input.now) }
     ensures err { OnErr result (Extends out.old.items out.new.items) }
     ensures memory { IsOkUnless result Memory }
-    ensures full { OnErr result (vec_capacity out.old < vec_len out.old + length (input_text input.now)) }
+    ensures full { OnErr result
+        (vec_capacity out.old < vec_len out.old + length (input_text input.now)) }
     ensures capacity { vec_capacity out.old ≤ vec_capacity out.new }
     ensures fits { OnOk result (IsInput input.now) }
 {
@@ -53,7 +55,8 @@ fn put_output(out: &mut Vec<u8>, output: &TxOut) -> Result<(), Fault>
     ensures ok { OnOk result (out.new.items ≡ out.old.items ++ output_text output.now) }
     ensures err { OnErr result (Extends out.old.items out.new.items) }
     ensures memory { IsOkUnless result Memory }
-    ensures full { OnErr result (vec_capacity out.old < vec_len out.old + length (output_text output.now)) }
+    ensures full { OnErr result
+        (vec_capacity out.old < vec_len out.old + length (output_text output.now)) }
     ensures capacity { vec_capacity out.old ≤ vec_capacity out.new }
     ensures fits { OnOk result (IsOutput output.now) }
 {
@@ -66,7 +69,8 @@ fn put_inputs(out: &mut Vec<u8>, inputs: &[TxIn]) -> Result<(), Fault>
     ensures ok { OnOk result (out.new.items ≡ out.old.items ++ list_text input_text inputs.now) }
     ensures err { OnErr result (Extends out.old.items out.new.items) }
     ensures memory { IsOkUnless result Memory }
-    ensures full { OnErr result (vec_capacity out.old < vec_len out.old + length (list_text input_text inputs.now)) }
+    ensures full { OnErr result
+        (vec_capacity out.old < vec_len out.old + length (list_text input_text inputs.now)) }
     ensures capacity { vec_capacity out.old ≤ vec_capacity out.new }
     ensures few { length inputs.now < 2 ^ 64 }
     ensures fits { OnOk result (All IsInput inputs.now) }
@@ -83,7 +87,8 @@ fn put_outputs(out: &mut Vec<u8>, outputs: &[TxOut]) -> Result<(), Fault>
     ensures ok { OnOk result (out.new.items ≡ out.old.items ++ list_text output_text outputs.now) }
     ensures err { OnErr result (Extends out.old.items out.new.items) }
     ensures memory { IsOkUnless result Memory }
-    ensures full { OnErr result (vec_capacity out.old < vec_len out.old + length (list_text output_text outputs.now)) }
+    ensures full { OnErr result
+        (vec_capacity out.old < vec_len out.old + length (list_text output_text outputs.now)) }
     ensures capacity { vec_capacity out.old ≤ vec_capacity out.new }
     ensures few { length outputs.now < 2 ^ 64 }
     ensures fits { OnOk result (All IsOutput outputs.now) }
@@ -141,10 +146,12 @@ impl Tx {
 
 /// One transaction has one text, and no text begins another.
 pub fn one_text()
-    ensures { (a b : Tx) (x y : List ℕ) → IsTx a → IsTx b → tx_text a ++ x ≡ tx_text b ++ y → (a ≡ b) × (x ≡ y) }
+    ensures { (a b : Tx) (x y : List ℕ) → IsTx a → IsTx b → tx_text a ++ x ≡ tx_text b ++ y →
+        (a ≡ b) × (x ≡ y) }
 {}
 
 /// A strict beginning of a transaction's text is too short to be read: `Fault::Truncated`.
 pub fn beginning_of_tx_is_truncated()
-    ensures { (tx : Tx) (b c : List ℕ) → IsTx tx → tx_text tx ≡ b ++ c → c ≢ [] → tx_at b ≡ Err Truncated }
+    ensures { (tx : Tx) (b c : List ℕ) → IsTx tx → tx_text tx ≡ b ++ c → c ≢ [] →
+        tx_at b ≡ Err Truncated }
 {}

@@ -111,7 +111,8 @@ struct Cut {
 
 /// Cuts the whole envelopes at the front. The only error is `Fault::Memory`.
 fn cut_items(alloc: Global, bytes: &[u8]) -> Result<Cut, Fault>
-    ensures stream { IfOk result (λ cut. Stream bytes.now cut.items.items (drop cut.used bytes.now) cut.fault) }
+    ensures stream { IfOk result
+        (λ cut. Stream bytes.now cut.items.items (drop cut.used bytes.now) cut.fault) }
     ensures within { IfOk result (λ cut. cut.used ≤ length bytes.now) }
     ensures memory { IsOkUnless result Memory }
     ensures unpaid { front_at bytes.now ≡ Partial → IsOk result }

@@ -30,11 +30,13 @@ pub fn decode(alloc: Global, command: &str, payload: &[u8]) -> Result<Message, F
     // Each number of what is read is one of its field, and each hash has 32 bytes.
     ensures kept { IfOk result IsMessage }
     // What is spelled so is read, unless memory runs out.
-    ensures only { (message : Message) → IsMessage message → Spells command.now payload.now message → (result ≡ Ok message) ⊎ (result ≡ Err Memory) }
+    ensures only { (message : Message) → IsMessage message →
+        Spells command.now payload.now message → (result ≡ Ok message) ⊎ (result ≡ Err Memory) }
     // Which fault it is.
     ensures exact { Gives (message_at command.now payload.now) result }
     // Up to the first count of a transaction or a block no memory is taken.
-    ensures unpaid { (fault : Fault) → IsUnpaid (known_command command.now) payload.now fault → result ≡ Err fault }
+    ensures unpaid { (fault : Fault) → IsUnpaid (known_command command.now) payload.now fault →
+        result ≡ Err fault }
     // Nor is any for the numbers of the other known commands, or for a count of 0 where bytes are left over.
     ensures paid { result ≡ Err Memory → IsPaid (known_command command.now) payload.now }
 {
@@ -45,7 +47,8 @@ pub fn decode(alloc: Global, command: &str, payload: &[u8]) -> Result<Message, F
 fn message_under(alloc: Global, name: &str, payload: &[u8]) -> Result<Message, Fault>
     requires { IsCommand name.now }
     ensures exact { Gives (message_at name.now payload.now) result }
-    ensures unpaid { (fault : Fault) → IsUnpaid (known_command name.now) payload.now fault → result ≡ Err fault }
+    ensures unpaid { (fault : Fault) → IsUnpaid (known_command name.now) payload.now fault →
+        result ≡ Err fault }
     ensures paid { result ≡ Err Memory → IsPaid (known_command name.now) payload.now }
 {
     match Command::named(name) {
@@ -96,7 +99,8 @@ pub fn encode_into(alloc: Global, buffer: &mut Vec<u8>, message: &Message) -> Re
 fn put_envelope(buffer: &mut Vec<u8>, name: &str, payload: &[u8]) -> Result<(), Fault>
     requires name { IsCommand name.now }
     requires limit { length payload.now ≤ 4000000 }
-    ensures text { OnOk result (buffer.new.items ≡ buffer.old.items ++ envelope_text name.now payload.now) }
+    ensures text { OnOk result
+        (buffer.new.items ≡ buffer.old.items ++ envelope_text name.now payload.now) }
     ensures err { OnErr result (buffer.new.items ≡ buffer.old.items) }
     ensures memory { IsOkUnless result Memory }
 {

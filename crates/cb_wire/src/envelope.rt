@@ -107,7 +107,8 @@ fn has_checksum(header: &[u8], payload: &[u8]) -> bool
 /// The command in an envelope's 24 bytes, if there is one.
 fn command_of(header: &[u8]) -> Option<&str>
     requires { length header.now ≡ 24 }
-    ensures command { option_map (λ name. name.now) result ≡ command_in (take 12 (drop 4 header.now)) }
+    ensures command { option_map (λ name. name.now) result
+        ≡ command_in (take 12 (drop 4 header.now)) }
     ensures form { IfSome result (λ name. IsCommand name.now) }
 {
     let (_, tail) = header.split_at(4);
@@ -175,7 +176,8 @@ fn is_command_byte(byte: u8) -> bool
 fn item_named(alloc: Global, name: &str, payload: &[u8]) -> Result<Item, Fault>
     requires form { IsCommand name.now }
     requires limit { length payload.now ≤ 4000000 }
-    ensures item { IfOk result (λ item. item ≡ item_under (known_command name.now) name.now payload.now) }
+    ensures item { IfOk result
+        (λ item. item ≡ item_under (known_command name.now) name.now payload.now) }
     ensures memory { IsOkUnless result Memory }
 {
     match Command::named(name) {

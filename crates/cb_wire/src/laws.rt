@@ -15,14 +15,18 @@ ghost use Rattle.cb_wire.specs.Envelope.{IsEnvelopeOf, front_at, item_at, text};
 
 /// A byte string has one reading at the most: its items, its rest and its fault are determined.
 pub fn one_reading()
-    ensures items { (bytes : List ℕ) (i j : List Item) (r s : List ℕ) (f g : Option Fault) → Stream bytes i r f → Stream bytes j s g → i ≡ j }
-    ensures rest { (bytes : List ℕ) (i j : List Item) (r s : List ℕ) (f g : Option Fault) → Stream bytes i r f → Stream bytes j s g → r ≡ s }
-    ensures fault { (bytes : List ℕ) (i j : List Item) (r s : List ℕ) (f g : Option Fault) → Stream bytes i r f → Stream bytes j s g → f ≡ g }
+    ensures items { (bytes : List ℕ) (i j : List Item) (r s : List ℕ) (f g : Option Fault) →
+        Stream bytes i r f → Stream bytes j s g → i ≡ j }
+    ensures rest { (bytes : List ℕ) (i j : List Item) (r s : List ℕ) (f g : Option Fault) →
+        Stream bytes i r f → Stream bytes j s g → r ≡ s }
+    ensures fault { (bytes : List ℕ) (i j : List Item) (r s : List ℕ) (f g : Option Fault) →
+        Stream bytes i r f → Stream bytes j s g → f ≡ g }
 {}
 
 /// What more bytes spell goes on from the items of those before: a piece never changes an item.
 pub fn readings_go_on()
-    ensures { (bytes more : List ℕ) (items : List Item) (rest : List ℕ) (fault : Option Fault) → Stream bytes items rest fault → Extends (bytes ++ more) items }
+    ensures { (bytes more : List ℕ) (items : List Item) (rest : List ℕ) (fault : Option Fault) →
+        Stream bytes items rest fault → Extends (bytes ++ more) items }
 {}
 
 /// Every byte string has a reading.
@@ -33,17 +37,21 @@ pub fn some_reading()
 /// The texts of messages, one after another, are a stream of these messages with nothing left over. So they are read
 /// back however they are cut, and no two messages have one text.
 pub fn texts_are_a_stream()
-    ensures stream { (messages : List Message) → AllByRecursion IsProper messages → Stream (texts messages) (map (λ message. Good message) messages) [] None }
+    ensures stream { (messages : List Message) → AllByRecursion IsProper messages →
+        Stream (texts messages) (map (λ message. Good message) messages) [] None }
     ensures alone { (m n : Message) → IsProper m → IsProper n → text m ≡ text n → m ≡ n }
 {}
 
 /// The twelve bytes of an envelope hold a command exactly where they are its name, of a command's form, and then zeros.
 pub fn commands_are_names_and_zeros()
-    ensures { (field name : List ℕ) → length field ≡ 12 → ((command_in field ≡ Some name) ↔ (IsCommand name × (field ≡ command_field name))) }
+    ensures { (field name : List ℕ) → length field ≡ 12 →
+        ((command_in field ≡ Some name) ↔ (IsCommand name × (field ≡ command_field name))) }
 {}
 
 /// A message comes of an envelope of its own alone: where an item is `Good`, its bytes are magic, the message's name,
 /// the length and the checksum of a payload that spells the message, and that payload.
 pub fn good_items_are_envelopes()
-    ensures { (bytes : List ℕ) (n : ℕ) (message : Message) → AllByRecursion (λ byte. byte < 256) bytes → front_at bytes ≡ Whole n → item_at n bytes ≡ Good message → IsEnvelopeOf (take (24 + n) bytes) message }
+    ensures { (bytes : List ℕ) (n : ℕ) (message : Message) →
+        AllByRecursion (λ byte. byte < 256) bytes → front_at bytes ≡ Whole n →
+        item_at n bytes ≡ Good message → IsEnvelopeOf (take (24 + n) bytes) message }
 {}

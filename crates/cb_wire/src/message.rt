@@ -65,7 +65,8 @@ pub enum Message {
 /// The payload of a known command: one arm for each.
 pub fn read_payload(alloc: Global, command: Command, payload: &[u8]) -> Result<Message, Fault>
     ensures exact { Gives (payload_at command payload.now) result }
-    ensures unpaid { (fault : Fault) → IsUnpaid (Some command) payload.now fault → result ≡ Err fault }
+    ensures unpaid { (fault : Fault) → IsUnpaid (Some command) payload.now fault →
+        result ≡ Err fault }
     ensures paid { result ≡ Err Memory → IsPaid (Some command) payload.now }
 {
     let mut cursor = Cursor::new(payload);

@@ -27,7 +27,8 @@ fn new_crew<R: Wait>(
     requires handlers { (1 ≤ handlers) × (handlers ≤ 16) }
     ensures crew { IfOk result (λ made. IsNewCrew peers handlers 4 made.crew) }
     ensures readers { IfOk result (λ made. AreOpeningSeats made.crew made.readers.items) }
-    ensures handlers { IfOk result (λ made. AreHandlersOf made.crew made.handlers.items × MadeNoTurn made.handlers.items) }
+    ensures handlers { IfOk result
+        (λ made. AreHandlersOf made.crew made.handlers.items × MadeNoTurn made.handlers.items) }
 {
     let works = Lister::all(alloc, peers, 1000, false)?;
     Crew::new(rt, alloc, works, handlers, 4).map_err(|_| Fail::from("memory ran out"))

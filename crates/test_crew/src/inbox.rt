@@ -22,7 +22,8 @@ fn fills<R: Wait>(
     reader: &mut ReaderSeat<char, Connection>,
     taker: &mut TakerSeat<char, Connection>,
 ) -> bool
-    requires { (reader.old.inbox ≡ inbox.now.name) × (taker.old.inbox ≡ inbox.now.name) × (reader.old.queued ≡ []) }
+    requires { (reader.old.inbox ≡ inbox.now.name) × (taker.old.inbox ≡ inbox.now.name)
+        × (reader.old.queued ≡ []) }
     ensures reader { (reader.new.inbox ≡ inbox.now.name) × (length reader.new.queued ≤ 4) }
     ensures taker { taker.new.inbox ≡ inbox.now.name }
 {
@@ -40,7 +41,8 @@ fn empties<R: Wait>(
     reader: ReaderSeat<char, Connection>,
     taker: &mut TakerSeat<char, Connection>,
 ) -> bool
-    requires { (reader.inbox ≡ inbox.now.name) × (taker.old.inbox ≡ inbox.now.name) × (length reader.queued ≤ 4) }
+    requires { (reader.inbox ≡ inbox.now.name) × (taker.old.inbox ≡ inbox.now.name)
+        × (length reader.queued ≤ 4) }
 {
     let Err(reader) = reader.end(rt, inbox) else {
         return false;
@@ -73,8 +75,10 @@ fn go_on<R: Wait>(
     taker: &mut TakerSeat<char, Connection>,
     number: u32,
 ) -> Option<ReaderSeat<char, Connection>>
-    requires { (reader.inbox ≡ inbox.now.name) × (taker.old.inbox ≡ inbox.now.name) × (length reader.queued < 2 ^ 47) }
-    ensures reader { IfSome result (λ seat. (seat.inbox ≡ inbox.now.name) × (length seat.queued ≡ length reader.queued + 2)) }
+    requires { (reader.inbox ≡ inbox.now.name) × (taker.old.inbox ≡ inbox.now.name)
+        × (length reader.queued < 2 ^ 47) }
+    ensures reader { IfSome result
+        (λ seat. (seat.inbox ≡ inbox.now.name) × (length seat.queued ≡ length reader.queued + 2)) }
     ensures taker { taker.new.inbox ≡ inbox.now.name }
 {
     let ended = reader.end(rt, inbox).ok()?;
@@ -91,7 +95,8 @@ fn go_on_often<R: Wait>(
     mut reader: ReaderSeat<char, Connection>,
     mut taker: TakerSeat<char, Connection>,
 ) -> Option<ReaderSeat<char, Connection>>
-    requires { (reader.inbox ≡ inbox.now.name) × (taker.inbox ≡ inbox.now.name) × (reader.queued ≡ []) }
+    requires { (reader.inbox ≡ inbox.now.name) × (taker.inbox ≡ inbox.now.name)
+        × (reader.queued ≡ []) }
     ensures { IfSome result (λ seat. (seat.inbox ≡ inbox.now.name) × (length seat.queued ≡ 510)) }
 {
     for number in 1..256 {
@@ -132,7 +137,8 @@ fn opens_where_room_is<R: Wait>(
     ended: EndedSeat<char, Connection>,
     taker: &mut TakerSeat<char, Connection>,
 ) -> bool
-    requires { (ended.inbox ≡ inbox.now.name) × (taker.old.inbox ≡ inbox.now.name) × (length ended.queued ≡ 1) }
+    requires { (ended.inbox ≡ inbox.now.name) × (taker.old.inbox ≡ inbox.now.name)
+        × (length ended.queued ≡ 1) }
 {
     let Err(refused) = ended.open(rt, inbox, Connection(1)) else {
         return false;
@@ -167,7 +173,8 @@ fn tells_each_other<R: Wait>(
     mut reader: ReaderSeat<char, Connection>,
     taker: &mut TakerSeat<char, Connection>,
 ) -> bool
-    requires { (reader.inbox ≡ inbox.now.name) × (taker.old.inbox ≡ inbox.now.name) × (length reader.queued ≤ 1) }
+    requires { (reader.inbox ≡ inbox.now.name) × (taker.old.inbox ≡ inbox.now.name)
+        × (length reader.queued ≤ 1) }
 {
     taker.learn(inbox, reader.note(inbox));
     let item = taker.take(rt, inbox) == Some(Queued::Item('x'));

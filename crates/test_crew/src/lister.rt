@@ -78,7 +78,9 @@ impl Work for Lister {
     fn step<R: Wait>(&mut self, _rt: &R, item: Given<u64>)
         requires open { (self.old.ended || self.old.shut) ≡ false }
         requires primed { vec_len self.old.items < vec_capacity self.old.items }
-        ensures given { (items : List (Given ℕ)) → items ≡ kept self.old.items.items self.old.ended → items ++ item ∷ [] ≡ kept self.new.items.items self.new.ended }
+        ensures given { (items : List (Given ℕ)) →
+            items ≡ kept self.old.items.items self.old.ended →
+            items ++ item ∷ [] ≡ kept self.new.items.items self.new.ended }
         ensures end { IsEnd item → (self.new.ended || self.new.shut) ≡ true }
         ensures label { self.new.label ≡ self.old.label }
         ensures ticked { self.new.ticks ≡ self.old.ticks }
@@ -103,7 +105,8 @@ impl Work for Lister {
 impl Lister {
     /// A work of this label that closes with its item `most`.
     pub fn new(alloc: Global, label: u16, most: usize) -> Lister
-        ensures fresh { IsFresh (λ work given. given ≡ kept work.items.items work.ended) (λ work at. counted work.ticks at) (λ work. work.ended || work.shut) result }
+        ensures fresh { IsFresh (λ work given. given ≡ kept work.items.items work.ended)
+            (λ work at. counted work.ticks at) (λ work. work.ended || work.shut) result }
         ensures label { result.label ≡ label }
     {
         Lister {
@@ -120,7 +123,10 @@ impl Lister {
 
     /// So many works, of labels 0, 1, .., each with a gate for that many steps if one is asked for.
     pub fn all(alloc: Global, count: u16, most: usize, gated: bool) -> Result<Vec<Lister>, Fault>
-        ensures { IfOk result (λ works. (length works.items ≡ count) × All (IsFresh (λ work given. given ≡ kept work.items.items work.ended) (λ work at. counted work.ticks at) (λ work. work.ended || work.shut)) works.items) }
+        ensures { IfOk result
+            (λ works. (length works.items ≡ count)
+            × All (IsFresh (λ work given. given ≡ kept work.items.items work.ended)
+            (λ work at. counted work.ticks at) (λ work. work.ended || work.shut)) works.items) }
     {
         let mut works = Vec::with_capacity(alloc, usize::from(count))?;
         let gate = Shared::new(

@@ -23,7 +23,8 @@ fn desks_of<R: Threads + Wait + Clock + Sync>(
     items: u32,
 ) -> Result<Vec<Desk<Lister>>, Fault>
     requires peers { (1 ≤ length works.items) × (length works.items ≤ 64) }
-    requires fresh { All (IsFresh (λ work given. given ≡ kept work.items.items work.ended) (λ work at. counted work.ticks at) (λ work. work.ended || work.shut)) works.items }
+    requires fresh { All (IsFresh (λ work given. given ≡ kept work.items.items work.ended)
+        (λ work at. counted work.ticks at) (λ work. work.ended || work.shut)) works.items }
     requires handlers { (1 ≤ handlers) × (handlers ≤ 16) }
 {
     let signals = Signals::new(alloc, works.len() as u16)?;

@@ -9,7 +9,8 @@ use cb_sched::{Mark, System};
 ///
 /// The only error is `Fault::Memory`.
 pub fn write(system: &System, out: &mut String) -> Result<(), Fault>
-    ensures text { OnOk result (string_bytes out.new ≡ string_bytes out.old ++ report_text system.now.crew) }
+    ensures text { OnOk result
+        (string_bytes out.new ≡ string_bytes out.old ++ report_text system.now.crew) }
     ensures memory { IsOkUnless result Memory }
 {
     peers(system, out)?;
@@ -19,7 +20,8 @@ pub fn write(system: &System, out: &mut String) -> Result<(), Fault>
 
 /// What was queued for each peer and what was taken.
 fn peers(system: &System, out: &mut String) -> Result<(), Fault>
-    ensures text { OnOk result (string_bytes out.new ≡ string_bytes out.old ++ peers_text system.now.crew) }
+    ensures text { OnOk result
+        (string_bytes out.new ≡ string_bytes out.old ++ peers_text system.now.crew) }
     ensures memory { IsOkUnless result Memory }
 {
     for peer in 0..system.peers() {
@@ -31,7 +33,8 @@ fn peers(system: &System, out: &mut String) -> Result<(), Fault>
 /// A peer's line.
 fn peer_line(system: &System, peer: u16, out: &mut String) -> Result<(), Fault>
     requires { peer < length system.now.crew.lines }
-    ensures text { OnOk result (string_bytes out.new ≡ string_bytes out.old ++ peer_text system.now.crew peer) }
+    ensures text { OnOk result
+        (string_bytes out.new ≡ string_bytes out.old ++ peer_text system.now.crew peer) }
     ensures memory { IsOkUnless result Memory }
 {
     write!(out, "peer {peer} queued ")?;
@@ -44,7 +47,8 @@ fn peer_line(system: &System, peer: u16, out: &mut String) -> Result<(), Fault>
 
 /// Marks with commas between, or `-` where there is none.
 fn marks(marks: &[Mark], out: &mut String) -> Result<(), Fault>
-    ensures text { OnOk result (string_bytes out.new ≡ string_bytes out.old ++ marks_text marks.now) }
+    ensures text { OnOk result
+        (string_bytes out.new ≡ string_bytes out.old ++ marks_text marks.now) }
     ensures memory { IsOkUnless result Memory }
 {
     match marks.split_first() {
@@ -61,7 +65,8 @@ fn marks(marks: &[Mark], out: &mut String) -> Result<(), Fault>
 
 /// The desks that wait in the ring.
 fn ring(system: &System, out: &mut String) -> Result<(), Fault>
-    ensures text { OnOk result (string_bytes out.new ≡ string_bytes out.old ++ ring_text system.now.crew) }
+    ensures text { OnOk result
+        (string_bytes out.new ≡ string_bytes out.old ++ ring_text system.now.crew) }
     ensures memory { IsOkUnless result Memory }
 {
     let mut desks = system.ring();
@@ -80,7 +85,8 @@ fn ring(system: &System, out: &mut String) -> Result<(), Fault>
 
 /// The desk that each handler holds.
 fn handlers(system: &System, out: &mut String) -> Result<(), Fault>
-    ensures text { OnOk result (string_bytes out.new ≡ string_bytes out.old ++ handlers_text system.now.crew) }
+    ensures text { OnOk result
+        (string_bytes out.new ≡ string_bytes out.old ++ handlers_text system.now.crew) }
     ensures memory { IsOkUnless result Memory }
 {
     for handler in 0..system.handlers() {
@@ -92,7 +98,8 @@ fn handlers(system: &System, out: &mut String) -> Result<(), Fault>
 /// A handler's line.
 fn handler_line(system: &System, handler: u16, out: &mut String) -> Result<(), Fault>
     requires { handler < length system.now.crew.desks.held }
-    ensures text { OnOk result (string_bytes out.new ≡ string_bytes out.old ++ handler_text system.now.crew handler) }
+    ensures text { OnOk result
+        (string_bytes out.new ≡ string_bytes out.old ++ handler_text system.now.crew handler) }
     ensures memory { IsOkUnless result Memory }
 {
     match system.held(handler) {
