@@ -2,6 +2,7 @@ pub mod Beginning
 pub mod BlockRules
 pub mod Climbing
 pub mod CutTexts
+pub mod Deciding
 pub mod Headers
 pub mod Levels
 pub mod Only

@@ -1,4 +1,5 @@
 pub mod Blocks
+pub mod Decision
 pub mod Genesis
 pub mod MerkleTree
 pub mod Reading

@@ -3,6 +3,7 @@
 
 mod block;
 mod coding;
+mod decision;
 mod genesis_tx;
 mod header;
 mod laws;
@@ -12,6 +13,7 @@ mod soundness;
 
 pub use block::{Block, Txs};
 pub use coding::{read_block, write_block};
+pub use decision::{sound_is_decided, sound_of};
 pub use header::{BITS, Header, check_header, hash_with_work, read_header};
 pub use laws::{
     beginning_of_block_is_truncated, beginning_of_header_is_truncated, one_block_text, one_root,

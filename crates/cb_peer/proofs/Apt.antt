@@ -33,7 +33,7 @@ use Rattle.cb_peer.specs.Laws.IsReached.{opens, steps, stops}
 use Rattle.cb_peer.specs.Receiving.{Plan, asks, brought, by_compact, by_headers, by_phase, ended, ends, given_up, gives_up, heard_of, in_greeted, in_ready, in_start, introduced, processed, received, sends}
 use Rattle.cb_peer.specs.Replying.{answered, heads_by, heads_told, need_told, news_told, taken_told, wanted_told}
 use Rattle.cb_peer.specs.Session.{Stepped, arrives, for_item, open_step, standing_item, stands, stays, step_of, told}
-use Rattle.cb_peer.specs.Soundness.{is_sound_block}
+use Rattle.cb_block.specs.Decision.{is_sound_block}
 use Rattle.cb_peer.specs.State.{SessionState, freed, is_closed, with_fetch, with_standing}
 use Rattle.cb_peer.proofs.Cases.{brought_cases, by_test, ends_cases}
 

@@ -9,7 +9,7 @@ use Rattle.cb_wire.specs.declared.message.Message.{Message}
 use Rattle.cb_peer.specs.declared.ask.Ask.TheVariants.{About, Wanted, Fresh}
 use Rattle.cb_peer.specs.declared.state.CloseReason.TheVariants as reasons
 use Rattle.cb_peer.specs.Receiving.{Plan, asks, brought, ended, ends, heard_of, sends}
-use Rattle.cb_peer.specs.Soundness.{is_sound_block}
+use Rattle.cb_block.specs.Decision.{is_sound_block}
 use Rattle.cb_peer.specs.State.{SessionState, is_ready, with_fetch}
 
 pub by_test : {A : Type 0} (P : A → Type 0) (test : Bool) (x y : A) → (test ≡ true → P x) → (test ≡ false → P y) → P (cond test x y)

@@ -42,11 +42,11 @@ use Rattle.cb_peer.specs.Laws.{IsReached, asks_for_block, greets, is_following, 
 use Rattle.cb_peer.specs.Receiving.{Plan, by_compact, by_headers, by_phase, ends, in_greeted, in_start, received, sends}
 use Rattle.cb_peer.specs.Replying.{answered, is_heard, news_told, tip_told, tx_request, without_brought}
 use Rattle.cb_peer.specs.Session.{standing_item, step_of}
-use Rattle.cb_peer.specs.Soundness.{is_sound_block}
+use Rattle.cb_block.specs.Decision.{is_sound_block}
 use Rattle.cb_peer.specs.State.{SessionState, freed, is_closed, is_ready, with_peer}
 use Rattle.cb_peer.proofs.Apt.{IsApt, Suits, reached_apt, standing_ask}
 use Rattle.cb_peer.proofs.Cases.{ends_cases}
-use Rattle.cb_peer.proofs.Sound.{sound_from}
+use Rattle.cb_block.proofs.Deciding.{sound_from}
 use Rattle.cb_peer.proofs.Steps.{few_left, open_fewer}
 use Rattle.cb_peer.proofs.Sending.{IsCalm, IsMild, None_of, sent_at_end, step_none}
 

@@ -3,5 +3,4 @@ pub mod Cases
 pub mod LawLemmas
 pub mod Lights
 pub mod Sending
-pub mod Sound
 pub mod Steps

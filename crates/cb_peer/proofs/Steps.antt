@@ -46,7 +46,7 @@ use Rattle.cb_peer.specs.Pings.{item_ping, ping_nonce, pong_nonce, pongs}
 use Rattle.cb_peer.specs.Receiving.{Plan, asks, brought, by_compact, by_headers, by_phase, ended, ends, given_up, greeting, heard_of, in_greeted, in_ready, in_start, introduced, last_hash, processed, received, sends}
 use Rattle.cb_peer.specs.Replying.{answered, heads_by, heads_told, is_block, is_heard, tx_request, more_behind, more_headers, need_told, news_told, taken_told, tip_told, wanted_told, without_brought}
 use Rattle.cb_peer.specs.Session.{Stepped, arrives, closes, for_item, open_step, stands, stays, told}
-use Rattle.cb_peer.specs.Soundness.{is_sound_block}
+use Rattle.cb_block.specs.Decision.{is_sound_block}
 use Rattle.cb_peer.specs.State.{SessionState, bare, freed, is_closed, is_ready, over, with_fetch, with_marks, with_peer, with_standing, with_state}
 
 -- one of two

@@ -6,5 +6,4 @@ pub mod Plan
 pub mod Receiving
 pub mod Replying
 pub mod Session
-pub mod Soundness
 pub mod State

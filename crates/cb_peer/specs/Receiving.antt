@@ -22,7 +22,7 @@ use Rattle.cb_peer.specs.declared.state.CloseReason.TheVariants as reasons
 use Rattle.cb_peer.specs.declared.state.State.{State}
 use Rattle.cb_peer.specs.declared.state.State.TheVariants.{Start, Greeted, Ready}
 use Rattle.cb_peer.specs.Ask.{is_nil, told_of}
-use Rattle.cb_peer.specs.Soundness.{is_sound_block}
+use Rattle.cb_block.specs.Decision.{is_sound_block}
 use Rattle.cb_peer.specs.State.{SessionState, is_ready, over, with_fetch, with_marks, with_peer, with_state}
 
 -- what a session makes of a message or an answer: the session after it, the messages that it sends, and what it asks then

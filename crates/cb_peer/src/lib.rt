@@ -10,7 +10,6 @@ mod receiving;
 mod replying;
 mod session;
 mod settings;
-mod soundness;
 mod standing;
 mod state;
 
@@ -23,6 +22,5 @@ pub use laws::{
 };
 pub use session::Session;
 pub use settings::Settings;
-pub use soundness::sound_is_decided;
 pub use standing::Standing;
 pub use state::{CloseReason, Marks, Peer, State};

@@ -14,10 +14,9 @@ ghost use Rattle.cb_peer.specs.Receiving.{brought, by_compact, given_up, gives_u
 use crate::plan::{Made, one_message};
 use crate::session::Session;
 use crate::settings::Settings;
-use crate::soundness::sound_of;
 use crate::state::{CloseReason, State};
 use cb_base::{Fault, Hash256, Shared};
-use cb_block::{Block, Header};
+use cb_block::{Block, Header, sound_of};
 use cb_fetch::Fetch;
 use cb_journal::{Given, Question, Request};
 use cb_payload::{CompactRelay, Entries, HeaderList, InvEntry, Version};

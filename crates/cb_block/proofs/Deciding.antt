@@ -19,7 +19,7 @@ use Rattle.cb_block.specs.MerkleTree.{up, IsLevel, itself, above, IsRoot, HasEqu
 use Rattle.cb_block.specs.Soundness.{names}
 use Rattle.cb_block.proofs.Climbing.{up_half, few_mutated}
 use Rattle.cb_block.proofs.Levels.{level_split, level_then, level_top}
-use Rattle.cb_peer.specs.Soundness.{has_equal_pair, rises_to, has_no_size_64, is_sound_block}
+use Rattle.cb_block.specs.Decision.{has_equal_pair, rises_to, has_no_size_64, is_sound_block}
 
 -- ---- equal hashes, equal neighbours, sizes
 

@@ -1,5 +1,5 @@
-use Rattle.cb_peer.proofs.Sound.{sound_from, sound_to, unsound_is}
-use Rattle.cb_peer.proofs.soundness.sound_is_decided.Goals as goal
+use Rattle.cb_block.proofs.Deciding.{sound_from, sound_to, unsound_is}
+use Rattle.cb_block.proofs.decision.sound_is_decided.Goals as goal
 
 pub returns-clause-from : goal.returns-clause-from
 returns-clause-from c = sound_from

@@ -3,15 +3,16 @@ ghost use Rattle.cb_base.specs.declared.fault.Fault.{Fault};
 ghost use Rattle.cb_base.specs.declared.fault.Fault.TheVariants.{Memory};
 ghost use Rattle.cb_block.specs.Blocks.{IsSoundBlock, IsUnsound};
 ghost use Rattle.cb_block.specs.declared.block.Block.{Block};
-ghost use Rattle.cb_peer.specs.Soundness.{is_sound_block};
+ghost use Rattle.cb_block.specs.Decision.{is_sound_block};
 
+use crate::block::Block;
+use crate::soundness::{SoundBlock, sound};
 use cb_base::{Fault, Shared};
-use cb_block::{Block, SoundBlock, sound};
 use std::alloc::Global;
 
 /// The block as a sound one, or that it isn't sound: `is_sound_block` decides. The block has one owner more while it is
 /// judged, and after where it is sound. The only error is `Fault::Memory`.
-pub(crate) fn sound_of(alloc: Global, block: &Shared<Block>) -> Result<Option<SoundBlock>, Fault>
+pub fn sound_of(alloc: Global, block: &Shared<Block>) -> Result<Option<SoundBlock>, Fault>
     ensures decided { IfOk result (λ told. MatchOption told (is_sound_block block.now ≡ false)
         (λ sound. (sound ≡ block.now) × (is_sound_block block.now ≡ true))) }
     ensures memory { IsOkUnless result Memory }
