@@ -1,5 +1,5 @@
--- Lists in messages: items behind their count, of which the protocol allows so many at the most (Bitcoin's peer-to-peer
--- protocol: inv, getdata, notfound, headers, getheaders).
+-- Lists in messages of Bitcoin's peer-to-peer protocol (inv, getdata, notfound, headers,
+-- getheaders, getblocktxn): a count, which has a limit, then the items.
 use Rattle.std.specs.Prelude.{◌≡◌, ℕ, ◌*◌, ◌^◌, ◌<◌, List, ◌++◌, length, nat_lt, ◌==◌, if◌then◌else◌, Ok, Err}
 use Rattle.std.specs.Int.{w32, to_le_bytes}
 use Rattle.cb_base.specs.declared.fault.Fault.TheVariants.{Truncated, TooMany, BadBool}
@@ -12,20 +12,20 @@ use Rattle.cb_block.specs.Reading.{header_at}
 use Rattle.cb_block.specs.Text.{header_text}
 use Rattle.cb_payload.specs.declared.inventory.InvEntry.{InvEntry}
 
--- A count of items that have so many bytes each. One above the limit is refused first, and then one whose items don't
--- fit in what is left.
+-- Reads a count of items that have at least `size` bytes each. A count above the limit is refused
+-- first. A count whose items don't fit in the remaining bytes is refused next.
 unfoldable pub limited_at : ℕ → ℕ → List ℕ → Read ℕ
 limited_at most size bytes = do
   n ← compact_at bytes
   if nat_lt most n.0 then Err TooMany else (if nat_lt (length n.1) (n.0 * size) then Err Truncated else Ok n)
 
--- items behind such a count
+-- reads such a count and that many items
 unfoldable pub listed_at : {A : Type 0} → ℕ → ℕ → (List ℕ → Read A) → List ℕ → Read (List A)
 listed_at most size item_at bytes = do
   n ← limited_at most size bytes
   items_at item_at n.0 n.1
 
--- there is such a count, and it isn't 0: memory is taken for the items
+-- such a count can be read and isn't 0: memory is allocated for the items
 abbrev pub CountsSome : ℕ → ℕ → List ℕ → Type 0
 CountsSome most size bytes = (n : ℕ × List ℕ) × (limited_at most size bytes ≡ Ok n) × (0 < n.0)
 
@@ -37,7 +37,7 @@ hash_text hash = hash.0
 abbrev pub IsHash : Hash256 → Type 0
 IsHash hash = length hash.0 ≡ 32
 
--- ---- an entry of inventory: its type, and a hash
+-- ---- an inventory vector: a type and a hash
 
 unfoldable pub entry_text : InvEntry → List ℕ
 entry_text entry = to_le_bytes w32 entry.kind ++ entry.hash.0
@@ -52,7 +52,7 @@ pub record IsEntry (entry : InvEntry) : Type 0 where
   pub kind : entry.kind < 2 ^ 32
   pub hash : length entry.hash.0 ≡ 32
 
--- ---- a header in a list: its 80 bytes, and a count of transactions that is 0
+-- ---- a header in `headers`: its 80 bytes, and a count of transactions that is 0
 
 unfoldable pub listed_header_text : Header → List ℕ
 listed_header_text header = header_text header ++ compact_text 0

@@ -1,4 +1,4 @@
--- The messages sendcmpct (BIP 152) and getheaders (Bitcoin's peer-to-peer protocol).
+-- The payloads of sendcmpct (BIP 152) and getheaders.
 use Rattle.std.specs.Prelude.{◌≡◌, ℕ, ◌^◌, ◌<◌, ◌≤◌, Bool, true, false, List, ◌∷◌, ◌++◌, length, ◌==◌, if◌then◌else◌, All, Ok, Err}
 use Rattle.std.specs.Int.{w8, w32, w64, to_le_bytes}
 use Rattle.cb_base.specs.declared.fault.Fault.TheVariants.{BadBool}
@@ -9,7 +9,7 @@ use Rattle.cb_payload.specs.declared.requests.CompactRelay.{CompactRelay}
 use Rattle.cb_payload.specs.declared.requests.HeadersRequest.{HeadersRequest}
 use Rattle.cb_payload.specs.Lists.{IsHash, hash_text, limited_at, listed_at}
 
--- ---- sendcmpct: a flag, and a version
+-- ---- sendcmpct: a flag and a version
 
 -- a flag: one byte, 0 or 1
 unfoldable pub flag_at : List ℕ → Read Bool
@@ -20,14 +20,14 @@ flag_at bytes = do
 unfoldable pub compact_relay_text : CompactRelay → List ℕ
 compact_relay_text r = (if r.high_bandwidth then 1 else 0) ∷ to_le_bytes w64 r.version
 
--- the flag decides before the version's bytes are looked for
+-- a bad flag is refused before the version is read
 unfoldable pub compact_relay_at : List ℕ → Read CompactRelay
 compact_relay_at bytes = do
   flag ← flag_at bytes
   version ← number_at w64 flag.1
   Ok (record { high_bandwidth = flag.0; version = version.0 }, version.1)
 
--- ---- getheaders: a version, a locator of 101 hashes at the most, and the hash to stop at
+-- ---- getheaders: a version, a locator of at most 101 hashes, and the hash to stop at
 
 unfoldable pub request_text : HeadersRequest → List ℕ
 request_text r = to_le_bytes w32 r.version ++ (list_text hash_text r.locator ++ r.stop.0)
@@ -45,12 +45,12 @@ pub record IsRequest (r : HeadersRequest) : Type 0 where
   pub locator : All IsHash r.locator
   pub stop : length r.stop.0 ≡ 32
 
--- the version and the count of hashes
+-- reads the version and the count of hashes
 unfoldable pub request_count_at : List ℕ → Read ℕ
 request_count_at bytes = do
   version ← number_at w32 bytes
   limited_at 101 32 version.1
 
--- reading takes memory: there are hashes in the locator
+-- reading allocates: the locator isn't empty
 abbrev pub TakesMemory : List ℕ → Type 0
 TakesMemory bytes = (n : ℕ × List ℕ) × (request_count_at bytes ≡ Ok n) × (0 < n.0)

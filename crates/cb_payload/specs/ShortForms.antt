@@ -1,4 +1,5 @@
--- The transactions of a compact block (BIP 152): short ids of those that it leaves out, and those that it carries whole.
+-- The transactions of a compact block (BIP 152): short ids of those that it leaves out, and
+-- prefilled transactions.
 use Rattle.std.specs.Prelude.{◌≡◌, ◌⊎◌, ℕ, ◌+◌, ◌*◌, ◌^◌, ◌<◌, ◌≤◌, List, [], ◌∷◌, ◌++◌, length, take, nat_lt, ◌==◌, if◌then◌else◌, All, Ok, Err}
 use Rattle.std.specs.Int.{w64, to_le_bytes, from_le_bytes}
 use Rattle.cb_base.specs.declared.fault.Fault.TheVariants.{Truncated, TooMany, Empty}
@@ -8,7 +9,7 @@ use Rattle.cb_tx.specs.Reading.{count_at, items_at, list_at, tx_at}
 use Rattle.cb_tx.specs.Text.{IsTx, list_text, tx_text}
 use Rattle.cb_payload.specs.declared.prefilled.PrefilledTransaction.{PrefilledTransaction}
 
--- ---- a short id: six bytes, the lowest first
+-- ---- a short id: 6 bytes, little-endian
 
 abbrev pub short_id_text : ℕ → List ℕ
 short_id_text id = take 6 (to_le_bytes w64 id)
@@ -21,7 +22,7 @@ short_id_at bytes = do
 abbrev pub IsShortId : ℕ → Type 0
 IsShortId id = id < 2 ^ 48
 
--- ---- a prefilled transaction: its index, as the difference that is written, and the transaction
+-- ---- a prefilled transaction: its differentially encoded index, and the transaction
 
 unfoldable pub prefilled_text : PrefilledTransaction → List ℕ
 prefilled_text p = compact_text p.difference ++ tx_text p.tx
@@ -42,7 +43,7 @@ pub record ShortForm : Type 0 where
   pub ids : List ℕ
   pub prefilled : List PrefilledTransaction
 
--- together they stand for 1 to 16,666 transactions, and each id has six bytes
+-- there are 1 to 16,666 transactions in all, and each short id has 6 bytes
 pub record IsShortForm (f : ShortForm) : Type 0 where
   pub some : 1 ≤ length f.ids + length f.prefilled
   pub few : length f.ids + length f.prefilled ≤ 16666
@@ -51,8 +52,8 @@ pub record IsShortForm (f : ShortForm) : Type 0 where
 unfoldable pub short_form_text : ShortForm → List ℕ
 short_form_text f = list_text short_id_text f.ids ++ list_text prefilled_text f.prefilled
 
--- The count of prefilled transactions behind so many ids. Both together are judged first, and then whether the transactions,
--- which have 11 bytes or more, fit in what is left.
+-- Reads the count of prefilled transactions after `ids` short ids. The sum is checked first, then
+-- whether the prefilled transactions fit in the remaining bytes, at 11 bytes each.
 unfoldable pub prefilled_count_at : ℕ → List ℕ → Read ℕ
 prefilled_count_at ids bytes = do
   n ← compact_at bytes
@@ -65,6 +66,7 @@ short_form_at bytes = do
   prefilled ← items_at prefilled_at n.0 n.1
   Ok (record { ids = ids.0; prefilled = prefilled.0 }, prefilled.1)
 
--- reading takes memory: there are ids, or there are none and then prefilled transactions
+-- Reading allocates: there are short ids, or there are none and the count of prefilled transactions
+-- can be read.
 abbrev pub FormTakesMemory : List ℕ → Type 0
 FormTakesMemory bytes = (n : ℕ × List ℕ) × (count_at 6 bytes ≡ Ok n) × ((0 < n.0) ⊎ ((m : ℕ × List ℕ) × (prefilled_count_at 0 n.1 ≡ Ok m)))

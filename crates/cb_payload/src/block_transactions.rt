@@ -1,4 +1,4 @@
-//! The messages `getblocktxn` and `blocktxn`.
+//! The payloads of `getblocktxn` and `blocktxn` (BIP 152).
 ghost use Rattle.std.specs.Prelude.{◌≡◌, ℕ, ◌-◌, ◌^◌, ◌<◌, ◌≤◌, List, [], ◌++◌, length, min, All, IfOk, IsOk, IsOkUnless, OnOk, Ok, Err};
 ghost use Rattle.cb_base.specs.CompactSize.{compact_text};
 ghost use Rattle.cb_base.specs.declared.fault.Fault.{Fault};
@@ -16,29 +16,31 @@ use cb_block::Txs;
 use cb_tx::{compact_size, read_count, read_hash};
 use std::alloc::Global;
 
-/// Indexes in a block, as the differences that are written: the first is the index itself, each further one is how many places lie
-/// between it and the one before.
+/// Indexes of a block's transactions, differentially encoded as in BIP 152. The first is the index
+/// itself. Each further one is the number of places between it and the one before.
 pub type Differences = Listed<u64, MOST_BLOCK_TXS>;
 
-/// A request for some of a block's transactions (BIP 152, BlockTransactionsRequest), as the message `getblocktxn` carries it.
+/// The payload of `getblocktxn` (BIP 152, BlockTransactionsRequest): a request for some of a
+/// block's transactions.
 #[derive(Drop)]
 pub struct BlockTransactionsRequest {
     /// The block's hash.
     pub block: Hash256,
-    /// The indexes of the transactions that are asked for.
+    /// The indexes of the requested transactions.
     pub differences: Differences,
 }
 
-/// Some of a block's transactions (BIP 152, BlockTransactions), as the message `blocktxn` carries them. Each may have other owners.
+/// The payload of `blocktxn` (BIP 152, BlockTransactions): some of a block's transactions. Each
+/// transaction may be shared with other owners.
 #[derive(Drop)]
 pub struct BlockTransactions {
     /// The block's hash.
     pub block: Hash256,
-    /// The transactions that were asked for, in order.
+    /// The requested transactions, in the order of the request.
     pub txs: Txs,
 }
 
-/// A CompactSize, which has `WIDTH` bytes or more.
+/// A difference of indexes is a CompactSize. It has 1 to 9 bytes; `WIDTH` is the least.
 impl ListItem for u64 {
     ghost use Rattle.std.specs.Prelude.{◌<◌, ◌^◌};
     ghost use Rattle.cb_base.specs.CompactSize.{compact_at, compact_text};
@@ -66,19 +68,21 @@ impl ListItem for u64 {
     }
 }
 
-/// Reads the payload of a `getblocktxn` (BIP 152): a hash, and at most 16,666 differences behind their count.
+/// Reads the payload of a `getblocktxn` (BIP 152): the block's hash, then a count and at most
+/// 16,666 differences.
 ///
-/// `Fault::Truncated` where bytes lack, else the faults of its list (`read_list`). After a fault the cursor may stand anywhere.
+/// Fails with `Fault::Truncated` if bytes of the hash are missing, and with the faults of
+/// `read_list`. After an error the cursor may stand anywhere.
 #[tactic(auto, unfolding(crate::specs::BlockTransactions::txs_request_at, crate::specs::BlockTransactions::txs_request_count_at))]
 pub fn read_txs_request(
     alloc: Global,
     cursor: &mut Cursor,
 ) -> Result<BlockTransactionsRequest, Fault>
     ensures exact { GivesInMemory (txs_request_at cursor.old) result cursor.new }
-    // Up to the count no memory is taken.
+    // No memory is allocated before the count has been read.
     ensures unpaid { (fault : Fault) → txs_request_count_at cursor.old ≡ Err fault →
         result ≡ Err fault }
-    // Nor is any for a count of 0.
+    // A count of 0 allocates nothing.
     ensures paid { result ≡ Err Memory → TxsRequestTakesMemory cursor.old }
 {
     let block = read_hash(cursor)?;
@@ -86,7 +90,7 @@ pub fn read_txs_request(
     Ok(BlockTransactionsRequest { block, differences })
 }
 
-/// A hash's bytes, which are 32.
+/// The 32 bytes of a hash.
 fn hash_bytes(hash: &Hash256) -> &[u8]
     ensures bytes { result.now ≡ hash.now.0 }
     ensures len { length hash.now.0 ≡ 32 }
@@ -94,7 +98,8 @@ fn hash_bytes(hash: &Hash256) -> &[u8]
     hash.0.as_slice()
 }
 
-/// Writes the payload of a `getblocktxn`. The only error is `Fault::Memory`.
+/// Appends the payload of a `getblocktxn` to `out`. Fails only with `Fault::Memory`; `out` may then
+/// end with a part of the payload.
 #[tactic(auto, unfolding(crate::specs::BlockTransactions::txs_request_text), using(cb_tx::proofs::Appends::appends))]
 pub fn put_txs_request(out: &mut Vec<u8>, request: &BlockTransactionsRequest) -> Result<(), Fault>
     ensures ok { OnOk result (out.new.items ≡ out.old.items ++ txs_request_text request.now) }
@@ -105,7 +110,7 @@ pub fn put_txs_request(out: &mut Vec<u8>, request: &BlockTransactionsRequest) ->
     put_list(out, request.differences.as_slice())
 }
 
-/// So many transactions, one after the other, behind their count.
+/// Reads a count and that many transactions.
 #[tactic(auto, unfolding(cb_tx::specs::Reading::list_at))]
 fn read_txs(alloc: Global, cursor: &mut Cursor) -> Result<Txs, Fault>
     ensures exact { GivesInMemory (list_at 10 tx_at cursor.old) result cursor.new }
@@ -116,18 +121,21 @@ fn read_txs(alloc: Global, cursor: &mut Cursor) -> Result<Txs, Fault>
     Ok(Txs::new(tx_items_of(alloc, cursor, count)?))
 }
 
-/// Reads the payload of a `blocktxn` (BIP 152): a hash, and transactions behind their count.
+/// Reads the payload of a `blocktxn` (BIP 152): the block's hash, then a count and that many
+/// transactions.
 ///
-/// `Fault::Truncated` where bytes lack, `Fault::NotShortest` where a count or a length is spelled longer than it needs, by the first
-/// field from the left that can't be read. A count is `Fault::Truncated` at once where the transactions don't fit in what is left,
-/// at 10 bytes each, so that no memory is taken for it. After a fault the cursor may stand anywhere.
+/// The first field from the left that can't be read gives the error: `Fault::Truncated` if bytes
+/// are missing, `Fault::NotShortest` if a count or a length isn't in its shortest form. A count is
+/// `Fault::Truncated` at once, before anything is allocated, if its transactions don't fit in the
+/// remaining bytes at 10 bytes each. `Fault::Memory` is possible only if the count isn't 0. After
+/// an error the cursor may stand anywhere.
 #[tactic(auto, unfolding(crate::specs::BlockTransactions::block_txs_at, crate::specs::BlockTransactions::block_txs_count_at))]
 pub fn read_block_txs(alloc: Global, cursor: &mut Cursor) -> Result<BlockTransactions, Fault>
     ensures exact { GivesInMemory (block_txs_at cursor.old) result cursor.new }
-    // Up to the count no memory is taken.
+    // No memory is allocated before the count has been read.
     ensures unpaid { (fault : Fault) → block_txs_count_at cursor.old ≡ Err fault →
         result ≡ Err fault }
-    // Nor is any for a count of 0.
+    // A count of 0 allocates nothing.
     ensures paid { result ≡ Err Memory → BlockTxsTakesMemory cursor.old }
 {
     let block = read_hash(cursor)?;
@@ -135,7 +143,8 @@ pub fn read_block_txs(alloc: Global, cursor: &mut Cursor) -> Result<BlockTransac
     Ok(BlockTransactions { block, txs })
 }
 
-/// Writes the payload of a `blocktxn`. The only error is `Fault::Memory`.
+/// Appends the payload of a `blocktxn` to `out`. Fails only with `Fault::Memory`; `out` may then
+/// end with a part of the payload.
 #[tactic(auto, unfolding(crate::specs::BlockTransactions::block_txs_text), using(cb_tx::proofs::Appends::appends))]
 pub fn put_block_txs(out: &mut Vec<u8>, txs: &BlockTransactions) -> Result<(), Fault>
     ensures ok { OnOk result (out.new.items ≡ out.old.items ++ block_txs_text txs.now) }
@@ -147,7 +156,7 @@ pub fn put_block_txs(out: &mut Vec<u8>, txs: &BlockTransactions) -> Result<(), F
 }
 
 impl BlockTransactionsRequest {
-    /// How many bytes its text has.
+    /// The length of the payload in bytes, at most 150,035.
     #[tactic(auto, unfolding(crate::specs::BlockTransactions::txs_request_text))]
     pub fn size(&self) -> u64
         ensures size { result ≡ length (txs_request_text self.now) }
@@ -156,7 +165,8 @@ impl BlockTransactionsRequest {
         differences_size(&self.differences) + hash_bytes(&self.block).len() as u64
     }
 
-    /// An equal one. The only error is `Fault::Memory`, and one of no transactions takes none.
+    /// An equal request. Fails only with `Fault::Memory`; a request without differences allocates
+    /// nothing.
     pub fn copy(&self, alloc: Global) -> Result<BlockTransactionsRequest, Fault>
         ensures equal { IfOk result (λ copy. copy ≡ self.now) }
         ensures memory { IsOkUnless result Memory }
@@ -169,7 +179,7 @@ impl BlockTransactionsRequest {
     }
 }
 
-/// How many bytes the differences have behind their count.
+/// The length of the count and the differences in bytes, at most 150,003.
 fn differences_size(differences: &Differences) -> u64
     ensures size { result ≡ length (list_text compact_text differences.now) }
     ensures limit { result ≤ 150003 }
@@ -178,7 +188,7 @@ fn differences_size(differences: &Differences) -> u64
 }
 
 impl BlockTransactions {
-    /// How many bytes its text has, or 18,446,744,073,709,551,615 where they are more.
+    /// The length of the payload in bytes, or 2^64 - 1 if it is longer.
     #[tactic(auto, unfolding(crate::specs::BlockTransactions::block_txs_text))]
     pub fn size(&self) -> u64
         ensures { result ≡ min (length (block_txs_text self.now)) (2 ^ 64 - 1) }
@@ -187,9 +197,10 @@ impl BlockTransactions {
         tx_items_size(self.txs.as_slice()).saturating_add(block)
     }
 
-    /// An equal one of the same transactions: only their list takes memory.
+    /// An equal list that shares the transactions. Only the list itself is allocated.
     ///
-    /// The only error is `Fault::Memory`, and one with no transactions takes none.
+    /// Fails only with `Fault::Memory`: an allocation failed, or a transaction has 2^63 owners. An
+    /// empty list can't fail.
     pub fn copy(&self, alloc: Global) -> Result<BlockTransactions, Fault>
         ensures equal { IfOk result (λ copy. copy ≡ self.now) }
         ensures memory { IsOkUnless result Memory }

@@ -1,4 +1,4 @@
-//! The message `cmpctblock`.
+//! The payload of `cmpctblock` (BIP 152).
 ghost use Rattle.std.specs.Prelude.{◌≡◌, ℕ, ◌-◌, ◌^◌, ◌<◌, List, ◌++◌, length, min, All, IfOk, IsOkUnless, OnOk, Ok, Err};
 ghost use Rattle.cb_base.specs.declared.fault.Fault.{Fault};
 ghost use Rattle.cb_base.specs.declared.fault.Fault.TheVariants.{Memory};
@@ -11,33 +11,38 @@ use cb_base::{Cursor, Fault};
 use cb_block::{Header, read_header};
 use std::alloc::Global;
 
-/// A compact block (BIP 152, HeaderAndShortIDs), as the message `cmpctblock` carries it. Nothing says yet that its transactions
-/// belong to its header, or that its indexes lie within the block.
+/// The payload of `cmpctblock` (BIP 152, HeaderAndShortIDs): a compact block. Nothing is checked
+/// yet: the transactions may not belong to the header, and the indexes may lie outside the block.
 #[derive(Drop)]
 pub struct HeaderAndShortIds {
     /// The block's header.
     pub header: Header,
-    /// What makes the short ids others than those of another sender.
+    /// The sender's nonce. With the header it makes the key of the short ids (BIP 152), so that
+    /// they differ from sender to sender.
     pub nonce: u64,
     /// The short ids and the prefilled transactions.
     pub txs: CompactTxs,
 }
 
-/// Reads the payload of a `cmpctblock` (BIP 152): a header, a nonce of eight bytes, short ids behind their count, and prefilled
-/// transactions behind theirs.
+/// Reads the payload of a `cmpctblock` (BIP 152): a block header, a nonce of 8 bytes, a count and
+/// that many short ids, then a count and that many prefilled transactions.
 ///
-/// `Fault::Truncated` where bytes lack, `Fault::NotShortest` where a count, a difference or a length is spelled longer than it
-/// needs, `Fault::Empty` where the counts are both 0, `Fault::TooMany` where they are above 16,666 together, by the first field from
-/// the left that can't be read. A count of ids is `Fault::Truncated` at once where they don't fit in what is left; the counts
-/// together are judged once the second is read, and then whether the prefilled transactions fit. After a fault the cursor may
-/// stand anywhere.
+/// The first field from the left that can't be read gives the error: `Fault::Truncated` if bytes
+/// are missing, `Fault::NotShortest` if a count, a difference or a length isn't in its shortest
+/// form, `Fault::Empty` if both counts are 0, `Fault::TooMany` if they add up to more than 16,666.
+/// A count of short ids is `Fault::Truncated` at once if the ids don't fit in the remaining bytes,
+/// at 6 bytes each. The sum of the counts is checked when the second count has been read. After
+/// that, it is `Fault::Truncated` if the prefilled transactions don't fit in the remaining bytes,
+/// at 11 bytes each. `Fault::Memory` if an allocation fails. After an error the cursor may stand
+/// anywhere.
 #[tactic(auto, unfolding(crate::specs::CompactBlocks::compact_block_at, crate::specs::CompactBlocks::compact_block_count_at))]
 pub fn read_compact_block(alloc: Global, cursor: &mut Cursor) -> Result<HeaderAndShortIds, Fault>
     ensures exact { GivesInMemory (compact_block_at cursor.old) result cursor.new }
-    // Up to the count of ids no memory is taken.
+    // No memory is allocated before the count of short ids has been read.
     ensures unpaid { (fault : Fault) → compact_block_count_at cursor.old ≡ Err fault →
         result ≡ Err fault }
-    // Nor is any where there are no ids and no prefilled transactions that can be read.
+    // Without short ids, none is allocated before the count of prefilled transactions has been read
+    // and accepted.
     ensures paid { result ≡ Err Memory → CompactBlockTakesMemory cursor.old }
 {
     let header = read_header(cursor)?;
@@ -46,7 +51,7 @@ pub fn read_compact_block(alloc: Global, cursor: &mut Cursor) -> Result<HeaderAn
     Ok(HeaderAndShortIds { header, nonce, txs })
 }
 
-/// A header's 80 bytes. Each of its numbers is one of its field, and each hash has 32 bytes.
+/// A block header's 80 bytes. Each number is in the range of its field, and each hash has 32 bytes.
 fn header_bytes(header: Header) -> [u8; 80]
     ensures text { result ≡ header_text header }
     ensures kept { IsHeader header }
@@ -54,12 +59,14 @@ fn header_bytes(header: Header) -> [u8; 80]
     header.text()
 }
 
-/// Writes the payload of a `cmpctblock`. The only error is `Fault::Memory`.
+/// Appends the payload of a `cmpctblock` to `out`. Fails only with `Fault::Memory`; `out` may then
+/// end with a part of the payload.
 #[tactic(auto, unfolding(crate::specs::CompactBlocks::compact_block_text), using(cb_tx::proofs::Appends::appends))]
 pub fn put_compact_block(out: &mut Vec<u8>, block: &HeaderAndShortIds) -> Result<(), Fault>
     ensures ok { OnOk result (out.new.items ≡ out.old.items ++ compact_block_text block.now) }
     ensures memory { IsOkUnless result Memory }
-    // Each number is one of its field, each hash has 32 bytes, and it stands for 1 to 16,666 transactions.
+    // Each number is in the range of its field, each hash has 32 bytes, and the compact block has 1
+    // to 16,666 transactions.
     ensures kept { OnOk result (IsCompactBlock block.now) }
 {
     out.extend_from_slice(header_bytes(block.header).as_slice())?;
@@ -68,7 +75,7 @@ pub fn put_compact_block(out: &mut Vec<u8>, block: &HeaderAndShortIds) -> Result
 }
 
 impl HeaderAndShortIds {
-    /// How many bytes its text has, or 18,446,744,073,709,551,615 where they are more.
+    /// The length of the payload in bytes, or 2^64 - 1 if it is longer.
     #[tactic(auto, unfolding(crate::specs::CompactBlocks::compact_block_text))]
     pub fn size(&self) -> u64
         ensures { result ≡ min (length (compact_block_text self.now)) (2 ^ 64 - 1) }
@@ -77,7 +84,8 @@ impl HeaderAndShortIds {
         self.txs.size().saturating_add(8).saturating_add(header)
     }
 
-    /// An equal one of the same transactions: only its lists take memory. The only error is `Fault::Memory`.
+    /// An equal compact block that shares the transactions. Only the lists are allocated. Fails
+    /// only with `Fault::Memory`: an allocation failed, or a transaction has 2^63 owners.
     pub fn copy(&self, alloc: Global) -> Result<HeaderAndShortIds, Fault>
         ensures equal { IfOk result (λ copy. copy ≡ self.now) }
         ensures memory { IsOkUnless result Memory }

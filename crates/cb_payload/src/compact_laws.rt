@@ -1,7 +1,7 @@
-//! What holds of every compact block, request for transactions and list of transactions: laws of the definitions that the
-//! contracts cite.
+//! Theorems about the payloads of BIP 152: reading gives back what was written, and a truncated
+//! payload is told as such. The contracts use these definitions.
 //!
-//! Each is a function that does nothing and whose contract is the law.
+//! Each theorem is the contract of a function that does nothing.
 ghost use Rattle.std.specs.Prelude.{◌≡◌, ◌≢◌, ℕ, List, [], ◌++◌, Err};
 ghost use Rattle.cb_base.specs.declared.fault.Fault.TheVariants.{Truncated};
 ghost use Rattle.cb_payload.specs.declared.block_transactions.BlockTransactions.{BlockTransactions};
@@ -11,14 +11,15 @@ ghost use Rattle.cb_payload.specs.BlockTransactions.{IsBlockTxs, IsTxsRequest, b
 ghost use Rattle.cb_payload.specs.CompactBlocks.{IsCompactBlock, compact_block_at, compact_block_text};
 ghost use Rattle.cb_payload.specs.RoundTrip.{IsReadAsWritten};
 
-/// `cmpctblock`, `getblocktxn` and `blocktxn` (BIP 152) are read as they are written.
+/// What is written as `cmpctblock`, `getblocktxn` or `blocktxn` (BIP 152) is read back as the same
+/// value, and nothing else is read as that value.
 pub fn compact_blocks_are_read_as_written()
     ensures block { IsReadAsWritten compact_block_text compact_block_at IsCompactBlock }
     ensures request { IsReadAsWritten txs_request_text txs_request_at IsTxsRequest }
     ensures txs { IsReadAsWritten block_txs_text block_txs_at IsBlockTxs }
 {}
 
-/// A strict beginning of the text of one is too short to be read: `Fault::Truncated`.
+/// A payload of these messages that is cut short anywhere is refused with `Fault::Truncated`.
 pub fn beginnings_of_compact_blocks_are_truncated()
     ensures block { (block : HeaderAndShortIds) (b c : List ℕ) → IsCompactBlock block →
         compact_block_text block ≡ b ++ c → c ≢ [] → compact_block_at b ≡ Err Truncated }

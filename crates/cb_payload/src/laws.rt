@@ -1,6 +1,7 @@
-//! What holds of every payload: laws of the definitions that the contracts cite.
+//! Theorems about lists, `sendcmpct`, `getheaders` and `version`: reading gives back what was
+//! written. The contracts use these definitions.
 //!
-//! Each is a function that does nothing and whose contract is the law.
+//! Each theorem is the contract of a function that does nothing.
 ghost use Rattle.std.specs.Prelude.{◌≡◌, ℕ, ◌^◌, ◌<◌, ◌≤◌, List, length, All, Ok};
 ghost use Rattle.std.specs.List.{AllByRecursion};
 ghost use Rattle.cb_tx.specs.Reading.{hash_at};
@@ -12,7 +13,8 @@ ghost use Rattle.cb_payload.specs.Requests.{IsRequest, compact_relay_at, compact
 ghost use Rattle.cb_payload.specs.RoundTrip.{IsReadAsWritten};
 ghost use Rattle.cb_payload.specs.Version.{IsVersion, IsVersionPayload, version_at, version_text};
 
-/// Lists are read as they are written, within their limits: 50,000 entries of inventory, 2,000 headers, 101 hashes of a locator.
+/// A list that is written is read back as the same list, within its limit: 50,000 inventory
+/// entries, 2,000 headers, 101 hashes of a locator. Nothing else is read as that list.
 pub fn lists_are_read_as_written()
     ensures entries { IsReadAsWritten (list_text entry_text) (listed_at 50000 36 entry_at)
         (λ list. (length list ≤ 50000) × All IsEntry list) }
@@ -22,15 +24,17 @@ pub fn lists_are_read_as_written()
         (λ list. (length list ≤ 101) × All IsHash list) }
 {}
 
-/// `sendcmpct` (BIP 152) and `getheaders` are read as they are written.
+/// What is written as `sendcmpct` (BIP 152) or `getheaders` is read back as the same value, and
+/// nothing else is read as that value.
 pub fn requests_are_read_as_written()
     ensures relay { IsReadAsWritten compact_relay_text compact_relay_at
         (λ relay. relay.version < 2 ^ 64) }
     ensures request { IsReadAsWritten request_text request_at IsRequest }
 {}
 
-/// Each spelling of a version is read as it, and what is read as one spells it: its text, and what says the same without the
-/// relay byte, with another one for yes (BIP 37), or with bytes behind.
+/// A `version` has several valid payloads: the one that is written; one without the relay byte, or
+/// with a relay byte other than 0 and 1, for yes (BIP 37); and one with more bytes after the relay
+/// byte. Each is read as that version, and nothing else is.
 pub fn versions_are_read_as_spelled()
     ensures back { (bytes : List ℕ) (version : Version) → IsVersion version →
         IsVersionPayload bytes version → version_at bytes ≡ Ok version }

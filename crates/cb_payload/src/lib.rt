@@ -1,6 +1,9 @@
-//! The payloads of messages that have several fields (Bitcoin's peer-to-peer protocol): `version`, `sendcmpct`, `getheaders`,
-//! the lists of `inv`, `getdata`, `notfound` and `headers`, and BIP 152's `cmpctblock`, `getblocktxn` and `blocktxn`. Each is read
-//! from the left and written as its one text.
+//! Payloads of the messages that have several fields: `version`, `sendcmpct`, `getheaders`, the
+//! lists of `inv`, `getdata`, `notfound` and `headers`, and BIP 152's `cmpctblock`, `getblocktxn`
+//! and `blocktxn`.
+//!
+//! Each payload is read from left to right. Each value is written in one way: that is its text. The
+//! messages themselves and their envelopes are in cb_wire.
 #![tactic(auto)]
 
 mod block_transactions;

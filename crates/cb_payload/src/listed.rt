@@ -5,7 +5,7 @@ use cb_base::Fault;
 use std::alloc::Global;
 use std::marker::Model;
 
-/// A list of a message, which is no longer than the number in its type. It is seen as the list.
+/// A list in a message with at most `MOST` items. For the prover its value is the list.
 #[derive(Drop)]
 pub struct Listed<T, const MOST: usize> {
     list: Vec<T>,
@@ -22,7 +22,7 @@ impl<T, const MOST: usize> Model for Listed<T, MOST> {
 }
 
 impl<T, const MOST: usize> Listed<T, MOST> {
-    /// The list, where it is short enough; else it comes back.
+    /// Takes the list if it has at most `MOST` items. If it is longer, the error gives it back.
     pub fn new(list: Vec<T>) -> Result<Listed<T, MOST>, Vec<T>>
         ensures same { IfOk result (λ listed. listed ≡ list.items) }
         ensures back { IfErr result (λ back. back ≡ list) }
@@ -34,7 +34,7 @@ impl<T, const MOST: usize> Listed<T, MOST> {
         Ok(Listed { list })
     }
 
-    /// A list that is short enough.
+    /// Takes a list that has at most `MOST` items.
     pub fn from_few(list: Vec<T>) -> Listed<T, MOST>
         requires { length list.items ≤ MOST }
         ensures { result ≡ list.items }
@@ -42,7 +42,7 @@ impl<T, const MOST: usize> Listed<T, MOST> {
         Listed { list }
     }
 
-    /// What is listed, in order.
+    /// The items, in order.
     pub fn as_slice(&self) -> &[T]
         ensures same { result.now ≡ self.now }
         ensures few { length self.now ≤ MOST }
@@ -50,7 +50,7 @@ impl<T, const MOST: usize> Listed<T, MOST> {
         self.list.as_slice()
     }
 
-    /// The list, given out.
+    /// Gives the vector out.
     pub fn into_vec(self) -> Vec<T>
         ensures same { result.items ≡ self }
         ensures few { length self ≤ MOST }
@@ -61,7 +61,7 @@ impl<T, const MOST: usize> Listed<T, MOST> {
 }
 
 impl<T: Copy, const MOST: usize> Listed<T, MOST> {
-    /// The same list once more. The only error is `Fault::Memory`, and an empty list takes none.
+    /// An equal list. Fails only with `Fault::Memory`; an empty list allocates nothing.
     pub fn copy(&self, alloc: Global) -> Result<Listed<T, MOST>, Fault>
         ensures equal { IfOk result (λ copy. copy ≡ self.now) }
         ensures memory { IsOkUnless result Memory }
@@ -72,7 +72,7 @@ impl<T: Copy, const MOST: usize> Listed<T, MOST> {
     }
 }
 
-/// A vector of the same items. The only error is `Fault::Memory`, and none is taken for no items.
+/// A vector of the same items. Fails only with `Fault::Memory`; no items allocate nothing.
 fn copy_slice<T: Copy>(alloc: Global, items: &[T]) -> Result<Vec<T>, Fault>
     ensures same { IfOk result (λ copy. copy.items ≡ items.now) }
     ensures memory { IsOkUnless result Memory }

@@ -1,4 +1,4 @@
-//! Reading and writing lists: items of one size behind their count.
+//! Reading and writing lists: a count, then the items.
 ghost use Rattle.std.specs.Prelude.{◌≡◌, ℕ, ◌-◌, ◌^◌, ◌<◌, ◌≤◌, List, ◌++◌, length, min, All, IfOk, IsOk, IsOkUnless, MatchResult, OnOk, Ok, Err, ◌⊎◌};
 ghost use Rattle.cb_base.specs.CompactSize.{Gives};
 ghost use Rattle.cb_base.specs.declared.fault.Fault.{Fault};
@@ -15,38 +15,40 @@ use cb_block::{Header, read_header};
 use cb_tx::{compact_size, read_hash};
 use std::alloc::Global;
 
-/// What a list of a message is made of: items that have `WIDTH` bytes each.
+/// An item of a list in a message. It has `WIDTH` bytes or more; all items but a CompactSize have
+/// exactly `WIDTH`.
 pub trait ListItem: Copy + Drop {
     ghost use Rattle.std.specs.Prelude.{◌≡◌, ℕ, List, ◌++◌, length, OnOk, IsOkUnless};
     ghost use Rattle.cb_base.specs.CompactSize.{Gives};
     ghost use Rattle.cb_base.specs.Reading.{Read};
     ghost use Rattle.cb_base.specs.declared.fault.Fault.TheVariants.{Memory};
 
-    /// How it is written.
+    /// The bytes that are written.
     ghost text: { Self → List ℕ };
 
-    /// How it is read.
+    /// The definition of reading one item.
     ghost item_at: { List ℕ → Read Self };
 
-    /// Each of its numbers is one of its field, and each hash has 32 bytes.
+    /// Each number is in the range of its field, and each hash has 32 bytes.
     ghost is_kept: { Self → Type 0 };
 
     ghost WIDTH: { ℕ };
 
-    /// How many bytes each has.
+    /// The least number of bytes of an item.
     const WIDTH: u32;
 
-    /// Reads one. After a fault the cursor may stand anywhere.
+    /// Reads one item. After an error the cursor may stand anywhere.
     fn read(cursor: &mut Cursor) -> Result<Self, Fault>
         ensures { Gives (item_at cursor.old) result cursor.new };
 
-    /// Writes it at the end. The only error is `Fault::Memory`.
+    /// Appends the item to `out`. Fails only with `Fault::Memory`; `out` may then end with a part
+    /// of the item.
     fn put(self, out: &mut Vec<u8>) -> Result<(), Fault>
         ensures ok { OnOk result (out.new.items ≡ out.old.items ++ text self) }
         ensures memory { IsOkUnless result Memory }
         ensures kept { is_kept self };
 
-    /// How many bytes its text has.
+    /// The length of the item in bytes.
     fn size(self) -> u64
         ensures size { result ≡ length (text self) }
         ensures kept { is_kept self };
@@ -161,7 +163,8 @@ fn entry_size(entry: InvEntry) -> u64
     entry.hash.0.as_slice().len() as u64 + 4
 }
 
-/// A header behind which no transactions are counted. A count that isn't 0 is `Fault::BadBool`.
+/// Reads a header of `headers`: 80 bytes and a count of transactions. Fails with `Fault::BadBool`
+/// if the count isn't 0.
 #[tactic(auto, unfolding(crate::specs::Lists::listed_header_at))]
 fn read_listed_header(cursor: &mut Cursor) -> Result<Header, Fault>
     ensures { Gives (listed_header_at cursor.old) result cursor.new }
@@ -175,7 +178,7 @@ fn read_listed_header(cursor: &mut Cursor) -> Result<Header, Fault>
     }
 }
 
-/// A header's 80 bytes. Each of its numbers is one of its field, and each hash has 32 bytes.
+/// A block header's 80 bytes. Each number is in the range of its field, and each hash has 32 bytes.
 fn header_bytes(header: Header) -> [u8; 80]
     ensures text { result ≡ header_text header }
     ensures kept { IsHeader header }
@@ -201,8 +204,10 @@ fn listed_header_size(header: Header) -> u64
     header_bytes(header).as_slice().len() as u64 + 1
 }
 
-/// A count of items that have `size` bytes each. One above `most` is `Fault::TooMany`; one whose items don't fit in what
-/// is left is `Fault::Truncated`, so that no memory is taken for it. After a fault the cursor may stand anywhere.
+/// Reads a count of items that have at least `size` bytes each. Fails with `Fault::TooMany` if the
+/// count is above `most`, else with `Fault::Truncated` if the items don't fit in the remaining
+/// bytes, so that nothing is allocated for them. It also fails if the count itself can't be read
+/// (`Cursor::compact`). After an error the cursor may stand anywhere.
 #[tactic(auto, unfolding(crate::specs::Lists::limited_at))]
 pub fn read_limited(cursor: &mut Cursor, most: usize, size: u32) -> Result<usize, Fault>
     ensures exact { Gives (limited_at most size cursor.old) result cursor.new }
@@ -218,7 +223,7 @@ pub fn read_limited(cursor: &mut Cursor, most: usize, size: u32) -> Result<usize
     Ok(count as usize)
 }
 
-/// So many items, one after the other.
+/// Reads `count` items.
 fn items_of<T: ListItem>(alloc: Global, cursor: &mut Cursor, count: usize) -> Result<Vec<T>, Fault>
     ensures exact { MatchResult result
         (λ items. items_at T.item_at count cursor.old ≡ Ok (items.items, cursor.new))
@@ -233,34 +238,37 @@ fn items_of<T: ListItem>(alloc: Global, cursor: &mut Cursor, count: usize) -> Re
     Ok(items)
 }
 
-/// A list of at most `MOST` items of `WIDTH` bytes each, behind its count (Bitcoin's protocol: `inv`, `getdata`, `notfound`,
-/// `headers`, and the locator of `getheaders`). After a fault the cursor may stand anywhere.
+/// Reads a list: a count, then at most `MOST` items. Used for `inv`, `getdata`, `notfound`,
+/// `headers`, the locator of `getheaders` and the differences of `getblocktxn`.
 ///
-/// `Fault::NotShortest` where the count is spelled longer than it needs, `Fault::TooMany` where it is above `MOST`,
-/// `Fault::Truncated` where the items don't fit in what is left, `Fault::BadBool` where a header's count of transactions isn't
-/// 0, and `Fault::Memory`, which no empty list needs.
+/// Fails with `Fault::NotShortest` if the count, or a CompactSize within an item, isn't in its
+/// shortest form; `Fault::TooMany` if the count is above `MOST`; `Fault::Truncated` if bytes are
+/// missing, at once if the items don't fit in the remaining bytes at `WIDTH` bytes each;
+/// `Fault::BadBool` if the transaction count of a header isn't 0; `Fault::Memory` if an allocation
+/// fails, but never for an empty list. After an error the cursor may stand anywhere.
 #[tactic(auto, unfolding(crate::specs::Lists::listed_at))]
 pub fn read_list<T: ListItem, const MOST: usize>(
     alloc: Global,
     cursor: &mut Cursor,
 ) -> Result<Listed<T, MOST>, Fault>
     ensures exact { GivesInMemory (listed_at MOST T.WIDTH T.item_at cursor.old) result cursor.new }
-    // Up to the count no memory is taken.
+    // No memory is allocated before the count has been read.
     ensures unpaid { (fault : Fault) → limited_at MOST T.WIDTH cursor.old ≡ Err fault →
         result ≡ Err fault }
-    // Nor is any for a count of 0.
+    // A count of 0 allocates nothing.
     ensures paid { result ≡ Err Memory → CountsSome MOST T.WIDTH cursor.old }
 {
     let count = read_limited(cursor, MOST, T::WIDTH)?;
     Ok(Listed::from_few(items_of(alloc, cursor, count)?))
 }
 
-/// Writes the items behind their count. The only error is `Fault::Memory`.
+/// Appends the count and the items to `out`. Fails only with `Fault::Memory`; `out` may then end
+/// with a part of the list.
 #[tactic(auto, unfolding(cb_tx::specs::Text::list_text), using(cb_tx::proofs::Appends::appends))]
 pub fn put_list<T: ListItem>(out: &mut Vec<u8>, items: &[T]) -> Result<(), Fault>
     ensures ok { OnOk result (out.new.items ≡ out.old.items ++ list_text T.text items.now) }
     ensures memory { IsOkUnless result Memory }
-    // Each number is one of its field, and each hash has 32 bytes.
+    // Each number is in the range of its field, and each hash has 32 bytes.
     ensures kept { OnOk result (All T.is_kept items.now) }
 {
     put_compact(out, items.len() as u64)?;
@@ -270,11 +278,11 @@ pub fn put_list<T: ListItem>(out: &mut Vec<u8>, items: &[T]) -> Result<(), Fault
     Ok(())
 }
 
-/// How many bytes the items have behind their count, or 18,446,744,073,709,551,615 where they are more.
+/// The length of the count and the items in bytes, or 2^64 - 1 if it is longer.
 #[tactic(auto, unfolding(cb_tx::specs::Text::list_text))]
 pub fn list_size<T: ListItem>(items: &[T]) -> u64
     ensures size { result ≡ min (length (list_text T.text items.now)) (2 ^ 64 - 1) }
-    // Each number is one of its field, and each hash has 32 bytes.
+    // Each number is in the range of its field, and each hash has 32 bytes.
     ensures kept { All T.is_kept items.now }
 {
     let mut size = compact_size(items.len() as u64);
@@ -284,7 +292,7 @@ pub fn list_size<T: ListItem>(items: &[T]) -> u64
     size
 }
 
-/// How many bytes the entries have behind their count.
+/// The length of the count and the entries in bytes, at most 1,800,009.
 pub fn entries_size(entries: &Entries) -> u64
     ensures size { result ≡ length (list_text entry_text entries.now) }
     ensures limit { result ≤ 1800009 }
@@ -292,7 +300,7 @@ pub fn entries_size(entries: &Entries) -> u64
     list_size(entries.as_slice())
 }
 
-/// How many bytes the headers have behind their count.
+/// The length of the count and the headers in bytes, at most 162,009.
 pub fn headers_size(headers: &HeaderList) -> u64
     ensures size { result ≡ length (list_text listed_header_text headers.now) }
     ensures limit { result ≤ 162009 }
@@ -300,7 +308,7 @@ pub fn headers_size(headers: &HeaderList) -> u64
     list_size(headers.as_slice())
 }
 
-/// How many bytes the hashes have behind their count.
+/// The length of the count and the hashes in bytes, at most 3,241.
 pub fn locator_size(locator: &Locator) -> u64
     ensures size { result ≡ length (list_text hash_text locator.now) }
     ensures limit { result ≤ 3241 }

@@ -1,12 +1,13 @@
 use cb_base::Shared;
 use cb_tx::Tx;
 
-/// A transaction that a compact block carries whole (BIP 152, PrefilledTransaction).
+/// A transaction that a compact block carries in full (BIP 152, PrefilledTransaction).
 #[derive(Drop)]
 pub struct PrefilledTransaction {
-    /// Its index in the block, as the difference that is written: the first one's is the index itself, each further one's how many
-    /// places lie between it and the one before.
+    /// Its index in the block, differentially encoded. For the first prefilled transaction it is
+    /// the index itself. For each further one it is the number of places between it and the one
+    /// before.
     pub difference: u64,
-    /// The transaction, which may have other owners.
+    /// The transaction. It may be shared with other owners.
     pub tx: Shared<Tx>,
 }

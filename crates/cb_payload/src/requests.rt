@@ -1,4 +1,4 @@
-//! The messages `sendcmpct` and `getheaders`.
+//! The payloads of `sendcmpct` (BIP 152) and `getheaders`.
 ghost use Rattle.std.specs.Prelude.{◌≡◌, ℕ, ◌^◌, ◌<◌, ◌≤◌, List, ◌++◌, length, All, IfOk, IsOk, IsOkUnless, OnOk, Ok, Err};
 ghost use Rattle.cb_base.specs.CompactSize.{Gives};
 ghost use Rattle.cb_base.specs.declared.fault.Fault.{Fault};
@@ -14,27 +14,29 @@ use cb_base::{Cursor, Fault, Hash256};
 use cb_tx::read_hash;
 use std::alloc::Global;
 
-/// How a peer wants to be told of blocks (BIP 152, `sendcmpct`).
+/// The payload of `sendcmpct` (BIP 152): how a peer wants new blocks to be announced.
 #[derive(Clone, Copy, PartialEq, Eq)]
 pub struct CompactRelay {
-    /// Whether it wants compact blocks at once, without being asked for them.
+    /// Whether the peer asks for high-bandwidth mode: a `cmpctblock` at once, without an
+    /// announcement first.
     pub high_bandwidth: bool,
-    /// The version of compact blocks that it speaks of.
+    /// The version of compact block relay that the peer proposes.
     pub version: u64,
 }
 
-/// A request for headers (`getheaders`).
+/// The payload of `getheaders`: a request for block headers.
 #[derive(Drop)]
 pub struct HeadersRequest {
-    /// The version of the protocol.
+    /// The protocol version of the sender.
     pub version: u32,
-    /// Hashes of the chain that the peer has, the newest first.
+    /// The block locator: hashes of the sender's chain, the newest first.
     pub locator: Locator,
-    /// The last header that is wanted; 32 zero bytes for as many as there are.
+    /// The hash of the last header that is wanted. 32 zero bytes ask for as many headers as
+    /// possible.
     pub stop: Hash256,
 }
 
-/// A flag: 0 or 1. Any other byte is `Fault::BadBool`.
+/// Reads a flag of one byte, 0 or 1. Any other byte is `Fault::BadBool`.
 #[tactic(auto, unfolding(crate::specs::Requests::flag_at))]
 fn read_flag(cursor: &mut Cursor) -> Result<bool, Fault>
     ensures { Gives (flag_at cursor.old) result cursor.new }
@@ -49,10 +51,11 @@ fn read_flag(cursor: &mut Cursor) -> Result<bool, Fault>
     }
 }
 
-/// Reads the payload of a `sendcmpct` (BIP 152): a flag of one byte and a version of eight. It takes no memory.
+/// Reads the payload of a `sendcmpct` (BIP 152): a flag of one byte and a version of 8 bytes. It
+/// allocates nothing.
 ///
-/// `Fault::BadBool` where the flag is neither 0 nor 1, and `Fault::Truncated` where bytes lack. After a fault the cursor may
-/// stand anywhere.
+/// Fails with `Fault::BadBool` if the flag is neither 0 nor 1, and with `Fault::Truncated` if bytes
+/// are missing. After an error the cursor may stand anywhere.
 #[tactic(auto, unfolding(crate::specs::Requests::compact_relay_at))]
 pub fn read_compact_relay(cursor: &mut Cursor) -> Result<CompactRelay, Fault>
     ensures { Gives (compact_relay_at cursor.old) result cursor.new }
@@ -65,7 +68,8 @@ pub fn read_compact_relay(cursor: &mut Cursor) -> Result<CompactRelay, Fault>
     })
 }
 
-/// Writes the payload of a `sendcmpct`. The only error is `Fault::Memory`.
+/// Appends the payload of a `sendcmpct` to `out`. Fails only with `Fault::Memory`; `out` may then
+/// end with a part of the payload.
 #[tactic(auto, unfolding(crate::specs::Requests::compact_relay_text), using(cb_tx::proofs::Appends::appends))]
 pub fn put_compact_relay(out: &mut Vec<u8>, relay: &CompactRelay) -> Result<(), Fault>
     ensures ok { OnOk result (out.new.items ≡ out.old.items ++ compact_relay_text relay.now) }
@@ -77,17 +81,18 @@ pub fn put_compact_relay(out: &mut Vec<u8>, relay: &CompactRelay) -> Result<(), 
     Ok(())
 }
 
-/// Reads the payload of a `getheaders` (Bitcoin's protocol): a version of four bytes, at most 101 hashes behind their count,
-/// and the hash to stop at.
+/// Reads the payload of a `getheaders`: a version of 4 bytes, a count and at most 101 hashes, then
+/// the hash to stop at.
 ///
-/// `Fault::Truncated` where bytes lack, else the faults of its list (`read_list`). After a fault the cursor may stand anywhere.
+/// Fails with `Fault::Truncated` if bytes are missing, and with the faults of `read_list` for the
+/// locator. After an error the cursor may stand anywhere.
 #[tactic(auto, unfolding(crate::specs::Requests::request_at, crate::specs::Requests::request_count_at))]
 pub fn read_request(alloc: Global, cursor: &mut Cursor) -> Result<HeadersRequest, Fault>
     ensures exact { GivesInMemory (request_at cursor.old) result cursor.new }
-    // Up to the count no memory is taken.
+    // No memory is allocated before the count has been read.
     ensures unpaid { (fault : Fault) → request_count_at cursor.old ≡ Err fault →
         result ≡ Err fault }
-    // Nor is any for a count of 0.
+    // A count of 0 allocates nothing.
     ensures paid { result ≡ Err Memory → TakesMemory cursor.old }
 {
     let version = cursor.u32()?;
@@ -100,7 +105,7 @@ pub fn read_request(alloc: Global, cursor: &mut Cursor) -> Result<HeadersRequest
     })
 }
 
-/// A hash's bytes, which are 32.
+/// The 32 bytes of a hash.
 fn hash_bytes(hash: &Hash256) -> &[u8]
     ensures bytes { result.now ≡ hash.now.0 }
     ensures len { length hash.now.0 ≡ 32 }
@@ -108,7 +113,8 @@ fn hash_bytes(hash: &Hash256) -> &[u8]
     hash.0.as_slice()
 }
 
-/// Writes the payload of a `getheaders`. The only error is `Fault::Memory`.
+/// Appends the payload of a `getheaders` to `out`. Fails only with `Fault::Memory`; `out` may then
+/// end with a part of the payload.
 #[tactic(auto, unfolding(crate::specs::Requests::request_text), using(cb_tx::proofs::Appends::appends))]
 pub fn put_request(out: &mut Vec<u8>, request: &HeadersRequest) -> Result<(), Fault>
     ensures ok { OnOk result (out.new.items ≡ out.old.items ++ request_text request.now) }
@@ -122,7 +128,7 @@ pub fn put_request(out: &mut Vec<u8>, request: &HeadersRequest) -> Result<(), Fa
 }
 
 impl CompactRelay {
-    /// How many bytes its text has.
+    /// The length of the payload in bytes.
     #[tactic(auto, unfolding(crate::specs::Requests::compact_relay_text))]
     pub fn size(&self) -> u64
         ensures size { result ≡ length (compact_relay_text self.now) }
@@ -133,7 +139,7 @@ impl CompactRelay {
 }
 
 impl HeadersRequest {
-    /// How many bytes its text has.
+    /// The length of the payload in bytes.
     #[tactic(auto, unfolding(crate::specs::Requests::request_text))]
     pub fn size(&self) -> u64
         ensures size { result ≡ length (request_text self.now) }
@@ -142,7 +148,8 @@ impl HeadersRequest {
         locator_size(&self.locator) + hash_bytes(&self.stop).len() as u64 + 4
     }
 
-    /// An equal one. The only error is `Fault::Memory`, and one with an empty locator takes none.
+    /// An equal request. Fails only with `Fault::Memory`; a request with an empty locator allocates
+    /// nothing.
     pub fn copy(&self, alloc: Global) -> Result<HeadersRequest, Fault>
         ensures equal { IfOk result (λ copy. copy ≡ self.now) }
         ensures memory { IsOkUnless result Memory }

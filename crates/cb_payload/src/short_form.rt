@@ -12,12 +12,13 @@ use cb_base::{Cursor, Fault};
 use std::alloc::Global;
 use std::marker::Model;
 
-/// How many transactions a compact block may stand for (own): 1,000,000 bytes, the most that a block has, by 60, the least that a
-/// valid transaction has, rounded down.
+/// The most transactions that a compact block may have. The limit is this program's own: a block
+/// has at most 1,000,000 bytes, a valid transaction at least 60, and the quotient is rounded down.
 pub const MOST_BLOCK_TXS: usize = 16_666;
 
-/// The transactions of a compact block (BIP 152): the short ids of those that it leaves out, and those that it carries whole. They
-/// are 1 to 16,666 together, and each id has six bytes.
+/// The transactions of a compact block (BIP 152): the short ids of those that it leaves out, and
+/// the prefilled ones that it carries in full. There are 1 to 16,666 in all, and each short id has
+/// 6 bytes.
 #[derive(Drop)]
 pub struct CompactTxs {
     ids: Vec<u64>,
@@ -35,7 +36,8 @@ impl Model for CompactTxs {
 }
 
 impl CompactTxs {
-    /// Both lists, where they have 1 to 16,666 members together and each id is below 2^48; else they come back.
+    /// Takes both lists if they have 1 to 16,666 members in all and each short id is below 2^48. If
+    /// not, the error gives them back.
     pub fn new(
         ids: Vec<u64>,
         prefilled: Vec<PrefilledTransaction>,
@@ -53,7 +55,7 @@ impl CompactTxs {
         Ok(CompactTxs { ids, prefilled })
     }
 
-    /// Both lists, which are as they have to be.
+    /// Takes both lists, which meet the rules of `new`.
     pub fn from_few(ids: Vec<u64>, prefilled: Vec<PrefilledTransaction>) -> CompactTxs
         requires { IsShortForm (record { ids = ids.items; prefilled = prefilled.items }) }
         ensures { result ≡ record { ids = ids.items; prefilled = prefilled.items } }
@@ -61,7 +63,7 @@ impl CompactTxs {
         CompactTxs { ids, prefilled }
     }
 
-    /// The short ids, in the order of their places.
+    /// The short ids, in the order of their transactions in the block.
     pub fn ids(&self) -> &[u64]
         ensures same { result.now ≡ self.now.ids }
         ensures kept { IsShortForm self.now }
@@ -69,7 +71,7 @@ impl CompactTxs {
         self.ids.as_slice()
     }
 
-    /// The transactions that are carried whole, in order.
+    /// The prefilled transactions, in order.
     pub fn prefilled(&self) -> &[PrefilledTransaction]
         ensures same { result.now ≡ self.now.prefilled }
         ensures kept { IsShortForm self.now }
@@ -77,7 +79,7 @@ impl CompactTxs {
         self.prefilled.as_slice()
     }
 
-    /// Both lists, given out.
+    /// Gives both lists out.
     pub fn into_lists(self) -> (Vec<u64>, Vec<PrefilledTransaction>)
         ensures ids { result.0.items ≡ self.ids }
         ensures prefilled { result.1.items ≡ self.prefilled }
@@ -87,7 +89,8 @@ impl CompactTxs {
         (ids, prefilled)
     }
 
-    /// Equal ones of the same transactions: only the lists take memory. The only error is `Fault::Memory`.
+    /// An equal value that shares the transactions. Only the lists are allocated. Fails only with
+    /// `Fault::Memory`: an allocation failed, or a transaction has 2^63 owners.
     pub fn copy(&self, alloc: Global) -> Result<CompactTxs, Fault>
         ensures equal { IfOk result (λ copy. copy ≡ self.now) }
         ensures memory { IsOkUnless result Memory }
@@ -98,7 +101,7 @@ impl CompactTxs {
         Ok(CompactTxs { ids, prefilled })
     }
 
-    /// How many bytes their text has, or 18,446,744,073,709,551,615 where they are more.
+    /// The length of both lists with their counts in bytes, or 2^64 - 1 if it is longer.
     #[tactic(auto, unfolding(crate::specs::ShortForms::short_form_text))]
     pub fn size(&self) -> u64
         ensures { result ≡ min (length (short_form_text self.now)) (2 ^ 64 - 1) }
@@ -107,16 +110,17 @@ impl CompactTxs {
     }
 }
 
-/// Whether each id has six bytes.
+/// Whether each short id fits in 6 bytes.
 fn are_short(ids: &[u64]) -> bool
     ensures { IsTrue result ↔ All IsShortId ids.now }
 {
     ids.iter().all(|id| *id < 0x1_0000_0000_0000)
 }
 
-/// The count of prefilled transactions behind so many ids. Both together are judged first: none is `Fault::Empty`, more than
-/// 16,666 are `Fault::TooMany`; and then a count whose transactions don't fit in what is left is `Fault::Truncated`, so that no
-/// memory is taken for it. After a fault the cursor may stand anywhere.
+/// Reads the count of prefilled transactions after `ids` short ids. Fails with `Fault::Empty` if
+/// there are no transactions in all, with `Fault::TooMany` if there are more than 16,666, then with
+/// `Fault::Truncated` if the prefilled transactions don't fit in the remaining bytes, so that
+/// nothing is allocated for them. After an error the cursor may stand anywhere.
 #[tactic(auto, unfolding(crate::specs::ShortForms::prefilled_count_at))]
 fn read_prefilled_count(cursor: &mut Cursor, ids: usize) -> Result<usize, Fault>
     ensures exact { Gives (prefilled_count_at ids cursor.old) result cursor.new }
@@ -137,17 +141,21 @@ fn read_prefilled_count(cursor: &mut Cursor, ids: usize) -> Result<usize, Fault>
     Ok(count as usize)
 }
 
-/// Reads the short ids and the prefilled transactions of a compact block.
+/// Reads the short ids and the prefilled transactions of a compact block, each list after its
+/// count.
 ///
-/// A count of ids is `Fault::Truncated` at once where they don't fit in what is left, at 6 bytes each. With the count of prefilled
-/// transactions both are judged: none in all is `Fault::Empty`, more than 16,666 are `Fault::TooMany`; and then that count is
-/// `Fault::Truncated` where they don't fit, at 11 bytes each. After a fault the cursor may stand anywhere.
+/// A count of short ids is `Fault::Truncated` at once if the ids don't fit in the remaining bytes,
+/// at 6 bytes each. Both counts are checked when the second has been read: `Fault::Empty` for none
+/// in all, `Fault::TooMany` for more than 16,666, then `Fault::Truncated` if the prefilled
+/// transactions don't fit, at 11 bytes each. Otherwise the error is that of the first field that
+/// can't be read, or `Fault::Memory`. After an error the cursor may stand anywhere.
 #[tactic(auto, unfolding(crate::specs::ShortForms::short_form_at))]
 pub fn read_short_form(alloc: Global, cursor: &mut Cursor) -> Result<CompactTxs, Fault>
     ensures exact { GivesInMemory (short_form_at cursor.old) result cursor.new }
-    // Up to the count of ids no memory is taken.
+    // No memory is allocated before the count of short ids has been read.
     ensures unpaid { (fault : Fault) → count_at 6 cursor.old ≡ Err fault → result ≡ Err fault }
-    // Nor is any where there are no ids and no prefilled transactions that can be read.
+    // Without short ids, none is allocated before the count of prefilled transactions has been read
+    // and accepted.
     ensures paid { result ≡ Err Memory → FormTakesMemory cursor.old }
 {
     let ids = read_ids(alloc, cursor)?;
@@ -156,7 +164,8 @@ pub fn read_short_form(alloc: Global, cursor: &mut Cursor) -> Result<CompactTxs,
     Ok(CompactTxs::from_few(ids, prefilled))
 }
 
-/// Writes the short ids and the prefilled transactions. The only error is `Fault::Memory`.
+/// Appends both lists, each after its count, to `out`. Fails only with `Fault::Memory`; `out` may
+/// then end with a part of them.
 #[tactic(auto, unfolding(crate::specs::ShortForms::short_form_text), using(cb_tx::proofs::Appends::appends))]
 pub fn put_short_form(out: &mut Vec<u8>, txs: &CompactTxs) -> Result<(), Fault>
     ensures ok { OnOk result (out.new.items ≡ out.old.items ++ short_form_text txs.now) }

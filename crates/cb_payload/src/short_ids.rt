@@ -1,4 +1,4 @@
-//! Reading and writing short ids (BIP 152): six bytes each, the lowest first, behind their count.
+//! Reading and writing lists of short ids (BIP 152): a count, then 6 bytes for each, little-endian.
 ghost use Rattle.std.specs.Prelude.{◌≡◌, ℕ, ◌-◌, ◌^◌, ◌<◌, List, ◌++◌, length, min, All, IfOk, IsOk, IsOkUnless, MatchResult, OnOk, Ok, Err, ◌⊎◌};
 ghost use Rattle.cb_base.specs.CompactSize.{Gives};
 ghost use Rattle.cb_base.specs.declared.fault.Fault.{Fault};
@@ -22,7 +22,7 @@ fn read_short_id(cursor: &mut Cursor) -> Result<u64, Fault>
     ]))
 }
 
-/// So many ids, one after the other.
+/// Reads `count` short ids.
 fn ids_of(alloc: Global, cursor: &mut Cursor, count: usize) -> Result<Vec<u64>, Fault>
     ensures exact { MatchResult result
         (λ ids. items_at short_id_at count cursor.old ≡ Ok (ids.items, cursor.new))
@@ -37,8 +37,9 @@ fn ids_of(alloc: Global, cursor: &mut Cursor, count: usize) -> Result<Vec<u64>, 
     Ok(ids)
 }
 
-/// Short ids behind their count, which is `Fault::Truncated` at once where they don't fit in what is left. After a fault the cursor
-/// may stand anywhere.
+/// Reads a count and that many short ids. Fails with `Fault::Truncated` at once if they don't fit
+/// in the remaining bytes, with the fault of the count if it can't be read (`read_count`), or with
+/// `Fault::Memory`. After an error the cursor may stand anywhere.
 #[tactic(auto, unfolding(cb_tx::specs::Reading::list_at))]
 pub fn read_ids(alloc: Global, cursor: &mut Cursor) -> Result<Vec<u64>, Fault>
     ensures exact { MatchResult result
@@ -52,7 +53,8 @@ pub fn read_ids(alloc: Global, cursor: &mut Cursor) -> Result<Vec<u64>, Fault>
     ids_of(alloc, cursor, count)
 }
 
-/// Writes short ids behind their count. The only error is `Fault::Memory`.
+/// Appends the count and the short ids to `out`. Fails only with `Fault::Memory`; `out` may then
+/// end with a part of them.
 #[tactic(auto, unfolding(cb_tx::specs::Text::list_text), using(cb_tx::proofs::Appends::appends))]
 pub fn put_ids(out: &mut Vec<u8>, ids: &[u64]) -> Result<(), Fault>
     ensures ok { OnOk result (out.new.items ≡ out.old.items ++ list_text short_id_text ids.now) }
@@ -67,7 +69,7 @@ pub fn put_ids(out: &mut Vec<u8>, ids: &[u64]) -> Result<(), Fault>
     Ok(())
 }
 
-/// How many bytes short ids have behind their count, or 18,446,744,073,709,551,615 where they are more.
+/// The length of the count and the short ids in bytes, or 2^64 - 1 if it is longer.
 pub fn ids_size(ids: &[u64]) -> u64
     ensures { result ≡ min (length (list_text short_id_text ids.now)) (2 ^ 64 - 1) }
 {

@@ -1,4 +1,4 @@
-//! Reading, writing and sharing lists of transactions.
+//! Reading, writing and sharing lists of transactions in `blocktxn` and `cmpctblock`.
 ghost use Rattle.std.specs.Prelude.{◌≡◌, ℕ, ◌-◌, ◌^◌, List, [], ◌++◌, length, min, All, IfOk, IsOk, IsOkUnless, MatchResult, OnOk, Ok, Err, ◌⊎◌};
 ghost use Rattle.cb_base.specs.declared.fault.Fault.TheVariants.{Memory};
 ghost use Rattle.cb_tx.specs.Reading.{GivesInMemory, items_at};
@@ -10,37 +10,38 @@ use cb_base::{Cursor, Fault, Shared, put_compact};
 use cb_tx::{Tx, compact_size, read_tx, write_tx};
 use std::alloc::Global;
 
-/// A transaction as it stands in a list: alone, or with its index.
+/// A transaction in a list: alone, or with its index in the block.
 pub trait TxItem: Drop {
     ghost use Rattle.std.specs.Prelude.{◌≡◌, ℕ, ◌-◌, ◌^◌, List, ◌++◌, length, min, IfOk, OnOk, IsOkUnless};
     ghost use Rattle.cb_base.specs.Reading.{Read};
     ghost use Rattle.cb_base.specs.declared.fault.Fault.TheVariants.{Memory};
     ghost use Rattle.cb_tx.specs.Reading.{GivesInMemory};
 
-    /// How it is written.
+    /// The bytes that are written.
     ghost text: { Self → List ℕ };
 
-    /// How it is read.
+    /// The definition of reading one item.
     ghost item_at: { List ℕ → Read Self };
 
-    /// Each of its numbers is one of its field, and each hash has 32 bytes.
+    /// Each number is in the range of its field, and each hash has 32 bytes.
     ghost is_kept: { Self → Type 0 };
 
-    /// Reads one. After a fault the cursor may stand anywhere.
+    /// Reads one item. After an error the cursor may stand anywhere.
     fn read(alloc: Global, cursor: &mut Cursor) -> Result<Self, Fault>
         ensures { GivesInMemory (item_at cursor.old) result cursor.new };
 
-    /// Writes it at the end. The only error is `Fault::Memory`.
+    /// Appends the item to `out`. Fails only with `Fault::Memory`; `out` may then end with a part
+    /// of the item.
     fn put(&self, out: &mut Vec<u8>) -> Result<(), Fault>
         ensures ok { OnOk result (out.new.items ≡ out.old.items ++ text self.now) }
         ensures memory { IsOkUnless result Memory }
         ensures kept { OnOk result (is_kept self.now) };
 
-    /// How many bytes its text has, or 18,446,744,073,709,551,615 where they are more.
+    /// The length of the item in bytes, or 2^64 - 1 if it is longer.
     fn text_size(&self) -> u64
         ensures { result ≡ min (length (text self.now)) (2 ^ 64 - 1) };
 
-    /// An equal one of the same transaction. The only error is `Fault::Memory`.
+    /// An equal item that shares the transaction. Fails only with `Fault::Memory`.
     fn share(&self) -> Result<Self, Fault>
         ensures equal { IfOk result (λ copy. copy ≡ self.now) }
         ensures memory { IsOkUnless result Memory };
@@ -131,7 +132,7 @@ fn prefilled_size(prefilled: &PrefilledTransaction) -> u64
         .saturating_add(compact_size(prefilled.difference))
 }
 
-/// So many of them, one after the other. None takes no memory.
+/// Reads `count` items. A count of 0 allocates nothing.
 pub fn tx_items_of<T: TxItem>(
     alloc: Global,
     cursor: &mut Cursor,
@@ -150,12 +151,13 @@ pub fn tx_items_of<T: TxItem>(
     Ok(items)
 }
 
-/// Writes them behind their count. The only error is `Fault::Memory`.
+/// Appends the count and the items to `out`. Fails only with `Fault::Memory`; `out` may then end
+/// with a part of the list.
 #[tactic(auto, unfolding(cb_tx::specs::Text::list_text), using(cb_tx::proofs::Appends::appends))]
 pub fn put_tx_items<T: TxItem>(out: &mut Vec<u8>, items: &[T]) -> Result<(), Fault>
     ensures ok { OnOk result (out.new.items ≡ out.old.items ++ list_text T.text items.now) }
     ensures memory { IsOkUnless result Memory }
-    // Each number is one of its field, and each hash has 32 bytes.
+    // Each number is in the range of its field, and each hash has 32 bytes.
     ensures kept { OnOk result (All T.is_kept items.now) }
 {
     put_compact(out, items.len() as u64)?;
@@ -165,7 +167,7 @@ pub fn put_tx_items<T: TxItem>(out: &mut Vec<u8>, items: &[T]) -> Result<(), Fau
     Ok(())
 }
 
-/// How many bytes they have behind their count, or 18,446,744,073,709,551,615 where they are more.
+/// The length of the count and the items in bytes, or 2^64 - 1 if it is longer.
 #[tactic(auto, unfolding(cb_tx::specs::Text::list_text))]
 pub fn tx_items_size<T: TxItem>(items: &[T]) -> u64
     ensures { result ≡ min (length (list_text T.text items.now)) (2 ^ 64 - 1) }
@@ -177,7 +179,9 @@ pub fn tx_items_size<T: TxItem>(items: &[T]) -> u64
     size
 }
 
-/// Equal ones of the same transactions: only their list takes memory. The only error is `Fault::Memory`, and none takes none.
+/// An equal list that shares the transactions. Only the list itself is allocated. Fails only with
+/// `Fault::Memory`: an allocation failed, or a transaction has 2^63 owners. An empty list can't
+/// fail.
 pub fn share_tx_items<T: TxItem>(alloc: Global, items: &[T]) -> Result<Vec<T>, Fault>
     ensures equal { IfOk result (λ copies. copies.items ≡ items.now) }
     ensures memory { IsOkUnless result Memory }

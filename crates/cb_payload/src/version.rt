@@ -1,4 +1,4 @@
-//! The message `version`.
+//! The payload of `version`.
 ghost use Rattle.std.specs.Prelude.{if◌then◌else◌, ◌≡◌, ℕ, ◌^◌, ◌<◌, ◌≤◌, Bool, true, not, FitsSigned, List, ◌++◌, length, min, IfOk, IsOkUnless, MatchResult, OnOk, IsOk, Ok, Err};
 ghost use Rattle.std.specs.Int.{w32, w64, to_le_bytes, cast_unsigned};
 ghost use Rattle.cb_base.specs.CompactSize.{Gives};
@@ -12,38 +12,38 @@ use crate::listed::Listed;
 use cb_base::{Cursor, Fault, copy_bytes, put_compact};
 use std::alloc::Global;
 
-/// The name of a node's software (`version`): bytes that nobody here reads.
+/// The user agent in `version`: at most 256 bytes, which this program doesn't interpret.
 pub type Agent = Listed<u8, 256>;
 
-/// A network address, as `version` has it: without a time.
+/// A network address as `version` has it: without a timestamp.
 #[derive(Clone, Copy, PartialEq, Eq)]
 pub struct NetAddress {
     pub services: u64,
-    /// An IPv6 address, or an IPv4 address in its last four bytes.
+    /// An IPv6 address, or an IPv4 address in the last 4 bytes.
     pub ip: [u8; 16],
     pub port: u16,
 }
 
-/// How a node introduces itself.
+/// The payload of `version`: how a node introduces itself.
 #[derive(Drop)]
 pub struct Version {
-    /// The version of the protocol that it speaks.
+    /// The protocol version of the sender.
     pub version: i32,
     pub services: u64,
-    /// Seconds since the start of 1970.
+    /// The sender's clock, in seconds since 1970.
     pub time: i64,
     pub receiver: NetAddress,
     pub sender: NetAddress,
-    /// A number by which a node knows its own message.
+    /// A random number by which a node detects a connection to itself.
     pub nonce: u64,
     pub agent: Agent,
-    /// The height of its best chain.
+    /// The height of the sender's best chain.
     pub height: i32,
-    /// Whether it wants to be told of transactions (BIP 37).
+    /// Whether the sender wants transactions to be announced (BIP 37).
     pub relay: bool,
 }
 
-/// What a `version` says, with its agent still in the payload.
+/// The fields of a `version`. The user agent is still borrowed from the payload.
 #[derive(Drop)]
 struct Told<'a> {
     version: i32,
@@ -57,7 +57,7 @@ struct Told<'a> {
     relay: bool,
 }
 
-/// The next 16 bytes. After a fault the cursor may stand anywhere.
+/// Reads 16 bytes. After an error the cursor may stand anywhere.
 fn read_ip(cursor: &mut Cursor) -> Result<[u8; 16], Fault>
     ensures { Gives (bytes_at 16 cursor.old) result cursor.new }
 {
@@ -77,7 +77,8 @@ fn read_address(cursor: &mut Cursor) -> Result<NetAddress, Fault>
     Ok(NetAddress { services, ip, port })
 }
 
-/// The agent, in the payload. One of more than 256 bytes is `Fault::TooMany`, whether they are there or not.
+/// Reads the user agent and borrows it from the payload. A length above 256 is `Fault::TooMany`,
+/// even if the bytes are missing.
 #[tactic(auto, unfolding(crate::specs::Version::agent_at))]
 fn read_agent<'a>(cursor: &mut Cursor<'a>) -> Result<&'a [u8], Fault>
     ensures exact { MatchResult result (λ agent. agent_at cursor.old ≡ Ok (agent.now, cursor.new))
@@ -91,7 +92,7 @@ fn read_agent<'a>(cursor: &mut Cursor<'a>) -> Result<&'a [u8], Fault>
     cursor.take(len as usize)
 }
 
-/// What the relay byte says: yes where it isn't 0, or isn't there.
+/// Reads the relay byte: true unless it is present and 0.
 fn read_relay(cursor: &mut Cursor) -> bool
     ensures { result ≡ relay_of cursor.old }
 {
@@ -101,6 +102,7 @@ fn read_relay(cursor: &mut Cursor) -> bool
     }
 }
 
+/// Reads all fields of a `version` without allocating.
 #[tactic(auto, unfolding(crate::specs::Version::version_at))]
 fn told_by(payload: &[u8]) -> Result<Told<'_>, Fault>
     ensures exact { MatchResult result
@@ -131,13 +133,15 @@ fn told_by(payload: &[u8]) -> Result<Told<'_>, Fault>
     })
 }
 
-/// Reads the payload of a `version` (Bitcoin's protocol, with the relay byte of BIP 37). What stands behind that is ignored.
+/// Reads the payload of a `version`, with the relay byte of BIP 37. Bytes after the relay byte are
+/// ignored.
 ///
-/// `Fault::Truncated` where bytes lack, `Fault::NotShortest` where the agent's length is spelled longer than it needs,
-/// `Fault::TooMany` where it is above 256, and `Fault::Memory`, which no version without an agent needs.
+/// Fails with `Fault::Truncated` if bytes are missing, `Fault::NotShortest` if the user agent's
+/// length isn't in its shortest form, `Fault::TooMany` if that length is above 256, and
+/// `Fault::Memory` if the user agent can't be allocated. An empty user agent allocates nothing.
 pub fn read_version(alloc: Global, payload: &[u8]) -> Result<Version, Fault>
     ensures exact { reading.Gives (version_at payload.now) result }
-    // No memory is taken before all else was read.
+    // Memory is allocated only after all else has been read.
     ensures unpaid { (fault : Fault) → version_at payload.now ≡ Err fault → result ≡ Err fault }
     ensures paid { result ≡ Err Memory → TakesMemory payload.now }
 {
@@ -180,7 +184,8 @@ fn put_agent(out: &mut Vec<u8>, agent: &Agent) -> Result<(), Fault>
     Ok(())
 }
 
-/// The first three numbers. The only error is `Fault::Memory`.
+/// Appends the protocol version, the services and the time to `out`. Fails only with
+/// `Fault::Memory`.
 #[tactic(auto, using(cb_tx::proofs::Appends::appends))]
 fn put_numbers(out: &mut Vec<u8>, version: &Version) -> Result<(), Fault>
     ensures ok { OnOk result
@@ -200,7 +205,7 @@ fn put_numbers(out: &mut Vec<u8>, version: &Version) -> Result<(), Fault>
     Ok(())
 }
 
-/// What stands behind the addresses, but for the relay byte. The only error is `Fault::Memory`.
+/// Appends the nonce, the user agent and the height to `out`. Fails only with `Fault::Memory`.
 #[tactic(auto, using(cb_tx::proofs::Appends::appends))]
 fn put_tail(out: &mut Vec<u8>, version: &Version) -> Result<(), Fault>
     ensures ok { OnOk result
@@ -218,14 +223,15 @@ fn put_tail(out: &mut Vec<u8>, version: &Version) -> Result<(), Fault>
     Ok(())
 }
 
-/// The relay byte that is written.
+/// The relay byte: 1 for yes, 0 for no.
 fn relay_byte(relay: bool) -> u8
     ensures { result ≡ (if relay then 1 else 0) }
 {
     if relay { 1 } else { 0 }
 }
 
-/// Writes the payload of a `version`. The only error is `Fault::Memory`.
+/// Appends the payload of a `version` to `out`, with the relay byte. Fails only with
+/// `Fault::Memory`; `out` may then end with a part of the payload.
 #[tactic(auto, unfolding(crate::specs::Version::version_text, crate::specs::Version::version_fields), using(cb_tx::proofs::Appends::appends))]
 pub fn put_version(out: &mut Vec<u8>, version: &Version) -> Result<(), Fault>
     ensures ok { OnOk result (out.new.items ≡ out.old.items ++ version_text version.now) }
@@ -258,7 +264,7 @@ fn agent_size(agent: &Agent) -> u64
 }
 
 impl Version {
-    /// How many bytes its text has.
+    /// The length of the payload in bytes.
     #[tactic(auto, unfolding(crate::specs::Version::version_text, crate::specs::Version::version_fields))]
     pub fn size(&self) -> u64
         ensures size { result ≡ length (version_text self.now) }
@@ -268,7 +274,8 @@ impl Version {
         agent_size(&self.agent) + addresses + 33
     }
 
-    /// An equal one. The only error is `Fault::Memory`, and one with an empty agent takes none.
+    /// An equal version. Fails only with `Fault::Memory`; a version with an empty user agent
+    /// allocates nothing.
     pub fn copy(&self, alloc: Global) -> Result<Version, Fault>
         ensures equal { IfOk result (λ copy. copy ≡ self.now) }
         ensures memory { IsOkUnless result Memory }
