@@ -1,4 +1,4 @@
--- Commands, as an envelope names them (Bitcoin's peer-to-peer protocol).
+-- The names of commands in an envelope (Bitcoin's peer-to-peer protocol).
 use Rattle.std.specs.Prelude.{◌≡◌, ℕ, ◌-◌, ◌&&◌, Bool, true, List, [], ◌∷◌, ◌++◌, length, take, drop, nat_le, ◌==◌, replicate, codes, find, if◌then◌else◌, Option, Some, None}
 use Rattle.std.specs.List.{list_all, position_or_len}
 use Rattle.std.specs.Str.{bytes_eq}
@@ -27,36 +27,36 @@ command_name CmpctBlock = codes "cmpctblock"
 command_name GetBlockTxn = codes "getblocktxn"
 command_name BlockTxn = codes "blocktxn"
 
--- the known command of a name
+-- the known command of a name, if there is one
 abbrev pub known_command : List ℕ → Option Command
 known_command name = find (λ command. bytes_eq name (command_name command)) known_commands
 
--- a byte that a command may have: from the space to the tilde
+-- a byte that a command's name may have: from the space to the tilde
 abbrev pub is_command_byte : ℕ → Bool
 is_command_byte byte = nat_le 0x20 byte && nat_le byte 0x7e
 
--- the form of a command: 1 to 12 such bytes
+-- the form of a command's name: 1 to 12 such bytes
 abbrev pub is_command : List ℕ → Bool
 is_command name = nat_le 1 (length name) && nat_le (length name) 12 && list_all is_command_byte name
 
 abbrev pub IsCommand : List ℕ → Type 0
 IsCommand name = is_command name ≡ true
 
--- of a command's form, and not the name of a known one
+-- a name in the form of a command that isn't a known one
 pub record IsUnknownName (name : List ℕ) : Type 0 where
   pub form : is_command name ≡ true
   pub unknown : known_command name ≡ None
 
--- a command in the twelve bytes of an envelope: its bytes, and then zeros
+-- a command in the header's field of 12 bytes: its name, padded with zeros
 abbrev pub command_field : List ℕ → List ℕ
 command_field name = name ++ replicate (12 - length name) 0
 
--- how many bytes stand before the first zero
+-- the number of bytes before the first zero
 abbrev pub name_length : List ℕ → ℕ
 name_length field = position_or_len (λ byte. byte == 0) field
 
--- The command in those twelve bytes, if there is one: what stands before the first zero is of a command's form, and
--- only zeros follow.
+-- The command in that field, if there is one: the bytes before the first zero have the form of a
+-- command, and only zeros follow.
 unfoldable pub command_in : List ℕ → Option (List ℕ)
 command_in field =
     if is_command (take (name_length field) field) && list_all (λ byte. byte == 0) (drop (name_length field) field)

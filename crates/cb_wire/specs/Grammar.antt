@@ -1,5 +1,5 @@
--- The grammar of messages: the spelling of each, and reading from the left. Each message has one row in each table; what has
--- several fields stands in cb_payload.
+-- The grammar of messages: how each payload is written, and how it is read from left to right. Each
+-- message has one row in each table. Payloads of several fields are defined in cb_payload.
 use Rattle.std.specs.Prelude.{◌≡◌, ℕ, ◌≤◌, ◌<◌, ◌^◌, ◌⊎◌, List, [], ◌∷◌, length, All, Option, Some, None, Result, Ok, Err, IsOk}
 use Rattle.std.specs.Int.{w64, to_le_bytes}
 use Rattle.cb_base.specs.declared.fault.Fault.{Fault}
@@ -20,7 +20,7 @@ use Rattle.cb_payload.specs.CompactBlocks as compacts
 use Rattle.cb_payload.specs.Requests as requests
 use Rattle.cb_payload.specs.Version as versions
 
--- the name that a message goes under
+-- the name of a message's command
 abbrev pub name_of : Message → List ℕ
 name_of (Version version) = command_name known.Version
 name_of Verack = command_name known.Verack
@@ -40,7 +40,7 @@ name_of (GetBlockTxn request) = command_name known.GetBlockTxn
 name_of (BlockTxn txs) = command_name known.BlockTxn
 name_of (Unknown name payload) = name
 
--- the text of a message's payload: the spelling that is written
+-- the payload of a message, as it is written
 abbrev pub payload_text : Message → List ℕ
 payload_text (Version version) = versions.version_text version
 payload_text Verack = []
@@ -60,19 +60,21 @@ payload_text (GetBlockTxn request) = fetched.txs_request_text request
 payload_text (BlockTxn txs) = fetched.block_txs_text txs
 payload_text (Unknown name payload) = payload
 
--- these bytes are a payload of the message: its text, and of a version also what says the same otherwise
+-- The bytes are a payload of the message. Only a version has several payloads: see
+-- `IsVersionPayload`.
 abbrev pub IsPayload : List ℕ → Message → Type 0
 IsPayload bytes (Version version) = versions.IsVersionPayload bytes version
 IsPayload bytes message = payload_text message ≡ bytes
 
--- these bytes spell the message under this name
+-- the bytes spell the message under this command's name
 pub record Spells (name bytes : List ℕ) (message : Message) : Type 0 where
   pub under : name_of message ≡ name
   pub spelled : IsPayload bytes message
 
--- What the types of a message's fields keep: numbers in their ranges, hashes of 32 bytes, an unknown name that is no known
--- one, and lists that are no longer than the protocol allows: 50,000 entries, 2,000 headers, 101 hashes of a locator, an
--- agent of 256 bytes, 1 to 16,666 transactions of a compact block, 16,666 of a request for them.
+-- The range of a message, which its types guarantee: numbers are in the range of their fields,
+-- hashes have 32 bytes, an unknown name isn't a known one. Lists are within their limits: 50,000
+-- inventory entries, 2,000 headers, 101 hashes of a locator, 256 bytes of user agent, 1 to 16,666
+-- transactions of a compact block, 16,666 of a request for them.
 abbrev pub IsMessage : Message → Type 0
 IsMessage (Version version) = versions.IsVersion version
 IsMessage Verack = Unit {0}
@@ -92,7 +94,8 @@ IsMessage (GetBlockTxn request) = fetched.IsTxsRequest request
 IsMessage (BlockTxn txs) = fetched.IsBlockTxs txs
 IsMessage (Unknown name payload) = IsUnknownName name
 
--- At most 4,000,000 bytes of payload. Where each field has a limit of its own, as the types keep it, there are always fewer.
+-- The payload has at most 4,000,000 bytes. Messages whose fields each have a limit of their own are
+-- always below it.
 abbrev pub IsWithinLimits : Message → Type 0
 IsWithinLimits (Tx tx) = length (tx_text tx) ≤ 4000000
 IsWithinLimits (Block block) = length (block_text block) ≤ 4000000
@@ -101,17 +104,18 @@ IsWithinLimits (BlockTxn txs) = length (fetched.block_txs_text txs) ≤ 4000000
 IsWithinLimits (Unknown name payload) = length payload ≤ 4000000
 IsWithinLimits message = Unit {0}
 
--- a message as the types keep it, and within the limits
+-- a message in its range and within the limit
 pub record IsProper (message : Message) : Type 0 where
   pub kept : IsMessage message
   pub limits : IsWithinLimits message
 
--- a value whose text all of the bytes are: none is left over
+-- the value, if no bytes are left over
 abbrev pub whole : {A : Type 0} → A × List ℕ → Result A Fault
 whole (value, []) = Ok value
 whole (value, byte ∷ bytes) = Err Trailing
 
--- the payload of a known command, read from the left: the message, or the fault of the first field that can't be read
+-- reads the payload of a known command from left to right: the message, or the fault of the first
+-- field that can't be read
 abbrev pub payload_at : Command → List ℕ → Result Message Fault
 payload_at known.Version bytes = versions.version_at bytes >>= λ version. Ok (Version version)
 payload_at known.Verack bytes = whole (Verack, bytes)
@@ -130,7 +134,7 @@ payload_at known.CmpctBlock bytes = compacts.compact_block_at bytes >>= λ block
 payload_at known.GetBlockTxn bytes = fetched.txs_request_at bytes >>= λ request. whole (GetBlockTxn request.0, request.1)
 payload_at known.BlockTxn bytes = fetched.block_txs_at bytes >>= λ txs. whole (BlockTxn txs.0, txs.1)
 
--- the same under any name: what isn't known is kept as it is
+-- the same for any name: the payload of an unknown command is kept as it is
 abbrev pub message_under : Option Command → List ℕ → List ℕ → Result Message Fault
 message_under (Some command) name bytes = payload_at command bytes
 message_under None name bytes = Ok (Unknown name bytes)
@@ -142,8 +146,8 @@ message_at name bytes = message_under (known_command name) name bytes
 abbrev pub IsFaulty : List ℕ → List ℕ → Fault → Type 0
 IsFaulty name bytes fault = message_at name bytes ≡ Err fault
 
--- The fault is met before any memory is taken: by the first count of a list, of a transaction or of a block, or anywhere in
--- another known command's payload.
+-- The fault comes before any allocation. In messages with lists or transactions, that is up to the
+-- first count. In the other known commands it is anywhere in the payload.
 abbrev pub IsUnpaid : Option Command → List ℕ → Fault → Type 0
 IsUnpaid (Some known.Inv) bytes fault = limited_at 50000 36 bytes ≡ Err fault
 IsUnpaid (Some known.GetData) bytes fault = limited_at 50000 36 bytes ≡ Err fault
@@ -158,9 +162,9 @@ IsUnpaid (Some known.BlockTxn) bytes fault = fetched.block_txs_count_at bytes �
 IsUnpaid (Some command) bytes fault = payload_at command bytes ≡ Err fault
 IsUnpaid None bytes fault = ⊥
 
--- Reading takes memory: that of a list that isn't empty, of a version with an agent, of a transaction or a block with items
--- or of a whole one, of a compact block with ids or prefilled transactions, or that of a command that isn't known, whose name is
--- kept.
+-- Reading allocates: for a list that isn't empty, a version with a user agent, a transaction or
+-- block with items, a whole transaction or block, a compact block with short ids or prefilled
+-- transactions, or an unknown command, whose name is copied.
 abbrev pub IsPaid : Option Command → List ℕ → Type 0
 IsPaid (Some known.Version) bytes = versions.TakesMemory bytes
 IsPaid (Some known.Inv) bytes = CountsSome 50000 36 bytes
@@ -176,7 +180,7 @@ IsPaid (Some known.BlockTxn) bytes = fetched.BlockTxsTakesMemory bytes
 IsPaid (Some command) bytes = ⊥
 IsPaid None bytes = Unit {0}
 
--- The message holds no memory of its own, so that a copy takes none.
+-- The message owns no memory, so that a copy allocates nothing and can't fail.
 abbrev pub HoldsNothing : Message → Type 0
 HoldsNothing (Version version) = length version.agent ≡ 0
 HoldsNothing (Inv entries) = length entries ≡ 0

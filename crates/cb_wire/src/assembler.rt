@@ -13,18 +13,19 @@ use cb_base::Fault;
 use std::alloc::Global;
 use std::marker::Model;
 
-/// What a piece of a stream brought.
+/// What one piece of a stream yields.
 #[derive(Drop)]
 pub struct Fed {
-    /// The items that are whole now, in order.
+    /// The items that this piece completes, in order.
     pub items: Vec<Item>,
-    /// The fault that the stream has, if it has one: `BadMagic` or `Oversize`.
+    /// The fault that ends the stream, if it has one: `BadMagic` or `Oversize`.
     pub fault: Option<Fault>,
 }
 
-/// Puts the pieces of a stream together and cuts them into items.
+/// Joins the pieces of a stream and cuts them into items, one for each envelope.
 ///
-/// It is seen as what is left over behind the last whole envelope, and the stream's fault.
+/// For the prover its value is the bytes after the last whole envelope, and the fault of the
+/// stream.
 #[derive(Drop)]
 pub struct Assembler {
     alloc: Global,
@@ -45,7 +46,7 @@ impl Model for Assembler {
 impl Assembler {
     ghost use Rattle.cb_wire.specs.Stream.{Assembled};
 
-    /// At a stream's beginning.
+    /// An assembler at the beginning of a stream.
     pub fn new(alloc: Global) -> Assembler
         ensures { result ≡ record { rest = []; fault = None } }
     {
@@ -56,19 +57,22 @@ impl Assembler {
         }
     }
 
-    /// How many bytes are left over behind the last whole envelope; 0 after a fault of the stream.
+    /// The number of bytes after the last whole envelope. It is 0 after a fault of the stream.
     pub fn rest_len(&self) -> usize
         ensures { result ≡ length self.now.rest }
     {
         self.rest.len()
     }
 
-    /// Takes the next piece of the stream.
+    /// Takes the next piece of the stream and returns the items that it completes.
     ///
-    /// The only error is `Fault::Memory`, which changes nothing. After a fault of the stream each piece gives no item
-    /// and that fault, and takes no memory. Nor does an empty piece.
+    /// Fails only with `Fault::Memory`; the assembler is then unchanged, and the piece can be fed
+    /// again. `BadMagic` or `Oversize` ends the stream and is told in `Fed::fault`. After that,
+    /// each piece yields no item and the same fault, and allocates nothing. An empty piece
+    /// allocates nothing either.
     pub fn feed(&mut self, piece: &[u8]) -> Result<Fed, Fault>
-        // However the stream was cut: what all bytes fed so far and this piece spell is the items so far and these.
+        // If the bytes fed before spell the items so far, then those bytes and this piece spell the
+        // items so far and the new ones. So the cuts between pieces don't matter.
         ensures stream { IfOk result (λ fed. (bytes : List ℕ) (items : List Item) →
             Stream bytes items self.old.rest self.old.fault →
             Stream (bytes ++ piece.now) (items ++ fed.items.items) self.new.rest self.new.fault) }
@@ -76,7 +80,7 @@ impl Assembler {
         ensures broken { (why : Fault) → self.old.fault ≡ Some why → IsOk result }
         ensures memory { IsOkUnless result Memory }
         ensures err { OnErr result (self.new ≡ self.old) }
-        // An empty piece takes no memory.
+        // An empty piece allocates nothing.
         ensures paid { result ≡ Err Memory → 0 < length piece.now }
     {
         if self.fault.is_some() {
@@ -101,7 +105,7 @@ impl Assembler {
     }
 }
 
-/// What stands in front of a stream's rest: whole envelopes, or all of it where the stream has a fault.
+/// The part of a buffer that is done: its whole envelopes, or all of it if the stream has a fault.
 #[derive(Drop)]
 struct Cut {
     items: Vec<Item>,
@@ -109,7 +113,8 @@ struct Cut {
     fault: Option<Fault>,
 }
 
-/// Cuts the whole envelopes at the front. The only error is `Fault::Memory`.
+/// Cuts the whole envelopes off the front. Fails only with `Fault::Memory`, and never while there
+/// are too few bytes for an envelope.
 fn cut_items(alloc: Global, bytes: &[u8]) -> Result<Cut, Fault>
     ensures stream { IfOk result
         (λ cut. Stream bytes.now cut.items.items (drop cut.used bytes.now) cut.fault) }
@@ -146,7 +151,7 @@ fn cut_items(alloc: Global, bytes: &[u8]) -> Result<Cut, Fault>
     }
 }
 
-/// How many whole envelopes stand at the front, so that the room for their items is made once.
+/// The number of whole envelopes at the front, so that one allocation holds all their items.
 fn count_whole(bytes: &[u8]) -> usize
     ensures { front_at bytes.now ≡ Partial → result ≡ 0 }
 {
@@ -160,7 +165,8 @@ fn count_whole(bytes: &[u8]) -> usize
     count
 }
 
-/// Cuts the first n bytes off. No byte is moved; where none is left, the whole block is room again.
+/// Drops the first n bytes. No byte is moved. If no byte is left, the buffer can be filled from its
+/// start again.
 fn cut_front(bytes: &mut BytesMut, n: usize)
     requires { n ≤ length bytes.old.items }
     ensures { bytes.new.items ≡ drop n bytes.old.items }

@@ -6,7 +6,7 @@ use cb_base::Fault;
 use std::alloc::Global;
 use std::marker::Model;
 
-/// A message within the limits of the protocol. It is seen as that message.
+/// A message whose payload has at most 4,000,000 bytes. For the prover its value is the message.
 #[derive(Drop)]
 pub struct BoundedMessage {
     message: Message,
@@ -28,7 +28,7 @@ impl BoundedMessage {
     ghost use Rattle.std.specs.Prelude.{◌≤◌};
     ghost use Rattle.cb_wire.specs.Grammar.{HoldsNothing, IsWithinLimits, payload_text};
 
-    /// Takes a message that is within the limits.
+    /// Takes a message that is within the limit (`Message::is_within_limits`).
     pub fn new(message: Message) -> BoundedMessage
         requires { IsWithinLimits message }
         ensures { result ≡ message }
@@ -44,7 +44,7 @@ impl BoundedMessage {
         &self.message
     }
 
-    /// How many bytes the payload has.
+    /// The length of the payload in bytes, at most 4,000,000.
     pub fn payload_len(&self) -> u64
         ensures payload { result ≡ length (payload_text self.now) }
         ensures limit { result ≤ 4000000 }
@@ -60,7 +60,7 @@ impl BoundedMessage {
         self.message
     }
 
-    /// An equal message. The only error is `Fault::Memory`, and a message that holds no memory takes none.
+    /// An equal message. Fails only with `Fault::Memory`; a message that owns no memory can't fail.
     pub fn copy(&self, alloc: Global) -> Result<BoundedMessage, Fault>
         ensures equal { IfOk result (λ copy. copy ≡ self.now) }
         ensures memory { IsOkUnless result Memory }

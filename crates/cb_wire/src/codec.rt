@@ -16,34 +16,39 @@ use crate::payload::Payload;
 use cb_base::{Fault, dsha};
 use std::alloc::Global;
 
-/// Reads the payload of a message. A command that isn't known gives its payload as it is.
+/// Reads the payload of a message. The payload of an unknown command is copied as it is.
 ///
-/// `command` is of a command's form: 1 to 12 bytes from the space to the tilde. An error is `Fault::Memory`, or the
-/// fault of the first field from the left that can't be read: `NotShortest` where a count or a length is spelled longer
-/// than it needs, `TooMany` where it is above its limit, `Truncated` where bytes lack or a count of items doesn't fit in
-/// what is left, `Empty` where a compact block stands for no transactions, `BadBool` where a flag is neither 0 nor 1 or a header's
-/// count isn't 0, and last `Trailing` where bytes are left over, which a `version` never is.
+/// `command` has the form of a command: 1 to 12 bytes from the space to the tilde.
+///
+/// Fails with `Fault::Memory`, or with the fault of the first field from the left that can't be
+/// read. `NotShortest`: a count or a length isn't in its shortest form. `TooMany`: a count is above
+/// its limit. `Truncated`: bytes are missing, or the items of a count don't fit in the remaining
+/// bytes. `Empty`: a compact block has no transactions. `BadBool`: a flag is neither 0 nor 1, or
+/// the transaction count of a header in `headers` isn't 0. `Trailing`, which is checked last: bytes
+/// are left over. A `version` never fails with `Trailing`.
 pub fn decode(alloc: Global, command: &str, payload: &[u8]) -> Result<Message, Fault>
     requires { IsCommand command.now }
-    // What is read is spelled so.
+    // The payload spells the message that is returned.
     ensures found { IfOk result (Spells command.now payload.now) }
-    // Each number of what is read is one of its field, and each hash has 32 bytes.
+    // Each number of the message is in the range of its field, and each hash has 32 bytes.
     ensures kept { IfOk result IsMessage }
-    // What is spelled so is read, unless memory runs out.
+    // A payload that spells a message is read as that message, unless an allocation fails.
     ensures only { (message : Message) → IsMessage message →
         Spells command.now payload.now message → (result ≡ Ok message) ⊎ (result ≡ Err Memory) }
-    // Which fault it is.
+    // The fault is the one of the definition.
     ensures exact { Gives (message_at command.now payload.now) result }
-    // Up to the first count of a transaction or a block no memory is taken.
+    // In messages with lists or transactions, no memory is allocated before the first count has
+    // been read. In the other known commands, any fault comes before an allocation.
     ensures unpaid { (fault : Fault) → IsUnpaid (known_command command.now) payload.now fault →
         result ≡ Err fault }
-    // Nor is any for the numbers of the other known commands, or for a count of 0 where bytes are left over.
+    // Only these allocate: lists that aren't empty, transactions and blocks, a version with a user
+    // agent, and unknown commands.
     ensures paid { result ≡ Err Memory → IsPaid (known_command command.now) payload.now }
 {
     message_under(alloc, command, payload)
 }
 
-/// The message under this name: the payload of a known command is read, that of an unknown one is copied.
+/// Reads the payload of a known command, or copies that of an unknown one.
 fn message_under(alloc: Global, name: &str, payload: &[u8]) -> Result<Message, Fault>
     requires { IsCommand name.now }
     ensures exact { Gives (message_at name.now payload.now) result }
@@ -61,16 +66,18 @@ fn message_under(alloc: Global, name: &str, payload: &[u8]) -> Result<Message, F
     }
 }
 
-/// Writes a message with its envelope: the one text of the message.
+/// The envelope of a message: header and payload. A message has exactly one text. It must be within
+/// the limit (`Message::is_within_limits`).
 ///
-/// The only error is `Fault::Memory`.
+/// Fails only with `Fault::Memory`.
 pub fn encode(alloc: Global, message: &Message) -> Result<Vec<u8>, Fault>
     requires { IsWithinLimits message.now }
     ensures text { IfOk result (λ bytes. bytes.items ≡ text message.now) }
     ensures memory { IsOkUnless result Memory }
-    // Each number of what is written is one of its field, and each hash has 32 bytes.
+    // Each number is in the range of its field, and each hash has 32 bytes.
     ensures kept { IfOk result (λ _. IsMessage message.now) }
-    // What was written is this one message as a stream, and nothing is left over: so no other message has this text.
+    // Read as a stream, the bytes give exactly this message and nothing is left over. So no other
+    // message has the same bytes.
     ensures again { IfOk result (λ bytes. Stream bytes.items (Good message.now ∷ []) [] None) }
 {
     let mut bytes = Vec::new(alloc);
@@ -78,15 +85,16 @@ pub fn encode(alloc: Global, message: &Message) -> Result<Vec<u8>, Fault>
     Ok(bytes)
 }
 
-/// Writes a message with its envelope at the end of a buffer.
+/// Appends the envelope of a message to a buffer. The message must be within the limit
+/// (`Message::is_within_limits`).
 ///
-/// The only error is `Fault::Memory`, which leaves the buffer as it was.
+/// Fails only with `Fault::Memory`; the buffer is then unchanged.
 pub fn encode_into(alloc: Global, buffer: &mut Vec<u8>, message: &Message) -> Result<(), Fault>
     requires { IsWithinLimits message.now }
     ensures text { OnOk result (buffer.new.items ≡ buffer.old.items ++ text message.now) }
     ensures err { OnErr result (buffer.new.items ≡ buffer.old.items) }
     ensures memory { IsOkUnless result Memory }
-    // Each number of what is written is one of its field, and each hash has 32 bytes.
+    // Each number is in the range of its field, and each hash has 32 bytes.
     ensures kept { OnOk result (IsMessage message.now) }
 {
     let mut payload = Vec::new(alloc);
@@ -94,8 +102,9 @@ pub fn encode_into(alloc: Global, buffer: &mut Vec<u8>, message: &Message) -> Re
     put_envelope(buffer, message.name(), payload.as_slice())
 }
 
-/// The envelope of a payload, in one growth: magic, the command and zeros up to twelve bytes, the length, the checksum,
-/// and the payload. The only error is `Fault::Memory`, which leaves the buffer as it was.
+/// Appends an envelope to the buffer: magic, the command padded with zeros to 12 bytes, the length,
+/// the checksum, and the payload. It grows the buffer once. Fails only with `Fault::Memory`; the
+/// buffer is then unchanged.
 fn put_envelope(buffer: &mut Vec<u8>, name: &str, payload: &[u8]) -> Result<(), Fault>
     requires name { IsCommand name.now }
     requires limit { length payload.now ≤ 4000000 }
@@ -108,7 +117,7 @@ fn put_envelope(buffer: &mut Vec<u8>, name: &str, payload: &[u8]) -> Result<(), 
     let (checksum, _) = hash.0.split_at(4);
     let zeros = [0u8; COMMAND_LEN];
     let (padding, _) = zeros.split_at(COMMAND_LEN - name.len());
-    // With room for the whole envelope no growth behind this is refused.
+    // The buffer has room for the whole envelope now, so nothing below can fail.
     buffer.reserve(HEADER_LEN + payload.len())?;
     buffer.extend_from_slice(MAGIC.as_slice())?;
     buffer.extend_from_slice(name.as_bytes())?;

@@ -6,7 +6,7 @@ use cb_base::Fault;
 use std::alloc::Global;
 use std::marker::Model;
 
-/// The commands whose payloads are understood.
+/// The known commands: this program reads and writes their payloads.
 #[derive(Clone, Copy, PartialEq, Eq)]
 pub enum Command {
     Version,
@@ -30,14 +30,15 @@ pub enum Command {
 impl Command {
     ghost use Rattle.cb_wire.specs.Command.{IsCommand, command_name, known_command};
 
-    /// Whether a name is of a command's form, which `decode` needs: 1 to 12 bytes from the space to the tilde.
+    /// Whether a name has the form of a command, as `decode` requires: 1 to 12 bytes from the space
+    /// to the tilde.
     pub fn is_name(name: &str) -> bool
         ensures { IsTrue result ↔ IsCommand name.now }
     {
         is_command(name.as_bytes())
     }
 
-    /// The command of this name, if it is a known one.
+    /// The known command of this name, if there is one.
     pub fn named(name: &str) -> Option<Command>
         ensures { result ≡ known_command name.now }
     {
@@ -62,7 +63,7 @@ impl Command {
         }
     }
 
-    /// The name, as an envelope has it.
+    /// The name, as it is written in an envelope.
     pub fn name(&self) -> &'static str
         ensures { result.now ≡ command_name self.now }
     {
@@ -87,9 +88,9 @@ impl Command {
     }
 }
 
-/// The name of a command that isn't known: 1 to 12 bytes from the space to the tilde.
+/// The name of an unknown command: 1 to 12 bytes from the space to the tilde.
 ///
-/// It is seen as its bytes.
+/// For the prover its value is its bytes.
 #[derive(Drop)]
 pub struct UnknownName {
     text: String,
@@ -110,16 +111,17 @@ impl Model for UnknownName {
 impl UnknownName {
     ghost use Rattle.cb_wire.specs.Command.{IsUnknownName};
 
-    /// Whether `new` takes this name: it is of a command's form and no known command's.
+    /// Whether `new` accepts this name: it has the form of a command and isn't the name of a known
+    /// one.
     pub fn accepts(name: &str) -> bool
         ensures { IsTrue result ↔ IsUnknownName name.now }
     {
         Command::is_name(name) && Command::named(name).is_none()
     }
 
-    /// Takes a name of a command's form that is no known command's.
+    /// Copies a name that has the form of a command and isn't the name of a known one.
     ///
-    /// The only error is `Fault::Memory`.
+    /// Fails only with `Fault::Memory`.
     pub fn new(alloc: Global, name: &str) -> Result<UnknownName, Fault>
         requires { IsUnknownName name.now }
         ensures name { IfOk result (λ unknown. unknown ≡ name.now) }
@@ -137,7 +139,7 @@ impl UnknownName {
         self.text.as_str()
     }
 
-    /// An equal name. The only error is `Fault::Memory`.
+    /// An equal name. Fails only with `Fault::Memory`.
     pub fn copy(&self, alloc: Global) -> Result<UnknownName, Fault>
         ensures equal { IfOk result (λ copy. copy ≡ self.now) }
         ensures memory { IsOkUnless result Memory }

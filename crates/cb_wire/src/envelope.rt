@@ -17,30 +17,30 @@ use cb_base::{Cursor, Fault, dsha};
 use std::alloc::Global;
 use std::str::from_utf8;
 
-/// The magic bytes of regtest.
+/// The magic bytes of regtest, as they are sent.
 pub const MAGIC: [u8; 4] = [0xfa, 0xbf, 0xb5, 0xda];
 
-/// The bytes of an envelope before its payload.
+/// The length of an envelope's header, in bytes.
 pub const HEADER_LEN: usize = 24;
 
-/// The bytes of an envelope that name its command.
+/// The length of the command field in the header, in bytes.
 pub const COMMAND_LEN: usize = 12;
 
-/// The most bytes that a payload may have.
+/// The most bytes that a payload may have, as in Bitcoin Core (MAX_PROTOCOL_MESSAGE_LENGTH).
 pub const PAYLOAD_LIMIT: usize = 4_000_000;
 
-/// What stands at the front of a stream.
+/// What is at the front of a stream.
 #[derive(Clone, Copy, PartialEq, Eq)]
 pub enum Front {
-    /// Less than an envelope.
+    /// Too few bytes for a whole envelope.
     Partial,
-    /// 24 bytes that begin no envelope.
+    /// A header with a wrong magic (`BadMagic`) or a length above the limit (`Oversize`).
     Broken(Fault),
-    /// An envelope, whose payload has this length.
+    /// A whole envelope, whose payload has this many bytes.
     Whole(usize),
 }
 
-/// What stands at the front of a stream.
+/// What is at the front of a stream.
 #[tactic(auto, unfolding(crate::specs::Envelope::front_at))]
 pub fn front_of(bytes: &[u8]) -> Front
     ensures front { result ≡ front_at bytes.now }
@@ -63,7 +63,7 @@ pub fn front_of(bytes: &[u8]) -> Front
     Front::Whole(length)
 }
 
-/// The length of the payload that an envelope's first 24 bytes tell.
+/// The payload length in an envelope's header.
 fn length_told(bytes: &[u8]) -> u32
     requires { 24 ≤ length bytes.now }
     ensures { result ≡ told_length bytes.now }
@@ -71,9 +71,10 @@ fn length_told(bytes: &[u8]) -> u32
     u32::from_le_bytes([bytes[16], bytes[17], bytes[18], bytes[19]])
 }
 
-/// The item of the envelope at the front, whose payload has `size` bytes.
+/// The item of the envelope at the front, whose payload has `size` bytes. Faults within the payload
+/// are part of the item.
 ///
-/// The only error is `Fault::Memory`.
+/// Fails only with `Fault::Memory`.
 #[tactic(auto, unfolding(crate::specs::Envelope::item_at))]
 pub fn item_of(alloc: Global, bytes: &[u8], size: usize) -> Result<Item, Fault>
     requires there { 24 + size ≤ length bytes.now }
@@ -92,7 +93,7 @@ pub fn item_of(alloc: Global, bytes: &[u8], size: usize) -> Result<Item, Fault>
     }
 }
 
-/// Whether the last four bytes of an envelope's 24 are the payload's checksum.
+/// Whether the last 4 bytes of the header are the payload's checksum.
 #[tactic(auto, unfolding(crate::specs::Envelope::checksum))]
 fn has_checksum(header: &[u8], payload: &[u8]) -> bool
     requires { length header.now ≡ 24 }
@@ -104,7 +105,7 @@ fn has_checksum(header: &[u8], payload: &[u8]) -> bool
     told == computed
 }
 
-/// The command in an envelope's 24 bytes, if there is one.
+/// The command in an envelope's header, if it has the form of one.
 fn command_of(header: &[u8]) -> Option<&str>
     requires { length header.now ≡ 24 }
     ensures command { option_map (λ name. name.now) result
@@ -116,7 +117,8 @@ fn command_of(header: &[u8]) -> Option<&str>
     command_within(field)
 }
 
-/// The command that stands before the first zero, where only zeros follow.
+/// The command in the header's field of 12 bytes: the bytes before the first zero, if only zeros
+/// follow.
 #[tactic(auto, unfolding(crate::specs::Command::command_in))]
 fn command_within(field: &[u8]) -> Option<&str>
     ensures command { option_map (λ name. name.now) result ≡ command_in field.now }
@@ -130,7 +132,7 @@ fn command_within(field: &[u8]) -> Option<&str>
     }
 }
 
-/// How many bytes stand before the first zero.
+/// The number of bytes before the first zero.
 fn name_length(field: &[u8]) -> usize
     ensures length { result ≡ name_length field.now }
     ensures within { result ≤ length field.now }
@@ -153,7 +155,7 @@ fn are_zeros(bytes: &[u8]) -> bool
     bytes.iter().all(|byte| *byte == 0)
 }
 
-/// Whether the bytes are of a command's form: 1 to 12 of them, from the space to the tilde.
+/// Whether a name has the form of a command: 1 to 12 bytes from the space to the tilde.
 pub fn is_command(name: &[u8]) -> bool
     ensures { result ≡ is_command name.now }
 {
@@ -172,7 +174,7 @@ fn is_command_byte(byte: u8) -> bool
     0x20 <= byte && byte <= 0x7e
 }
 
-/// The item of a payload under a name. The only error is `Fault::Memory`.
+/// The item of a payload and its command's name. Fails only with `Fault::Memory`.
 fn item_named(alloc: Global, name: &str, payload: &[u8]) -> Result<Item, Fault>
     requires form { IsCommand name.now }
     requires limit { length payload.now ≤ 4000000 }
@@ -190,7 +192,7 @@ fn item_named(alloc: Global, name: &str, payload: &[u8]) -> Result<Item, Fault>
     }
 }
 
-/// The item of a known command's payload. The only error is `Fault::Memory`.
+/// The item of a known command's payload. Fails only with `Fault::Memory`.
 fn item_of_known(alloc: Global, command: Command, payload: &[u8]) -> Result<Item, Fault>
     requires { length payload.now ≤ 4000000 }
     ensures item { IfOk result (λ item. item ≡ outcome command (payload_at command payload.now)) }

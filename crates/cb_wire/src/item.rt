@@ -6,21 +6,22 @@ use crate::command::Command;
 use cb_base::Fault;
 use std::alloc::Global;
 
-/// What an envelope held.
+/// What one envelope of a stream held.
 #[derive(Drop)]
 pub enum Item {
-    /// A message, within the limits of the protocol.
+    /// A message within the limit of 4,000,000 bytes.
     Good(BoundedMessage),
-    /// A wrong checksum, or twelve bytes that are no command.
+    /// The checksum is wrong, or the command field isn't in the form of a command.
     Damaged,
-    /// A known command whose payload can't be read, with the fault of its first field from the left.
+    /// A known command whose payload can't be read, with the fault of the first bad field from the
+    /// left.
     Bad(Command, Fault),
 }
 
 impl Item {
     ghost use Rattle.cb_wire.specs.Envelope.{KeepsNothing};
 
-    /// An equal item. The only error is `Fault::Memory`, and an item that holds no memory takes none.
+    /// An equal item. Fails only with `Fault::Memory`; an item that owns no memory can't fail.
     pub fn copy(&self, alloc: Global) -> Result<Item, Fault>
         ensures equal { IfOk result (λ copy. copy ≡ self.now) }
         ensures memory { IsOkUnless result Memory }

@@ -1,8 +1,9 @@
-//! Messages of Bitcoin's peer-to-peer protocol, their envelopes, and the stream that they come in.
+//! Messages of Bitcoin's peer-to-peer protocol, their envelopes, and the stream of bytes that they
+//! arrive in. An envelope is a whole message as it is sent: a header of 24 bytes and the payload.
 //!
-//! A command is added by one row in each of the matches of two files: command.rt has its name, and message.rt what its
-//! payload is. A payload of several fields has a file of its own in cb_payload. The definitions have the same rows:
-//! specs/Command.antt its name, and specs/Grammar.antt its grammar.
+//! To add a command, add one row to each match in two files: command.rt (its name) and message.rt
+//! (its payload). The definitions have the same rows: specs/Command.antt (name) and
+//! specs/Grammar.antt (payload). A payload of several fields has its own file in cb_payload.
 #![tactic(auto)]
 
 mod assembler;

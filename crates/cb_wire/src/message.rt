@@ -1,6 +1,7 @@
-//! The table of messages: each has one row in each function here, and a command of its name in command.rt.
+//! The table of messages. Each message has one row in each function here, and a command in
+//! command.rt.
 //!
-//! How a payload of several fields is read and written stands in cb_payload, and so does its grammar.
+//! Payloads of several fields are read and written in cb_payload.
 ghost use Rattle.std.specs.Prelude.{◌≡◌, ◌^◌, ◌<◌, ◌≤◌, ◌⊎◌, ◌++◌, IsTrue, ◌↔◌, length, IfOk, IsOk, IsOkUnless, OnOk, Ok, Err, Some};
 ghost use Rattle.std.specs.Int.{w64, to_le_bytes};
 ghost use Rattle.cb_base.specs.declared.fault.Fault.{Fault};
@@ -23,46 +24,46 @@ use cb_payload::{
 use cb_tx::{Tx, read_tx, write_tx};
 use std::alloc::Global;
 
-/// A message of the protocol.
+/// A message of Bitcoin's peer-to-peer protocol.
 #[derive(Drop)]
 pub enum Message {
     /// `version`: how the sender introduces itself.
     Version(Version),
-    /// `verack`: the sender has read our version.
+    /// `verack`: the sender accepts our `version`.
     Verack,
     /// `ping`, with its nonce.
     Ping(u64),
     /// `pong` (BIP 31), with the nonce of the ping that it answers.
     Pong(u64),
-    /// `sendheaders` (BIP 130): the sender wants to be told of blocks by their headers.
+    /// `sendheaders` (BIP 130): the sender wants blocks to be announced by `headers`.
     SendHeaders,
-    /// `sendcmpct` (BIP 152): how the sender wants to be told of blocks by compact ones.
+    /// `sendcmpct` (BIP 152): whether and how the sender wants compact blocks.
     SendCmpct(CompactRelay),
-    /// `inv`: transactions and blocks that the sender has.
+    /// `inv`: announces transactions and blocks that the sender has.
     Inv(Entries),
-    /// `getdata`: transactions and blocks that it asks for.
+    /// `getdata`: asks for transactions and blocks.
     GetData(Entries),
-    /// `notfound`: what it was asked for and doesn't have.
+    /// `notfound`: what the sender was asked for and doesn't have.
     NotFound(Entries),
-    /// `headers`: headers of blocks, one on another.
+    /// `headers`: block headers, which should form a chain. That isn't checked here.
     Headers(HeaderList),
-    /// `getheaders`: a request for headers.
+    /// `getheaders`: asks for block headers.
     GetHeaders(HeadersRequest),
     /// `tx`: a transaction.
     Tx(Shared<Tx>),
-    /// `block`: a header, and transactions of which nothing says that they belong to it.
+    /// `block`: a whole block. Whether the transactions match the header isn't checked here.
     Block(Shared<Block>),
-    /// `cmpctblock` (BIP 152): a header, and its block's transactions in short ids.
+    /// `cmpctblock` (BIP 152): a compact block.
     CmpctBlock(HeaderAndShortIds),
-    /// `getblocktxn` (BIP 152): a request for some of a block's transactions.
+    /// `getblocktxn` (BIP 152): asks for some of a block's transactions.
     GetBlockTxn(BlockTransactionsRequest),
     /// `blocktxn` (BIP 152): the transactions that were asked for.
     BlockTxn(BlockTransactions),
-    /// Any other command, with its payload as it came.
+    /// An unknown command, with its payload as it came.
     Unknown(UnknownName, Payload),
 }
 
-/// The payload of a known command: one arm for each.
+/// Reads the payload of a known command. Fails with the faults that `decode` lists.
 pub fn read_payload(alloc: Global, command: Command, payload: &[u8]) -> Result<Message, Fault>
     ensures exact { Gives (payload_at command payload.now) result }
     ensures unpaid { (fault : Fault) → IsUnpaid (Some command) payload.now fault →
@@ -111,7 +112,7 @@ pub fn read_payload(alloc: Global, command: Command, payload: &[u8]) -> Result<M
     }
 }
 
-/// A value that was read from all of the bytes: `Fault::Trailing` where some are left over.
+/// The value, if all bytes have been read. Fails with `Fault::Trailing` if some are left.
 fn whole<T: Drop>(value: T, cursor: &Cursor) -> Result<T, Fault>
     ensures { result ≡ whole (value, cursor.now) }
 {
@@ -121,11 +122,13 @@ fn whole<T: Drop>(value: T, cursor: &Cursor) -> Result<T, Fault>
     Ok(value)
 }
 
-/// Writes the payload of a message at the end: one arm for each. The only error is `Fault::Memory`.
+/// Appends the payload of a message to `out`. Fails only with `Fault::Memory`; `out` may then end
+/// with a part of the payload.
 pub fn put_payload(out: &mut Vec<u8>, message: &Message) -> Result<(), Fault>
     ensures ok { OnOk result (out.new.items ≡ out.old.items ++ payload_text message.now) }
     ensures memory { IsOkUnless result Memory }
-    // Each number of what is written is one of its field, each hash has 32 bytes, and each list is short enough.
+    // Each number is in the range of its field, each hash has 32 bytes, and each list is within its
+    // limit.
     ensures kept { OnOk result (IsMessage message.now) }
 {
     match message {
@@ -148,7 +151,7 @@ pub fn put_payload(out: &mut Vec<u8>, message: &Message) -> Result<(), Fault>
     }
 }
 
-/// The nonce of a ping or a pong. The only error is `Fault::Memory`.
+/// Appends the nonce of a `ping` or a `pong`. Fails only with `Fault::Memory`.
 fn put_nonce(out: &mut Vec<u8>, nonce: u64) -> Result<(), Fault>
     ensures ok { OnOk result (out.new.items ≡ out.old.items ++ to_le_bytes w64 nonce) }
     ensures memory { IsOkUnless result Memory }
@@ -158,7 +161,7 @@ fn put_nonce(out: &mut Vec<u8>, nonce: u64) -> Result<(), Fault>
     Ok(())
 }
 
-/// The payload of an unknown command, as it came. The only error is `Fault::Memory`.
+/// Appends the payload of an unknown command. Fails only with `Fault::Memory`.
 fn put_unknown(out: &mut Vec<u8>, name: &UnknownName, payload: &Payload) -> Result<(), Fault>
     ensures ok { OnOk result (out.new.items ≡ out.old.items ++ payload.now) }
     ensures memory { IsOkUnless result Memory }
@@ -171,7 +174,7 @@ fn put_unknown(out: &mut Vec<u8>, name: &UnknownName, payload: &Payload) -> Resu
 }
 
 impl Message {
-    /// The name of its command, as an envelope has it.
+    /// The name of the command, as it is written in an envelope.
     pub fn name(&self) -> &str
         ensures name { result.now ≡ name_of self.now }
         ensures form { IsCommand result.now }
@@ -197,10 +200,11 @@ impl Message {
         }
     }
 
-    /// An equal message, which shares its transactions or its block with this one: only a list, an agent or an unknown command
-    /// takes memory.
+    /// An equal message that shares the transactions and the block of this one. Only lists, a user
+    /// agent, or the name and payload of an unknown command are allocated.
     ///
-    /// The only error is `Fault::Memory`, and a message that holds no memory takes none.
+    /// Fails only with `Fault::Memory`: an allocation failed, or a shared value has 2^63 owners. A
+    /// message that owns no memory can't fail.
     pub fn copy(&self, alloc: Global) -> Result<Message, Fault>
         ensures equal { IfOk result (λ copy. copy ≡ self.now) }
         ensures memory { IsOkUnless result Memory }
@@ -229,8 +233,8 @@ impl Message {
         })
     }
 
-    /// Whether the message is within the limits of the protocol: its payload has at most 4,000,000 bytes. That of a
-    /// message whose fields have limits of their own always has fewer.
+    /// Whether the payload has at most 4,000,000 bytes. This always holds for a message whose
+    /// fields each have a limit of their own.
     pub fn is_within_limits(&self) -> bool
         ensures { IsTrue result ↔ IsWithinLimits self.now }
     {
@@ -247,7 +251,8 @@ impl Message {
         }
     }
 
-    /// How many bytes the payload has.
+    /// The length of the payload in bytes, at most 4,000,000. The message must be within that
+    /// limit.
     pub fn payload_len(&self) -> u64
         requires { IsWithinLimits self.now }
         ensures payload { result ≡ length (payload_text self.now) }

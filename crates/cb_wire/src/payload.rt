@@ -5,7 +5,8 @@ use cb_base::{Fault, copy_bytes};
 use std::alloc::Global;
 use std::marker::Model;
 
-/// Bytes that a message carries and that aren't understood. They are seen as their list.
+/// The payload of an unknown command, which isn't interpreted. For the prover its value is the list
+/// of bytes.
 #[derive(Drop)]
 pub struct Payload {
     bytes: Vec<u8>,
@@ -20,7 +21,7 @@ impl Model for Payload {
 }
 
 impl Payload {
-    /// Takes the bytes over.
+    /// Takes the bytes.
     pub fn new(bytes: Vec<u8>) -> Payload
         ensures { result ≡ bytes.items }
     {
@@ -41,7 +42,7 @@ impl Payload {
         self.bytes
     }
 
-    /// How many bytes there are.
+    /// The number of bytes.
     pub fn len(&self) -> usize
         ensures { result ≡ length self.now }
     {
@@ -55,7 +56,7 @@ impl Payload {
         self.bytes.is_empty()
     }
 
-    /// An equal payload. The only error is `Fault::Memory`, and an empty payload takes none.
+    /// An equal payload. Fails only with `Fault::Memory`; an empty payload allocates nothing.
     pub fn copy(&self, alloc: Global) -> Result<Payload, Fault>
         ensures equal { IfOk result (λ copy. copy ≡ self.now) }
         ensures memory { IsOkUnless result Memory }
