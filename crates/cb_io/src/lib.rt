@@ -1,4 +1,4 @@
-//! What a node reads from and writes to: sources and sinks of bytes, and writing messages to a sink.
+//! Input and output of a node: sources and sinks of bytes, and writing messages to a sink.
 #![tactic(auto)]
 
 mod sink;

@@ -5,7 +5,8 @@ ghost use Rattle.cb_io.specs.declared.sink.SinkFailure.{SinkFailure};
 use std::io::{ErrorKind, Write};
 use thiserror::Error;
 
-/// How often a write or a read that was interrupted is made again.
+/// How many times one read or write is tried while it is interrupted (EINTR). After that it counts
+/// as failed.
 pub const TRIES: u64 = 1 << 40;
 
 /// How a sink failed.
@@ -14,26 +15,27 @@ pub enum SinkFailure {
     /// A write failed.
     #[error("a write failed")]
     Io,
-    /// A write took no byte of a piece that isn't empty.
+    /// A write of at least one byte took none.
     #[error("a write took no byte")]
     Zero,
 }
 
-/// What bytes are written to: a writer that also tells whether it has failed.
+/// A writer that remembers whether a write has failed.
 pub trait Sink {
-    /// The bytes that the sink holds, where they are known.
+    /// The bytes that the sink holds, if they are known.
     ghost contents: { Self → Option (List ℕ) };
 
     /// Whether a write has failed.
     ghost has_failed: { Self → Bool };
 
-    /// What it first failed by, if it has.
+    /// The first failure, if there is one.
     ghost failure: { Self → Option SinkFailure };
 
-    /// From this sink to that, no write was made once one had failed.
+    /// Between the first state of a sink and the second, no write was made after a failed one.
     ghost heeds_failure: { Self → Self → Type 0 };
 
-    /// Writes a piece, and answers how many of its bytes were taken, from the first on; None where the write failed.
+    /// Writes from the start of `piece` and returns how many bytes were taken, or None if the write
+    /// failed. The sink has failed too if it took none of a piece that isn't empty.
     fn write(&mut self, piece: &[u8]) -> Option<usize>
         ensures taken { IfSome result (λ n. n ≤ length piece.now) }
         ensures bytes { SinkTakes (contents self.old) (contents self.new) result piece.now }
@@ -42,21 +44,21 @@ pub trait Sink {
         ensures cause { failure self.new ≡ failure_after (failure self.old) result piece.now }
         ensures heeds { has_failed self.old ≡ false → heeds_failure self.old self.new };
 
-    /// Whether a write answered None, or took none of a piece that isn't empty.
+    /// Whether a write has returned None, or has taken none of a piece that isn't empty.
     fn failed(&self) -> bool
         ensures { result ≡ has_failed self.now };
 
-    /// It has failed just where it failed by something.
+    /// A sink has failed exactly if it has a first failure.
     ghost agrees: { (sink : Self) → has_failed sink ≡ is_some (failure sink) };
 
-    /// Where no write was made, none was made after a failure.
+    /// It holds if nothing was written.
     ghost heeds_none: { (a : Self) → heeds_failure a a };
 
-    /// One stretch, and then another.
+    /// If it holds from a to b and from b to c, it holds from a to c.
     ghost heeds_then: { (a b c : Self) → heeds_failure a b → heeds_failure b c → heeds_failure a c };
 }
 
-/// A sink over any writer. A write that was interrupted is made again.
+/// A sink over any writer. A write that was interrupted is tried again, up to `TRIES` tries in all.
 #[derive(Drop)]
 pub struct Out<W> {
     writer: W,
@@ -64,7 +66,7 @@ pub struct Out<W> {
 }
 
 impl<W> Out<W> {
-    /// A sink that hasn't failed.
+    /// A sink over `writer` that hasn't failed.
     pub fn new(writer: W) -> Out<W>
         ensures writer { result.writer ≡ writer }
         ensures unfailed { result.failure ≡ None }
@@ -93,7 +95,7 @@ impl<W: Write> Sink for Out<W> {
 
     ghost failure = { λ out. out.failure };
 
-    // Once it has failed, it and its writer are left as they are.
+    // After a failure, the sink and its writer stay as they are.
     ghost heeds_failure = { λ old new. is_some old.failure ≡ true → new ≡ old };
 
     ghost agrees = { λ out. refl };
@@ -115,7 +117,7 @@ impl<W: Write> Sink for Out<W> {
     }
 }
 
-/// How the sink failed that answered this to a piece, if it did.
+/// The failure that a write's result means, if it means one.
 fn failure_of(taken: Option<usize>, piece: &[u8]) -> Option<SinkFailure>
     ensures { result ≡ refusal taken piece.now }
 {
@@ -126,7 +128,8 @@ fn failure_of(taken: Option<usize>, piece: &[u8]) -> Option<SinkFailure>
     }
 }
 
-/// One write that wasn't interrupted; None where it failed.
+/// Writes once, and again while the write is interrupted. None if a write failed, or was
+/// interrupted `TRIES` times.
 fn write_again<W: Write>(writer: &mut W, piece: &[u8]) -> Option<usize>
     ensures taken { IfSome result (λ n. n ≤ length piece.now) }
     ensures bytes { SinkTakes (W.contents writer.old) (W.contents writer.new) result piece.now }

@@ -4,27 +4,28 @@ ghost use Rattle.cb_io.specs.Bytes.{SourceGives};
 use crate::sink::TRIES;
 use std::io::{ErrorKind, Read};
 
-/// What a stream is read from: a reader that also tells whether it has failed.
+/// A reader that remembers whether a read has failed.
 pub trait Source {
-    /// The bytes that reads will give from here on, where they are known.
+    /// The bytes that are still to be read, if they are known.
     ghost remaining: { Self → Option (List ℕ) };
 
     /// Whether a read has failed.
     ghost has_failed: { Self → Bool };
 
-    /// Reads into the buffer, and answers how many bytes it got: none only at the end, or where the buffer is empty.
-    /// None where the read failed.
+    /// Reads into the buffer and returns how many bytes it got, or None if the read failed. It gets
+    /// 0 bytes only at the end of the input, or if the buffer is empty.
     fn read(&mut self, buffer: &mut [u8]) -> Option<usize>
         ensures given { IfSome result (λ n. n ≤ length buffer.new) }
         ensures bytes { SourceGives (remaining self.old) (remaining self.new) result buffer.new }
         ensures failed { has_failed self.new ≡ (has_failed self.old || is_none result) };
 
-    /// Whether a read has answered None.
+    /// Whether a read has returned None.
     fn failed(&self) -> bool
         ensures { result ≡ has_failed self.now };
 }
 
-/// A source over any reader. A read that was interrupted is made again.
+/// A source over any reader. A read that was interrupted is tried again, up to `TRIES` tries in
+/// all.
 #[derive(Drop)]
 pub struct In<R> {
     reader: R,
@@ -32,7 +33,7 @@ pub struct In<R> {
 }
 
 impl<R> In<R> {
-    /// A source that hasn't failed.
+    /// A source over `reader` that hasn't failed.
     pub fn new(reader: R) -> In<R>
         ensures reader { result.reader ≡ reader }
         ensures failed { result.failed ≡ false }
@@ -62,7 +63,8 @@ impl<R: Read> Source for In<R> {
     }
 }
 
-/// One read that wasn't interrupted; None where it failed.
+/// Reads once, and again while the read is interrupted. None if a read failed, or was interrupted
+/// `TRIES` times.
 fn read_again<R: Read>(reader: &mut R, buffer: &mut [u8]) -> Option<usize>
     ensures given { IfSome result (λ n. n ≤ length buffer.new) }
     ensures bytes { SourceGives (R.remaining reader.old)

@@ -12,42 +12,46 @@ use cb_wire::{BoundedMessage, encode_into};
 use std::alloc::Global;
 use thiserror::Error;
 
-/// Where writing a piece ended early.
+/// How far writing a piece came, and why it stopped.
 #[derive(Clone, Copy, Debug, PartialEq, Eq, Error)]
 #[error("{failure} behind {taken} bytes")]
 pub struct Unwritten {
     /// How many bytes were taken.
     pub taken: usize,
-    /// Why no more were.
+    /// Why no more were taken.
     pub failure: SinkFailure,
 }
 
-/// Why writing messages ended early.
+/// Why writing messages stopped.
 #[derive(Clone, Copy, Debug, PartialEq, Eq, Error)]
 pub enum WriteFault {
     /// A write failed.
     #[error("a write failed")]
     Io,
-    /// A write took no byte.
+    /// A write of at least one byte took none.
     #[error("a write took no byte")]
     Zero,
-    /// Memory ran out before anything was written.
+    /// An allocation failed before anything was written.
     #[error("memory ran out")]
     Memory,
 }
 
-/// Where writing messages ended early.
+/// How far writing messages came, and why it stopped.
 #[derive(Clone, Copy, Debug, PartialEq, Eq, Error)]
 #[error("{fault} behind {written} bytes")]
 pub struct WriteEnd {
-    /// How many bytes went out.
+    /// How many bytes were written.
     pub written: u64,
-    /// Why no more did.
+    /// Why no more were written.
     pub fault: WriteFault,
 }
 
-/// Writes all of a piece, in as many writes as the sink wants. An error tells how many bytes were taken, and why no more
-/// were.
+/// Writes all of a piece, in as many writes as the sink needs. An empty piece makes no write and
+/// can't fail.
+///
+/// The error tells how many bytes were taken, from the start of the piece, and why it stopped:
+/// `SinkFailure::Io` if a write failed, `SinkFailure::Zero` if a write took no byte. That is always
+/// fewer bytes than the piece has, and the sink has failed.
 pub fn write_all<W: Sink>(writer: &mut W, piece: &[u8]) -> Result<(), Unwritten>
     ensures ok { OnOk result (Appends (W.contents writer.old) (W.contents writer.new) piece.now) }
     ensures err { IfErr result
@@ -60,9 +64,9 @@ pub fn write_all<W: Sink>(writer: &mut W, piece: &[u8]) -> Result<(), Unwritten>
     ensures marked { OnErr result (W.has_failed writer.new ≡ true) }
     ensures unmarked { OnOk result (W.has_failed writer.new ≡ W.has_failed writer.old) }
     ensures stays { W.has_failed writer.old ≡ true → W.has_failed writer.new ≡ true }
-    // A sink that hadn't failed gets no write once one has.
+    // If the sink hadn't failed before, no write follows a failed one.
     ensures heeds { W.has_failed writer.old ≡ false → W.heeds_failure writer.old writer.new }
-    // Of an empty piece no write is made.
+    // An empty piece makes no write.
     ensures nothing { piece.now ≡ [] → IsOk result }
     ensures untouched { piece.now ≡ [] → writer.new ≡ writer.old }
 {
@@ -91,9 +95,13 @@ pub fn write_all<W: Sink>(writer: &mut W, piece: &[u8]) -> Result<(), Unwritten>
     Ok(())
 }
 
-/// Writes messages one behind the other, as one piece, and answers how many bytes went out.
+/// Writes the envelopes of messages one after another, as one piece, and returns how many bytes
+/// were written.
 ///
-/// Whatever the answer, what went out is a beginning of the messages' text; on Ok it is all of it.
+/// On success all bytes were written. After an error, what was written is a beginning of them.
+/// `WriteFault::Memory`: an allocation failed, nothing was written, and the sink is unchanged.
+/// `WriteFault::Io` and `WriteFault::Zero`: the sink has failed. No messages make no write and
+/// can't fail.
 pub fn write_out<W: Sink>(
     alloc: Global,
     writer: &mut W,
@@ -105,21 +113,22 @@ pub fn write_out<W: Sink>(
     ensures err { IfErr result
         (λ end. WrotePart (W.contents writer.old) (W.contents writer.new)
         (texts messages.now) end.written) }
-    // Which fault it is, by what the sink first failed by.
+    // A fault of the sink is its first failure, if it had none before. A fault of memory leaves
+    // that as it was.
     ensures cause { IfErr result
         (λ end. EndsBy (W.failure writer.old) (W.failure writer.new) end.fault) }
-    // A fault of the sink comes only where the sink has failed.
+    // A fault other than Memory means that the sink has failed.
     ensures failed { IfErr result (λ end. IsOfSink end.fault → W.has_failed writer.new ≡ true) }
-    // Where memory lacked nothing was written, and the sink is as it was.
+    // If memory ran out, nothing was written, and the sink is unchanged.
     ensures starved { IfErr result
         (λ end. end.fault ≡ WriteFault.Memory → (end.written ≡ 0) × (writer.new ≡ writer.old)) }
-    // All went out only where the sink didn't fail in this call.
+    // On success no write failed in this call.
     ensures unfailed { OnOk result (W.failure writer.new ≡ W.failure writer.old) }
     ensures unmarked { OnOk result (W.has_failed writer.new ≡ W.has_failed writer.old) }
     ensures stays { W.has_failed writer.old ≡ true → W.has_failed writer.new ≡ true }
-    // A sink that hadn't failed gets no write once one has.
+    // If the sink hadn't failed before, no write follows a failed one.
     ensures heeds { W.has_failed writer.old ≡ false → W.heeds_failure writer.old writer.new }
-    // For no messages no write is made.
+    // No messages make no write.
     ensures nothing { messages.now ≡ [] → IsOk result }
     ensures untouched { messages.now ≡ [] → writer.new ≡ writer.old }
 {
@@ -138,7 +147,7 @@ pub fn write_out<W: Sink>(
     }
 }
 
-/// The texts of messages, one behind the other. The only error is `Fault::Memory`.
+/// The envelopes of messages, one after another. Fails only with `Fault::Memory`.
 fn encode_all(alloc: Global, messages: &[BoundedMessage]) -> Result<Vec<u8>, Fault>
     ensures text { IfOk result (λ text. text.items ≡ texts messages.now) }
     ensures memory { IsOkUnless result faults.Memory }
@@ -151,7 +160,7 @@ fn encode_all(alloc: Global, messages: &[BoundedMessage]) -> Result<Vec<u8>, Fau
     Ok(text)
 }
 
-/// What a failure of the sink is to who writes messages.
+/// The `WriteFault` of a sink's failure.
 fn fault_of(failure: SinkFailure) -> WriteFault
     ensures cause { (old new : Option SinkFailure) → new ≡ first old failure →
         EndsBy old new result }
