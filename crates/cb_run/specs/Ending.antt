@@ -1,4 +1,4 @@
--- How a run ends: the exit status, and what standard error gets.
+-- How a run ends: the exit status, and the line on standard error.
 use Rattle.std.specs.Prelude.{◌≡◌, ℕ, Bool, true, List, [], codes, ⊤, Option}
 use Rattle.cb_run.specs.declared.ending.Status.{Status}
 use Rattle.cb_run.specs.declared.ending.Status.TheVariants.{Success, Usage, Refused, BadInput, NoMemory}
@@ -6,7 +6,7 @@ use Rattle.cb_run.specs.declared.ending.Halt.{Halt}
 use Rattle.cb_run.specs.declared.ending.Halt.TheVariants.{Memory, TooManyLines, ReadFailed, WriteFailed}
 use Rattle.cb_run.specs.Lines.{HasManyLines}
 
--- the number that the process ends with
+-- the exit status as a number
 abbrev pub status_code : Status → ℕ
 status_code Success = 0
 status_code Usage = 1
@@ -20,14 +20,15 @@ halt_status TooManyLines = BadInput
 halt_status ReadFailed = BadInput
 halt_status WriteFailed = BadInput
 
--- the line on standard error; none for want of memory, which the status tells
+-- the line on standard error; empty if memory ran out, which the exit status tells
 abbrev pub halt_line : Halt → List ℕ
 halt_line Memory = []
 halt_line TooManyLines = codes "too many lines\n"
 halt_line ReadFailed = codes "read failed\n"
 halt_line WriteFailed = codes "write failed\n"
 
--- What stands behind a halt: of the input as it was, and of whether a read and a write failed.
+-- The cause of a halt: the input has too many lines, a read failed, or a write failed. Nothing is
+-- said of memory.
 abbrev pub HasCause : Option (List ℕ) → Bool → Bool → Halt → Type 0
 HasCause input read_failed write_failed Memory = ⊤
 HasCause input read_failed write_failed TooManyLines = HasManyLines input

@@ -1,29 +1,30 @@
-//! How a run ends.
+//! How a run of the program ends.
 
 ghost use Rattle.std.specs.Prelude.{◌≡◌};
 
 use cb_base::Fault;
 use std::alloc::{AllocError, AllocFailed};
 
-/// The exit statuses of the program.
+/// The exit statuses of the program, 0 to 4.
 #[derive(Clone, Copy, PartialEq, Eq)]
 pub enum Status {
-    /// All was done.
+    /// 0: all was done.
     Success,
-    /// The command line was refused, or help was asked for.
+    /// 1: the command line was refused, or asked for help or the version.
     Usage,
-    /// An act was refused.
+    /// 2: an act was refused (`sim`).
     Refused,
-    /// The input has a fault.
+    /// 3: the input has a fault, or too many lines, or a read or a write failed. For `serve`: the
+    /// session closed for another reason than `Bye` or `Memory`.
     BadInput,
-    /// Memory ran out.
+    /// 4: an allocation failed.
     NoMemory,
 }
 
 impl Status {
     ghost use Rattle.cb_run.specs.Ending.{status_code};
 
-    /// The number that the process ends with.
+    /// The exit status as a number.
     pub fn code(self) -> u8
         ensures { result ≡ status_code self }
     {
@@ -37,16 +38,16 @@ impl Status {
     }
 }
 
-/// Why a run ends before its input does.
+/// Why a run stops early.
 #[derive(Clone, Copy, PartialEq, Eq)]
 pub enum Halt {
-    /// Memory ran out.
+    /// An allocation failed.
     Memory,
-    /// The input has more lines than are counted.
+    /// The input has 2^64 - 2 lines or more.
     TooManyLines,
     /// A read failed.
     ReadFailed,
-    /// A write failed, or took nothing.
+    /// A write failed, or took no byte.
     WriteFailed,
 }
 
@@ -54,7 +55,7 @@ impl Halt {
     ghost use Rattle.cb_base.specs.declared.fault.Fault.TheVariants as faults;
     ghost use Rattle.cb_run.specs.Ending.{halt_status, halt_line};
 
-    /// What want of memory in a call makes of the run.
+    /// The halt of a call that failed with `Fault::Memory`, which is the only fault it accepts.
     pub fn of_memory(fault: Fault) -> Halt
         requires { fault ≡ faults.Memory }
         ensures { result ≡ Halt.Memory }
@@ -65,7 +66,7 @@ impl Halt {
         }
     }
 
-    /// The status that the run ends with.
+    /// The exit status of the run: `NoMemory` for `Memory`, else `BadInput`.
     pub fn status(self) -> Status
         ensures { result ≡ halt_status self }
     {
@@ -75,7 +76,7 @@ impl Halt {
         }
     }
 
-    /// The line that standard error gets; none for want of memory, which the status tells.
+    /// The line for standard error. It is empty if memory ran out: only the exit status tells that.
     pub fn line(self) -> &'static str
         ensures { result.now ≡ halt_line self }
     {

@@ -1,4 +1,5 @@
-//! What the program's commands share: lines of the input, a piece that is written, and how a run ends.
+//! What the program's commands share: reading lines of input, writing output, exit statuses and the
+//! reasons to stop early.
 #![tactic(auto)]
 
 mod ending;

@@ -1,4 +1,4 @@
-//! Cutting what a source gives into lines.
+//! Cutting the bytes of a source into lines.
 
 ghost use Rattle.std.specs.Prelude.{◌≡◌, ◌⊎◌, ◌<◌, ◌^◌, true, [], length, vec_len, IsOkUnless, IfOk, IfErr, OnErr, position, ◌==◌};
 ghost use Rattle.std.specs.Io.KnownBytes.{prepend_known, Consumes, IsAtEnd};
@@ -12,12 +12,13 @@ use cb_io::Source;
 use std::alloc::Global;
 use std::marker::Model;
 
-/// How many bytes are asked of a source at once.
+/// The size of a read, in bytes.
 const BLOCK_LEN: usize = 65_536;
 
-/// Cuts what a source gives into lines. It reads whole blocks, and keeps what it read ahead.
+/// Cuts the bytes of a source into lines. It reads in blocks and keeps the bytes that it has read
+/// ahead.
 ///
-/// It is seen as the line that it found and what it read ahead.
+/// For the prover its value is the current line and the bytes that were read ahead.
 #[derive(Drop)]
 pub struct LineReader {
     line: Vec<u8>,
@@ -40,7 +41,7 @@ impl Model for LineReader {
 impl LineReader {
     ghost use Rattle.cb_run.specs.Lines.{Cutting};
 
-    /// With nothing read. The only error is want of memory.
+    /// A reader that has read nothing. Fails only with `Halt::Memory`.
     pub fn new(alloc: Global) -> Result<LineReader, Halt>
         ensures empty { IfOk result (λ reader. reader ≡ record { line = []; ahead = [] }) }
         ensures memory { IsOkUnless result Memory }
@@ -53,16 +54,17 @@ impl LineReader {
         })
     }
 
-    /// The line that `advance` found, without its end.
+    /// The line that `advance` found, without its line ending.
     pub fn line(&self) -> &[u8]
         ensures { result.now ≡ self.now.line }
     {
         self.line.as_slice()
     }
 
-    /// Goes to the next line; false where there is none.
+    /// Goes to the next line. Returns false if there is none.
     ///
-    /// A line ends at LF, or at CR LF; the last one needs no end. An error is want of memory, or that a read failed.
+    /// A line ends with LF or CR LF. The last line needs no ending. Fails with `Halt::Memory` if an
+    /// allocation fails, and with `Halt::ReadFailed` if a read fails.
     pub fn advance<R: Source>(&mut self, source: &mut R) -> Result<bool, Halt>
         ensures next { IfOk result (λ found. NextLine found
             (prepend_known self.old.ahead (R.remaining source.old))
@@ -71,7 +73,8 @@ impl LineReader {
             (λ halt. (halt ≡ Memory) ⊎ ((halt ≡ ReadFailed) × (R.has_failed source.new ≡ true))) }
     {
         self.start_line();
-        // Each block that comes makes the line longer, until memory lacks.
+        // Each block without an LF makes the line longer. So the loop ends, at the latest when
+        // memory runs out.
         while !self.take_ahead()? {
             if !self.read_ahead(source)? {
                 return Ok(!self.line.is_empty());
@@ -81,14 +84,14 @@ impl LineReader {
         Ok(true)
     }
 
-    /// Begins the next line.
+    /// Empties the line.
     fn start_line(&mut self)
         ensures { self.new ≡ record self.old { line = [] } }
     {
         self.line.clear();
     }
 
-    /// Takes the one CR off that the line ends with, if it has one.
+    /// Removes one CR from the end of the line, if it has one.
     fn end_line(&mut self)
         ensures { self.new ≡ record self.old { line = strip_carriage_return self.old.line } }
     {
@@ -98,7 +101,8 @@ impl LineReader {
         }
     }
 
-    /// Moves what was read ahead to the line, up to the first LF; whether there was one.
+    /// Moves the bytes that were read ahead to the line, up to the first LF, which is dropped.
+    /// Returns whether there was an LF. Fails only with `Halt::Memory`.
     fn take_ahead(&mut self) -> Result<bool, Halt>
         ensures moves { IfOk result (λ found. Moves found self.old self.new) }
         ensures room { IfOk result (λ found. length self.new.line < 2 ^ 63) }
@@ -121,7 +125,8 @@ impl LineReader {
         }
     }
 
-    /// Reads the next block, where nothing is left of the last one; false at the source's end.
+    /// Reads the next block, when nothing is left of the last one. Returns false at the end of the
+    /// source. Fails only with `Halt::ReadFailed`.
     fn read_ahead<R: Source>(&mut self, source: &mut R) -> Result<bool, Halt>
         requires { self.old.ahead ≡ [] }
         ensures read { IfOk result
@@ -144,7 +149,7 @@ impl LineReader {
     }
 }
 
-/// A block to read into. The only error is want of memory.
+/// A buffer of 65,536 bytes. Fails only with `Halt::Memory`.
 fn empty_block(alloc: Global) -> Result<Vec<u8>, Halt>
     ensures length { IfOk result (λ block. vec_len block ≡ 65536) }
     ensures memory { IsOkUnless result Memory }
@@ -152,7 +157,7 @@ fn empty_block(alloc: Global) -> Result<Vec<u8>, Halt>
     Ok(vec![in alloc; 0; BLOCK_LEN]?)
 }
 
-/// Where the first LF stands.
+/// The index of the first LF.
 fn first_feed(bytes: &[u8]) -> Option<usize>
     ensures { result ≡ position (λ byte. byte == 10) bytes.now }
 {

@@ -7,7 +7,8 @@ ghost use Rattle.cb_run.specs.declared.ending.Halt.TheVariants.{WriteFailed};
 use crate::ending::Halt;
 use cb_io::Sink;
 
-/// Writes all of a piece. The only error is that a write failed, or took nothing.
+/// Writes all of a piece. Fails only with `Halt::WriteFailed`: a write failed or took no byte. A
+/// beginning of the piece may have been written then, and the sink has failed.
 pub fn write_all<W: Sink>(writer: &mut W, piece: &[u8]) -> Result<(), Halt>
     ensures written { OnOk result
         (Appends (W.contents writer.old) (W.contents writer.new) piece.now) }
