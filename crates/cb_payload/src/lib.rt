@@ -1,9 +1,9 @@
 //! Payloads of the messages that have several fields: `version`, `sendcmpct`, `getheaders`, the
 //! lists of `inv`, `getdata`, `notfound` and `headers`, and BIP 152's `cmpctblock`, `getblocktxn`
-//! and `blocktxn`.
+//! and `blocktxn`. The messages themselves and their envelopes are in cb_wire.
 //!
-//! Each payload is read from left to right. Each value is written in one way: that is its text. The
-//! messages themselves and their envelopes are in cb_wire.
+//! Each payload is read from left to right. Each value is written in exactly one way: these bytes
+//! are its text.
 #![tactic(auto)]
 
 mod block_transactions;

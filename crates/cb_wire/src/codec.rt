@@ -66,8 +66,8 @@ fn message_under(alloc: Global, name: &str, payload: &[u8]) -> Result<Message, F
     }
 }
 
-/// The envelope of a message: header and payload. A message has exactly one text. It must be within
-/// the limit (`Message::is_within_limits`).
+/// Writes the envelope of a message: header and payload. Each message is written in exactly one
+/// way. It must be within the limit (`Message::is_within_limits`).
 ///
 /// Fails only with `Fault::Memory`.
 pub fn encode(alloc: Global, message: &Message) -> Result<Vec<u8>, Fault>
