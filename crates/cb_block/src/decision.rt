@@ -10,8 +10,8 @@ use crate::soundness::{SoundBlock, sound};
 use cb_base::{Fault, Shared};
 use std::alloc::Global;
 
-/// The block as a sound one, or that it isn't sound: `is_sound_block` decides. The block has one owner more while it is
-/// judged, and after where it is sound. The only error is `Fault::Memory`.
+/// The block as a sound one, or `None` if it isn't sound; `is_sound_block` decides. Fails only with
+/// `Fault::Memory`. The block has one more owner while it is checked, and keeps it if it is sound.
 pub fn sound_of(alloc: Global, block: &Shared<Block>) -> Result<Option<SoundBlock>, Fault>
     ensures decided { IfOk result (λ told. MatchOption told (is_sound_block block.now ≡ false)
         (λ sound. (sound ≡ block.now) × (is_sound_block block.now ≡ true))) }
@@ -28,8 +28,8 @@ pub fn sound_of(alloc: Global, block: &Shared<Block>) -> Result<Option<SoundBloc
     }
 }
 
-/// A block is sound where the decision by the levels of its tree says so, and there alone; with a reason why it isn't sound
-/// the decision is against it.
+/// The computed decision agrees with the definition: `is_sound_block` holds exactly for sound
+/// blocks, and fails for a block with a reason why it is unsound.
 pub fn sound_is_decided()
     ensures from { (b : Block) → is_sound_block b ≡ true → IsSoundBlock b }
     ensures to { (b : Block) → IsSoundBlock b → is_sound_block b ≡ true }

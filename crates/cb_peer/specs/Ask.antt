@@ -1,4 +1,5 @@
--- What a session asks its hall, by the item that it processes and how far it is with it, and which answers fit a question.
+-- What a session asks the hall (Bitcoin Core: ChainstateManager and CTxMemPool), by the item that
+-- it processes and how far it is with it, and which answers fit a question.
 use Rattle.std.specs.Prelude.{ℕ, Bool, true, false, List, [], ◌∷◌, map, filter_map, if◌then◌else◌, Option, Some, None}
 use Rattle.cb_fetch.specs.Fetching.{as_blocks}
 use Rattle.cb_journal.specs.declared.answer.Answer.{Answer}
@@ -23,20 +24,21 @@ abbrev pub is_nil : {A : Type 0} → List A → Bool
 is_nil [] = true
 is_nil (first ∷ others) = false
 
--- an entry as it is read, where it is of a transaction or a block: types 1 and 2
+-- Whether an entry names a transaction or a block: types 1 and 2.
 abbrev pub is_known_type : Inventory → Bool
 is_known_type (entry.Tx txid) = true
 is_known_type (entry.Block hash) = true
 is_known_type other = false
 
+-- What an entry names, if that is a transaction or a block.
 abbrev pub known : InvEntry → Option Inventory
 known e = if is_known_type (understood e) then Some (understood e) else None
 
--- the entries of these types
+-- The entries that name a transaction or a block.
 abbrev pub told_of : List InvEntry → List Inventory
 told_of entries = filter_map known entries
 
--- what a message of the peer asks of the hall; the end of the handshake asks for the chain's locator
+-- The question that a message leads to. The end of the handshake asks for the chain's locator.
 abbrev pub about : SessionState → Message → Question
 about s (messages.Headers headers) = questions.Headers headers
 about s (messages.Inv entries) = questions.Want (told_of entries)
@@ -50,15 +52,16 @@ abbrev pub about_item : SessionState → Option Item → Question
 about_item s (Some (Good message)) = about s message
 about_item s item = questions.Locator
 
--- What the hall is asked: leave for an item or a tick; what the item is about; which of the wanted blocks are still needed;
--- and what is new. The tip's block isn't asked for with the news.
+-- The question for each step of an item or tick: whether it is admitted; what the item leads to;
+-- which queued blocks are still needed; and what is new. The question for news doesn't ask for the
+-- tip's block.
 abbrev pub question_of : SessionState → Option Item → Ask → Question
 question_of s item asks.Admit = questions.Admit
 question_of s item asks.About = about_item s item
 question_of s item asks.Wanted = questions.Want (as_blocks s.fetch.wanted)
 question_of s item asks.Fresh = questions.News (record { tip = s.marks.tip; from = s.marks.next; whole = false })
 
--- the question that stands
+-- The open question, if there is one.
 abbrev pub question_at : SessionState → Option Standing → Option Question
 question_at s None = None
 question_at s (Some standing) = Some (question_of s standing.item standing.ask)
@@ -66,7 +69,8 @@ question_at s (Some standing) = Some (question_of s standing.item standing.ask)
 abbrev pub standing_question : SessionState → Option Question
 standing_question s = question_at s s.standing
 
--- how many answers a question still leads to, its own among them: each answer that fits leaves fewer
+-- The number of answers still to come, with the open question's own. Each answer that fits leaves
+-- fewer.
 abbrev pub question_left : Ask → ℕ
 question_left asks.Admit = 4
 question_left asks.About = 3
@@ -77,7 +81,7 @@ abbrev pub questions_left : Option Standing → ℕ
 questions_left None = 0
 questions_left (Some standing) = question_left standing.ask
 
--- An answer is of the kind that a question asks for. That the connection was kicked fits each question.
+-- Whether an answer fits a question. `Kicked` fits every question.
 abbrev pub fits : Question → Answer → Bool
 fits question answers.Kicked = true
 fits questions.Admit answers.Go = true

@@ -1,4 +1,5 @@
--- The kinds of events, and for how many bytes each counts.
+-- The kinds of events, and how many bytes each counts for in a trace, the log of one connection's
+-- events.
 use Rattle.std.specs.Prelude.{ℕ, ◌+◌, ◌*◌, Bool, true, false, length}
 use Rattle.cb_journal.specs.declared.answer.Answer.{Answer}
 use Rattle.cb_journal.specs.declared.answer.Answer.TheVariants as answers
@@ -10,19 +11,19 @@ use Rattle.cb_wire.specs.Grammar.{payload_text}
 use Rattle.cb_peer.specs.declared.event.Event.{Event}
 use Rattle.cb_peer.specs.declared.event.Event.TheVariants as events
 
--- an event without what it carries
+-- An event without its content.
 pub data Kind : Type 0 where
-  -- comes of the peer: an item, a fault of its stream, its end
+  -- Input from the peer: an item, a fault of its stream, or its end.
   Input : Kind
-  -- time to look for news
+  -- A tick: a timer event.
   Beat : Kind
-  -- the answer to a question
+  -- The hall's answer to a question.
   Reply : Kind
-  -- memory ran out
+  -- Memory ran out.
   Shortage : Kind
-  -- no more questions are granted
+  -- The hall grants no more questions.
   Refusal : Kind
-  -- a write failed
+  -- A write failed.
   Loss : Kind
 
 abbrev pub kind_of : Event → Kind
@@ -59,19 +60,19 @@ abbrev pub is_write_fault : Kind → Bool
 is_write_fault Loss = true
 is_write_fault other = false
 
--- what begins something new: what comes of the peer, or a tick
+-- What begins a new item: input from the peer, or a tick.
 abbrev pub begins : Kind → Bool
 begins Input = true
 begins Beat = true
 begins other = false
 
--- what may leave messages unwritten
+-- What may leave messages unwritten.
 abbrev pub loses : Kind → Bool
 loses Shortage = true
 loses Loss = true
 loses other = false
 
--- what ends a session at once, whatever it was doing
+-- What ends a session at once, in any state.
 abbrev pub ends_at_once : Event → Bool
 ends_at_once (events.Said item) = false
 ends_at_once events.Tick = false
@@ -82,19 +83,20 @@ abbrev pub is_reader_end : Event → Bool
 is_reader_end events.ReaderEnd = true
 is_reader_end other = false
 
--- ---- what an entry of a trace counts for
+-- ---- how many bytes an entry of a trace counts for
 
--- the payload bytes of an item
+-- The number of payload bytes of an item.
 abbrev pub payload_of : Item → ℕ
 payload_of (Good message) = length (payload_text message)
 payload_of other = 0
 
--- the transactions of a block's places
+-- The number of transactions in the answer to `getblocktxn`.
 abbrev pub excerpt_entries : Excerpt → ℕ
 excerpt_entries (excerpts.Part part) = length part.txs
 excerpt_entries other = 0
 
--- the entries of an answer's lists; pairs share the list of a pool, which has at most 10,000 transactions
+-- The number of entries in an answer's lists. `Pairs` share the list of the mempool, which has at
+-- most 10,000 transactions.
 abbrev pub answer_entries : Answer → ℕ
 answer_entries answers.Go = 0
 answer_entries answers.Kicked = 0
@@ -109,7 +111,7 @@ answer_entries (answers.News news) = length news.path + length news.txids
 answer_entries (answers.Pairs pairs) = 10000
 answer_entries (answers.Excerpt excerpt) = excerpt_entries excerpt
 
--- 64 bytes, and the payload of an item, or 40 for each entry of an answer's lists
+-- 64 bytes, plus the payload of an item, or plus 40 for each entry of an answer's lists.
 abbrev pub held_by : Event → ℕ
 held_by (events.Said item) = 64 + payload_of item
 held_by (events.Told answer) = 64 + 40 * answer_entries answer

@@ -1,4 +1,4 @@
--- What holds of every session, whatever comes to it, in the words of the protocol.
+-- The terms of the laws for every session, in the words of the protocol.
 use Rattle.std.specs.Prelude.{◌&&◌, ◌||◌, ◌==◌, Bool, true, false}
 use Rattle.std.specs.List.{list_any}
 use Rattle.cb_base.specs.declared.hash.Hash256.{Hash256}
@@ -14,26 +14,26 @@ use Rattle.cb_peer.specs.declared.state.CloseReason.{CloseReason}
 use Rattle.cb_peer.specs.Session.{step_of}
 use Rattle.cb_peer.specs.State.{SessionState, opening, over}
 
--- A session that events lead to, from one at its beginning. It may be ended at any time.
+-- A reachable session: events lead to it from a new one. It may be ended at any time.
 pub data IsReached : SessionState → Type 0 where
   opens : (settings : Settings) → IsReached (opening settings)
   steps : (s : SessionState) (event : Event) → IsReached s → IsReached (step_of s event).session
   stops : (s : SessionState) (why : CloseReason) → IsReached s → IsReached (over why s)
 
--- messages of the handshake, and pings
+-- A `version`, a `verack` or a `ping`.
 abbrev pub greets : Message → Bool
 greets (messages.Version version) = true
 greets messages.Verack = true
 greets (messages.Ping nonce) = true
 greets other = false
 
--- how the peer wants to be told of blocks
+-- How the peer wants blocks announced: `sendheaders` or `sendcmpct`.
 abbrev pub wishes_for : Message → Bool
 wishes_for messages.SendHeaders = true
 wishes_for (messages.SendCmpct relay) = true
 wishes_for other = false
 
--- headers that the peer asked for
+-- The hall's answer to a `getheaders` of the peer.
 abbrev pub is_following : Event → Bool
 is_following (events.Told (Following headers)) = true
 is_following other = false
@@ -42,7 +42,7 @@ abbrev pub is_headers : Message → Bool
 is_headers (messages.Headers headers) = true
 is_headers other = false
 
--- an entry that asks for the block of this hash, as it is or as a compact one
+-- A `getdata` entry for the block with this hash, as a block or a compact block.
 abbrev pub names_block : Hash256 → InvEntry → Bool
 names_block hash e = (e.kind == 2 || e.kind == 4) && same hash e.hash
 

@@ -15,20 +15,20 @@ abbrev pub pong_nonce : Message → Option ℕ
 pong_nonce (messages.Pong nonce) = Some nonce
 pong_nonce other = None
 
--- the nonces of the pongs among messages, in order
+-- The nonces of the pongs among messages, in order.
 abbrev pub pongs : List Message → List ℕ
 pongs sent = filter_map pong_nonce sent
 
--- the ping that an item is
+-- The nonce of an item that is a ping.
 abbrev pub item_ping : Item → Option ℕ
 item_ping (Good message) = ping_nonce message
 item_ping other = None
 
--- the ping that came
+-- The nonce of an event that is a ping.
 abbrev pub event_ping : Event → Option ℕ
 event_ping (events.Said item) = item_ping item
 event_ping other = None
 
--- the nonces of the pings among what came, in order
+-- The nonces of the pings among events, in order.
 abbrev pub pings : List Event → List ℕ
 pings events = filter_map event_ping events

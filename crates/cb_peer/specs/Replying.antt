@@ -1,5 +1,5 @@
--- What a session makes of the hall's answers: one line for each kind of answer. Sources: Bitcoin's peer-to-peer protocol; BIP 130
--- for how a tip is told. 'Own' marks a choice of this node.
+-- How a session handles the hall's answers: one line for each kind of answer. Sources: Bitcoin's
+-- peer-to-peer protocol; BIP 130 for announcing a tip. 'Own' marks a choice of this node.
 use Rattle.std.specs.Prelude.{Bool, true, false, not, ◌&&◌, ◌==◌, if◌then◌else◌, List, [], ◌∷◌, ◌++◌, length, filter, filter_map, Option, Some, None}
 use Rattle.std.specs.List.{list_any}
 use Rattle.cb_base.specs.declared.fault.Fault.{Fault}
@@ -33,7 +33,7 @@ use Rattle.cb_peer.specs.declared.state.CloseReason.TheVariants as reasons
 use Rattle.cb_peer.specs.Receiving.{Plan, asks, ended, ends, last_hash, processed, sends}
 use Rattle.cb_peer.specs.State.{SessionState, with_fetch, with_marks}
 
--- After 2,000 headers, as many as a message has, those behind them are asked for.
+-- After a full message of 2,000 headers, the headers after them are requested.
 abbrev pub more_behind : List Header → List Message
 more_behind [] = []
 more_behind (first ∷ others) = if length (first ∷ others) == 2000 then asking_headers (last_hash first others ∷ []) ∷ [] else []
@@ -42,8 +42,9 @@ abbrev pub more_headers : Option Item → List Message
 more_headers (Some (Good (messages.Headers headers))) = more_behind headers
 more_headers item = []
 
--- Headers were accepted up to the first that was refused, and the blocks that they lack are wanted. One without work ends the
--- session; for one whose parent isn't known those before it are asked for.
+-- The result of `headers`. Blocks of accepted headers that we don't have are queued for download. A
+-- header without proof of work ends the session. For an unknown parent the headers before it are
+-- requested.
 abbrev pub heads_by : SessionState → Option Item → Option Fault → List Hash256 → Plan
 heads_by s item (Some faults.BadWork) locator = ended reasons.BadBlock s
 heads_by s item (Some faults.NoParent) locator = ends s (asking_headers locator ∷ [])
@@ -53,15 +54,15 @@ heads_by s item None locator = ends s (more_headers item)
 unfoldable pub heads_told : SessionState → Option Item → Heads → Plan
 heads_told s item heads = heads_by (with_fetch (wanting_all s.fetch heads.lack) s) item heads.refused heads.locator
 
--- A block whose parent isn't there: the headers before it are asked for. One that is there already is passed over, and any
--- other that is refused ends the session.
+-- The result of `block`. A block already known is ignored. For an unknown parent the headers before
+-- it are requested. Any other refusal ends the session.
 unfoldable pub taken_told : SessionState → Option Fault → List Hash256 → Plan
 taken_told s None locator = ends s []
 taken_told s (Some faults.Known) locator = ends s []
 taken_told s (Some faults.NoParent) locator = ends s (asking_headers locator ∷ [])
 taken_told s (Some other) locator = ended reasons.BadBlock s
 
--- the entry that asks for a transaction
+-- The `getdata` entry for a transaction.
 abbrev pub tx_request : Inventory → Option InvEntry
 tx_request (entry.Tx txid) = Some (written (entry.Tx txid))
 tx_request other = None
@@ -70,39 +71,39 @@ abbrev pub is_block : Inventory → Bool
 is_block (entry.Block hash) = true
 is_block other = false
 
--- of what the peer told of and is wanted: transactions are asked for, and headers where a block is among it
+-- The result of `inv`: wanted transactions are requested, and headers if a block is wanted.
 unfoldable pub need_told : SessionState → Need → Plan
 need_told s need =
     ends s (asking_for (filter_map tx_request need.entries) ++ (if list_any is_block need.entries then asking_headers need.locator ∷ [] else []))
 
--- the wanted blocks that are still needed are asked for, the first 16 of them, by type 2
+-- Queued blocks that are still needed are requested, the first 16 of them, by type 2.
 unfoldable pub wanted_told : SessionState → Need → Plan
 wanted_told s need =
     let fetch = taken_on (blocks_in need.entries) in
     asks (with_fetch fetch s) (asking_for (requests_of fetch.flight)) Fresh
 
--- whether the tip is the last block that was heard of from the peer
+-- Whether the tip is the last block heard of from the peer.
 abbrev pub is_heard : Option Hash256 → Hash256 → Bool
 is_heard None tip = false
 is_heard (Some hash) tip = same hash tip
 
--- a new tip is told, but to the peer that it was heard from
+-- The announcement of a new tip, unless it is the last block heard of from the peer.
 abbrev pub tip_told : SessionState → News → List Message
 tip_told s news = if is_heard s.marks.heard news.tip then [] else announcing (s.peer.by_headers && not news.long) news.tip news.path
 
--- the transactions without the one that the item brought
+-- The transactions without the one that the item brought.
 abbrev pub without_brought : Option Item → List Hash256 → List Hash256
 without_brought (Some (Good (messages.Tx tx))) txids = filter (λ txid. not (same (double_hash (tx_text tx)) txid)) txids
 without_brought item txids = txids
 
--- what is new: the tip, and transactions
+-- News: the tip and transactions are announced.
 unfoldable pub news_told : SessionState → Option Item → News → Plan
 news_told s item news =
     sends
     (with_marks (record { heard = s.marks.heard; tip = Some news.tip; next = news.next }) s)
     (tip_told s news ++ telling (without_brought item news.txids))
 
--- an answer to what was asked for an item
+-- An answer to the question asked for an item.
 unfoldable pub answered : SessionState → Option Item → Ask → Answer → Plan
 answered s item ask answers.Kicked = ended reasons.Kicked s
 answered s item Admit answers.Go = processed s item

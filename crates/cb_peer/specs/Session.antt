@@ -1,5 +1,6 @@
--- A session, one step at a time: what an event makes of it, what it sends, and what it asks the hall (Bitcoin's peer-to-peer
--- protocol). What becomes of messages stands in Receiving, what becomes of answers in Replying.
+-- One step of a session: the session after an event, what it sends, and what it asks the hall
+-- (Bitcoin's peer-to-peer protocol). Receiving says how messages are handled, Replying how answers
+-- are.
 use Rattle.std.specs.Prelude.{Bool, true, false, not, ◌&&◌, List, [], ◌∷◌, Option, Some, None, option_map, if◌then◌else◌}
 use Rattle.cb_wire.specs.declared.item.Item.{Item}
 use Rattle.cb_wire.specs.declared.message.Message.{Message}
@@ -23,29 +24,29 @@ use Rattle.cb_peer.specs.Replying.{answered}
 use Rattle.cb_peer.specs.Receiving.{Plan, asks}
 use Rattle.cb_peer.specs.State.{SessionState, freed, is_closed, over, with_standing}
 
--- what a step makes: the session after it, the messages that it sends, and the question that it asks
+-- The result of a step: the session after it, the messages to send, and the question to ask.
 pub record Stepped : Type 0 where
   pub session : SessionState
   pub messages : List Message
   pub question : Option Question
 
--- the messages that a session opens with: who made the connection introduces itself first
+-- The messages that open a session: our `version` if this node made the connection.
 abbrev pub openings : Settings → List Message
 openings settings = if settings.inbound then [] else our_version settings.nonce settings.time settings.height ∷ []
 
--- nothing changes, nothing is sent and nothing asked
+-- Nothing changes, and nothing is sent or asked.
 abbrev pub stays : SessionState → Stepped
 stays s = record { session = s; messages = []; question = None }
 
--- the session is over, nothing is sent and nothing asked
+-- The session is over, and nothing is sent or asked.
 abbrev pub closes : CloseReason → SessionState → Stepped
 closes why s = stays (over why s)
 
--- what is asked stands, with the item for which it is asked, until the answer
+-- The open question with its item.
 abbrev pub stands : Option Item → Option Ask → Option Standing
 stands item next = option_map (λ ask. record { item = item; ask = ask }) next
 
--- what a session makes of an item, or of a tick where there is none
+-- The result of handling an item, or a tick if there is none.
 abbrev pub for_item : Option Item → Plan → Stepped
 for_item item plan =
     record {
@@ -54,12 +55,12 @@ for_item item plan =
       question = option_map (question_of plan.session item) plan.next;
     }
 
--- An item or a tick asks for leave to be processed. While a question stands it doesn't fit.
+-- An item or a tick asks for admission. It is ignored while a question is open.
 abbrev pub arrives : Option Standing → SessionState → Option Item → Stepped
 arrives None s item = for_item item (asks s [] Admit)
 arrives (Some other) s item = stays s
 
--- An answer comes. One that nobody asked for, or of another kind than what stands asks for, doesn't fit.
+-- A session ignores an answer that doesn't fit its open question.
 abbrev pub told : Option Standing → SessionState → Answer → Stepped
 told None s answer = stays s
 told (Some standing) s answer =
@@ -76,11 +77,11 @@ open_step s events.NoMemory = closes reasons.Memory s
 open_step s events.HallFull = closes reasons.HallFull s
 open_step s events.WriteFault = closes reasons.WriteFault s
 
--- one step: a session that is over changes and sends nothing
+-- One step. A session that is over changes and sends nothing.
 unfoldable pub step_of : SessionState → Event → Stepped
 step_of s event = if is_closed s.state then stays s else open_step s event
 
--- an event whose step takes no memory
+-- An event whose step takes no memory.
 abbrev pub takes_no_memory : Event → Bool
 takes_no_memory (events.Said item) = false
 takes_no_memory (events.Told answers.Kicked) = true
@@ -89,25 +90,26 @@ takes_no_memory other = true
 
 -- ---- answers that take no memory
 
--- an item in which something is hashed whose text has no limit here: a transaction, or a block
+-- An item whose text is hashed without a limit in this crate: a transaction or a block.
 abbrev pub weighs_item : Option Item → Bool
 weighs_item (Some (Good (messages.Tx tx))) = true
 weighs_item (Some (Good (messages.Block block))) = true
 weighs_item item = false
 
--- an answer that tells of blocks that lack, or of what is needed
+-- An answer that lists missing blocks or needed entries.
 abbrev pub weighs_answer : Answer → Bool
 weighs_answer (answers.Heads heads) = not (is_nil heads.lack)
 weighs_answer (answers.Need need) = not (is_nil need.entries)
 weighs_answer answer = false
 
--- the item for which a question stands, if there is one
+-- The item whose question is open, if there is one.
 abbrev pub standing_item : Option Standing → Option Item
 standing_item None = None
 standing_item (Some standing) = standing.item
 
--- An answer by which little comes. Where nothing is sent to it either, and nothing is asked but what is new (`is_light`), it takes
--- no memory.
+-- An answer that lists nothing missing or needed, to an item that is neither a transaction nor a
+-- block. It takes no memory if nothing is sent to it and nothing is asked but what is new
+-- (`is_light`).
 abbrev pub spares : SessionState → Event → Bool
 spares s (events.Told answer) = not (weighs_item (standing_item s.standing)) && not (weighs_answer answer)
 spares s other = false

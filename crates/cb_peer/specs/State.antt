@@ -1,4 +1,4 @@
--- What a session keeps of its peer.
+-- What a session keeps about its peer.
 use Rattle.std.specs.Prelude.{ℕ, pos, Bool, true, false, List, codes, Option, None}
 use Rattle.cb_fetch.specs.Fetching.{FetchState, idle}
 use Rattle.cb_peer.specs.declared.settings.Settings.{Settings}
@@ -10,8 +10,8 @@ use Rattle.cb_peer.specs.declared.state.Peer.{Peer}
 use Rattle.cb_peer.specs.declared.state.State.{State}
 use Rattle.cb_peer.specs.declared.state.State.TheVariants.{Start, Ready, Closed}
 
--- A session: what it was given, how far it is, what its peer said of itself, what the two told each other, the blocks that it
--- fetches, and the item and the question that stand.
+-- A session: its settings, how far it is, what its peer told about itself, what the two announced
+-- to each other, the blocks that it downloads, and the item whose question is open.
 pub record SessionState : Type 0 where
   pub settings : Settings
   pub state : State
@@ -20,15 +20,16 @@ pub record SessionState : Type 0 where
   pub fetch : FetchState
   pub standing : Option Standing
 
--- nothing is known of the peer
+-- A peer that has sent nothing.
 abbrev pub stranger : Peer
 stranger = record { version = pos 0; by_headers = false; capable = false; wants_high = false }
 
--- nothing was told
+-- Nothing was announced.
 abbrev pub unmarked : Marks
 unmarked = record { heard = None; tip = None; next = 0 }
 
--- A session of which only this is known: how far it is. So it is at its beginning, and when it is over.
+-- A session about which only its settings and its state are known. This is so at its beginning and
+-- when it is over.
 abbrev pub bare : Settings → State → SessionState
 bare settings state = record { settings = settings; state = state; peer = stranger; marks = unmarked; fetch = idle; standing = None }
 
@@ -46,7 +47,7 @@ abbrev pub is_ready : State → Bool
 is_ready Ready = true
 is_ready other = false
 
--- ---- a session of which one part is another
+-- ---- a session with one part replaced
 
 abbrev pub with_state : State → SessionState → SessionState
 with_state state s = record { settings = s.settings; state = state; peer = s.peer; marks = s.marks; fetch = s.fetch; standing = s.standing }
@@ -63,7 +64,7 @@ with_fetch fetch s = record { settings = s.settings; state = s.state; peer = s.p
 abbrev pub with_standing : Option Standing → SessionState → SessionState
 with_standing standing s = record { settings = s.settings; state = s.state; peer = s.peer; marks = s.marks; fetch = s.fetch; standing = standing }
 
--- nothing stands any more
+-- No question is open any more.
 abbrev pub freed : SessionState → SessionState
 freed s = with_standing None s
 

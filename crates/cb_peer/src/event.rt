@@ -7,21 +7,23 @@ use cb_pool::MOST_TXS;
 use cb_state::Excerpt;
 use cb_wire::Item;
 
-/// For how many bytes an entry of an answer's list counts.
+/// How many bytes an entry of an answer's list counts for.
 const ENTRY_WEIGHT: u64 = 40;
 
-/// What comes to a session.
+/// An event of one connection: what a session is given. Answers come from the hall, which is what
+/// Bitcoin Core keeps in ChainstateManager and CTxMemPool.
 #[derive(Drop)]
 pub enum Event {
-    /// An item of the peer's stream; the session keeps it too while a question of it stands.
+    /// An item of the peer's stream: a message, or one that couldn't be read. The session shares it
+    /// until the item's questions are answered.
     Said(Shared<Item>),
-    /// The peer's stream has a fault.
+    /// The peer's stream has a framing fault, such as wrong network magic (`BadMagic`).
     Broken(Fault),
-    /// It is time to look for news.
+    /// A timer event: it is time to look for news.
     Tick,
-    /// The hall's answer to the question that stands.
+    /// The hall's answer to the open question.
     Told(Answer),
-    /// The peer's stream ended.
+    /// The peer's stream ended, or isn't read any further.
     ReaderEnd,
     /// Memory ran out.
     NoMemory,
@@ -34,7 +36,7 @@ pub enum Event {
 impl Event {
     ghost use Rattle.cb_peer.specs.Event.{is_input, is_told, kind_of};
 
-    /// Whether it comes of the peer: an item, a fault of its stream, or its end.
+    /// Whether it comes from the peer: an item, a fault of the stream, or the stream's end.
     pub fn is_input(&self) -> bool
         ensures { result ≡ is_input (kind_of self.now) }
     {
@@ -61,8 +63,9 @@ impl Event {
         }
     }
 
-    /// How many bytes an entry of it counts for: 64, and the payload of its item, or 40 for each entry of its answer's lists;
-    /// 18,446,744,073,709,551,615 where they are more.
+    /// How many bytes this event counts for in a trace, the log of one connection's events: 64,
+    /// plus the payload bytes of its item, or plus 40 for each entry of its answer's lists.
+    /// `u64::MAX` if that is more.
     pub fn held(&self) -> u64
         ensures { result ≡ min (held_by self.now) (2 ^ 64 - 1) }
     {
@@ -79,7 +82,7 @@ impl Event {
     }
 }
 
-/// How many payload bytes an item holds.
+/// The number of payload bytes of an item.
 fn payload_of(item: &Item) -> u64
     ensures payload { result ≡ payload_of item.now }
     ensures limit { result ≤ 4000000 }
@@ -90,7 +93,7 @@ fn payload_of(item: &Item) -> u64
     }
 }
 
-/// How many entries the lists of an answer have; 18,446,744,073,709,551,615 where they are more.
+/// The number of entries in an answer's lists; `u64::MAX` if that is more.
 fn entries_of(answer: &Answer) -> u64
     ensures { result ≡ min (answer_entries answer.now) (2 ^ 64 - 1) }
 {
@@ -115,7 +118,7 @@ fn entries_of(answer: &Answer) -> u64
     }
 }
 
-/// How many transactions of a block's places an answer has.
+/// The number of transactions in the answer to `getblocktxn`.
 fn places_of(excerpt: &Excerpt) -> u64
     ensures { result ≡ min (excerpt_entries excerpt.now) (2 ^ 64 - 1) }
 {
@@ -125,7 +128,7 @@ fn places_of(excerpt: &Excerpt) -> u64
     }
 }
 
-/// For how many bytes so many entries of a list count.
+/// How many bytes this number of list entries counts for; `u64::MAX` if that is more.
 fn list_weight(count: u64) -> u64
     ensures { result ≡ min (40 * count) (2 ^ 64 - 1) }
 {

@@ -1,4 +1,5 @@
-//! What holds of every session, whatever comes to it. Each law is the contract of a function that does nothing.
+//! What holds for every session, whatever events it is given. Each law is the contract of a
+//! function that does nothing.
 ghost use Rattle.std.specs.Prelude.{◌≡◌, ◌<◌, ◌≤◌, ◌++◌, [], ◌∷◌, ℕ, Bool, true, false, List, Option, None, Some, filter_map, length};
 ghost use Rattle.std.specs.List.{list_any};
 ghost use Rattle.cb_base.specs.declared.hash.Hash256.{Hash256};
@@ -27,8 +28,10 @@ ghost use Rattle.cb_peer.specs.Replying.{answered, news_told, without_brought};
 ghost use Rattle.cb_peer.specs.Session.{step_of};
 ghost use Rattle.cb_peer.specs.State.{SessionState, is_closed, is_ready, with_peer};
 
-/// Before the handshake is done nothing counts but it and pings: other messages change nothing, send nothing and ask nothing.
-/// How the peer wants to be told of blocks (BIP 130, BIP 152) is noted at the most.
+/// Before the handshake is complete, a session handles only `version`, `verack` and `ping`. Any
+/// other message changes nothing, sends nothing and asks nothing. `sendheaders` (BIP 130) and
+/// `sendcmpct` (BIP 152) change at most what the session notes of its peer. A `ping` is answered
+/// with its `pong`.
 pub fn only_the_handshake_counts()
     ensures nothing { (s : SessionState) (message : Message) → is_ready s.state ≡ false →
         greets message ≡ false → wishes_for message ≡ false → received s message ≡ sends s [] }
@@ -39,27 +42,31 @@ pub fn only_the_handshake_counts()
         received s (messages.Ping nonce) ≡ sends s (messages.Pong nonce ∷ []) }
 {}
 
-/// A tip isn't told to the peer that it was heard of from last.
+/// A session doesn't announce a tip to its peer if that tip is the last block it heard of from this
+/// peer.
 pub fn a_tip_is_not_told_to_its_source()
     ensures { (s : SessionState) (item : Option Item) (news : News) →
         s.marks.heard ≡ Some news.tip →
         (news_told s item news).messages ≡ telling (without_brought item news.txids) }
 {}
 
-/// A peer that didn't ask to be told of blocks by their headers (BIP 130) is sent headers only where it asked for these.
+/// A peer that sent no `sendheaders` (BIP 130) is sent `headers` only as the answer to its
+/// `getheaders`.
 pub fn headers_are_sent_where_asked_for()
     ensures { (s : SessionState) (event : Event) → s.peer.by_headers ≡ false →
         is_following event ≡ false → list_any is_headers (step_of s event).messages ≡ false }
 {}
 
-/// What answers a `getdata` is what the hall has, in order, and then one `notfound` of all that it lacks (own).
+/// A `getdata` is answered with what the hall has, in order, and then one `notfound` of all that it
+/// lacks (own).
 pub fn what_the_hall_has_is_served()
     ensures { (s : SessionState) (item : Option Item) (pieces : List Piece) →
         (answered s item About (answers.Served pieces)).messages
         ≡ filter_map served_as pieces ++ not_found (filter_map lacking_in pieces) }
 {}
 
-/// In every session that events lead to, at most 16 blocks are in flight and at most 2,000 are wanted, each once.
+/// In every reachable session at most 16 blocks are in flight and at most 2,000 are queued. No
+/// block is listed twice.
 pub fn few_blocks_are_fetched()
     ensures flight { (s : SessionState) → IsReached s → length s.fetch.flight ≤ 16 }
     ensures wanted { (s : SessionState) → IsReached s → length s.fetch.wanted ≤ 2000 }
@@ -67,20 +74,23 @@ pub fn few_blocks_are_fetched()
         AreDifferent (s.fetch.flight ++ s.fetch.wanted) }
 {}
 
-/// In every session that events lead to, no block is asked for while it is in flight.
+/// A reachable session never requests a block that is in flight.
 pub fn no_block_in_flight_is_asked_for()
     ensures { (s : SessionState) (event : Event) (hash : Hash256) → IsReached s →
         list_any (asks_for_block hash) (step_of s event).messages ≡ true →
         has s.fetch.flight hash ≡ false }
 {}
 
-/// In every session that events lead to, the hall is given sound blocks alone.
+/// A reachable session gives the hall only blocks that are sound: their transactions match the
+/// Merkle root (CVE-2012-2459, CVE-2017-12842).
 pub fn sound_blocks_are_given()
     ensures { (s : SessionState) (given : Given) → IsReached s →
         standing_question s ≡ Some (questions.GiveBlock given) → IsSoundBlock given.block }
 {}
 
-/// Each answer that fits leaves fewer answers to be waited for, or ends the session. So an item asks six questions at the most.
+/// Each answer that fits its question leaves fewer answers to wait for, or ends the session. So the
+/// questions of an item run out: it asks at most four, one for each variant of `Ask`. The bound
+/// stated here, six, isn't tight.
 pub fn questions_run_out()
     ensures fewer { (s : SessionState) (question : Question) (answer : Answer) →
         is_closed s.state ≡ false → standing_question s ≡ Some question →

@@ -1,5 +1,7 @@
-//! The machine of one peer: what its session answers to the events of a connection. It reads nothing, writes nothing and asks
-//! nobody: all that comes to it is an event.
+//! The state machine of one peer's connection. It turns events into messages to send and into
+//! questions for the hall. The hall is what Bitcoin Core keeps in ChainstateManager and CTxMemPool.
+//!
+//! The machine does no input or output and calls nobody: everything reaches it as an event.
 #![tactic(auto)]
 
 mod ask;

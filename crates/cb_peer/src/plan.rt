@@ -9,15 +9,15 @@ use cb_journal::Question;
 use cb_wire::BoundedMessage;
 use std::alloc::Global;
 
-/// What a session asks its hall then.
+/// The next question to the hall, and the step of the item that it belongs to.
 #[derive(Drop)]
 pub(crate) struct Next {
     pub ask: Ask,
     pub question: Question,
 }
 
-/// What a session made of a message or an answer, beside what it keeps: the messages that it sends, in order, and what it asks
-/// then.
+/// The result of handling a message or an answer, beside the changed session: the messages to send,
+/// in order, and the next question, if any.
 #[derive(Drop)]
 pub(crate) struct Made {
     pub messages: Vec<BoundedMessage>,
@@ -25,7 +25,7 @@ pub(crate) struct Made {
 }
 
 impl Made {
-    /// These messages are sent, and nothing is asked.
+    /// Sends these messages and asks nothing.
     pub(crate) fn sends(messages: Vec<BoundedMessage>) -> Made
         ensures messages { result.messages.items ≡ messages.items }
         ensures next { result.next ≡ None }
@@ -36,7 +36,7 @@ impl Made {
         }
     }
 
-    /// Nothing is sent and nothing asked.
+    /// Sends nothing and asks nothing.
     pub(crate) fn nothing(alloc: Global) -> Made
         ensures messages { result.messages.items ≡ [] }
         ensures next { result.next ≡ None }
@@ -44,7 +44,7 @@ impl Made {
         Made::sends(Vec::new(alloc))
     }
 
-    /// Nothing is sent, and the hall is asked what the item is about.
+    /// Sends nothing and asks the hall about the item.
     pub(crate) fn about(alloc: Global, question: Question) -> Made
         ensures messages { result.messages.items ≡ [] }
         ensures next { result.next ≡ Some (record { ask = asks.About; question = question }) }
@@ -59,7 +59,7 @@ impl Made {
     }
 }
 
-/// A list of one message. The only error is `Fault::Memory`.
+/// A list of one message. Fails only with `Fault::Memory`.
 pub(crate) fn one_message(
     alloc: Global,
     message: BoundedMessage,
@@ -72,7 +72,7 @@ pub(crate) fn one_message(
     Ok(made)
 }
 
-/// Puts a message behind others, if there is one. The only error is `Fault::Memory`, and where there is none there is no error.
+/// Appends a message, if there is one. Fails only with `Fault::Memory`, and never if there is none.
 pub(crate) fn push_some(
     messages: &mut Vec<BoundedMessage>,
     message: Option<BoundedMessage>,

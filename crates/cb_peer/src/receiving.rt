@@ -1,4 +1,4 @@
-//! What a session makes of its peer's messages: one arm for each message.
+//! How a session handles its peer's messages: one arm for each message.
 ghost use Rattle.std.specs.Prelude.{◌≡◌, ◌≤◌, [], ◌∷◌, List, Option, None, Some, length, map, false, IfOk, IsOk, IsOkUnless};
 ghost use Rattle.cb_block.specs.declared.header.Header.{Header};
 ghost use Rattle.cb_base.specs.declared.fault.Fault.TheVariants.{Memory};
@@ -25,11 +25,11 @@ use cb_talk::{our_version, understood, wishes};
 use cb_wire::{BoundedMessage, Item, Message};
 use std::alloc::Global;
 
-/// The oldest version of the protocol that a peer may speak (own).
+/// The oldest protocol version that a peer may speak (own).
 const OLDEST_VERSION: i32 = 70_001;
 
 impl Session {
-    /// Processes an item, or a tick, that was let in.
+    /// Processes an item or a tick that the hall admitted. Fails only with `Fault::Memory`.
     #[tactic(auto, unfolding(crate::specs::Receiving::processed))]
     pub(crate) fn process(
         &mut self,
@@ -53,7 +53,8 @@ impl Session {
         }
     }
 
-    /// A message; a ping has its pong in any phase (BIP 31; before the handshake: own).
+    /// Handles a message. A `ping` is answered with its `pong` at any time (BIP 31; before the
+    /// handshake: own).
     #[tactic(auto, unfolding(crate::specs::Receiving::received))]
     #[inline(never)]
     fn receive(&mut self, alloc: Global, message: &Message) -> Result<Made, Fault>
@@ -76,7 +77,7 @@ impl Session {
         }
     }
 
-    /// Before the handshake only a version is heard.
+    /// Handles a message before the peer's `version` has come. Anything but a `version` is ignored.
     #[tactic(auto, unfolding(crate::specs::Receiving::in_start))]
     #[inline(never)]
     fn hear_first(&mut self, alloc: Global, message: &Message) -> Result<Made, Fault>
@@ -107,7 +108,9 @@ impl Session {
         }
     }
 
-    /// The peer's version: not this node's own, which its nonce tells, and not too old.
+    /// Handles the peer's `version`. The session ends if the nonce is our own, so that we are
+    /// connected to ourselves, or if the version is too old. Otherwise the version is noted and the
+    /// greeting is sent.
     #[tactic(auto, unfolding(crate::specs::Receiving::introduced))]
     fn greet(&mut self, alloc: Global, version: &Version) -> Result<Made, Fault>
         ensures ok { (item : Option Item) →
@@ -128,7 +131,8 @@ impl Session {
         Ok(Made::sends(messages))
     }
 
-    /// Behind the peer's version: its verack makes the session ready, and it may tell how it wants to be told of blocks.
+    /// Handles a message between the peer's `version` and its `verack`. `verack` completes the
+    /// handshake; `sendheaders` and `sendcmpct` are noted. Anything else is ignored.
     #[tactic(auto, unfolding(crate::specs::Receiving::in_greeted))]
     #[inline(never)]
     fn hear_greeted(&mut self, alloc: Global, message: &Message) -> Result<Made, Fault>
@@ -172,7 +176,7 @@ impl Session {
         }
     }
 
-    /// The peer knows compact blocks of version 1; another version is as not received (BIP 152).
+    /// Notes a `sendcmpct` of version 1. Another version is ignored (BIP 152).
     fn note_compact(&mut self, relay: CompactRelay)
         ensures { self.new ≡ by_compact relay self.old }
     {
@@ -182,7 +186,7 @@ impl Session {
         }
     }
 
-    /// Once the session is ready.
+    /// Handles a message once the handshake is complete.
     #[tactic(auto, unfolding(crate::specs::Receiving::in_ready))]
     #[inline(never)]
     fn hear_ready(&mut self, alloc: Global, message: &Message) -> Result<Made, Fault>
@@ -232,7 +236,8 @@ impl Session {
         }
     }
 
-    /// Headers: the last one is heard of, and the hall is asked what they lack.
+    /// Handles `headers`: notes the last one as heard from the peer and asks the hall which blocks
+    /// are missing. An empty list leads to neither.
     #[tactic(auto, unfolding(crate::specs::Receiving::in_ready))]
     fn hear_headers(&mut self, alloc: Global, headers: &HeaderList) -> Result<Made, Fault>
         ensures ok { IfOk result
@@ -250,7 +255,8 @@ impl Session {
         Ok(Made::about(alloc, Question::Headers(list)))
     }
 
-    /// Inventory: the hall is asked what of its transactions and blocks is wanted.
+    /// Handles `inv`: asks the hall which of its transactions and blocks are wanted, if it names
+    /// any.
     #[tactic(auto, unfolding(crate::specs::Receiving::in_ready))]
     fn hear_inventory(&mut self, alloc: Global, entries: &Entries) -> Result<Made, Fault>
         ensures ok { IfOk result
@@ -266,7 +272,8 @@ impl Session {
         Ok(Made::about(alloc, Question::Want(known)))
     }
 
-    /// A block: where its transactions aren't those of its header the session is over, and else the hall is given it.
+    /// Handles `block`. If its transactions don't match the Merkle root in its header, the session
+    /// ends. Otherwise the block is no longer in flight and goes to the hall.
     #[tactic(auto, unfolding(crate::specs::Receiving::brought))]
     fn bring(&mut self, alloc: Global, block: &Shared<Block>) -> Result<Made, Fault>
         ensures ok { IfOk result
@@ -290,7 +297,8 @@ impl Session {
     }
 }
 
-/// The answer to the peer's version: who took the connection introduces itself now. The only error is `Fault::Memory`.
+/// The answer to the peer's `version`: `verack`, and before it our `version` if the peer made the
+/// connection. Fails only with `Fault::Memory`.
 fn greeting_of(alloc: Global, settings: Settings) -> Result<Vec<BoundedMessage>, Fault>
     ensures messages { IfOk result (λ made. made.items ≡ greeting settings) }
     ensures memory { IsOkUnless result Memory }
@@ -303,7 +311,7 @@ fn greeting_of(alloc: Global, settings: Settings) -> Result<Vec<BoundedMessage>,
     Ok(made)
 }
 
-/// The hash of the last header, if there is one.
+/// The hash of the last header, or `None` if there is none.
 pub(crate) fn hash_of_last(headers: &[Header]) -> Option<Hash256>
     ensures none { headers.now ≡ [] → result ≡ None }
     ensures some { (first : Header) (others : List Header) → headers.now ≡ first ∷ others →
@@ -315,7 +323,7 @@ pub(crate) fn hash_of_last(headers: &[Header]) -> Option<Hash256>
     }
 }
 
-/// The entries as they are read. The only error is `Fault::Memory`.
+/// What each inventory entry names. Fails only with `Fault::Memory`.
 fn understood_of(alloc: Global, entries: &Entries) -> Result<cb_state::Inventories, Fault>
     ensures entries { IfOk result (λ made. made ≡ map understood entries.now) }
     ensures memory { IsOkUnless result Memory }
@@ -324,7 +332,7 @@ fn understood_of(alloc: Global, entries: &Entries) -> Result<cb_state::Inventori
     Ok(cb_state::Inventories::from_few(made))
 }
 
-/// The same of a slice.
+/// The same for a slice.
 fn all_understood(alloc: Global, entries: &[InvEntry]) -> Result<Vec<Inventory>, Fault>
     ensures entries { IfOk result (λ made. made.items ≡ map understood entries.now) }
     ensures memory { IsOkUnless result Memory }
@@ -336,7 +344,8 @@ fn all_understood(alloc: Global, entries: &[InvEntry]) -> Result<Vec<Inventory>,
     Ok(made)
 }
 
-/// The entries of transactions and blocks, as they are read. The only error is `Fault::Memory`.
+/// The entries that name a transaction or a block. Fails only with `Fault::Memory`, and never if
+/// there is no such entry.
 fn known_of(alloc: Global, entries: &Entries) -> Result<cb_state::Inventories, Fault>
     ensures entries { IfOk result (λ made. made ≡ told_of entries.now) }
     ensures memory { IsOkUnless result Memory }
@@ -346,7 +355,7 @@ fn known_of(alloc: Global, entries: &Entries) -> Result<cb_state::Inventories, F
     Ok(cb_state::Inventories::from_few(made))
 }
 
-/// The same of a slice.
+/// The same for a slice.
 fn all_known(alloc: Global, entries: &[InvEntry]) -> Result<Vec<Inventory>, Fault>
     ensures entries { IfOk result (λ made. made.items ≡ told_of entries.now) }
     ensures few { IfOk result (λ made. length made.items ≤ length entries.now) }
@@ -362,7 +371,7 @@ fn all_known(alloc: Global, entries: &[InvEntry]) -> Result<Vec<Inventory>, Faul
     Ok(made)
 }
 
-/// The entry as it is read, where it is of a transaction or a block.
+/// What the entry names, if that is a transaction or a block.
 fn known(entry: InvEntry) -> Option<Inventory>
     ensures { result ≡ known entry }
 {
@@ -373,7 +382,7 @@ fn known(entry: InvEntry) -> Option<Inventory>
     }
 }
 
-/// What isn't there is no longer in flight.
+/// Blocks of a `notfound` are no longer in flight.
 fn give_up(fetch: &mut Fetch, entries: &[InvEntry])
     ensures { fetch.new ≡ given_up entries.now fetch.old }
 {
@@ -382,6 +391,7 @@ fn give_up(fetch: &mut Fetch, entries: &[InvEntry])
     }
 }
 
+/// The same for one entry: type 2 is a block, type 4 a compact block.
 fn give_one_up(fetch: &mut Fetch, entry: InvEntry)
     ensures { fetch.new ≡ gives_up fetch.old entry }
 {

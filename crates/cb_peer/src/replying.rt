@@ -1,4 +1,5 @@
-//! What a session makes of the hall's answers: one arm for each kind of answer.
+//! How a session handles the hall's answers: one arm for each kind of answer. The hall is what
+//! Bitcoin Core keeps in ChainstateManager and CTxMemPool.
 ghost use Rattle.std.specs.Prelude.{◌≡◌, [], ◌∷◌, ◌≤◌, Option, filter, filter_map, false, length, not, IfOk, IsOk, IsOkUnless};
 ghost use Rattle.std.specs.List.{list_any};
 ghost use Rattle.cb_base.specs.DoubleHash.{double_hash};
@@ -31,11 +32,11 @@ use cb_tx::Tx;
 use cb_wire::{BoundedMessage, Item, Message};
 use std::alloc::Global;
 
-/// How many headers a message has at the most: behind so many there may be more.
+/// The most headers in one message. After a full message there may be more.
 const MOST_HEADERS: usize = 2_000;
 
 impl Session {
-    /// An answer to what was asked for an item, of the kind that was asked for.
+    /// Handles an answer that fits the question asked for an item. Fails only with `Fault::Memory`.
     #[tactic(auto, unfolding(crate::specs::Replying::answered))]
     pub(crate) fn answered(
         &mut self,
@@ -70,7 +71,7 @@ impl Session {
         }
     }
 
-    /// What the hall answers about an item.
+    /// Handles the hall's answer about an item.
     #[tactic(auto, unfolding(crate::specs::Replying::answered))]
     #[inline(never)]
     fn hear_about(
@@ -99,7 +100,7 @@ impl Session {
         }
     }
 
-    /// What the hall has of what was asked for is sent.
+    /// Answers `getdata`: sends what the hall has, and one `notfound` of what it lacks.
     fn send_served(&self, alloc: Global, pieces: &Pieces) -> Result<Made, Fault>
         ensures ok { (item : Option Item) →
             IfOk result (λ made. Makes
@@ -114,7 +115,7 @@ impl Session {
         self.end(alloc, messages)
     }
 
-    /// The headers that were asked for are sent.
+    /// Answers `getheaders`.
     fn send_headers(&self, alloc: Global, headers: &HeaderList) -> Result<Made, Fault>
         ensures ok { (item : Option Item) →
             IfOk result (λ made. Makes
@@ -127,7 +128,7 @@ impl Session {
         self.end(alloc, messages)
     }
 
-    /// The headers behind a locator are asked for, at the end of an item.
+    /// Requests the headers after a locator, at the end of an item.
     fn ask_headers(&self, alloc: Global, locator: &Locator) -> Result<Made, Fault>
         ensures ok { (item : Option Item) →
             IfOk result (λ made. Makes
@@ -139,7 +140,9 @@ impl Session {
         self.end(alloc, messages)
     }
 
-    /// Headers were accepted up to the first that was refused, and what they lack is wanted.
+    /// Handles the result of `headers`. Blocks of accepted headers that we don't have are queued
+    /// for download. A header without proof of work ends the session. For an unknown parent the
+    /// headers before it are requested.
     #[tactic(auto, unfolding(crate::specs::Replying::heads_told))]
     fn hear_heads(
         &mut self,
@@ -166,7 +169,8 @@ impl Session {
         }
     }
 
-    /// What became of a block that the hall was given.
+    /// Handles the result of `block`. A block already known is ignored. For an unknown parent the
+    /// headers before it are requested. Any other refusal ends the session.
     #[tactic(auto, unfolding(crate::specs::Replying::taken_told))]
     fn hear_taken(&mut self, alloc: Global, taken: &Taken) -> Result<Made, Fault>
         ensures ok { (item : Option Item) → IfOk result (λ made. Makes (taken_told self.old taken.now.refused taken.now.locator) item self.new made.messages.items made.next) }
@@ -182,7 +186,8 @@ impl Session {
         }
     }
 
-    /// What is wanted of what the peer told of.
+    /// Handles the result of `inv`: requests the wanted transactions, and headers if a block is
+    /// wanted.
     #[tactic(auto, unfolding(crate::specs::Replying::need_told))]
     fn hear_need(&mut self, alloc: Global, need: &Need) -> Result<Made, Fault>
         ensures ok { (item : Option Item) →
@@ -200,7 +205,7 @@ impl Session {
         self.end(alloc, messages)
     }
 
-    /// The wanted blocks that are still needed are asked for, by type 2.
+    /// Requests queued blocks that are still needed, at most 16, by inventory type 2.
     #[tactic(auto, unfolding(crate::specs::Replying::wanted_told))]
     #[inline(never)]
     fn hear_wanted(&mut self, alloc: Global, need: &Need) -> Result<Made, Fault>
@@ -220,7 +225,7 @@ impl Session {
         })
     }
 
-    /// What is new: the tip, and transactions.
+    /// Announces news: the tip and transactions.
     #[tactic(auto, unfolding(crate::specs::Replying::news_told))]
     #[inline(never)]
     fn hear_news(
@@ -242,7 +247,7 @@ impl Session {
         Ok(Made::sends(messages))
     }
 
-    /// A new tip is told, but to the peer that it was heard from.
+    /// The announcement of a new tip, unless the peer announced it.
     fn told_tip(&self, alloc: Global, news: &News) -> Result<Option<BoundedMessage>, Fault>
         ensures message { IfOk result (λ made. as_list made ≡ tip_told self.now news.now) }
         ensures memory { IsOkUnless result Memory }
@@ -260,7 +265,7 @@ impl Session {
     }
 }
 
-/// After as many headers as a message has, those behind them are asked for. The only error is `Fault::Memory`.
+/// The request for more headers, if the message had 2,000. Fails only with `Fault::Memory`.
 fn request_behind(alloc: Global, item: &Option<Shared<Item>>) -> Result<Vec<BoundedMessage>, Fault>
     ensures messages { IfOk result (λ made. made.items ≡ more_headers item.now) }
     ensures memory { IsOkUnless result Memory }
@@ -285,7 +290,7 @@ fn request_behind(alloc: Global, item: &Option<Shared<Item>>) -> Result<Vec<Boun
     one_message(alloc, asking_headers(locator_of(alloc, hash)?))
 }
 
-/// A locator of one hash. The only error is `Fault::Memory`.
+/// A locator of one hash. Fails only with `Fault::Memory`.
 fn locator_of(alloc: Global, hash: Hash256) -> Result<Locator, Fault>
     ensures locator { IfOk result (λ locator. locator ≡ hash ∷ []) }
     ensures memory { IsOkUnless result Memory }
@@ -295,7 +300,8 @@ fn locator_of(alloc: Global, hash: Hash256) -> Result<Locator, Fault>
     Ok(Locator::from_few(list))
 }
 
-/// The request for the transactions among entries, if there are any. The only error is `Fault::Memory`.
+/// The `getdata` for the transactions among the entries, if any. Fails only with `Fault::Memory`,
+/// and never if there are no entries.
 fn requests_of_txs(
     alloc: Global,
     entries: &cb_state::Inventories,
@@ -309,7 +315,8 @@ fn requests_of_txs(
     Ok(asking_for(cb_payload::Entries::from_few(wanted)))
 }
 
-/// The entries that ask for the transactions among entries. The only error is `Fault::Memory`.
+/// The `getdata` entries for the transactions among the entries. Fails only with `Fault::Memory`,
+/// and never if there are no entries.
 fn tx_requests(alloc: Global, entries: &[Inventory]) -> Result<Vec<InvEntry>, Fault>
     ensures wanted { IfOk result (λ made. made.items ≡ filter_map tx_request entries.now) }
     ensures few { IfOk result (λ made. length made.items ≤ length entries.now) }
@@ -325,7 +332,7 @@ fn tx_requests(alloc: Global, entries: &[Inventory]) -> Result<Vec<InvEntry>, Fa
     Ok(wanted)
 }
 
-/// Whether a block is among entries.
+/// Whether an entry names a block.
 fn names_block(entries: &[Inventory]) -> bool
     ensures { result ≡ list_any is_block entries.now }
 {
@@ -334,7 +341,8 @@ fn names_block(entries: &[Inventory]) -> bool
         .any(|entry| matches!(entry, Inventory::Block(_)))
 }
 
-/// How transactions are told, if there are any beside the one that the item brought. The only error is `Fault::Memory`.
+/// The announcement of the transactions, without the one that the item brought, if any are left.
+/// Fails only with `Fault::Memory`.
 fn told_txs(
     alloc: Global,
     item: &Option<Shared<Item>>,
@@ -361,7 +369,8 @@ fn told_txs(
     told_beside(alloc, tx, txids)
 }
 
-/// How transactions are told, if there are any beside this one. The only error is `Fault::Memory`.
+/// The announcement of the transactions other than this one, if any. Fails only with
+/// `Fault::Memory`.
 fn told_beside(alloc: Global, tx: &Tx, txids: &Txids) -> Result<Option<BoundedMessage>, Fault>
     ensures message { IfOk result
         (λ made. as_list made
@@ -373,7 +382,7 @@ fn told_beside(alloc: Global, tx: &Tx, txids: &Txids) -> Result<Option<BoundedMe
     announce_all(alloc, &others)
 }
 
-/// How transactions are told, if there are any. The only error is `Fault::Memory`.
+/// The announcement of the transactions, if any. Fails only with `Fault::Memory`.
 fn announce_all(alloc: Global, txids: &Txids) -> Result<Option<BoundedMessage>, Fault>
     ensures message { IfOk result (λ made. as_list made ≡ telling txids.now) }
     ensures memory { IsOkUnless result Memory }
@@ -381,7 +390,7 @@ fn announce_all(alloc: Global, txids: &Txids) -> Result<Option<BoundedMessage>, 
     announce_txs(alloc, txids)
 }
 
-/// The txids but this one. The only error is `Fault::Memory`.
+/// The txids without this one. Fails only with `Fault::Memory`.
 fn without(alloc: Global, txids: &Txids, brought: &Hash256) -> Result<Txids, Fault>
     ensures others { IfOk result
         (λ others. others ≡ filter (λ txid. not (same brought.now txid)) txids.now) }
@@ -391,7 +400,7 @@ fn without(alloc: Global, txids: &Txids, brought: &Hash256) -> Result<Txids, Fau
     Ok(Listed::from_few(others))
 }
 
-/// The same of a slice.
+/// The same for a slice. Fails only with `Fault::Memory`.
 fn all_without(alloc: Global, txids: &[Hash256], brought: &Hash256) -> Result<Vec<Hash256>, Fault>
     ensures others { IfOk result
         (λ others. others.items ≡ filter (λ txid. not (same brought.now txid)) txids.now) }

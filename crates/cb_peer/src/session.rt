@@ -25,7 +25,7 @@ use cb_wire::{BoundedMessage, Item};
 use std::alloc::Global;
 use std::marker::Model;
 
-/// What is known of a peer that has said nothing.
+/// What is known of a peer that has sent nothing.
 const STRANGER: Peer = Peer {
     version: 0,
     by_headers: false,
@@ -33,16 +33,18 @@ const STRANGER: Peer = Peer {
     wants_high: false,
 };
 
-/// Where nothing was told.
+/// The marks of a session in which nothing was announced.
 const UNMARKED: Marks = Marks {
     heard: None,
     tip: None,
     next: 0,
 };
 
-/// One peer's session: a machine that is given events and answers with messages, and with a question to the hall. It is seen
-/// as what it was given, how far it is, what its peer said of itself, what the two told each other, the blocks that it fetches,
-/// and the item and the question that stand.
+/// One peer's session: a state machine that takes events and answers with messages and with a
+/// question to the hall. The hall is what Bitcoin Core keeps in ChainstateManager and CTxMemPool.
+///
+/// Contracts see its settings, how far it is, what its peer told about itself, what the two
+/// announced to each other, the blocks that it downloads, and the item whose question is open.
 #[derive(Drop)]
 pub struct Session {
     pub(crate) settings: Settings,
@@ -70,9 +72,10 @@ impl Session {
     ghost use Rattle.cb_peer.specs.declared.state.CloseReason.TheVariants as reasons;
     ghost use Rattle.cb_peer.specs.declared.state.State.TheVariants as states;
 
-    /// A session at its beginning, and the messages that it opens with: where this node made the connection, its `version`.
+    /// A new session, and the messages that open it: our `version` if this node made the
+    /// connection, and none otherwise.
     ///
-    /// The only error is `Fault::Memory`, and an inbound session takes none.
+    /// Fails only with `Fault::Memory`, and never for an inbound connection.
     pub fn new(alloc: Global, settings: Settings) -> Result<(Session, Vec<BoundedMessage>), Fault>
         ensures session { IfOk result (λ made. made.0 ≡ opening settings) }
         ensures messages { IfOk result (λ made. made.1.items ≡ openings settings) }
@@ -88,7 +91,7 @@ impl Session {
         Ok((Session::bare(alloc, settings, State::Start), messages))
     }
 
-    /// A session of which only this is known: how far it is.
+    /// A session about which only its settings and its state are known.
     fn bare(alloc: Global, settings: Settings, state: State) -> Session
         ensures { result ≡ bare settings state }
     {
@@ -109,23 +112,24 @@ impl Session {
         self.state
     }
 
-    /// What the peer said of itself.
+    /// What the peer told about itself.
     pub fn peer(&self) -> Peer
         ensures { result ≡ self.now.peer }
     {
         self.peer
     }
 
-    /// Whether a question stands.
+    /// Whether a question is open.
     pub fn is_waiting(&self) -> bool
         ensures { result ≡ is_some self.now.standing }
     {
         self.standing.is_some()
     }
 
-    /// An equal session, which shares the item that stands with this one.
+    /// An equal copy that shares the item whose question is open.
     ///
-    /// The only error is `Fault::Memory`; where nothing stands and no block is fetched there is none.
+    /// Fails only with `Fault::Memory`, and never if no question is open and no block is being
+    /// downloaded.
     pub fn copy(&self, alloc: Global) -> Result<Session, Fault>
         ensures equal { IfOk result (λ copy. copy ≡ self.now) }
         ensures memory { IsOkUnless result Memory }
@@ -145,10 +149,12 @@ impl Session {
         })
     }
 
-    /// Takes an event. The answer is the messages to send, in order, and the question to ask the hall after that.
+    /// Handles an event. Returns the messages to send, in order, and the question to ask the hall
+    /// after that.
     ///
-    /// The only error is `Fault::Memory`, which closes the session. A closed session changes and sends nothing, and so
-    /// does one to which the event doesn't fit.
+    /// Fails only with `Fault::Memory`; the session is then closed. A closed session ignores all
+    /// events, and any session ignores an event that doesn't fit: an item or tick while a question
+    /// is open, or an answer that doesn't fit its open question.
     #[tactic(auto, unfolding(crate::specs::Session::step_of, crate::specs::Session::open_step))]
     pub fn step(
         &mut self,
@@ -160,7 +166,9 @@ impl Session {
         ensures err { OnErr result (self.new ≡ over reasons.Memory self.old) }
         ensures memory { IsOkUnless result Memory }
         ensures calm { takes_no_memory event.now ≡ true → IsOk result }
-        // An answer by which little comes, to which nothing is sent and by which nothing is asked but what is new, takes no memory.
+        // An answer takes no memory if its item is neither a transaction nor a block, it lists
+        // nothing missing or needed, no message is sent to it, and no question but the one for news
+        // follows.
         ensures silent { spares self.old event.now ≡ true →
             (step_of self.old event.now).messages ≡ [] →
             is_light (step_of self.old event.now).question ≡ true → IsOk result }
@@ -183,7 +191,7 @@ impl Session {
         }
     }
 
-    /// Ends the session, which was given these settings, for want of memory.
+    /// Ends the session, which was given these settings, because memory ran out.
     #[cold]
     fn starve(&mut self, alloc: Global, settings: Settings) -> Fault
         ensures over { self.new ≡ bare settings (states.Closed reasons.Memory) }
@@ -193,7 +201,7 @@ impl Session {
         Fault::Memory
     }
 
-    /// Ends the session. It takes no memory.
+    /// Ends the session for this reason. Returns no messages and no question. Takes no memory.
     pub fn close(
         &mut self,
         alloc: Global,
@@ -205,7 +213,7 @@ impl Session {
         (Vec::new(alloc), None)
     }
 
-    /// Ends the session on a message or an answer.
+    /// Ends the session while it handles a message or an answer.
     pub(crate) fn end_by(&mut self, alloc: Global, why: CloseReason) -> Made
         ensures over { self.new ≡ over why self.old }
         ensures messages { result.messages.items ≡ [] }
@@ -215,7 +223,7 @@ impl Session {
         Made::nothing(alloc)
     }
 
-    /// An item or a tick comes: the hall is asked for leave, unless a question stands.
+    /// An item or a tick asks the hall for admission. It is ignored while a question is open.
     fn arrive(
         &mut self,
         alloc: Global,
@@ -233,7 +241,7 @@ impl Session {
         (Vec::new(alloc), Some(Question::Admit))
     }
 
-    /// The hall's answer comes. Where it doesn't fit what stands, nothing changes and nothing is sent: that goes on standing.
+    /// Handles the hall's answer. A session ignores an answer that doesn't fit its open question.
     fn hear_answer(
         &mut self,
         alloc: Global,
@@ -259,7 +267,7 @@ impl Session {
         self.follow(alloc, standing, answer)
     }
 
-    /// An answer that is of the kind that was waited for. Nothing stands any more.
+    /// Handles an answer that fits. Its question is no longer open.
     fn follow(
         &mut self,
         alloc: Global,
@@ -281,7 +289,8 @@ impl Session {
         }
     }
 
-    /// What is asked stands with the item. The answer is what the step sends and asks.
+    /// Opens the next question for the item, if there is one. Returns the messages and that
+    /// question.
     fn stand(
         &mut self,
         item: Option<Shared<Item>>,
@@ -299,7 +308,8 @@ impl Session {
         (messages, Some(question))
     }
 
-    /// The end of an item or a tick: once the session is ready, wanted blocks are asked for, or news.
+    /// The end of an item or a tick. Once the handshake is complete, the session asks which queued
+    /// blocks are still needed if it has some and none is in flight. Otherwise it asks for news.
     #[tactic(auto, unfolding(crate::specs::Receiving::ends))]
     pub(crate) fn end(&self, alloc: Global, messages: Vec<BoundedMessage>) -> Result<Made, Fault>
         ensures ok { (item : Option Item) →
@@ -327,7 +337,8 @@ impl Session {
         })
     }
 
-    /// The question what is new. The tip's block isn't asked for with it.
+    /// The question for news: what changed in the tip and the mempool since the peer was last told.
+    /// It doesn't ask for the tip's block.
     pub(crate) fn look(&self) -> Next
         ensures { result ≡ record {
           ask = asks.Fresh;
@@ -346,7 +357,7 @@ impl Session {
     }
 }
 
-/// Why an event ends a session that is neither an item, a tick nor an answer.
+/// The reason with which an event ends a session at once.
 #[tactic(auto, unfolding(crate::specs::Session::open_step))]
 fn end_of(event: &Event) -> CloseReason
     requires { ends_at_once event.now ≡ true }

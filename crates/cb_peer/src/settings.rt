@@ -1,14 +1,14 @@
-/// What a session is given when it is made.
+/// The settings of a session, fixed when it is made.
 #[derive(Clone, Copy, PartialEq, Eq)]
 pub struct Settings {
     /// Whether the peer made the connection.
     pub inbound: bool,
-    /// The nonce of our `version`, by which a connection to ourselves is known.
+    /// The nonce of our `version`. A peer that sends it back is this node itself.
     pub nonce: u64,
-    /// The time of our `version`, in seconds.
+    /// The time in our `version`, in seconds.
     pub time: i64,
-    /// The height that our `version` tells.
+    /// The height in our `version`.
     pub height: i32,
-    /// What the nonces of our compact blocks begin with (BIP 152).
+    /// The first part of the nonces of our compact blocks (BIP 152).
     pub salt: u64,
 }

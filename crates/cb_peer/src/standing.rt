@@ -10,19 +10,20 @@ use cb_base::{Fault, Shared};
 use cb_journal::Answer;
 use cb_wire::{Item, Message};
 
-/// What waits for the hall's answer.
+/// The item or tick that waits for the hall's answer to the open question. The hall is what Bitcoin
+/// Core keeps in ChainstateManager and CTxMemPool.
 #[derive(Drop)]
 pub struct Standing {
-    /// The item that came; None where it was a tick.
+    /// The item being processed, or `None` for a tick.
     pub item: Option<Shared<Item>>,
     /// How far the session is with it.
     pub ask: Ask,
 }
 
 impl Standing {
-    /// An equal one, which shares its item with this one.
+    /// An equal copy that shares the item.
     ///
-    /// The only error is `Fault::Memory`, where an item has all the owners that can be counted.
+    /// Fails only with `Fault::Memory`, if the item can't count another owner.
     pub fn copy(&self) -> Result<Standing, Fault>
         ensures equal { IfOk result (λ copy. copy ≡ self.now) }
         ensures memory { IsOkUnless result Memory }
@@ -37,7 +38,7 @@ impl Standing {
         })
     }
 
-    /// Whether an answer is of the kind that is waited for.
+    /// Whether an answer fits the open question.
     pub(crate) fn is_met_by(&self, answer: &Answer) -> bool
         ensures { (s : SessionState) →
             result ≡ fits (question_of s self.now.item self.now.ask) answer.now }
@@ -51,7 +52,7 @@ impl Standing {
     }
 }
 
-/// Whether an answer is of the kind that is asked for about an item.
+/// Whether an answer fits the question that an item leads to.
 fn meets_item(item: &Option<Shared<Item>>, answer: &Answer) -> bool
     ensures { (s : SessionState) → result ≡ fits (about_item s item.now) answer.now }
 {
@@ -64,7 +65,7 @@ fn meets_item(item: &Option<Shared<Item>>, answer: &Answer) -> bool
     }
 }
 
-/// Whether an answer is of the kind that is asked for about a message.
+/// Whether an answer fits the question that a message leads to.
 fn meets_message(message: &Message, answer: &Answer) -> bool
     ensures { (s : SessionState) → result ≡ fits (about s message.now) answer.now }
 {
@@ -89,7 +90,7 @@ fn meets_message(message: &Message, answer: &Answer) -> bool
     }
 }
 
-/// Whether an answer is of the kind that is asked for where a locator is.
+/// Whether an answer fits the question for the chain's locator.
 fn meets_locator(answer: &Answer) -> bool
     ensures { result ≡ fits questions.Locator answer.now }
 {

@@ -3,14 +3,14 @@ ghost use Rattle.std.specs.Prelude.{◌≡◌, Some};
 use cb_base::Hash256;
 use std::fmt;
 
-/// How far the handshake of a session is, and whether it goes on.
+/// How far the handshake is, or that the session is over.
 #[derive(Clone, Copy, PartialEq, Eq)]
 pub enum State {
-    /// Nothing of the handshake has come.
+    /// No `version` has come from the peer.
     Start,
     /// The peer's `version` has come.
     Greeted,
-    /// The peer's `verack` has come too.
+    /// The peer's `verack` has come too: the handshake is complete.
     Ready,
     /// The session is over.
     Closed(CloseReason),
@@ -29,7 +29,7 @@ impl State {
         }
     }
 
-    /// Whether the handshake is done, and the session goes on.
+    /// Whether the handshake is complete and the session isn't over.
     pub fn is_ready(&self) -> bool
         ensures { result ≡ is_ready self.now }
     {
@@ -43,27 +43,27 @@ impl State {
 /// Why a session is over.
 #[derive(Clone, Copy, PartialEq, Eq)]
 pub enum CloseReason {
-    /// The peer ended the stream.
+    /// The peer's stream ended, or wasn't read any further.
     Bye,
-    /// The stream has a fault.
+    /// The peer's stream has a framing fault, such as wrong network magic.
     BadStream,
-    /// A known command's payload couldn't be read, or a message made no sense.
+    /// The payload of a known command couldn't be parsed, or a message made no sense.
     BadMessage,
     /// A header or a block broke a rule.
     BadBlock,
-    /// A request named what can't be.
+    /// A request named something impossible. No session ends with this reason yet.
     BadRequest,
-    /// The peer's version is too old.
+    /// The peer's protocol version is too old.
     OldPeer,
-    /// The peer is this node.
+    /// The peer is this node itself.
     SelfPeer,
-    /// The node's owner ended the connection.
+    /// The node's owner kicked the connection.
     Kicked,
     /// Memory ran out.
     Memory,
-    /// The trace has all the entries that it may have.
+    /// The trace, the log of the connection's events, has reached its limit of 2^62 entries.
     TraceFull,
-    /// The hall grants no more questions.
+    /// The hall (Bitcoin Core: ChainstateManager and CTxMemPool) grants no more questions.
     HallFull,
     /// A write failed.
     WriteFault,
@@ -72,7 +72,7 @@ pub enum CloseReason {
 impl CloseReason {
     ghost use Rattle.cb_peer.specs.State.{reason_name};
 
-    /// The reason's name, as it is printed.
+    /// The reason's name for printing, such as `BadBlock`.
     pub fn name(&self) -> &'static str
         ensures { result.now ≡ reason_name self.now }
     {
@@ -104,26 +104,26 @@ impl fmt::Display for CloseReason {
     }
 }
 
-/// What a peer said of itself.
+/// What a peer told about itself.
 #[derive(Clone, Copy, PartialEq, Eq)]
 pub struct Peer {
-    /// The version of the protocol that it speaks.
+    /// Its protocol version.
     pub version: i32,
-    /// Whether it wants to be told of blocks by their headers (BIP 130).
+    /// Whether it wants blocks announced by their headers (BIP 130).
     pub by_headers: bool,
-    /// Whether it knows compact blocks of version 1 (BIP 152).
+    /// Whether it supports compact blocks of version 1 (BIP 152).
     pub capable: bool,
-    /// Whether it wants to be sent compact blocks unasked (BIP 152).
+    /// Whether it wants compact blocks without asking: high-bandwidth mode (BIP 152).
     pub wants_high: bool,
 }
 
-/// What a session and its peer told each other.
+/// What a session and its peer announced to each other.
 #[derive(Clone, Copy, PartialEq, Eq)]
 pub struct Marks {
-    /// The last block that was heard of from the peer.
+    /// The last block that the peer told of by `headers` or `block`.
     pub heard: Option<Hash256>,
     /// The tip that the peer was told last.
     pub tip: Option<Hash256>,
-    /// The number of arrival of the first transaction that the peer wasn't told.
+    /// The arrival number of the first mempool transaction that the peer wasn't told of.
     pub next: u64,
 }
