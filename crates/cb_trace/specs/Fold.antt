@@ -1,4 +1,5 @@
--- The session fold: a session over the entries of its trace, with all that it sent and all that it was told.
+-- A session folded over the entries of its trace, with all that it sent and all that it was
+-- answered.
 use Rattle.std.specs.Prelude.{◌≡◌, ℕ, ◌+◌, ◌^◌, ◌==◌, Bool, false, List, [], ◌∷◌, ◌++◌, length, map, filter, fold, Option, Some, if◌then◌else◌}
 use Rattle.std.specs.List.{list_any}
 use Rattle.cb_wire.specs.declared.message.Message.{Message}
@@ -14,15 +15,16 @@ use Rattle.cb_peer.specs.Session.{Stepped, openings, stays, closes, open_step}
 use Rattle.cb_peer.specs.State.{SessionState, is_closed, opening}
 use Rattle.cb_trace.specs.declared.trace.TraceEntry.{TraceEntry}
 
--- a session after some entries: how many there were, what was sent, and the replies to its questions, in order
+-- A session after some entries: how many there were, what was sent, and the replies to its
+-- questions, in order.
 pub record Account : Type 0 where
   pub session : SessionState
   pub count : ℕ
   pub sent : List Message
   pub replies : List Reply
 
--- The step of one more entry. A session that is over stays as it is. The entry number 2^62 ends it, whatever it is, and
--- one that found no memory does too; neither sends nor asks anything.
+-- The step of one more entry. A session that is over stays as it is. Entry number 2^62 ends it, and
+-- so does an entry that lacked memory; neither sends or asks anything.
 abbrev pub entry_step : ℕ → SessionState → TraceEntry → Stepped
 entry_step count s entry =
     if is_closed s.state then stays s
@@ -30,7 +32,7 @@ entry_step count s entry =
     else if entry.starved then closes reasons.Memory s
     else open_step s entry.event
 
--- the reply that an event is to the question that stands
+-- The reply that an event is to the open question.
 abbrev pub replies_to : Option Question → Event → List Reply
 replies_to (Some question) (events.Told answer) = record { question = question; answer = answer } ∷ []
 replies_to standing event = []
@@ -47,11 +49,11 @@ account_step account entry =
 abbrev pub first_account : Settings → Account
 first_account settings = record { session = opening settings; count = 0; sent = openings settings; replies = [] }
 
--- the fold over all entries, from a session at its beginning
+-- The fold over all entries, from a new session.
 unfoldable pub account_of : Settings → List TraceEntry → Account
 account_of settings entries = fold account_step (first_account settings) entries
 
--- the session after these entries, the messages that were given, and the replies
+-- The session after the entries, the messages sent, and the replies.
 abbrev pub session_of : Settings → List TraceEntry → SessionState
 session_of settings entries = (account_of settings entries).session
 
@@ -61,19 +63,19 @@ sends settings entries = (account_of settings entries).sent
 abbrev pub replies : Settings → List TraceEntry → List Reply
 replies settings entries = (account_of settings entries).replies
 
--- each entry found a session that wasn't over: none stands after the one that ends it
+-- Each entry found a session that wasn't over: none follows the one that ends it.
 abbrev pub EachOpen : Account → List TraceEntry → Type 0
 EachOpen account [] = Unit {0}
 EachOpen account (entry ∷ entries) = (is_closed account.session.state ≡ false) × EachOpen (account_step account entry) entries
 
--- whether some entry's event is of such a kind
+-- Whether some entry's event is of such a kind.
 abbrev pub has_kind : (Kind → Bool) → List TraceEntry → Bool
 has_kind test entries = list_any (λ entry. test (kind_of entry.event)) entries
 
--- the entries whose event is of such a kind
+-- The number of entries whose event is of such a kind.
 abbrev pub number_of : (Kind → Bool) → List TraceEntry → ℕ
 number_of test entries = length (filter (λ entry. test (kind_of entry.event)) entries)
 
--- what came of the peer, in order: items, a fault of the stream, its end
+-- The inputs from the peer, in order: items, a fault of the stream, its end.
 abbrev pub inputs_of : List TraceEntry → List Event
 inputs_of entries = filter (λ event. is_input (kind_of event)) (map (λ entry. entry.event) entries)

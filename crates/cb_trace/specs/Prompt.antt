@@ -6,16 +6,16 @@ use Rattle.cb_peer.specs.State.{is_closed}
 use Rattle.cb_trace.specs.declared.trace.TraceEntry.{TraceEntry}
 use Rattle.cb_trace.specs.Fold.{Account, account_step, first_account, session_of}
 
--- no question stood before each entry that begins something new
+-- No question was open before an entry that begins something new.
 abbrev pub EachPrompt : Account → List TraceEntry → Type 0
 EachPrompt account [] = Unit {0}
 EachPrompt account (entry ∷ entries) = (begins (kind_of entry.event) ≡ true → account.session.standing ≡ None) × EachPrompt (account_step account entry) entries
 
--- no question stands, unless the session is over
+-- No question is open, unless the session is over.
 abbrev pub NoneStands : Settings → List TraceEntry → Type 0
 NoneStands settings entries = is_closed (session_of settings entries).state ≡ false → (session_of settings entries).standing ≡ None
 
--- every item got its answers before the next thing came, and none was left waiting
+-- Every item had its answers before the next event came, and none was left waiting.
 pub record IsPrompt (settings : Settings) (entries : List TraceEntry) : Type 0 where
   pub each : EachPrompt (first_account settings) entries
   pub done : NoneStands settings entries

@@ -1,5 +1,5 @@
--- A trace: a session, and the entries since its base. It stands for all entries since the beginning; those before the base
--- were dropped, and their numbers are kept.
+-- A trace: a session, and the log of its events since the base. It stands for all entries since the
+-- beginning. Those before the base were dropped, and their numbers are kept.
 use Rattle.std.specs.Prelude.{◌≡◌, ◌≢◌, ◌⊎◌, ℕ, ◌+◌, ◌≤◌, ◌<◌, ◌^◌, ◌||◌, ◌&&◌, Bool, true, false, List, [], ◌∷◌, ◌++◌, length, nat_lt, not, is_none, Option, None, if◌then◌else◌}
 use Rattle.std.specs.List.{sum_by}
 use Rattle.cb_fetch.specs.Fetching.{idle}
@@ -16,11 +16,11 @@ use Rattle.cb_trace.specs.declared.trace.TraceEntry.{TraceEntry}
 use Rattle.cb_trace.specs.declared.trace.Counts.{Counts}
 use Rattle.cb_trace.specs.Fold.{Account, EachOpen, account_step, entry_step, first_account, number_of, session_of}
 
--- the numbers of entries, of inputs and of answers
+-- The numbers of entries, of inputs and of answers.
 abbrev pub counts_of : List TraceEntry → Counts
 counts_of entries = record { entries = length entries; items = number_of is_input entries; told = number_of is_told entries }
 
--- the numbers with one entry more
+-- The numbers with one more entry.
 abbrev pub counts_with : Counts → Event → Counts
 counts_with counts event =
     record {
@@ -29,14 +29,14 @@ counts_with counts event =
       told = counts.told + (if is_told (kind_of event) then 1 else 0);
     }
 
--- numbers of fewer than 2^62 entries
+-- The numbers of fewer than 2^62 entries.
 pub record AreCounts (counts : Counts) : Type 0 where
   pub few : counts.entries < 2 ^ 62
   pub items : counts.items ≤ counts.entries
   pub told : counts.told ≤ counts.entries
 
--- a trace: what its session was given, the session at the base and the numbers before it, the entries since, the session
--- after them and the numbers of all, and for how many more entries there is room
+-- A trace: the settings of its session, the session at the base and the numbers before it, the
+-- entries since, the session after them and the numbers of all, and the room for more entries.
 pub record TraceView : Type 0 where
   pub settings : Settings
   pub base : SessionState
@@ -46,12 +46,12 @@ pub record TraceView : Type 0 where
   pub total : Counts
   pub room : ℕ
 
--- the session of a trace goes on
+-- The session of the trace isn't over.
 abbrev pub IsOpen : TraceView → Type 0
 IsOpen trace = is_closed trace.session.state ≡ false
 
--- The trace stands for this history: some entries that were dropped, and then its own. Its base is the session after the
--- dropped ones, its session the one after all, and the numbers are theirs.
+-- The trace stands for this history: entries that were dropped, and then its own. Its base is the
+-- session after the dropped ones, its session the one after all, and the numbers are theirs.
 pub record StandsFor (trace : TraceView) (history : List TraceEntry) : Type 0 where
   pub dropped : List TraceEntry
   pub parts : history ≡ dropped ++ trace.entries
@@ -61,29 +61,30 @@ pub record StandsFor (trace : TraceView) (history : List TraceEntry) : Type 0 wh
   pub total : trace.total ≡ counts_of history
   pub each : EachOpen (first_account trace.settings) history
 
--- what a trace keeps
+-- What every trace keeps.
 pub record IsTrace (trace : TraceView) : Type 0 where
   pub history : List TraceEntry
   pub stands : StandsFor trace history
-  -- nothing stands at the base
+  -- No question is open at the base.
   pub free : trace.base.standing ≡ None
-  -- while the session goes on, there is room for one more entry, and fewer than 2^62 stand
+  -- While the session isn't over, there is room for one more entry, and there are fewer than 2^62.
   pub spare : IsOpen trace → 1 ≤ trace.room
   pub limit : IsOpen trace → trace.total.entries < 2 ^ 62
 
--- what the entries hold
+-- How many bytes the entries hold.
 abbrev pub held_of : List TraceEntry → ℕ
 held_of entries = sum_by (λ entry. held_by entry.event) entries
 
--- a checkpoint is due: no question stands, and 65,000 entries or more stand, or they hold more than 8,000,000 bytes
+-- A checkpoint is due: no question is open, and there are 65,000 entries or more, or they hold more
+-- than 8,000,000 bytes.
 abbrev pub is_due : TraceView → Bool
 is_due trace = is_none trace.session.standing && (not (nat_lt (length trace.entries) 65000) || nat_lt 8000000 (held_of trace.entries))
 
--- what the next entry of a trace makes of its session
+-- The step that the next entry of a trace makes.
 abbrev pub next_step : TraceView → TraceEntry → Stepped
 next_step trace entry = entry_step trace.total.entries trace.session entry
 
--- the trace with one more entry
+-- The trace with one more entry.
 pub record Grows (old new : TraceView) (entry : TraceEntry) : Type 0 where
   pub settings : new.settings ≡ old.settings
   pub base : new.base ≡ old.base
@@ -93,13 +94,15 @@ pub record Grows (old new : TraceView) (entry : TraceEntry) : Type 0 where
   pub room : new.room + 1 ≡ old.room
   pub history : (history : List TraceEntry) → StandsFor old history → StandsFor new (history ++ entry ∷ [])
 
--- The question that is asked is the one that stands afterwards. Where none is asked, nothing stands, or the session is as before:
--- the event didn't fit.
+-- The question asked is the one that is open afterwards. If none is asked, none is open, or the
+-- session is unchanged because the event didn't fit.
 abbrev pub AsksWhatStands : SessionState → SessionState → Option Question → Type 0
 AsksWhatStands before after asked = (asked ≡ standing_question after) ⊎ ((asked ≡ None) × (after ≡ before))
 
--- The trace was given an event, and answered with what its session sent and asked. It is starved only where the step takes
--- memory, and never by an answer by which little comes, to which nothing is sent and by which nothing is asked but what is new.
+-- The trace was given an event, and returned what its session sent and asked. The entry is starved
+-- only if the step takes memory. An answer is never starved if it lists nothing missing or needed,
+-- its item is neither a transaction nor a block, nothing is sent to it, and nothing is asked but
+-- what is new.
 pub record TraceSteps (old new : TraceView) (event : Event) (sent : List Message) (asked : Option Question) : Type 0 where
   pub starved : Bool
   pub grows : Grows old new (record { event = event; starved = starved })
@@ -109,26 +112,26 @@ pub record TraceSteps (old new : TraceView) (event : Event) (sent : List Message
   pub calm : takes_no_memory event ≡ true → starved ≡ false
   pub silent : spares old.session event ≡ true → (next_step old (record { event = event; starved = false })).messages ≡ [] → is_light (next_step old (record { event = event; starved = false })).question ≡ true → starved ≡ false
 
--- the trace stands for the same history with the same session
+-- The trace stands for the same history with the same session.
 pub record IsAsBefore (old new : TraceView) : Type 0 where
   pub settings : new.settings ≡ old.settings
   pub session : new.session ≡ old.session
   pub total : new.total ≡ old.total
   pub history : (history : List TraceEntry) → StandsFor old history → StandsFor new history
 
--- The trace stands for the same history with the same session. Where a checkpoint was due its base is that session, and no
--- entry stands; else its base and its entries are as before.
+-- The trace stands for the same history with the same session. If a checkpoint was due, that
+-- session is the base and there are no entries. Otherwise base and entries are unchanged.
 pub record Rests (old new : TraceView) : Type 0 where
   pub same : IsAsBefore old new
   pub taken : is_due old ≡ true → (new.base ≡ old.session) × (new.before ≡ old.total) × (new.entries ≡ [])
   pub kept : is_due old ≡ false → (new.base ≡ old.base) × (new.before ≡ old.before) × (new.entries ≡ old.entries)
 
--- room was made for two entries
+-- Room was made for two entries.
 pub record HasRoom (old new : TraceView) : Type 0 where
   pub rests : Rests old new
   pub room : 2 ≤ new.room
 
--- or there was none, and NoMemory took the last place
+-- There was no memory for the room, and `NoMemory` took the last place.
 pub record RanOut (old new : TraceView) : Type 0 where
   pub between : TraceView
   pub rests : Rests old between
@@ -136,8 +139,8 @@ pub record RanOut (old new : TraceView) : Type 0 where
   pub closed : is_closed new.session.state ≡ true
   pub room : new.room ≡ 0
 
--- or there was none for a checkpoint that was due, and NoMemory took a place: the session fetches blocks, so a copy of it takes
--- memory
+-- There was no memory for a checkpoint that was due, and `NoMemory` took a place. The session is
+-- downloading blocks, so its copy takes memory.
 pub record LacksBase (old new : TraceView) : Type 0 where
   pub due : is_due old ≡ true
   pub fetches : old.session.fetch ≢ idle
@@ -148,23 +151,23 @@ abbrev pub Readied : TraceView → TraceView → Bool → Type 0
 Readied old new true = HasRoom old new
 Readied old new false = RanOut old new ⊎ LacksBase old new
 
--- ---- the questions that stood
+-- ---- the questions that were open
 
--- the question that stood before an answer
+-- The question that was open before an answer.
 abbrev pub asked_at : Account → TraceEntry → List (Option Question)
 asked_at account entry = if is_told (kind_of entry.event) then standing_question account.session ∷ [] else []
 
--- the questions that stood before each answer, in order, folding the entries anew
+-- The questions that were open before each answer, in order, found by folding the entries again.
 abbrev pub asked_from : Account → List TraceEntry → List (Option Question)
 asked_from account [] = []
 asked_from account (entry ∷ entries) = asked_at account entry ++ asked_from (account_step account entry) entries
 
--- the fold's account at the base, as if nothing had been sent and told before
+-- The fold's account at the base, as if nothing had been sent or answered before.
 abbrev pub base_account : TraceView → Account
 base_account trace = record { session = trace.base; count = trace.before.entries; sent = []; replies = [] }
 
--- Of all answers of the history, these questions stood before the last ones; as many answers as the trace keeps the number
--- of were given before.
+-- Of all answers of the history, these questions were open before the last ones. The number of
+-- earlier answers is the one that the trace keeps.
 pub record AskedLast (settings : Settings) (history : List TraceEntry) (told : ℕ) (asked : List (Option Question)) : Type 0 where
   pub earlier : List (Option Question)
   pub parts : asked_from (first_account settings) history ≡ earlier ++ asked

@@ -1,4 +1,4 @@
--- What was sent and told over a whole trace, in the protocol's words.
+-- What was sent and answered over a whole trace, in the protocol's words.
 use Rattle.std.specs.Prelude.{◌≡◌, ℕ, pos, Bool, true, false, not, ◌&&◌, ◌||◌, int_lt, List, [], ◌∷◌, ◌++◌, length, filter, filter_map, Option, Some, None}
 use Rattle.cb_base.specs.declared.hash.Hash256.{Hash256}
 use Rattle.cb_block.specs.declared.header.Header.{Header}
@@ -20,26 +20,26 @@ use Rattle.cb_peer.specs.State.{SessionState, is_closed, is_ready}
 use Rattle.cb_trace.specs.declared.trace.TraceEntry.{TraceEntry}
 use Rattle.cb_trace.specs.Fold.{Account, account_step, replies, sends, session_of}
 
--- how many messages meet a test
+-- The number of messages that meet a test.
 abbrev pub number_sent : (Message → Bool) → List Message → ℕ
 number_sent test sent = length (filter test sent)
 
--- before the entries, or after one of them, the session met the test
+-- The session met the test before the entries or after one of them.
 abbrev pub came_to : (SessionState → Bool) → Account → List TraceEntry → Bool
 came_to test account [] = test account.session
 came_to test account (entry ∷ entries) = test account.session || came_to test (account_step account entry) entries
 
--- ---- blocks that are told by their headers (BIP 130)
+-- ---- blocks announced by their headers (BIP 130)
 
 abbrev pub is_send_headers : Message → Bool
 is_send_headers messages.SendHeaders = true
 is_send_headers other = false
 
--- the handshake is done, with a peer that knows `sendheaders`: its version is 70012 or more
+-- The handshake is complete, with a peer that knows `sendheaders`: its version is 70012 or more.
 abbrev pub knows_send_headers : SessionState → Bool
 knows_send_headers s = is_ready s.state && not (int_lt s.peer.version (pos 70012))
 
--- by this the peer asks to be told of blocks by their headers
+-- A `sendheaders`: the peer asks for blocks to be announced by their headers.
 abbrev pub is_wish : Item → Bool
 is_wish (Good messages.SendHeaders) = true
 is_wish other = false
@@ -48,12 +48,12 @@ abbrev pub says_send_headers : Event → Bool
 says_send_headers (events.Said item) = is_wish item
 says_send_headers other = false
 
--- the headers that a `headers` has
+-- The headers of a `headers` message.
 abbrev pub headers_in : Message → Option (List Header)
 headers_in (messages.Headers headers) = Some headers
 headers_in other = None
 
--- the headers that the hall answered to a `getheaders`
+-- The headers that the hall answered to a `getheaders`.
 abbrev pub following_in : Question → Answer → Option (List Header)
 following_in (questions.Serve (After locator stop)) (answers.Following headers) = Some headers
 following_in question answer = None
@@ -61,27 +61,27 @@ following_in question answer = None
 abbrev pub following : Reply → Option (List Header)
 following reply = following_in reply.question reply.answer
 
--- What `headers` were sent are the first of those that the hall answered to `getheaders`, each once and in order, and all of them
--- while the session goes on.
+-- The `headers` messages sent are the first of the hall's answers to `getheaders`, each once and in
+-- order. They are all of them while the session isn't over.
 pub record SendsWhatFollows (settings : Settings) (entries : List TraceEntry) : Type 0 where
   pub unsent : List (List Header)
   pub parts : filter_map following (replies settings entries) ≡ filter_map headers_in (sends settings entries) ++ unsent
   pub all : is_closed (session_of settings entries).state ≡ false → unsent ≡ []
 
--- ---- blocks that are fetched
+-- ---- blocks being downloaded
 
--- the blocks that an answer tells to be needed, of those that were asked about
+-- The blocks that an answer lists as needed, of those that were asked about.
 abbrev pub needed_in : Question → Answer → List Hash256
 needed_in (questions.Want entries) (answers.Need need) = blocks_in need.entries
 needed_in question answer = []
 
--- the blocks that an answer tells to lack, of headers or of what was asked about
+-- The blocks that an answer lists as missing: of headers, or of those that were asked about.
 abbrev pub lacking_of : Question → Answer → List Hash256
 lacking_of (questions.Headers headers) (answers.Heads heads) = heads.lack
 lacking_of (questions.Want entries) (answers.Need need) = blocks_in need.entries
 lacking_of question answer = []
 
--- the hall told that this block is needed, or that it lacks
+-- The hall listed this block as needed, or as missing.
 abbrev pub tells_needed : Hash256 → Reply → Bool
 tells_needed hash reply = has (needed_in reply.question reply.answer) hash
 

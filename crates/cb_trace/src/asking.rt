@@ -1,4 +1,4 @@
-//! The questions that a trace's answers were answers to, by playing its entries again.
+//! Replays the entries of a trace to find the question that each of its answers answered.
 ghost use Rattle.std.specs.Prelude.{◌≡◌, ◌⊎◌, ◌+◌, ◌≤◌, ◌<◌, ◌^◌, [], None, IfOk, IsOkUnless, length};
 ghost use Rattle.cb_base.specs.declared.fault.Fault.TheVariants.{Memory};
 ghost use Rattle.cb_peer.specs.Ask.{standing_question};
@@ -11,10 +11,10 @@ use cb_journal::Question;
 use cb_peer::{CloseReason, Session};
 use std::alloc::Global;
 
-/// Gives a session for which nothing stands the entries behind so many others. The answer is, for each answer of the hall among
-/// them, in order, the question that stood before it.
+/// Replays entries in a session without an open question, after `before` earlier entries. Returns,
+/// for each answer of the hall among them, in order, the question that was open before it.
 ///
-/// The only error is `Fault::Memory`.
+/// Fails only with `Fault::Memory`.
 pub(crate) fn questions_asked(
     alloc: Global,
     session: &mut Session,
@@ -43,7 +43,7 @@ pub(crate) fn questions_asked(
     Ok(asked)
 }
 
-/// The same question once more, if there is one. The only error is `Fault::Memory`.
+/// A copy of the question, if there is one. Fails only with `Fault::Memory`.
 fn copy_of(alloc: Global, question: &Option<Question>) -> Result<Option<Question>, Fault>
     ensures same { IfOk result (λ copy. copy ≡ question.now) }
     ensures memory { IsOkUnless result Memory }
@@ -54,7 +54,8 @@ fn copy_of(alloc: Global, question: &Option<Question>) -> Result<Option<Question
     }
 }
 
-/// The question that stands in a session now, by the one that stood before its last step and the one that this asked.
+/// The question that is open now: the one that the last step asked, or the one that was open before
+/// if the step left the session waiting.
 fn standing_after(
     session: &Session,
     stood: Option<Question>,
@@ -70,10 +71,10 @@ fn standing_after(
     }
 }
 
-/// Gives a session the entry behind so many others, as it was given it before: where it was starved, it ends the session. The
-/// answer is what it asks.
+/// Replays one entry after `before` earlier ones. A starved entry ends the session, as it did the
+/// first time. Returns the question that the session asks.
 ///
-/// The only error is `Fault::Memory`.
+/// Fails only with `Fault::Memory`.
 fn play(
     alloc: Global,
     session: &mut Session,

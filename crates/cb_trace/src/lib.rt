@@ -1,5 +1,8 @@
-//! The events of a peer's session, kept: what the session answered to them can be told anew. What its questions are asked of is
-//! an oracle, which a hall is.
+//! The trace of a connection: the log of the events that its session was given. Replaying them
+//! gives the session's questions and messages again.
+//!
+//! An oracle is what a session's questions go to. A hall is one: what Bitcoin Core keeps in
+//! ChainstateManager and CTxMemPool.
 #![tactic(auto)]
 
 mod asking;

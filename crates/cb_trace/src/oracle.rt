@@ -9,21 +9,23 @@ use cb_base::Fault;
 use cb_hall::{Badge, Hall};
 use cb_journal::{Answer, Question};
 
-/// What the questions of a session are asked of, under the badge of its connection: a hall, or what leads to one that others
-/// ask too.
+/// What a session's questions are asked of, under the connection's badge: its permit to ask the
+/// hall. It is a hall (Bitcoin Core: ChainstateManager and CTxMemPool), or something that leads to
+/// a hall which others ask too.
 pub trait Oracle {
-    /// From this oracle and badge to those, these questions of the badge's connection were granted, in order, with these
-    /// answers, and no others of it.
+    /// From the first oracle and badge to the second, exactly these questions of the badge's
+    /// connection were granted, in order, with these answers.
     ghost told: { Self → BadgeState → List Reply → Self → BadgeState → Type 0 };
 
-    /// A question of this badge's connection was refused by this fault, and none was granted since. Who runs over any oracle
-    /// has this of a question that was refused, and of nothing else.
+    /// A question of this badge's connection was refused with this fault, and none was granted
+    /// since. Code that works with any oracle may know this only of a question that was refused.
     ghost refused: { Self → BadgeState → Fault → Type 0 };
 
-    /// Asks a question. An answer is one reply more, and of the kind that the question asks for, unless the connection was
-    /// kicked; a refusal is none.
+    /// Asks a question. An answer adds one reply, and fits the question; `Kicked` fits every
+    /// question. A refusal adds none.
     ///
-    /// The errors are `Fault::JournalFull`, only where no more questions are granted, and `Fault::Memory`.
+    /// Fails with `Fault::JournalFull`, only if no more questions are granted (the journal is the
+    /// log of the hall's calls), and with `Fault::Memory` if memory runs out.
     fn ask(&mut self, badge: &mut Badge, question: Question) -> Result<Answer, Fault>
         ensures ok { IfOk result
             (λ answer. told self.old badge.old
@@ -33,13 +35,13 @@ pub trait Oracle {
         ensures refused { IfErr result (λ fault. refused self.new badge.new fault) }
         ensures kinds { IfErr result (λ fault. (fault ≡ JournalFull) ⊎ (fault ≡ Memory)) };
 
-    /// Where nothing was asked, nothing was told.
+    /// If nothing was asked, there are no replies.
     ghost told_none: { (a : Self) (x : BadgeState) → told a x [] a x };
 
-    /// Some replies, and then others, are all of them.
+    /// If some replies were given, and then others, all of them were given, in this order.
     ghost told_then: { (a b c : Self) (x y z : BadgeState) (first next : List Reply) → told a x first b y → told b y next c z → told a x (first ++ next) c z };
 
-    /// What is full stays so.
+    /// An oracle that grants no more questions never grants one again.
     ghost full_stays: { (a b : Self) (x y : BadgeState) (replies : List Reply) → told a x replies b y → refused a x JournalFull → refused b y JournalFull };
 }
 

@@ -14,24 +14,25 @@ use cb_wire::BoundedMessage;
 use std::alloc::Global;
 use std::marker::Model;
 
-/// The entry, counted from 1, that ends each trace.
+/// The entry, counted from 1, that ends every trace.
 pub(crate) const LAST_ENTRY: u64 = 1 << 62;
 
-/// How many entries stand at the most before a checkpoint is taken.
+/// A checkpoint is due at this many entries.
 const ENTRIES_KEPT: usize = 65_000;
 
-/// How many bytes the entries hold at the most before a checkpoint is taken.
+/// A checkpoint is due when the entries hold more bytes than this.
 const BYTES_KEPT: u64 = 8_000_000;
 
-/// An event that a session was given, and whether it found no memory for it.
+/// One entry of a trace: an event that the session was given, and whether it lacked the memory for
+/// it (starved).
 #[derive(Drop)]
 pub struct TraceEntry {
     pub event: Event,
     pub starved: bool,
 }
 
-/// How many entries there are, how many of them are inputs (items, a fault of the stream, its end), and how many are
-/// answers of the hall.
+/// Numbers of entries: all, the inputs (items, a fault of the stream, its end), and the answers of
+/// the hall.
 #[derive(Clone, Copy, PartialEq, Eq)]
 pub struct Counts {
     pub entries: u64,
@@ -42,7 +43,7 @@ pub struct Counts {
 impl Counts {
     ghost use Rattle.cb_trace.specs.Trace.{AreCounts, counts_with};
 
-    /// The numbers with one entry more.
+    /// The numbers with one more entry.
     fn with(&self, event: &Event) -> Counts
         requires { AreCounts self.now }
         ensures { result ≡ counts_with self.now event.now }
@@ -55,11 +56,13 @@ impl Counts {
     }
 }
 
-/// A session, and the events that it was given since its last checkpoint.
+/// The trace of a connection: a session and the log of the events that it was given since its last
+/// checkpoint.
 ///
-/// It stands for all events since the beginning: the base is the session after those that were dropped, whose numbers are
-/// kept. It is seen as the session's settings, the base, the numbers before it, the entries since, the session after them,
-/// the numbers of all, and the room for more entries.
+/// A checkpoint is a snapshot of the session that lets earlier entries go. A trace stands for all
+/// events since the beginning. Its base is the session after the entries that were dropped, and
+/// their numbers are kept. Contracts see the settings, the base, the numbers before it, the entries
+/// since, the session after them, the numbers of all entries, and the room for more entries.
 #[derive(Drop)]
 pub struct Trace {
     alloc: Global,
@@ -67,7 +70,7 @@ pub struct Trace {
     base: Session,
     before: Counts,
     entries: Vec<TraceEntry>,
-    /// How many bytes the entries hold; the greatest u64 where they are more.
+    /// How many bytes the entries hold; `u64::MAX` if that is more.
     held: u64,
     session: Session,
     total: Counts,
@@ -92,9 +95,9 @@ impl Trace {
     ghost use Rattle.cb_peer.specs.declared.event.Event.TheVariants as events;
     ghost use Rattle.cb_trace.specs.Trace.{AskedLast, Grows, IsOpen, Readied, Rests, StandsFor, TraceSteps, TraceView, asked_from, base_account, held_of, is_due};
 
-    /// A trace with no entries and room for one, and the messages that its session opens with.
+    /// A trace without entries and with room for one, and the messages that open its session.
     ///
-    /// The only error is `Fault::Memory`.
+    /// Fails only with `Fault::Memory`.
     pub fn new(alloc: Global, settings: Settings) -> Result<(Trace, Vec<BoundedMessage>), Fault>
         ensures settings { IfOk result (λ made. made.0.settings ≡ settings) }
         ensures history { IfOk result (λ made. StandsFor made.0 []) }
@@ -130,16 +133,16 @@ impl Trace {
         self.session.state()
     }
 
-    /// The events that the session was given since the base, in order.
+    /// The entries since the base, in order.
     pub fn entries(&self) -> &[TraceEntry]
         ensures entries { result.now ≡ self.now.entries }
-        // They are the last of a history for which the trace stands.
+        // They are the last of a history that the trace stands for.
         ensures history { (history : List TraceEntry) × StandsFor self.now history }
     {
         self.entries.as_slice()
     }
 
-    /// The numbers of the entries that were dropped, before the base.
+    /// The numbers of the entries before the base, which were dropped.
     pub fn before(&self) -> Counts
         ensures { result ≡ self.now.before }
     {
@@ -153,13 +156,17 @@ impl Trace {
         self.total
     }
 
-    /// Makes room for the next entry and one more, and before that takes a checkpoint where one is due: no question
-    /// stands, and 65,000 entries stand or they hold more than 8,000,000 bytes. Where memory is refused for either, the entry
-    /// `NoMemory` takes the next place, the session is closed, and the answer is false.
+    /// Takes a checkpoint if one is due, and makes room for two more entries. Returns false if
+    /// there is no memory for one of these; the entry `NoMemory` then ends the session.
+    ///
+    /// A checkpoint is due if no question is open and there are 65,000 entries or more, or they
+    /// hold more than 8,000,000 bytes. A checkpoint allocates only while blocks are being
+    /// downloaded.
     pub fn ready(&mut self) -> bool
         requires { IsOpen self.old }
         ensures readied { Readied self.old self.new result }
-        // Where there is room already, and no checkpoint is due or no block is fetched, no memory is taken.
+        // It takes no memory if there is room already, and no checkpoint is due or no block is
+        // being downloaded.
         ensures roomy { 2 ≤ self.old.room →
             (is_due self.old ≡ false) ⊎ (self.old.session.fetch ≡ idle) → result ≡ true }
     {
@@ -174,7 +181,7 @@ impl Trace {
         false
     }
 
-    /// Ends the session for want of memory: the entry `NoMemory` takes the next place.
+    /// Ends the session for lack of memory, with the entry `NoMemory`.
     fn starve(&mut self)
         requires going { IsOpen self.old }
         ensures grows { Grows self.old self.new
@@ -184,8 +191,8 @@ impl Trace {
         let _silent = self.put(Event::NoMemory);
     }
 
-    /// Takes a checkpoint where one is due: the base becomes the session as it is, and the entries are dropped. The answer is
-    /// false where there is no memory for it.
+    /// Takes a checkpoint if one is due: the current session becomes the base, and the entries are
+    /// dropped. Returns false if there is no memory for it; nothing changes then.
     fn rest(&mut self) -> bool
         ensures rests { result ≡ true → Rests self.old self.new }
         ensures room { self.old.room ≤ self.new.room }
@@ -213,7 +220,7 @@ impl Trace {
         !self.session.is_waiting() && (self.entries.len() >= ENTRIES_KEPT || self.held > BYTES_KEPT)
     }
 
-    /// Makes room for two entries more. The answer is whether there is.
+    /// Makes room for two more entries. Returns whether there is room.
     fn reserve(&mut self) -> bool
         ensures same { self.new ≡ record self.old { room = self.new.room } }
         ensures room { result ≡ true → 2 ≤ self.new.room }
@@ -223,8 +230,9 @@ impl Trace {
         self.entries.reserve(2).is_ok()
     }
 
-    /// Gives the session an event. The answer is the messages to send, in order, and the question to ask the hall
-    /// after that. Where the session found no memory the entry is starved and nothing is sent.
+    /// Gives the session an event and logs it. Returns the messages to send, in order, and the
+    /// question to ask the hall after that. If the session lacks memory, the entry is starved and
+    /// nothing is sent.
     #[inline(always)]
     pub fn step(&mut self, event: Event) -> (Vec<BoundedMessage>, Option<Question>)
         requires going { IsOpen self.old }
@@ -234,7 +242,8 @@ impl Trace {
         self.put(event)
     }
 
-    /// Puts an event into the last place, where the session may go on only if there is one place more.
+    /// Logs an event and gives it to the session. An event that doesn't end the session at once
+    /// leaves room for one more entry.
     #[inline(always)]
     fn put(&mut self, event: Event) -> (Vec<BoundedMessage>, Option<Question>)
         requires going { IsOpen self.old }
@@ -252,15 +261,15 @@ impl Trace {
         }
     }
 
-    /// For each answer of the hall since the base, in order, the question that stood before it, by folding the entries
-    /// anew from the base.
+    /// For each answer of the hall since the base, in order, the question that was open before it,
+    /// found by replaying the entries.
     ///
-    /// The only error is `Fault::Memory`.
+    /// Fails only with `Fault::Memory`.
     pub fn asked(&self, alloc: Global) -> Result<Vec<Option<Question>>, Fault>
         ensures asked { IfOk result
             (λ asked. asked.items ≡ asked_from (base_account self.now) self.now.entries) }
         ensures memory { IsOkUnless result Memory }
-        // Over a history for which the trace stands, these are the last.
+        // They are the last of the history that the trace stands for.
         ensures last { IfOk result
             (λ asked. (history : List TraceEntry) → StandsFor self.now history →
             AskedLast self.now.settings history self.now.before.told asked.items) }
@@ -270,10 +279,10 @@ impl Trace {
     }
 }
 
-/// Gives a session the event of the entry behind so many others. The answer is the messages to send, in order, and the question to
-/// ask the hall after that.
+/// Gives a session the event of the entry after `before` others. Returns the messages to send, in
+/// order, and the question to ask the hall after that.
 ///
-/// The only error is that it found no memory for it, which closes the session.
+/// Fails only if the session lacks memory for it, which closes it.
 fn hear(
     alloc: Global,
     session: &mut Session,
