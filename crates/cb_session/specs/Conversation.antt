@@ -1,4 +1,4 @@
--- A conversation: what has come in, what went out, and what was asked and told, at any moment.
+-- A conversation: what came in, what went out, and what was asked and answered, at any moment.
 use Rattle.std.specs.Prelude.{◌≡◌, ◌≢◌, ℕ, ◌⊎◌, Bool, true, false, List, [], ◌∷◌, ◌++◌, Option, None, Some, if◌then◌else◌}
 use Rattle.cb_base.specs.declared.fault.Fault.{Fault}
 use Rattle.cb_base.specs.declared.fault.Fault.TheVariants.{JournalFull, Memory}
@@ -19,7 +19,8 @@ use Rattle.cb_trace.specs.Fold.{first_account, has_kind, inputs_of, replies, sen
 use Rattle.cb_trace.specs.Prompt.{EachPrompt}
 use Rattle.cb_trace.specs.Trace.{LacksBase, StandsFor, TraceView}
 
--- where a conversation began: the settings, the hall and the badge, what the sink held and whether it had failed
+-- Where a conversation began: the settings, the hall and the badge, what the sink held, and whether
+-- it had failed.
 pub record Origin (H : Type 0) : Type 0 where
   pub settings : Settings
   pub hall : H
@@ -30,7 +31,8 @@ pub record Origin (H : Type 0) : Type 0 where
 abbrev pub origin_of : {H : Type 0} → Settings → H → BadgeState → Option (List ℕ) → Bool → Origin H
 origin_of settings hall badge held failed = record { settings = settings; hall = hall; badge = badge; held = held; failed = failed }
 
--- how far it is: the trace, the hall and the badge, what the sink holds and whether it has failed, the bytes written
+-- How far a conversation is: the trace, the hall and the badge, what the sink holds, whether it has
+-- failed, and the number of bytes written.
 pub record Progress (H : Type 0) : Type 0 where
   pub trace : TraceView
   pub hall : H
@@ -42,105 +44,108 @@ pub record Progress (H : Type 0) : Type 0 where
 abbrev pub progress : {H : Type 0} → TraceView → H → BadgeState → Option (List ℕ) → Bool → ℕ → Progress H
 progress trace hall badge held failed written = record { trace = trace; hall = hall; badge = badge; held = held; failed = failed; written = written }
 
--- before its last entry, NoMemory, a checkpoint of the trace was due for which memory is taken
+-- Before its last entry, `NoMemory`, the trace had a checkpoint due that takes memory.
 pub record HadNoBase (trace : TraceView) : Type 0 where
   pub before : TraceView
   pub lacks : LacksBase before trace
 
--- a trace has no place for another entry, or had none for a checkpoint
+-- A trace has no room for another entry, or had no memory for a checkpoint.
 abbrev pub HasNoPlace : TraceView → Type 0
 HasNoPlace trace = (trace.room ≡ 0) ⊎ HadNoBase trace
 
--- Memory lacked in a conversation: its trace has no place for another entry, the hall refused a question for want of it, or
--- what was to be written wasn't.
+-- A conversation ran out of memory: its trace has no room for another entry or had no memory for a
+-- checkpoint, the hall refused a question with `Memory`, or messages were left unwritten.
 abbrev pub Lacked : {H : Type 0} → (H → BadgeState → Fault → Type 0) → Progress H → List ℕ → Type 0
 Lacked refused now missing = HasNoPlace now.trace ⊎ (refused now.hall now.badge Memory ⊎ (missing ≢ []))
 
--- The account of a conversation: these inputs were given, these bytes of what was sent are missing, whether something came
--- by which bytes may be, and whether something that came of the peer may not have been kept, for want of memory. What the
--- hall told is as `told` says, and what it refused as `refused` says.
+-- The account of a conversation. These inputs were given. These bytes of what was sent are missing.
+-- `lost` says whether an event came that may leave bytes missing. `unkept` says whether something
+-- from the peer may have been dropped because memory ran out. `told` says what the hall answered,
+-- and `refused` what it refused.
 pub record Accounts {H : Type 0} (told : H → BadgeState → List Reply → H → BadgeState → Type 0) (refused : H → BadgeState → Fault → Type 0) (from : Origin H) (now : Progress H) (inputs : List Event) (missing : List ℕ) (lost unkept : Bool) : Type 0 where
   pub settings : now.trace.settings ≡ from.settings
-  -- all entries since the beginning
+  -- All entries since the beginning.
   pub history : List TraceEntry
   pub stands : StandsFor now.trace history
-  -- what went out is a beginning of the text of what the fold sends
+  -- The bytes written are a prefix of the text of all messages that the fold sends.
   pub wrote : Wrote from.held now.held (texts (sends from.settings history)) now.written missing
   pub inputs_are : inputs_of history ≡ inputs
   pub prompt : EachPrompt (first_account from.settings) history
-  -- the hall granted the questions of the fold, and told its replies
+  -- The hall granted the questions of the fold and gave its replies.
   pub replies_are : told from.hall from.badge (replies from.settings history) now.hall now.badge
-  -- each cause is true
+  -- Each cause is true.
   pub write_fault : has_kind is_write_fault history ≡ true → now.failed ≡ true
   pub hall_full : has_kind is_hall_full history ≡ true → refused now.hall now.badge JournalFull
   pub no_memory : has_kind is_no_memory history ≡ true → Lacked refused now missing ⊎ (unkept ≡ true)
   pub no_tick : has_kind is_tick history ≡ false
   pub losses : has_kind loses history ≡ lost
 
--- the same with messages on their way
+-- The account while messages are still to be written.
 pub record Underway {H : Type 0} (told : H → BadgeState → List Reply → H → BadgeState → Type 0) (refused : H → BadgeState → Fault → Type 0) (from : Origin H) (now : Progress H) (inputs : List Event) (missing : List ℕ) (unkept : Bool) : Type 0 where
   pub lost : Bool
   pub accounts : Accounts told refused from now inputs missing lost unkept
 
--- the account with nothing on its way: all that was sent went out, unless a write failed or memory ran out
+-- The account with no message still to be written: everything sent was written, unless a write
+-- failed or memory ran out.
 pub record Sent {H : Type 0} (told : H → BadgeState → List Reply → H → BadgeState → Type 0) (refused : H → BadgeState → Fault → Type 0) (from : Origin H) (now : Progress H) (inputs : List Event) (unkept : Bool) : Type 0 where
   pub missing : List ℕ
   pub lost : Bool
   pub accounts : Accounts told refused from now inputs missing lost unkept
   pub whole : lost ≡ false → missing ≡ []
-  -- a write that failed was told, and ended the session
+  -- A failed write was logged, and ended the session.
   pub told_loss : now.failed ≡ true → (from.failed ≡ true) ⊎ (lost ≡ true)
 
--- no question stands, unless the session is over
+-- No question is open, unless the session is over.
 abbrev pub IsAnswered : TraceView → Type 0
 IsAnswered trace = is_closed trace.session.state ≡ false → trace.session.standing ≡ None
 
--- the same where no answer is waited for
+-- The account with no message still to be written and no question open.
 pub record Settled {H : Type 0} (told : H → BadgeState → List Reply → H → BadgeState → Type 0) (refused : H → BadgeState → Fault → Type 0) (from : Origin H) (now : Progress H) (inputs : List Event) (unkept : Bool) : Type 0 where
   pub sent : Sent told refused from now inputs unkept
   pub answered : IsAnswered now.trace
 
--- an input was given, or there was no room for it and the session ended
+-- An input was given. Or there was no room for it, and the session ended.
 pub record Gave {H : Type 0} (told : H → BadgeState → List Reply → H → BadgeState → Type 0) (refused : H → BadgeState → Fault → Type 0) (from : Origin H) (now : Progress H) (inputs : List Event) (event : Event) : Type 0 where
   pub given : List Event
   pub settled : Settled told refused from now given false
   pub which : (given ≡ inputs ++ event ∷ []) ⊎ ((given ≡ inputs) × (is_closed now.trace.session.state ≡ true))
 
--- an item couldn't be kept, and the session ended
+-- An item couldn't be kept, and the session ended.
 pub record Unkept {H : Type 0} (told : H → BadgeState → List Reply → H → BadgeState → Type 0) (refused : H → BadgeState → Fault → Type 0) (from : Origin H) (now : Progress H) (inputs : List Event) : Type 0 where
   pub settled : Settled told refused from now inputs true
   pub closed : is_closed now.trace.session.state ≡ true
 
--- an item was given, or it couldn't be kept
+-- An item was given, or it couldn't be kept.
 abbrev pub GaveItem : {H : Type 0} → (H → BadgeState → List Reply → H → BadgeState → Type 0) → (H → BadgeState → Fault → Type 0) → Origin H → Progress H → List Event → Item → Type 0
 GaveItem told refused from now inputs item = Gave told refused from now inputs (events.Said item) ⊎ Unkept told refused from now inputs
 
--- while the session goes on, no write has failed
+-- While the session isn't over, no write has failed.
 abbrev pub WritesOn : TraceView → Bool → Type 0
 WritesOn trace failed = is_closed trace.session.state ≡ false → failed ≡ false
 
--- how many answers are needed until no question stands
+-- The number of answers needed until no question is open.
 abbrev pub left_of : TraceView → ℕ
 left_of trace = if is_closed trace.session.state then 0 else questions_left trace.session.standing
 
--- the question that stands, while the session goes on
+-- The open question, while the session isn't over.
 abbrev pub open_question : TraceView → Option Question
 open_question trace = if is_closed trace.session.state then None else standing_question trace.session
 
--- this is the question that stands, or there is none to be asked, while the session goes on
+-- While the session isn't over, this is the open question, or there is none to ask.
 abbrev pub MayAsk : TraceView → Option Question → Type 0
 MayAsk trace next = (question : Question) → next ≡ Some question → is_closed trace.session.state ≡ false → standing_question trace.session ≡ Some question
 
--- this is what stands, while the session goes on: a question, or none
+-- While the session isn't over, this is its open question, or it has none.
 abbrev pub IsWhatStands : TraceView → Option Question → Type 0
 IsWhatStands trace next = is_closed trace.session.state ≡ false → next ≡ standing_question trace.session
 
--- an event that ends the session at once and by which messages may be lost: no memory, or a write that failed
+-- An event that ends the session at once and may leave messages unwritten: no memory, or a failed
+-- write.
 pub record IsLoss (event : Event) : Type 0 where
   pub loses_messages : loses (kind_of event) ≡ true
   pub ends : ends_at_once event ≡ true
 
--- What the hall made of a question: the event that tells it. An answer is of the kind that the question asks for.
+-- The outcome of a question to the hall, as an event. An answer fits the question.
 abbrev pub AnswerOf : {H : Type 0} → (H → BadgeState → List Reply → H → BadgeState → Type 0) → (H → BadgeState → Fault → Type 0) → H → BadgeState → H → BadgeState → Question → Event → Type 0
 AnswerOf told refused old had new has question (events.Told answer) = told old had (record { question = question; answer = answer } ∷ []) new has × (fits question answer ≡ true)
 AnswerOf told refused old had new has question events.HallFull = told old had [] new has × refused new has JournalFull

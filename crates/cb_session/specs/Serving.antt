@@ -1,4 +1,4 @@
--- Serving one connection: what was read, and what came of it.
+-- Serving one connection: what was read, and what followed from it.
 use Rattle.std.specs.Prelude.{◌≡◌, ◌≢◌, ◌⊎◌, ℕ, ◌≤◌, ◌^◌, Bool, true, false, List, [], ◌∷◌, ◌++◌, length, map, Option, Some, None}
 use Rattle.std.specs.List.{list_any}
 use Rattle.std.specs.Io.KnownBytes.{Consumes, IsAtEnd}
@@ -21,9 +21,9 @@ use Rattle.cb_session.specs.declared.reading.ReadEnd.{ReadEnd}
 use Rattle.cb_session.specs.declared.reading.ReadEnd.TheVariants as ends
 use Rattle.cb_session.specs.Conversation.{Origin, Progress, Settled}
 
--- ---- what was to be processed
+-- ---- what is to be processed
 
--- the items of a stream, and its fault if it has one
+-- The items of a stream, and its fault if it has one, as events.
 abbrev pub said : List Item → List Event
 said items = map (λ item. events.Said item) items
 
@@ -31,55 +31,56 @@ abbrev pub broken : Option Fault → List Event
 broken None = []
 broken (Some why) = events.Broken why ∷ []
 
--- the end mark, where reading ended by itself
+-- The end of the stream, if reading ended by itself.
 abbrev pub end_mark : ReadEnd → List Event
 end_mark ends.Eof = events.ReaderEnd ∷ []
 end_mark ends.Fault = events.ReaderEnd ∷ []
 end_mark ends.Turns = events.ReaderEnd ∷ []
 end_mark ends.Stopped = []
 
--- all that was to be processed
+-- All events to be processed.
 abbrev pub queue : List Item → Option Fault → ReadEnd → List Event
 queue items fault end = said items ++ (broken fault ++ end_mark end)
 
--- What was processed is a beginning of what was to be, each once and in order, and none after the session's end; if the
--- peer's end closed the session, it is all.
+-- What was processed is a prefix of what was to be processed: each once and in order, and nothing
+-- after the session's end. If the peer's end closed the session, everything was processed.
 pub record IsInOrder (queued : List Event) (settings : Settings) (history : List TraceEntry) : Type 0 where
   pub later : List Event
   pub beginning : inputs_of history ++ later ≡ queued
   pub none_after : EachOpen (first_account settings) history
   pub all_at_bye : (session_of settings history).state ≡ Closed Bye → inputs_of history ≡ queued
 
--- whether the peer's end was given
+-- Whether the end of the peer's stream was given.
 abbrev pub has_end : List TraceEntry → Bool
 has_end history = list_any (λ entry. is_reader_end entry.event) history
 
 -- ---- items and pieces
 
--- the first of these items were given, and all of them if the session goes on
+-- The first of these items were given, and all of them if the session isn't over.
 pub record Took {H : Type 0} (told : H → BadgeState → List Reply → H → BadgeState → Type 0) (refused : H → BadgeState → Fault → Type 0) (from : Origin H) (now : Progress H) (inputs : List Event) (items : List Item) : Type 0 where
   pub front : List Item
   pub rest : List Item
   pub parts : items ≡ front ++ rest
   pub unkept : Bool
   pub settled : Settled told refused from now (inputs ++ said front) unkept
-  -- what couldn't be kept is an item that wasn't given
+  -- What couldn't be kept is an item that wasn't given.
   pub short : unkept ≡ true → rest ≢ []
   pub all : is_closed now.trace.session.state ≡ false → rest ≡ []
 
--- nothing is left to be given
+-- Nothing is left to be given.
 pub record IsCaughtUp (rest : List ℕ) (fault : Option Fault) (later : List Event) (assembled : Assembled) : Type 0 where
   pub rest_is : rest ≡ assembled.rest
   pub fault_is : assembled.fault ≡ None
   pub no_fault : fault ≡ None
   pub none_later : later ≡ []
 
--- more was read than was given: an item or a fault of the stream, or bytes behind them
+-- More was read than was given: an item, a fault of the stream, or bytes after them.
 abbrev pub IsShort : List Event → List Item → List ℕ → Option Fault → Type 0
 IsShort inputs items rest fault = (inputs ≢ said items ++ broken fault) ⊎ (rest ≢ [])
 
--- What a connection has heard of these bytes: the inputs that were given are a beginning of what the bytes spell; while
--- the session goes on they are all of it, and the assembler has what is left over.
+-- What a connection has heard of these bytes. The inputs given are a prefix of what the bytes
+-- spell. While the session isn't over, they are all of it, and the assembler keeps the remaining
+-- bytes.
 pub record Pieced {H : Type 0} (told : H → BadgeState → List Reply → H → BadgeState → Type 0) (refused : H → BadgeState → Fault → Type 0) (from : Origin H) (now : Progress H) (bytes : List ℕ) (assembled : Assembled) : Type 0 where
   pub items : List Item
   pub rest : List ℕ
@@ -93,21 +94,21 @@ pub record Pieced {H : Type 0} (told : H → BadgeState → List Reply → H →
   pub short : unkept ≡ true → IsShort inputs items rest fault
   pub going : is_closed now.trace.session.state ≡ false → IsCaughtUp rest fault later assembled
 
--- the same of the bytes that a source gave, after so many reads
+-- The same for the bytes that a source gave, after a number of reads.
 pub record HeardBy {H : Type 0} (told : H → BadgeState → List Reply → H → BadgeState → Type 0) (refused : H → BadgeState → Fault → Type 0) (from : Origin H) (input remaining : Option (List ℕ)) (now : Progress H) (assembled : Assembled) (turns : ℕ) : Type 0 where
   pub read : List ℕ
   pub consumed : Consumes input remaining read
   pub enough : turns ≤ length read
   pub pieced : Pieced told refused from now read assembled
 
--- why reading ended is so
+-- The reason why reading ended is true.
 abbrev pub EndsSo : ReadEnd → Option (List ℕ) → Bool → List ℕ → Type 0
 EndsSo ends.Eof remaining failed read = IsAtEnd remaining
 EndsSo ends.Fault remaining failed read = failed ≡ true
 EndsSo ends.Turns remaining failed read = 2 ^ 40 ≤ length read
 EndsSo ends.Stopped remaining failed read = Unit {0}
 
--- what a connection has heard when reading has ended
+-- What a connection has heard when reading has ended.
 pub record Heard {H : Type 0} (told : H → BadgeState → List Reply → H → BadgeState → Type 0) (refused : H → BadgeState → Fault → Type 0) (from : Origin H) (input remaining : Option (List ℕ)) (failed : Bool) (now : Progress H) (end : ReadEnd) : Type 0 where
   pub read : List ℕ
   pub consumed : Consumes input remaining read
@@ -115,27 +116,28 @@ pub record Heard {H : Type 0} (told : H → BadgeState → List Reply → H → 
   pub pieced : Pieced told refused from now read assembled
   pub cause : EndsSo end remaining failed read
 
--- what serving a connection comes to, from its source as it was (input) to its source as it is (remaining)
+-- The result of serving a connection: from its source before (`input`) to its source after
+-- (`remaining`).
 pub record Serves {H : Type 0} (told : H → BadgeState → List Reply → H → BadgeState → Type 0) (refused : H → BadgeState → Fault → Type 0) (from : Origin H) (input remaining : Option (List ℕ)) (read_failed : Bool) (now : Progress H) (end : ReadEnd) : Type 0 where
-  -- the bytes that were read: where the source tells its bytes, it gave these
+  -- The bytes read. If the source says which bytes it gives, it gave these.
   pub read : List ℕ
   pub consumed : Consumes input remaining read
-  -- what they spell
+  -- The items that they spell.
   pub items : List Item
   pub rest : List ℕ
   pub fault : Option Fault
   pub stream : Stream read items rest fault
-  -- what was written, asked and told
+  -- What was written, asked and answered.
   pub inputs : List Event
   pub unkept : Bool
   pub settled : Settled told refused from now inputs unkept
-  -- what couldn't be kept, for want of memory, is something that was read and not given
+  -- What couldn't be kept, because memory ran out, was read and not given.
   pub short : unkept ≡ true → IsShort inputs items rest fault
-  -- the items were processed in order, each once, none after the session's end
+  -- The items were processed in order, each once, and none after the session's end.
   pub in_order : IsInOrder (queue items fault end) from.settings settled.sent.accounts.history
-  -- each had its answers before the next came
+  -- Each had its answers before the next came.
   pub prompt : IsPrompt from.settings settled.sent.accounts.history
-  -- why reading ended; where it was stopped, the session was over by itself
+  -- Why reading ended. If it was stopped, the session was over by itself.
   pub cause : EndsSo end remaining read_failed read
   pub stopped : end ≡ ends.Stopped → has_end settled.sent.accounts.history ≡ false
   pub closed : is_closed now.trace.session.state ≡ true

@@ -1,4 +1,5 @@
-//! One event of a connection at a time: the session is given it, what it sends is written, what it asks is asked.
+//! Handles a connection's events one at a time: gives them to the session, writes what the session
+//! sends, and asks the hall what the session asks.
 ghost use Rattle.std.specs.Prelude.{◌≡◌, ◌≢◌, ◌⊎◌, ◌<◌, ◌≤◌, ◌++◌, true, false, Bool, List, ℕ, [], Option, Some, None, IfSome, if◌then◌else◌};
 ghost use Rattle.cb_wire.specs.Stream.{texts};
 ghost use Rattle.cb_wire.specs.declared.item.Item.{Item};
@@ -19,8 +20,11 @@ use cb_trace::{Oracle, Trace};
 use cb_wire::{BoundedMessage, Item};
 use std::alloc::Global;
 
-/// A peer's trace, the sink to which its messages are written, the hall that its questions are asked of under its badge,
-/// and how many bytes were written.
+/// One connection's conversation: the trace (the session and the log of its events), the sink for
+/// its messages, the hall and the badge under which it is asked, and the number of bytes written.
+///
+/// The hall is what Bitcoin Core keeps in ChainstateManager and CTxMemPool. The badge is the
+/// connection's permit to ask it.
 #[derive(Drop)]
 pub struct Conversation<'a, W, H> {
     trace: &'a mut Trace,
@@ -31,7 +35,7 @@ pub struct Conversation<'a, W, H> {
 }
 
 impl<'a, W: Sink, H: Oracle> Conversation<'a, W, H> {
-    /// A conversation over these, in which so many bytes were written.
+    /// A conversation over these, with `written` bytes already written.
     pub fn new(
         trace: &'a mut Trace,
         writer: &'a mut W,
@@ -65,14 +69,15 @@ impl<'a, W: Sink, H: Oracle> Conversation<'a, W, H> {
         self.trace.state()
     }
 
-    /// How many bytes were written; the greatest u64 where they are more.
+    /// The number of bytes written; `u64::MAX` if that is more.
     pub fn written(&self) -> u64
         ensures { result ≡ self.now.written }
     {
         self.written
     }
 
-    /// Gives the session an item, with all its answers. Where there is no memory for it, the session ends.
+    /// Gives the session an item, and handles all the questions that it leads to. The session ends
+    /// if memory runs out.
     pub fn give_item(&mut self, alloc: Global, item: Item)
         requires going { IsOpen self.old.trace.now }
         ensures ends { (self.new.trace.ghost_name ≡ self.old.trace.ghost_name)
@@ -99,7 +104,8 @@ impl<'a, W: Sink, H: Oracle> Conversation<'a, W, H> {
         self.give(alloc, Event::Said(shared));
     }
 
-    /// Gives the session what came of the peer: writes what it sends, and asks the hall what it asks, until it asks no more.
+    /// Gives the session input from the peer: an item, a fault of the stream, or its end. Writes
+    /// what the session sends and asks the hall what it asks, until no question is open.
     #[inline(always)]
     pub fn give(&mut self, alloc: Global, event: Event)
         requires going { IsOpen self.old.trace.now }
@@ -131,8 +137,8 @@ impl<'a, W: Sink, H: Oracle> Conversation<'a, W, H> {
         self.converse(alloc, question);
     }
 
-    /// Asks the hall the question that stands, if there is one, writes what the session sends to the answer, and goes on with
-    /// what it asks then, until no question stands.
+    /// Asks the hall the open question, if there is one, and writes what the session sends to the
+    /// answer. Goes on with the session's next question until none is open.
     pub fn converse(&mut self, alloc: Global, question: Option<Question>)
         requires stands { MayAsk self.old.trace.now question }
         ensures ends { (self.new.trace.ghost_name ≡ self.old.trace.ghost_name)
@@ -166,8 +172,9 @@ impl<'a, W: Sink, H: Oracle> Conversation<'a, W, H> {
         }
     }
 
-    /// Asks the hall the question that stands, and gives the session the answer: what it sends then, and what it asks. The
-    /// place of the answer is made before the hall is asked. Nothing is on its way while the hall is asked.
+    /// Asks the hall the open question and gives the session the answer. Returns the messages to
+    /// send and the next question. Room for the answer in the trace is made before the hall is
+    /// asked. No message is unwritten while the hall is asked.
     fn ask(&mut self, alloc: Global, question: Question) -> (Vec<BoundedMessage>, Option<Question>)
         requires stands { open_question self.old.trace.now ≡ Some question }
         ensures ends { (self.new.trace.ghost_name ≡ self.old.trace.ghost_name)
@@ -191,14 +198,15 @@ impl<'a, W: Sink, H: Oracle> Conversation<'a, W, H> {
         self.trace.step(event)
     }
 
-    /// Writes the messages of a step, all in one write. Where that ends early the trace is told, which ends it.
+    /// Writes the messages of a step, all in one write. If the write fails or memory runs out, the
+    /// trace logs that and the session ends.
     pub fn send(&mut self, alloc: Global, messages: &[BoundedMessage])
         requires silent { is_closed self.old.trace.now.session.state ≡ true → messages.now ≡ [] }
         ensures ends { (self.new.trace.ghost_name ≡ self.old.trace.ghost_name)
             × (self.new.writer.ghost_name ≡ self.old.writer.ghost_name)
             × (self.new.hall.ghost_name ≡ self.old.hall.ghost_name)
             × (self.new.badge.ghost_name ≡ self.old.badge.ghost_name) }
-        // Once a write has failed, no other is made.
+        // Once a write has failed, there is no other write.
         ensures heeds { WritesOn self.old.trace.now (W.has_failed self.old.writer.now) →
             W.heeds_failure self.old.writer.now self.new.writer.now
             × WritesOn self.new.trace.now (W.has_failed self.new.writer.now) }
@@ -225,7 +233,8 @@ impl<'a, W: Sink, H: Oracle> Conversation<'a, W, H> {
         }
     }
 
-    /// Ends the session with an event by which messages are lost.
+    /// Ends the session with an event that may leave messages unwritten: no memory, or a failed
+    /// write.
     pub fn lose(&mut self, event: Event)
         requires going { IsOpen self.old.trace.now }
         requires loss { IsLoss event }
@@ -237,8 +246,8 @@ impl<'a, W: Sink, H: Oracle> Conversation<'a, W, H> {
         ensures badge { self.new.badge.now ≡ self.old.badge.now }
         ensures sink { self.new.writer.now ≡ self.old.writer.now }
         ensures written { self.new.written ≡ self.old.written }
-        // Each cause is to be true: a write that failed, bytes that are missing for want of memory, or (`unkept`) something
-        // that came of the peer and couldn't be kept.
+        // The caller shows the cause: a write failed, bytes are missing because memory ran out, or
+        // (`unkept`) something from the peer couldn't be kept.
         ensures accounts { (from : Origin _) (inputs : List Event) (missing : List ℕ) (lost unkept : Bool) (hall : _) (badge : _) (held : Option (List ℕ)) (failed : Bool) (written : ℕ) →
             (is_write_fault (kind_of event) ≡ true → failed ≡ true) →
             (is_no_memory (kind_of event) ≡ true → (missing ≢ []) ⊎ (unkept ≡ true)) →
@@ -254,14 +263,15 @@ impl<'a, W: Sink, H: Oracle> Conversation<'a, W, H> {
     }
 }
 
-/// The item with an owner that can be shared; None where there is no memory.
+/// The item in shared ownership, or `None` if memory runs out.
 fn share(alloc: Global, item: Item) -> Option<Shared<Item>>
     ensures { IfSome result (λ shared. shared ≡ item) }
 {
     Shared::new(alloc, item).ok()
 }
 
-/// Asks the hall what a session asks. What it makes of it is an event.
+/// Asks the hall a session's question. Returns the outcome as an event: the answer, `HallFull` or
+/// `NoMemory`.
 fn ask_hall<H: Oracle>(hall: &mut H, badge: &mut Badge, question: Question) -> Event
     ensures { AnswerOf H.told H.refused hall.old badge.old hall.new badge.new question result }
 {
@@ -272,7 +282,7 @@ fn ask_hall<H: Oracle>(hall: &mut H, badge: &mut Badge, question: Question) -> E
     }
 }
 
-/// The event of a write that ended early.
+/// The event for a write that ended early.
 fn lost_by(fault: WriteFault) -> Event
     ensures loss { IsLoss result }
     ensures sink { is_write_fault (kind_of result) ≡ true → IsOfSink fault }

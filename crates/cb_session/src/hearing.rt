@@ -1,4 +1,4 @@
-//! A piece of a peer's stream, cut into items, each given to its session.
+//! Cuts a piece of a peer's stream into items and gives them to the session.
 ghost use Rattle.std.specs.Prelude.{◌≡◌, ◌++◌, false, List, ℕ};
 ghost use Rattle.cb_wire.specs.declared.item.Item.{Item};
 ghost use Rattle.cb_wire.specs.Stream.{Stream};
@@ -15,7 +15,8 @@ use cb_trace::Oracle;
 use cb_wire::{Assembler, Fed, Item};
 use std::alloc::Global;
 
-/// Takes a piece of the stream: gives the session the items that are whole now, and the stream's fault if it has one.
+/// Takes a piece of the stream. Gives the session the items that are complete now, and then the
+/// stream's fault, if it has one. The session ends if memory runs out.
 pub(crate) fn hear_piece<'a, W: Sink, H: Oracle>(
     alloc: Global,
     assembler: &mut Assembler,
@@ -59,7 +60,7 @@ pub(crate) fn hear_piece<'a, W: Sink, H: Oracle>(
     }
 }
 
-/// Gives the session items in order, until they are all given or it is over.
+/// Gives the session the items in order, until all are given or it is over.
 fn give_all<'a, W: Sink, H: Oracle>(
     alloc: Global,
     conversation: &mut Conversation<'a, W, H>,

@@ -1,4 +1,6 @@
-//! One peer's connection: a conversation between its session, its stream and the hall, and serving it to its end.
+//! One peer's connection from its first byte to its end: a conversation between the peer's stream,
+//! its session and the hall. The hall is what Bitcoin Core keeps in ChainstateManager and
+//! CTxMemPool.
 #![tactic(auto)]
 
 mod conversation;

@@ -1,4 +1,4 @@
-//! Reading a peer's stream, to its end or to that of its session.
+//! Reads a peer's stream to its end, or to the end of the session.
 ghost use Rattle.std.specs.Prelude.{◌≡◌, ◌≢◌, ◌≤◌, ◌↔◌, true, false, IsTrue, List, [], ℕ, Option, None, length};
 ghost use Rattle.cb_peer.specs.State.{is_closed};
 ghost use Rattle.cb_session.specs.Conversation.{Origin, WritesOn, progress};
@@ -11,24 +11,24 @@ use cb_trace::Oracle;
 use cb_wire::Assembler;
 use std::alloc::Global;
 
-/// The most reads that are made of one source.
+/// The most reads of one source.
 const TURNS: u64 = 1 << 40;
 
 /// Why reading a stream ended.
 #[derive(Clone, Copy, PartialEq, Eq)]
 pub enum ReadEnd {
-    /// The source was at its end.
+    /// The source ended.
     Eof,
     /// A read failed.
     Fault,
     /// 2^40 reads were made.
     Turns,
-    /// The session was over before any of these.
+    /// The session was over first.
     Stopped,
 }
 
 impl ReadEnd {
-    /// Whether the session was over before reading came to its end.
+    /// Whether the session was over before reading ended by itself.
     pub fn is_stopped(&self) -> bool
         ensures { IsTrue result ↔ (self.now ≡ ReadEnd.Stopped) }
     {
@@ -41,8 +41,8 @@ impl ReadEnd {
     }
 }
 
-/// What a peer's stream is read with: its source, the buffer that its bytes are read into, and the assembler that keeps what is
-/// left over of its last envelope.
+/// What a peer's stream is read with: its source, the buffer for its bytes, and the assembler,
+/// which keeps the incomplete message at the end.
 #[derive(Drop)]
 pub struct Reading<'a, R> {
     reader: &'a mut R,
@@ -51,7 +51,7 @@ pub struct Reading<'a, R> {
 }
 
 impl<'a, R: Source> Reading<'a, R> {
-    /// Reading with these. No more bytes are read at a time than the buffer has.
+    /// A reader over these. One read returns at most as many bytes as the buffer has.
     pub fn new(
         reader: &'a mut R,
         buffer: &'a mut [u8],
@@ -69,8 +69,8 @@ impl<'a, R: Source> Reading<'a, R> {
         }
     }
 
-    /// Reads the source to its end and gives the session all items that its bytes spell, or as many as it takes before it is
-    /// closed. The answer is why reading ended.
+    /// Reads the source to its end and gives the session all items in its bytes, or as many as come
+    /// before the session is over. Makes at most 2^40 reads. Returns why reading ended.
     pub fn hear<'c, W: Sink, H: Oracle>(
         &mut self,
         alloc: Global,

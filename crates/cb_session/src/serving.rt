@@ -15,25 +15,27 @@ use cb_trace::{Oracle, Trace};
 use cb_wire::Assembler;
 use std::alloc::Global;
 
-/// How many bytes are read at a time at the most.
+/// The most bytes in one read.
 const READ_SIZE: usize = 65_536;
 
-/// What serving a connection came to.
+/// The result of serving a connection.
 #[derive(Drop)]
 pub struct Served {
-    /// The session, and its events since the last checkpoint.
+    /// The trace: the session, and its events since the last checkpoint.
     pub trace: Trace,
     /// Why reading ended.
     pub read: ReadEnd,
-    /// How many bytes were written; the greatest u64 where they are more.
+    /// The number of bytes written; `u64::MAX` if that is more.
     pub written: u64,
 }
 
-/// Serves one connection to its end: reads the peer's stream, gives its items to a session one after the other, asks
-/// the hall what the session asks, and writes what it sends. The messages of a step are written before its question is
-/// asked.
+/// Serves one connection to its end: reads the peer's stream, gives its items to a session one
+/// after the other, asks the hall what the session asks, and writes what it sends. The messages of
+/// a step are written before its question is asked. The hall is what Bitcoin Core keeps in
+/// ChainstateManager and CTxMemPool; `badge` is the connection's permit to ask it.
 ///
-/// The only error is `Fault::Memory`, before the first read.
+/// Fails only with `Fault::Memory`, before the first read. Reader, writer, hall and badge are then
+/// unchanged.
 pub fn serve<R: Source, W: Sink>(
     alloc: Global,
     reader: &mut R,
@@ -42,15 +44,15 @@ pub fn serve<R: Source, W: Sink>(
     badge: &mut Badge,
     settings: Settings,
 ) -> Result<Served, Fault>
-    // All calls of the hall grew by exactly what the session asked, in order, and each answer is that of the state to which the
-    // calls before it led.
+    // The hall's calls grew by exactly the session's questions, in order. Each answer follows from
+    // the state that the calls before it led to.
     ensures served { IfOk result
         (λ served. Serves (λ old had replies new has. Asks old new had has replies) IsRefused
         (origin_of settings hall.old badge.old (W.contents writer.old) (W.has_failed writer.old))
         (R.remaining reader.old) (R.remaining reader.new) (R.has_failed reader.new)
         (progress served.trace hall.new badge.new (W.contents writer.new)
         (W.has_failed writer.new) served.written) served.read) }
-    // Once a write has failed, no other is made.
+    // Once a write has failed, there is no other write.
     ensures heeds { W.has_failed writer.old ≡ false → W.heeds_failure writer.old writer.new }
     ensures memory { IsOkUnless result Memory }
     ensures unread { OnErr result (reader.new ≡ reader.old) }
@@ -61,7 +63,7 @@ pub fn serve<R: Source, W: Sink>(
     serve_by(alloc, reader, writer, hall, badge, settings)
 }
 
-/// The same by any oracle in place of a hall.
+/// The same as `serve`, with any oracle instead of a hall: whatever answers a session's questions.
 pub fn serve_by<R: Source, W: Sink, H: Oracle>(
     alloc: Global,
     reader: &mut R,
@@ -75,7 +77,7 @@ pub fn serve_by<R: Source, W: Sink, H: Oracle>(
         (R.remaining reader.old) (R.remaining reader.new) (R.has_failed reader.new)
         (progress served.trace hall.new badge.new (W.contents writer.new)
         (W.has_failed writer.new) served.written) served.read) }
-    // Once a write has failed, no other is made.
+    // Once a write has failed, there is no other write.
     ensures heeds { W.has_failed writer.old ≡ false → W.heeds_failure writer.old writer.new }
     ensures memory { IsOkUnless result Memory }
     ensures unread { OnErr result (reader.new ≡ reader.old) }
@@ -98,8 +100,8 @@ pub fn serve_by<R: Source, W: Sink, H: Oracle>(
     })
 }
 
-/// Reads the peer's stream to its end, or to that of the session, and gives the session its end. The answer is why reading
-/// ended.
+/// Reads the peer's stream to its end, or to the end of the session, and then gives the session the
+/// stream's end. Returns why reading ended.
 fn hear_all<'r, 'c, R: Source, W: Sink, H: Oracle>(
     alloc: Global,
     reading: &mut Reading<'r, R>,
@@ -131,7 +133,7 @@ fn hear_all<'r, 'c, R: Source, W: Sink, H: Oracle>(
     read
 }
 
-/// Gives the session the end of the peer's stream, unless it was over before.
+/// Gives the session the end of the peer's stream, unless the session is already over.
 fn finish<'a, W: Sink, H: Oracle>(
     alloc: Global,
     read: ReadEnd,
