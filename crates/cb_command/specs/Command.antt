@@ -1,4 +1,4 @@
--- What a run of the program comes to: its exit status, and what standard error was told.
+-- The outcome of a run of the program: its exit status, and what standard error was told.
 use Rattle.std.specs.Prelude.{◌≡◌, ℕ, Bool, true, false, ◌⊎◌, List, [], ◌++◌, Option, Result, Ok, Err}
 use Rattle.std.specs.Io.KnownBytes.{Appends}
 use Rattle.cb_peer.specs.declared.state.CloseReason.{CloseReason}
@@ -10,22 +10,22 @@ use Rattle.cb_run.specs.Ending.{HasCause, status_code, halt_status, halt_line}
 use Rattle.cb_decode.specs.Report.{ReportsKnown}
 use Rattle.cb_command.specs.Peer.{closed_text, reason_status}
 
--- the number of the status that a run came to
+-- The exit status as a number.
 abbrev pub code_of : Result Status Halt → Result ℕ Halt
 code_of (Ok status) = Ok (status_code status)
 code_of (Err halt) = Err halt
 
--- The run ended early: standard error was told why, or failed itself, and the status is the halt's.
+-- The run ended early. Standard error was told why, or failed itself. The status is the halt's.
 abbrev pub EndsEarly : Option (List ℕ) → Option (List ℕ) → Bool → ℕ → Halt → Type 0
 EndsEarly told tells errors_failed code halt =
     (Appends told tells (halt_line halt) ⊎ (errors_failed ≡ true)) × (code ≡ status_code (halt_status halt))
 
--- The same for some halt that has a cause: in the input as it was, or in a read or a write that failed.
+-- The same for some halt that has a cause: in the input as it was, or in a failed read or write.
 abbrev pub Halts : Option (List ℕ) → Bool → Bool → Option (List ℕ) → Option (List ℕ) → Bool → ℕ → Type 0
 Halts input read_failed write_failed told tells errors_failed code =
     (halt : Halt) × HasCause input read_failed write_failed halt × EndsEarly told tells errors_failed code halt
 
--- The status of words that are refused; or standard error failed, which was to be told why.
+-- The status of refused words. Or standard error failed, and the status says that.
 abbrev pub Refuses : Bool → ℕ → Type 0
 Refuses errors_failed code = (code ≡ status_code Usage) ⊎ ((errors_failed ≡ true) × (code ≡ status_code BadInput))
 
@@ -33,19 +33,20 @@ Refuses errors_failed code = (code ≡ status_code Usage) ⊎ ((errors_failed �
 abbrev pub PrintsReport : Option (List ℕ) → Option (List ℕ) → Option (List ℕ) → ℕ → Type 0
 PrintsReport input held holds code = (status : Status) × ReportsKnown input held holds status × (code ≡ status_code status)
 
--- what follows the line of a closed session, by whether a read and a write failed
+-- The line after the one of a closed session, by whether a read and a write failed.
 abbrev pub failure_line : Bool → Bool → List ℕ
 failure_line true write_failed = halt_line ReadFailed
 failure_line false true = halt_line WriteFailed
 failure_line false false = []
 
--- the status of `serve`, by the same
+-- The status of `serve`, by whether a read and a write failed.
 abbrev pub peer_status : Bool → Bool → CloseReason → Status
 peer_status true write_failed reason = BadInput
 peer_status false true reason = BadInput
 peer_status false false reason = reason_status reason
 
--- Standard error was told the reason and what failed, and the status is theirs; or standard error itself failed.
+-- Standard error was told the reason and what failed, and the status is theirs. Or standard error
+-- itself failed.
 abbrev pub TellsPeer : Bool → Bool → Option (List ℕ) → Option (List ℕ) → Bool → ℕ → CloseReason → Type 0
 TellsPeer read_failed write_failed told tells errors_failed code reason =
     (Appends told tells (closed_text reason ++ failure_line read_failed write_failed) × (code ≡ status_code (peer_status read_failed write_failed reason)))

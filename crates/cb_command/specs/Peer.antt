@@ -1,4 +1,4 @@
--- What `serve` comes to for its peer.
+-- The outcome of `serve` for its peer.
 use Rattle.std.specs.Prelude.{◌≡◌, ℕ, pos, Bool, true, false, ◌⊎◌, List, [], ◌∷◌, ◌++◌, codes, Option, Result, Ok, Err}
 use Rattle.std.specs.Io.KnownBytes.{Appends}
 use Rattle.cb_journal.specs.Journal.{JournalState, new_journal}
@@ -17,13 +17,14 @@ use Rattle.cb_run.specs.declared.ending.Status.TheVariants.{Success, BadInput, N
 use Rattle.cb_run.specs.declared.ending.Halt.{Halt}
 use Rattle.cb_run.specs.declared.ending.Halt.TheVariants.{ReadFailed, WriteFailed}
 
--- where serving begins: the peer's settings, a hall that nobody has asked anything, and the badge of the first connection of
--- peer 0
+-- Where serving begins: the peer's settings, a new hall that nobody has asked anything, and the
+-- badge of the first connection of peer 0.
 abbrev pub peer_origin : Option (List ℕ) → Bool → Origin JournalState
 peer_origin held failed = origin_of (record { inbound = true; nonce = 1; time = pos 0; height = pos 0; salt = 0 }) new_journal (fresh_badge (first_of 0)) held failed
 
--- The connection was served to its end, from its source as it was (input) to its source as it is (remaining), and from
--- what the writer held to what it holds, which had failed before or not; its session is closed for this reason.
+-- The connection was served to its end: from its source before (`input`) to its source after
+-- (`remaining`), and from what the writer held to what it holds. `had_failed` says whether the
+-- writer had failed before. The session is closed for this reason.
 pub record WasServed (input remaining : Option (List ℕ)) (read_failed : Bool) (held holds : Option (List ℕ)) (had_failed write_failed : Bool) (reason : CloseReason) : Type 0 where
   pub trace : TraceView
   pub hall : JournalState
@@ -33,11 +34,11 @@ pub record WasServed (input remaining : Option (List ℕ)) (read_failed : Bool) 
   pub serves : Serves (λ old had replies new has. Asks old new had has replies) IsRefused (peer_origin held had_failed) input remaining read_failed (progress trace hall badge holds write_failed written) end
   pub closed : trace.session.state ≡ Closed reason
 
--- the line on standard error
+-- The line on standard error.
 abbrev pub closed_text : CloseReason → List ℕ
 closed_text reason = codes "closed " ++ reason_name reason ++ 10 ∷ []
 
--- the status of a run of `serve` whose session was closed for this reason
+-- The exit status of `serve` when its session closed for this reason.
 abbrev pub reason_status : CloseReason → Status
 reason_status reasons.Bye = Success
 reason_status reasons.Memory = NoMemory
@@ -52,13 +53,14 @@ reason_status reasons.TraceFull = BadInput
 reason_status reasons.HallFull = BadInput
 reason_status reasons.WriteFault = BadInput
 
--- the end of a run whose session was closed for this reason, by whether a read and a write failed
+-- How a run ends when its session closed for this reason, by whether a read and a write failed.
 abbrev pub peer_end : Bool → Bool → CloseReason → Result Status Halt
 peer_end true write_failed reason = Err ReadFailed
 peer_end false true reason = Err WriteFailed
 peer_end false false reason = Ok (reason_status reason)
 
--- Standard error was told the reason, and the run ended by what failed; or standard error itself failed.
+-- Standard error was told the reason, and the run ended by what failed. Or standard error itself
+-- failed.
 abbrev pub PeerEnds : Bool → Bool → Option (List ℕ) → Option (List ℕ) → Bool → CloseReason → Result Status Halt → Type 0
 PeerEnds read_failed write_failed told tells errors_failed reason result =
     (Appends told tells (closed_text reason) × (result ≡ peer_end read_failed write_failed reason)) ⊎ ((errors_failed ≡ true) × (result ≡ Err WriteFailed))

@@ -1,4 +1,4 @@
-//! The command line.
+//! The command line and its commands.
 
 ghost use Rattle.std.specs.Prelude.{◌≡◌, ◌⊎◌, ℕ, true, false, IsErrOf, List, [], ◌∷◌, codes, map, option_map, string_bytes, IfOk, IfErr, MatchResult};
 ghost use Rattle.std.specs.Io.KnownBytes.{Appends};
@@ -23,21 +23,22 @@ use clap::Command;
 use clap::error::ErrorKind;
 use std::alloc::{AllocError, Global};
 
-/// What a command line asks for.
+/// The command that a command line names.
 #[derive(Clone, Copy, PartialEq, Eq)]
 pub enum Task {
-    /// Print the items of a stream.
+    /// `decode`: print the items of a stream.
     Decode,
-    /// Answer a peer.
+    /// `serve`: answer a peer.
     Serve,
-    /// Run the crew's core by hand.
+    /// `sim`: run the pure core of the crew, which is the threads that share the peers' work, one
+    /// line for each act.
     Sim,
 }
 
-/// The version that `--version` tells.
+/// The version that `--version` prints.
 const VERSION: &str = "0.1.0";
 
-/// What `--help` tells below the commands.
+/// The text that `--help` prints below the commands.
 const USE: &str = "\
 Without a command `decode` runs. All input is standard input. The network is Bitcoin's regression
 test network (regtest).
@@ -52,10 +53,11 @@ Exit status:
 Example:
   echo fabfb5da76657261636b000000000000000000005df6e0e2 | cbrelay decode";
 
-/// Does what the words ask for, and answers the exit status.
+/// Runs the command that the words name, and returns the exit status, the code of a `Status`.
 ///
-/// The first word is the program's name. All input comes from `reader`. What is printed goes to `writer`, and to `errors`
-/// what is said of the command line and of a read or a write that failed.
+/// The first word is the program's name. All input is read from `reader`. Output goes to `writer`.
+/// Messages about the command line, and about a failed read or write, go to `errors`; `serve` also
+/// prints there why its session ended.
 pub fn command<R: Source, W: Sink, E: Sink>(
     alloc: Global,
     words: Vec<String>,
@@ -63,12 +65,13 @@ pub fn command<R: Source, W: Sink, E: Sink>(
     writer: &mut W,
     errors: &mut E,
 ) -> u8
-    // Over every reader, writer and standard error: where the status is 1, clap refuses the words.
+    // For every reader, writer and standard error: if the status is 1, clap refuses the words.
+    // Nothing was read, and nothing was written to `writer`.
     ensures refused { result ≡ 1 →
         AreRefused (map string_bytes words.items) × (reader.new ≡ reader.old)
         × (writer.new ≡ writer.old) }
-    // The words were refused; or memory ran out before their command began; or clap finds no fault in them, and their
-    // command came to its end, or ended early for a cause.
+    // Either the words were refused. Or memory ran out before the command began. Or clap finds no
+    // fault in the words, and the command ended normally or ended early for a cause.
     ensures ran { (AreRefused (map string_bytes words.items)
         × Refuses (E.has_failed errors.new) result × (reader.new ≡ reader.old)
         × (writer.new ≡ writer.old))
@@ -92,12 +95,12 @@ pub fn command<R: Source, W: Sink, E: Sink>(
         (W.contents writer.new) result × (errors.new ≡ errors.old))
         ⊎ Halts (R.remaining reader.old) (R.has_failed reader.new) (W.has_failed writer.new)
         (E.contents errors.old) (E.contents errors.new) (E.has_failed errors.new) result))) }
-    // The commands by their words.
+    // The words and their commands.
     ensures named { (name : List ℕ) →
         (task_in (name ∷ []) ≡ Task.Decode) × (task_in (name ∷ codes "decode" ∷ []) ≡ Task.Decode)
         × (task_in (name ∷ codes "serve" ∷ []) ≡ Task.Serve)
         × (task_in (name ∷ codes "sim" ∷ []) ≡ Task.Sim) }
-    // They are taken.
+    // Clap accepts these words.
     ensures taken { (name : List ℕ) →
         (takes program (name ∷ []) ≡ true) × (takes program (name ∷ codes "decode" ∷ []) ≡ true)
         × (takes program (name ∷ codes "serve" ∷ []) ≡ true)
@@ -111,7 +114,8 @@ pub fn command<R: Source, W: Sink, E: Sink>(
     }
 }
 
-/// Refuses a command line of which a word isn't UTF-8: says so on `errors`, and answers the exit status.
+/// Refuses a command line with a word that isn't UTF-8: reports it on `errors`, and returns the
+/// exit status 1, or 3 if that write failed.
 pub fn refuse_foreign<E: Sink>(errors: &mut E) -> u8
     ensures { ((result ≡ 1)
         × Appends (E.contents errors.old) (E.contents errors.new)
@@ -124,7 +128,7 @@ pub fn refuse_foreign<E: Sink>(errors: &mut E) -> u8
     }
 }
 
-/// Answers a peer, and then says what failed.
+/// Serves a peer, reports on `errors` what failed, and returns the exit status.
 fn answer_peer<R: Source, W: Sink, E: Sink>(
     alloc: Global,
     reader: &mut R,
@@ -143,7 +147,8 @@ fn answer_peer<R: Source, W: Sink, E: Sink>(
     settle(code_of(ended), errors)
 }
 
-/// Says why the command line was refused, or gives the help that it asked for.
+/// Reports why the command line was refused, or prints the help or version that it asked for.
+/// Returns the exit status.
 fn settle_refusal<E: Sink>(alloc: Global, error: &clap::Error, errors: &mut E) -> u8
     ensures ends { Refuses (E.has_failed errors.new) result
         ⊎ EndsEarly (E.contents errors.old) (E.contents errors.new)
@@ -156,7 +161,7 @@ fn settle_refusal<E: Sink>(alloc: Global, error: &clap::Error, errors: &mut E) -
     settle(code_of(ended), errors)
 }
 
-/// The exit status of a run. Where it ended early, standard error is told why.
+/// The exit status of a run. If it ended early, `errors` is told why.
 fn settle<E: Sink>(ended: Result<u8, Halt>, errors: &mut E) -> u8
     ensures settled { MatchResult ended (λ code. (result ≡ code) × (errors.new ≡ errors.old))
         (EndsEarly (E.contents errors.old) (E.contents errors.new)
@@ -169,7 +174,7 @@ fn settle<E: Sink>(ended: Result<u8, Halt>, errors: &mut E) -> u8
     }
 }
 
-/// The number of the status that a run came to.
+/// The exit status as a number.
 fn code_of(ended: Result<Status, Halt>) -> Result<u8, Halt>
     ensures { result ≡ code_of ended }
 {
@@ -177,7 +182,7 @@ fn code_of(ended: Result<Status, Halt>) -> Result<u8, Halt>
     Ok(status.code())
 }
 
-/// The program's command line.
+/// The command line that the program accepts.
 fn command_line<'a>(alloc: Global) -> Result<Command<'a>, AllocError>
     ensures { IfOk result (λ line. app_of line ≡ program) }
 {
@@ -193,7 +198,8 @@ fn command_line<'a>(alloc: Global) -> Result<Command<'a>, AllocError>
         .subcommand(sim)
 }
 
-/// The task that the words name: `decode` where they name none.
+/// The task that the words name; `decode` if they name none. Fails if clap refuses the words or
+/// asks to print help or the version, or if memory runs out.
 fn task_of(alloc: Global, words: &[String]) -> Result<Task, clap::Error>
     ensures task { IfOk result (λ task. task ≡ task_in (map string_bytes words.now)) }
     ensures kinds { FailsBy (fault_of program (map string_bytes words.now)) result }
@@ -207,7 +213,7 @@ fn task_of(alloc: Global, words: &[String]) -> Result<Task, clap::Error>
     }
 }
 
-/// The task of the command that was entered: `decode`, where none was.
+/// The task of the command that was named; `decode` if none was.
 fn task_named(name: Option<&str>) -> Task
     ensures { result ≡ task_named (option_map (λ text. text.now) name.entry) }
 {
@@ -218,7 +224,8 @@ fn task_named(name: Option<&str>) -> Task
     }
 }
 
-/// Prints why the command line was refused, or the help that it asked for.
+/// Prints to `errors` why the command line was refused, or the help or version that it asked for.
+/// Fails if memory runs out or the write fails.
 fn refuse<E: Sink>(alloc: Global, error: &clap::Error, errors: &mut E) -> Result<Status, Halt>
     ensures usage { IfOk result (λ status. status ≡ Usage) }
     ensures err { IfErr result
@@ -234,14 +241,14 @@ fn refuse<E: Sink>(alloc: Global, error: &clap::Error, errors: &mut E) -> Result
     Ok(Status::Usage)
 }
 
-/// Says on standard error why the run ended early, and answers the status.
+/// Reports on standard error why the run ended early, and returns the status.
 fn tell<E: Sink>(halt: Halt, errors: &mut E) -> Status
     ensures told { Appends (E.contents errors.old) (E.contents errors.new) (halt_line halt)
         ⊎ (E.has_failed errors.new ≡ true) }
     ensures status { result ≡ halt_status halt }
     ensures stays { E.has_failed errors.old ≡ true → E.has_failed errors.new ≡ true }
 {
-    // Where even this can't be written, the status alone tells.
+    // If this can't be written either, only the status shows it.
     let _ = write_all(errors, halt.line().as_bytes());
     halt.status()
 }

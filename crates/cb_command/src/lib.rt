@@ -1,4 +1,4 @@
-//! The program's command line, and what each of its commands comes to; the command `serve`.
+//! The program's command line, the outcome of each of its commands, and the command `serve`.
 #![tactic(auto)]
 
 mod commanding;

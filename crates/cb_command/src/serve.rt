@@ -1,4 +1,6 @@
-//! The command `serve`: one peer's connection over standard input and output.
+//! The command `serve`: one peer's connection over standard input and output. The hall of the
+//! connection is what Bitcoin Core keeps in ChainstateManager and CTxMemPool; the badge is the
+//! connection's permit to ask it.
 
 ghost use Rattle.std.specs.Prelude.{◌≡◌, ◌⊎◌, true, List, [], ◌∷◌, ◌++◌, OnOk, OnErr, IfSome, IsOkUnless};
 ghost use Rattle.std.specs.Io.KnownBytes.{Appends};
@@ -16,7 +18,8 @@ use cb_run::{Halt, Status, write_all};
 use cb_session::{Badge, CloseReason, Hall, Settings, State, serve};
 use std::alloc::Global;
 
-/// What the session is given: it is the peer's connection, and all else is fixed, so that a run can be made again.
+/// The session's settings. The peer made the connection. The rest is fixed, so that a run can be
+/// repeated.
 const SETTINGS: Settings = Settings {
     inbound: true,
     nonce: 1,
@@ -25,17 +28,17 @@ const SETTINGS: Settings = Settings {
     salt: 0,
 };
 
-/// Answers a peer until its session is over, and tells why on standard error.
+/// Serves a peer until its session is over, and prints the reason on standard error.
 ///
-/// An error is that a read or a write failed. Want of memory closes the session, and the status tells.
+/// Fails if a read or a write failed. If memory runs out, the session ends and the status says so.
 pub fn serve_peer<R: Source, W: Sink, E: Sink>(
     alloc: Global,
     reader: &mut R,
     writer: &mut W,
     errors: &mut E,
 ) -> Result<Status, Halt>
-    // The connection was served whole; or there was no memory before the first read, and nothing was read or written.
-    // In both cases its end is told.
+    // The connection was served to its end. Or memory ran out before the first read, and nothing
+    // was read or written. In both cases the reason is printed.
     ensures { (reason : CloseReason)
         × (WasServed (R.remaining reader.old) (R.remaining reader.new) (R.has_failed reader.new)
         (W.contents writer.old) (W.contents writer.new) (W.has_failed writer.old)
@@ -49,7 +52,8 @@ pub fn serve_peer<R: Source, W: Sink, E: Sink>(
     end_of(reader, writer, reason)
 }
 
-/// Serves the connection with a hall of its own. Want of memory before the first read closes it as later.
+/// Serves the connection with a hall of its own. If memory runs out before the first read, the
+/// reason is `Memory`, as it is later.
 fn connection<R: Source, W: Sink>(alloc: Global, reader: &mut R, writer: &mut W) -> CloseReason
     ensures { WasServed (R.remaining reader.old) (R.remaining reader.new) (R.has_failed reader.new)
         (W.contents writer.old) (W.contents writer.new) (W.has_failed writer.old)
@@ -64,7 +68,7 @@ fn connection<R: Source, W: Sink>(alloc: Global, reader: &mut R, writer: &mut W)
     reason
 }
 
-/// A hall that nobody has asked anything, and the badge of its one peer. `None` is want of memory.
+/// A new hall and the badge of its only peer, or `None` if memory runs out.
 fn new_node(alloc: Global) -> Option<(Hall, Badge)>
     ensures hall { IfSome result (λ made. made.0 ≡ new_journal) }
     ensures badge { IfSome result (λ made. made.1 ≡ fresh_badge (first_of 0)) }
@@ -79,7 +83,7 @@ fn new_node(alloc: Global) -> Option<(Hall, Badge)>
     Some((hall, badge))
 }
 
-/// The last of badges.
+/// The last of the badges.
 fn last_of(mut badges: Vec<Badge>) -> Option<Badge>
     ensures { IfSome result
         (λ badge. (front : List BadgeState) × (badges.items ≡ front ++ badge ∷ [])) }
@@ -87,7 +91,7 @@ fn last_of(mut badges: Vec<Badge>) -> Option<Badge>
     badges.pop()
 }
 
-/// Serves the connection with a new hall.
+/// Serves the connection with a new hall. Returns the reason why the session ended.
 fn converse<R: Source, W: Sink>(
     alloc: Global,
     reader: &mut R,
@@ -108,7 +112,7 @@ fn converse<R: Source, W: Sink>(
     }
 }
 
-/// Tells why a session is over. The only error is that a write failed.
+/// Prints why the session is over, such as `closed Bye`. Fails only if the write failed.
 fn tell_closed<E: Sink>(errors: &mut E, reason: CloseReason) -> Result<(), Halt>
     ensures told { OnOk result
         (Appends (E.contents errors.old) (E.contents errors.new) (closed_text reason)) }
@@ -120,7 +124,7 @@ fn tell_closed<E: Sink>(errors: &mut E, reason: CloseReason) -> Result<(), Halt>
     write_all(errors, b"\n")
 }
 
-/// How the run ends: a read or a write that failed comes before the session's reason.
+/// How the run ends. A failed read or write counts before the reason of the session.
 fn end_of<R: Source, W: Sink>(reader: &R, writer: &W, reason: CloseReason) -> Result<Status, Halt>
     ensures { result ≡ peer_end (R.has_failed reader.now) (W.has_failed writer.now) reason }
 {
@@ -133,7 +137,7 @@ fn end_of<R: Source, W: Sink>(reader: &R, writer: &W, reason: CloseReason) -> Re
     Ok(status_of(reason))
 }
 
-/// Why a session that is over is.
+/// The reason of a session that is over.
 fn reason_of(state: State) -> CloseReason
     requires { is_closed state ≡ true }
     ensures { state ≡ Closed result }
@@ -144,7 +148,7 @@ fn reason_of(state: State) -> CloseReason
     }
 }
 
-/// The status of a run whose session was closed for this reason.
+/// The exit status of a run whose session ended for this reason.
 fn status_of(reason: CloseReason) -> Status
     ensures { result ≡ reason_status reason }
 {
