@@ -1,4 +1,4 @@
-//! The program `cbrelay`: it hands its words and its standard streams to the crate cb_command.
+//! The program `cbrelay`: passes its arguments and standard streams to the crate `cb_command`.
 #![tactic(auto)]
 
 use cb_command::{command, refuse_foreign};
@@ -7,7 +7,7 @@ use cb_run::Status;
 use std::io::ErrorKind;
 use std::process::ExitCode;
 
-/// Hands all to `command`: the words, standard input, standard output and standard error.
+/// Passes the arguments, standard input, standard output and standard error to `command`.
 fn main(rt: HostRuntime) -> ExitCode {
     let alloc = rt.alloc();
     let mut errors = Out::new(rt.stderr());
