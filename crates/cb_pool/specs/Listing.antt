@@ -1,4 +1,4 @@
--- What contracts see of a pool: its transactions in order, each with the number of its arrival.
+-- What contracts see of a pool: its transactions in order, each with its arrival number.
 use Rattle.std.specs.Prelude.{◌≡◌, ◌≢◌, ◌<◌, false, ℕ, ◌+◌, ⊤, min, nat_le, List, [], ◌∷◌, ◌++◌, map, filter}
 use Rattle.std.specs.List.{AllByRecursion}
 use Rattle.cb_base.specs.declared.hash.Hash256.{Hash256}
@@ -14,41 +14,43 @@ pub record Listing : Type 0 where
 abbrev pub txs_of : List Pooled → List Tx
 txs_of list = map (λ pooled. pooled.tx) list
 
--- the number behind another: behind the last one of 64 bits stands that one again
+-- the number after another; the largest one of 64 bits is followed by itself
 abbrev pub number_after : ℕ → ℕ
 number_after number = min (number + 1) 18446744073709551615
 
--- one more at the end, with the next number
+-- one more transaction at the end, with the next number
 abbrev pub with_last : Listing → Tx → Listing
 with_last old tx = record { list = old.list ++ record { tx = tx; number = old.next } ∷ []; next = number_after old.next }
 
--- the names of those whose number is at least this one
+-- the txids of the transactions whose number is at least this one
 abbrev pub since_of : List Pooled → ℕ → List Hash256
 since_of list number = map (λ pooled. txid_of pooled.tx) (filter (λ pooled. nat_le number pooled.number) list)
 
--- the transactions in order, and for how many more of them there is room, and for how many outputs that they touch
+-- the transactions in order, for how many more transactions there is room, and for how many more
+-- outputs that they spend or make
 pub record Roomy : Type 0 where
   pub list : List Pooled
   pub places : ℕ
   pub coins : ℕ
 
--- no number stands twice
+-- no two numbers are equal
 abbrev pub Differ : List Pooled → Type 0
 Differ [] = ⊤
 Differ (pooled ∷ list) = AllByRecursion (λ other. other.number ≢ pooled.number) list × Differ list
 
--- Until the numbers run out, each is below the next one, and no two are alike.
+-- As long as the next number isn't the largest one of 64 bits, each number is below it, and no two
+-- are equal.
 abbrev pub AreNumbered : List Pooled → ℕ → Type 0
 AreNumbered list next = next < 18446744073709551615 → AllByRecursion (λ pooled. pooled.number < next) list × Differ list
 
--- What contracts see of a plan for another ledger: the transactions that come first, for how many transactions it has room,
--- and for how many outputs that they touch.
+-- What contracts see of a plan for refolding: the transactions that are offered first, for how many
+-- transactions it has room, and for how many outputs that they spend or make.
 pub record Plan : Type 0 where
   pub first : List Tx
   pub places : ℕ
   pub coins : ℕ
 
--- no two of the transactions have one name
+-- no two of the transactions have the same txid
 abbrev pub NamesDiffer : List Tx → Type 0
 NamesDiffer [] = ⊤
 NamesDiffer (tx ∷ txs) = (is_named_in txs (txid_of tx) ≡ false) × NamesDiffer txs

@@ -1,4 +1,5 @@
--- Which transactions of a pool may stand in a compact block (BIP 152): those whose short ids are among the block's.
+-- Which transactions of a pool may fill a compact block (BIP 152): those whose short ids are among
+-- the block's.
 use Rattle.std.specs.Prelude.{ℕ, List, map, filter}
 use Rattle.cb_tx.specs.declared.tx.Tx.{Tx}
 use Rattle.cb_compact.specs.ShortIds.{short_id_of}
@@ -10,6 +11,6 @@ use Rattle.cb_pool.specs.Rules.{txid_of}
 abbrev pub pair_of : ℕ × ℕ → Tx → Pair
 pair_of key tx = record { id = short_id_of key (txid_of tx); tx = tx }
 
--- of transactions, those whose short ids under the key are among these, in order, each with its short id
+-- the transactions whose short ids under the key are among `ids`, in order, each with its short id
 unfoldable pub pairs_of : ℕ × ℕ → List ℕ → List Tx → List Pair
 pairs_of key ids txs = filter (λ pair. is_among pair.id ids) (map (pair_of key) txs)

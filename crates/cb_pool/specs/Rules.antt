@@ -11,14 +11,14 @@ use Rattle.cb_tx.specs.Text.{tx_text}
 use Rattle.cb_ledger.specs.Spend.{spend}
 use Rattle.cb_ledger.specs.Unspent.{Unspent}
 
--- a transaction's name
+-- a transaction's txid
 abbrev pub txid_of : Tx → Hash256
 txid_of tx = double_hash (tx_text tx)
 
 abbrev pub same : Hash256 → Hash256 → Bool
 same a b = pointwise nat_eq a.0 b.0
 
--- the first of the transactions that has the name
+-- the first of the transactions with the txid
 abbrev pub named_in : List Tx → Hash256 → Option Tx
 named_in [] txid = None
 named_in (tx ∷ txs) txid = if same txid (txid_of tx) then Some tx else named_in txs txid
@@ -26,37 +26,40 @@ named_in (tx ∷ txs) txid = if same txid (txid_of tx) then Some tx else named_i
 abbrev pub is_named_in : List Tx → Hash256 → Bool
 is_named_in txs txid = is_some (named_in txs txid)
 
--- It breaks no rule of transactions, is no coinbase, and hasn't the 64 bytes of two hashes joined (CVE-2017-12842).
+-- The transaction passes the checks that need no UTXO set: it breaks no transaction rule, is no
+-- coinbase, and doesn't have the size of two joined hashes, 64 bytes (CVE-2017-12842).
 pub record StandsAlone (tx : Tx) : Type 0 where
   pub rules : MeetsRules tx
   pub ordinary : ¬ IsCoinbase tx
   pub size : length (tx_text tx) ≢ 64
 
--- What can be told of it without memory is no reason against it: it meets the first five rules, and is no coinbase; the sixth
--- asks for memory where there are two inputs or more, which is more than 64 bytes.
+-- What can be checked without memory doesn't speak against the transaction: it meets the first five
+-- rules and is no coinbase. The sixth rule needs memory if there are two inputs or more; the
+-- transaction is then longer than 64 bytes.
 abbrev pub IsUntold : Tx → Type 0
 IsUntold tx = MeetsFirst tx × (¬ IsCoinbase tx) × (length tx.inputs < 2 → length (tx_text tx) ≢ 64)
 
--- Behind those that were taken it can be taken too: no other has its name, it can be spent behind them over what is
--- unspent, and there is a place among the 10,000.
+-- The transaction can be taken after those taken before: none of them has its txid, it can be spent
+-- after them over the UTXO set, and fewer than 10,000 are taken.
 pub record Applies (u : Unspent) (taken : List Tx) (tx : Tx) : Type 0 where
   pub alone : StandsAlone tx
   pub fresh : is_named_in taken (txid_of tx) ≡ false
   pub spends : IsOk (spend u (taken ++ tx ∷ []))
   pub fits : length taken < 10000
 
--- It would be taken, but that it can't be spent behind the others.
+-- The transaction passes its own checks and its txid is new, but it can't be spent after the
+-- others.
 abbrev pub CannotSpend : Unspent → List Tx → Tx → Fault → Type 0
 CannotSpend u taken tx fault = StandsAlone tx × (is_named_in taken (txid_of tx) ≡ false) × (spend u (taken ++ tx ∷ []) ≡ Err fault)
 
--- The first reason why it doesn't stand by itself.
+-- The first reason why the transaction doesn't pass its own checks.
 abbrev pub RefusesAlone : Tx → Fault → Type 0
 RefusesAlone tx (BadTx rule) = IsLeastBroken tx rule
 RefusesAlone tx BadCoinbase = MeetsRules tx × IsCoinbase tx
 RefusesAlone tx Size64 = MeetsRules tx × (¬ IsCoinbase tx) × (length (tx_text tx) ≡ 64)
 RefusesAlone tx other = ⊥
 
--- The first reason why it isn't taken behind the others.
+-- The first reason why the transaction isn't taken after the others.
 abbrev pub Refuses : Unspent → List Tx → Tx → Fault → Type 0
 Refuses u taken tx Known = StandsAlone tx × (is_named_in taken (txid_of tx) ≡ true)
 Refuses u taken tx NoInput = CannotSpend u taken tx NoInput

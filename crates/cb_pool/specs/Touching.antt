@@ -1,19 +1,19 @@
--- Which outputs transactions spend or make, and when two lists of them have none in common.
+-- Which outputs transactions spend or make, and when two lists of transactions have none in common.
 use Rattle.std.specs.Prelude.{◌≡◌, ◌<◌, ◌⊎◌, List, [], ◌∷◌, length}
 use Rattle.cb_tx.specs.declared.tx.OutPoint.{OutPoint}
 use Rattle.cb_tx.specs.declared.tx.Tx.{Tx}
 use Rattle.cb_ledger.specs.Touched.{IsNamed}
 use Rattle.cb_pool.specs.Rules.{txid_of}
 
--- a transaction spends the output, or makes it
+-- a transaction spends or makes the output
 abbrev pub IsTouchedBy : Tx → OutPoint → Type 0
 IsTouchedBy tx point = IsNamed tx.inputs point ⊎ ((point.txid ≡ txid_of tx) × (point.index < length tx.outputs))
 
--- one of the transactions does
+-- one of the transactions spends or makes the output
 abbrev pub IsTouched : List Tx → OutPoint → Type 0
 IsTouched [] point = ⊥
 IsTouched (tx ∷ txs) point = IsTouchedBy tx point ⊎ IsTouched txs point
 
--- none of them touches an output that one of the others touches
+-- the two lists spend or make no output in common
 abbrev pub AreApart : List Tx → List Tx → Type 0
 AreApart txs others = (point : OutPoint) → IsTouched txs point → ¬ IsTouched others point

@@ -15,7 +15,7 @@ use cb_block::SoundBlock;
 use cb_tx::{OutPoint, Tx, TxIn, TxOut};
 use std::collections::HashMap;
 
-/// Whether none of the outputs that inputs name has changed.
+/// Whether `coins` has no output that one of these inputs spends.
 fn keep_inputs(coins: &HashMap<OutPoint, Option<i64>>, inputs: &[TxIn]) -> bool
     ensures kept { IsTrue result → (u : Unspent) (point : OutPoint) → IsNamed inputs.now point
         → map.get (changed u (changes_of coins.now.entries)) point ≡ map.get u point }
@@ -30,7 +30,8 @@ fn keep_inputs(coins: &HashMap<OutPoint, Option<i64>>, inputs: &[TxIn]) -> bool
     true
 }
 
-/// Whether none of the outputs that a transaction of this name makes has changed.
+/// Whether `coins` has no output that a transaction with this txid and these outputs makes. An
+/// output whose index is above 4,294,967,295 counts as one that `coins` has.
 fn keep_outputs(coins: &HashMap<OutPoint, Option<i64>>, txid: Hash256, outputs: &[TxOut]) -> bool
     ensures kept { IsTrue result → (u : Unspent) (place : ℕ) → place < length outputs.now
         → map.get (changed u (changes_of coins.now.entries)) (record { txid = txid; index = place })
@@ -50,7 +51,7 @@ fn keep_outputs(coins: &HashMap<OutPoint, Option<i64>>, txid: Hash256, outputs: 
     true
 }
 
-/// Whether none of the outputs that a transaction of this name spends or makes has changed.
+/// Whether `coins` has no output that the transaction spends or makes.
 pub(crate) fn keeps(coins: &HashMap<OutPoint, Option<i64>>, txid: Hash256, tx: &Tx) -> bool
     requires name { txid ≡ txid_of tx.now }
     ensures kept { IsTrue result → (u : Unspent) (point : OutPoint) → IsTouchedBy tx.now point
@@ -62,10 +63,16 @@ pub(crate) fn keeps(coins: &HashMap<OutPoint, Option<i64>>, txid: Hash256, tx: &
 }
 
 impl Pool {
-    /// Whether the transactions of a block spend and make no output that one of the pool's spends or makes. Then the pool stays
-    /// as it is where the block comes behind what it stands on. Of a transaction of more than 4,294,967,296 outputs it isn't seen.
+    /// Whether the block and the pool have no output in common: the block's transactions spend or
+    /// make no output that a transaction of the pool spends or makes. If so, the pool stays as it
+    /// is when the block is connected to the UTXO set for which the pool is valid
+    /// (`stays_behind_others`).
     ///
-    /// It looks each input and output of the block up once, until it finds one of the pool's, and takes no memory.
+    /// If a transaction of the block has more than 4,294,967,296 outputs, the answer may be false
+    /// even though nothing is in common.
+    ///
+    /// Each input and output of the block is looked up once. The search ends at the first one in
+    /// common. Nothing is allocated.
     pub fn is_apart_from(&self, block: &SoundBlock) -> bool
         ensures apart { IsTrue result → AreApart (txs_of self.now.list) block.now.txs }
         ensures seen { AreApart (txs_of self.now.list) block.now.txs →

@@ -11,10 +11,9 @@ use cb_tx::{Tx, check_tx};
 use std::alloc::{AllocError, Global};
 use std::marker::Model;
 
-/// A shared transaction that may come into a pool as far as it stands by itself, with its txid. It is seen as the
+/// A shared transaction with its txid that passed every check that needs no UTXO set: it breaks no
+/// transaction rule, is no coinbase, and its size isn't 64 bytes. Contracts see it as the
 /// transaction.
-///
-/// It breaks no rule of transactions, is no coinbase, and hasn't 64 bytes.
 #[derive(Drop)]
 pub struct Candidate {
     txid: Hash256,
@@ -35,16 +34,21 @@ impl Model for Candidate {
 }
 
 impl Candidate {
-    /// A transaction that stands by itself, which is hashed here, and never again.
+    /// Checks a transaction on its own and computes its txid, which is never computed again.
     ///
-    /// In this order: `Fault::BadTx` with the first rule that it breaks, `Fault::BadCoinbase` where it is a coinbase,
-    /// `Fault::Size64` where it has 64 bytes, as two hashes of a Merkle tree have (CVE-2017-12842). `Fault::Memory` only
-    /// where none of the first five rules is broken, nor a later one that one input can break.
+    /// Fails with the first of these:
+    /// - `Fault::BadTx` with the first transaction rule that is broken.
+    /// - `Fault::BadCoinbase` if it is a coinbase.
+    /// - `Fault::Size64` if its size is 64 bytes, as that of two joined hashes of a Merkle tree
+    ///   (CVE-2017-12842).
+    ///
+    /// `Fault::Memory` is returned only if the checks that need no memory pass: the first five
+    /// rules, the coinbase check and, with fewer than two inputs, the size check.
     pub fn new(alloc: Global, tx: Shared<Tx>) -> Result<Candidate, Fault>
         ensures same { IfOk result (λ candidate. candidate ≡ tx) }
         ensures exact { MatchResult result (λ _. StandsAlone tx)
             (λ fault. (fault ≡ Memory) ⊎ RefusesAlone tx fault) }
-        // What can be told without memory is told first.
+        // Errors that are found without memory come before `Fault::Memory`.
         ensures unpaid { result ≡ Err Memory → IsUntold tx }
     {
         check_tx(alloc, &tx)?;
@@ -58,9 +62,11 @@ impl Candidate {
         Ok(Candidate { txid, tx })
     }
 
-    /// A block's transaction other than its coinbase, which neither is looked at nor hashed anew. It takes no memory.
+    /// The transaction at a place of a block that meets the block rules. The place must not be that
+    /// of the coinbase. The transaction and its txid are shared with the block: nothing is checked,
+    /// hashed or allocated.
     ///
-    /// The only error is `Fault::Memory`, where a count of owners is full.
+    /// Fails only with `Fault::Memory`, if the transaction's reference count is full.
     pub fn of_block(block: &SoundBlock, place: usize) -> Result<Candidate, Fault>
         requires rules { MeetsBlockRules block.now }
         requires place { 0 < place }
@@ -81,8 +87,8 @@ impl Candidate {
         &self.tx
     }
 
-    /// The transaction with its name, shared. No memory is taken: the only error is `Fault::Memory`, where a count of owners is
-    /// full.
+    /// The transaction with its txid, shared. Nothing is allocated. Fails only with
+    /// `Fault::Memory`, if the transaction's reference count is full.
     pub(crate) fn named(&self) -> Result<NamedTx, Fault>
         ensures same { IfOk result (λ named. named ≡ self.now) }
         ensures memory { IsOkUnless result Memory }
@@ -91,14 +97,14 @@ impl Candidate {
         Ok(NamedTx::known(self.txid, tx))
     }
 
-    /// How many outputs it spends or makes.
+    /// How many outputs the transaction spends or makes: its inputs and outputs together.
     pub(crate) fn touched(&self) -> usize
         ensures { result ≡ touched_by self.now }
     {
         self.tx.inputs.as_slice().len() + self.tx.outputs.as_slice().len()
     }
 
-    /// The transaction's name.
+    /// The transaction's txid.
     pub fn txid(&self) -> Hash256
         ensures { result ≡ txid_of self.now }
     {
@@ -109,7 +115,7 @@ impl Candidate {
 impl Clone for Candidate {
     ghost is_clone = { λ candidate clone. clone ≡ candidate };
 
-    /// The same transaction once more, which takes no memory.
+    /// Shares the same transaction. Nothing is allocated.
     fn clone(&self) -> Result<Candidate, AllocError>
         ensures { IfOk result (λ clone. clone ≡ self.now) }
     {

@@ -12,7 +12,8 @@ use cb_ledger::{Ledger, sum_of};
 use cb_tx::{OutPoint, Tx, TxIn, TxOut};
 use std::collections::HashMap;
 
-/// What inputs are worth that name different outputs, where each of these is unspent.
+/// The sum of the values that the inputs spend, or `None` if one of the outputs isn't unspent. The
+/// inputs must spend different outputs. The UTXO set is `ledger` with the changes `coins`.
 fn worth(coins: &HashMap<OutPoint, Option<i64>>, ledger: &Ledger, inputs: &[TxIn]) -> Option<i128>
     requires { ¬ SpendsTwice inputs.now }
     ensures { MatchOption result
@@ -35,14 +36,14 @@ fn worth(coins: &HashMap<OutPoint, Option<i64>>, ledger: &Ledger, inputs: &[TxIn
     Some(sum)
 }
 
-/// Whether an input names the output.
+/// Whether one of the inputs spends the output.
 fn is_spent_by(inputs: &[TxIn], point: &OutPoint) -> bool
     ensures { IsTrue result ↔ Any (λ input. input.prev ≡ point.now) inputs.now }
 {
     inputs.iter().any(|input| input.prev == *point)
 }
 
-/// Whether one of a transaction's outputs is unspent already, once its inputs are spent.
+/// Whether one of the transaction's outputs is already unspent once its inputs are spent.
 fn is_remade(
     coins: &HashMap<OutPoint, Option<i64>>,
     ledger: &Ledger,
@@ -71,8 +72,9 @@ fn is_remade(
     false
 }
 
-/// Why a transaction can't be spent over the ledger after these changes. It looks up each input and each output once, and
-/// takes no memory.
+/// The first reason why the transaction can't be spent over `ledger` with the changes `coins`:
+/// `Fault::NoInput`, `Fault::Overspent` or `Fault::Remade`. `None` if it can be spent. Each input
+/// and each output is looked up once, and nothing is allocated.
 pub(crate) fn fault_over(
     coins: &HashMap<OutPoint, Option<i64>>,
     ledger: &Ledger,

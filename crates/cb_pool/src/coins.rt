@@ -10,7 +10,8 @@ use cb_ledger::Ledger;
 use cb_tx::{OutPoint, TxIn, TxOut};
 use std::collections::HashMap;
 
-/// The value of an output that is unspent in the ledger after these changes.
+/// The value of an output in `ledger` with the changes `coins`, or `None` if it isn't unspent
+/// there.
 pub(crate) fn value_of(
     coins: &HashMap<OutPoint, Option<i64>>,
     ledger: &Ledger,
@@ -25,7 +26,8 @@ pub(crate) fn value_of(
     }
 }
 
-/// The outputs that inputs name are gone. There must be room for each of them.
+/// Notes in `coins` that the outputs named by the inputs are spent. There must be room for each of
+/// them.
 pub(crate) fn spend_outputs(coins: &mut HashMap<OutPoint, Option<i64>>, inputs: &[TxIn])
     requires { length inputs.now ≤ spare coins.old }
     ensures after { (u : Unspent) →
@@ -39,7 +41,8 @@ pub(crate) fn spend_outputs(coins: &mut HashMap<OutPoint, Option<i64>>, inputs: 
     }
 }
 
-/// A transaction's outputs are there. There must be room for each of them.
+/// Notes in `coins` that the outputs of a transaction are unspent. There must be room for each of
+/// them.
 pub(crate) fn make_outputs(
     coins: &mut HashMap<OutPoint, Option<i64>>,
     txid: Hash256,

@@ -13,7 +13,7 @@ ghost use Rattle.cb_pool.specs.Touching.{AreApart};
 use crate::pool::Pool;
 use cb_ledger::Ledger;
 
-/// Each transaction of a pool stands by itself, and no two have one name.
+/// Each transaction of a pool passes the checks of `Candidate::new`, and no two have the same txid.
 pub fn each_stands_alone(pool: &Pool)
     ensures alone { All StandsAlone (txs_of pool.now.list) }
     ensures names { NamesDiffer (txs_of pool.now.list) }
@@ -22,7 +22,8 @@ pub fn each_stands_alone(pool: &Pool)
     let _ = pool.members.len();
 }
 
-/// Until the numbers run out, each number of a pool is below the next one, and no two are alike.
+/// As long as the next number is below 18,446,744,073,709,551,615, each number of a pool is below
+/// the next one, and no two are equal.
 pub fn numbers_differ(pool: &Pool)
     ensures { AreNumbered pool.now.list pool.now.next }
 {
@@ -30,7 +31,8 @@ pub fn numbers_differ(pool: &Pool)
     let _ = &pool.members;
 }
 
-/// A transaction of a pool spends only what is unspent in the ledger, or what earlier ones of the pool make.
+/// If the pool's transactions can be spent in order over the UTXO set, each of them spends only
+/// outputs that are in the UTXO set or that an earlier transaction of the pool makes.
 pub fn each_spends_what_is_there(pool: &Pool, ledger: &Ledger)
     requires { IsOk (spend ledger.now.unspent (txs_of pool.now.list)) }
     ensures { (before after : List Tx) (tx : Tx) (point : OutPoint) →
@@ -41,8 +43,8 @@ pub fn each_spends_what_is_there(pool: &Pool, ledger: &Ledger)
     each_stands_alone(pool);
 }
 
-/// No output is spent twice within a pool: a second one of its transactions can't spend it, unless it was made anew after
-/// the first.
+/// A pool has no double spend: if its transactions can be spent in order, and one of them spends an
+/// output, a later one spends it only if the output was made again in between.
 pub fn none_is_spent_twice(pool: &Pool, ledger: &Ledger)
     requires { IsOk (spend ledger.now.unspent (txs_of pool.now.list)) }
     ensures { (before between after : List Tx) (tx other : Tx) (point : OutPoint)
@@ -52,13 +54,15 @@ pub fn none_is_spent_twice(pool: &Pool, ledger: &Ledger)
     each_stands_alone(pool);
 }
 
-/// There is one pool that another can be folded into.
+/// Refolding has one result: over the same UTXO set, the same first transactions and the same old
+/// pool lead to the same new pool.
 pub fn one_fold()
     ensures { (u : Unspent) (first : List Tx) (old new other : Listing)
         → Refolds u first old new → Refolds u first old other → new ≡ other }
 {}
 
-/// A pool whose list applies in turn to a ledger is folded into itself: none of its transactions is dropped, nor renumbered.
+/// If the pool's transactions can be spent in order over the UTXO set, refolding over it changes
+/// nothing: no transaction is dropped or gets another number.
 pub fn stays_as_it_is(pool: &Pool, ledger: &Ledger)
     requires { IsOk (spend ledger.now.unspent (txs_of pool.now.list)) }
     ensures { Refolds ledger.now.unspent [] pool.now pool.now }
@@ -68,8 +72,9 @@ pub fn stays_as_it_is(pool: &Pool, ledger: &Ledger)
     let _ = pool.len();
 }
 
-/// A pool whose list applies in turn to a ledger stays as it is behind transactions that are apart from it: over what they leave
-/// its list applies in turn, so it is folded into itself.
+/// If the pool's transactions can be spent in order over the UTXO set, they still can after other
+/// transactions that touch none of the same outputs. Refolding over the UTXO set that those leave
+/// changes nothing.
 pub fn stays_behind_others(pool: &Pool, ledger: &Ledger)
     requires { IsOk (spend ledger.now.unspent (txs_of pool.now.list)) }
     ensures { (others : List Tx) (after : Unspent) → AreApart (txs_of pool.now.list) others →

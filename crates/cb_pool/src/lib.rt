@@ -1,4 +1,5 @@
-//! The pool: transactions that wait for a block, in the order in which they came.
+//! The mempool (here: the pool): transactions that wait for a block, in order of arrival. They are
+//! checked against the UTXO set (here: the ledger, see `cb_ledger`).
 #![tactic(auto)]
 
 mod apart;

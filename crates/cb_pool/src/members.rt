@@ -20,10 +20,10 @@ use std::alloc::{AllocError, Global};
 use std::collections::HashMap;
 use std::marker::Model;
 
-/// How many transactions a pool holds at the most.
+/// The largest number of transactions in a pool.
 pub const MOST_TXS: usize = 10_000;
 
-/// A transaction of a pool, with the number of its arrival.
+/// A transaction of a pool with its arrival number.
 #[derive(Drop)]
 pub struct Pooled {
     pub(crate) tx: Candidate,
@@ -43,8 +43,9 @@ impl Clone for Pooled {
     }
 }
 
-/// The transactions of a pool under their names, in order, and each output that they spend or make, with what it has after
-/// them. They are seen as their list, and the room for more.
+/// The transactions of a pool by their txids, in order. `coins` has each output that they spend or
+/// make: its value after all of them, or `None` if it is spent. Contracts see the list of the
+/// transactions, and how many more entries there is room for.
 #[derive(Drop)]
 pub(crate) struct Members {
     pub(crate) entries: IndexMap<Hash256, Pooled>,
@@ -75,7 +76,9 @@ impl Members {
         }
     }
 
-    /// Room for so many transactions more, and for so many outputs that they touch.
+    /// Reserves room for `places` more transactions and `coins` more outputs that they spend or
+    /// make. Fails only with `Fault::Memory`, and never if there is that much room already. The
+    /// list stays the same in every case.
     pub(crate) fn reserve(&mut self, places: usize, coins: usize) -> Result<(), Fault>
         ensures same { self.new.list ≡ self.old.list }
         ensures places { OnOk result (places ≤ self.new.places) }
@@ -88,7 +91,9 @@ impl Members {
         Ok(())
     }
 
-    /// Why the transaction doesn't come behind the others. It takes no memory.
+    /// The first reason why the transaction can't be appended: `Fault::Known`, `Fault::NoInput`,
+    /// `Fault::Overspent`, `Fault::Remade` or `Fault::PoolFull`. `None` if it can. The list must be
+    /// spendable in order over the ledger. Nothing is allocated.
     pub(crate) fn fault_of(&self, ledger: &Ledger, candidate: &Candidate) -> Option<Fault>
         requires { IsOk (spend ledger.now.unspent (txs_of self.now.list)) }
         ensures { MatchOption result
@@ -108,7 +113,7 @@ impl Members {
         None
     }
 
-    /// The transaction comes behind the others. There must be room for it.
+    /// Appends a transaction whose txid is new. There must be room for it.
     pub(crate) fn push(&mut self, candidate: Candidate, number: u64)
         requires fresh { is_named_in (txs_of self.old.list) (txid_of candidate) ≡ false }
         requires fits { length self.old.list < 10000 }
@@ -130,7 +135,8 @@ impl Members {
         had.unwrap();
     }
 
-    /// Whether a transaction of this name spends and makes no output that one of them spends or makes.
+    /// Whether the transaction spends or makes no output that one of the list spends or makes. With
+    /// more than 4,294,967,296 outputs the answer may be false although nothing is in common.
     pub(crate) fn is_apart_from(&self, txid: Hash256, tx: &Tx) -> bool
         requires name { txid ≡ txid_of tx.now }
         ensures apart { IsTrue result → AreApart (txs_of self.now.list) (tx.now ∷ []) }
@@ -140,7 +146,7 @@ impl Members {
         keeps(&self.coins, txid, tx)
     }
 
-    /// The transaction of this name.
+    /// The transaction with this txid.
     pub(crate) fn get(&self, txid: &Hash256) -> Option<&Candidate>
         ensures { MatchOption result (named_in (txs_of self.now.list) txid.now ≡ None)
             (λ tx. named_in (txs_of self.now.list) txid.now ≡ Some tx.now) }
@@ -151,7 +157,7 @@ impl Members {
         }
     }
 
-    /// The transaction at a place.
+    /// The transaction at a place, counted from 0.
     pub(crate) fn at(&self, place: usize) -> Option<&Candidate>
         ensures { MatchOption result (slice_get (txs_of self.now.list) place ≡ None)
             (λ tx. slice_get (txs_of self.now.list) place ≡ Some tx.now) }
@@ -162,7 +168,7 @@ impl Members {
         }
     }
 
-    /// They, given out in order.
+    /// Gives out the transactions with their numbers, in order.
     pub(crate) fn into_list(self) -> IntoValues<Hash256, Pooled>
         ensures { result ≡ self.list }
     {
@@ -178,7 +184,7 @@ impl Members {
         self.entries.len()
     }
 
-    /// They, each with its name, in order. The only error is `Fault::Memory`.
+    /// The transactions with their txids, in order. Fails only with `Fault::Memory`.
     pub(crate) fn named(&self, alloc: Global) -> Result<Vec<NamedTx>, Fault>
         ensures exact { IfOk result (λ named. named.items ≡ txs_of self.now.list) }
         ensures memory { IsOkUnless result Memory }
@@ -190,7 +196,8 @@ impl Members {
         Ok(named)
     }
 
-    /// The same. The only error is `Fault::Memory`, and only where there is one.
+    /// A copy that shares the transactions. Fails only with `Fault::Memory`, and never if there are
+    /// no transactions.
     pub(crate) fn copy(&self, alloc: Global) -> Result<Members, Fault>
         ensures same { IfOk result (λ copy. copy.list ≡ self.now.list) }
         ensures none { self.now.list ≡ [] → IsOk result }

@@ -15,12 +15,12 @@ use std::marker::Model;
 /// The short ids of a compact block (BIP 152), at most 16,666.
 pub type ShortIds = Listed<u64, MOST_BLOCK_TXS>;
 
-/// The transactions that a pool had whose short ids are among those of a compact block (BIP 152). It is seen as the list of
-/// them, each with its short id, in the pool's order.
+/// The pool's transactions that may fill a compact block (BIP 152): those whose short ids are among
+/// the block's. Contracts see it as their list, each with its short id, in the pool's order.
 ///
-/// It shares the list of all the pool's transactions, and the ids: nothing is hashed, looked up or copied before `list`. So
-/// who has a pool under a lock makes one in no time, and the work is done without the lock. The list that it shares stays as it
-/// is, whatever becomes of the pool.
+/// It only shares the ids and the list of the pool's transactions. Nothing is hashed, looked up or
+/// copied before `list`. So a caller that holds a lock on the pool makes it quickly, and does the
+/// work after the lock is released. It stays the same when the pool changes.
 #[derive(Drop)]
 pub struct Pairs {
     txs: Shared<Vec<NamedTx>>,
@@ -40,15 +40,18 @@ impl Model for Pairs {
 }
 
 impl Pairs {
-    /// Those of the transactions whose short ids are among these.
+    /// The pairs of those transactions whose short ids under `key` are among `ids`.
     pub(crate) fn new(txs: Shared<Vec<NamedTx>>, key: (u64, u64), ids: Shared<ShortIds>) -> Pairs
         ensures { result ≡ pairs_of key ids txs.items }
     {
         Pairs { txs, key, ids }
     }
 
-    /// The pairs in a list. Each id and each of the pool's transactions is looked up once in a table of the ids, and no
-    /// transaction is hashed or copied. The only error is `Fault::Memory`, and the pairs stay as they are.
+    /// Returns the pairs as a list. Each id is put once into a hash set, and the short id of each
+    /// of the pool's transactions is looked up there once. No transaction is hashed or copied: the
+    /// short ids follow from the known txids.
+    ///
+    /// Fails only with `Fault::Memory`; the pairs are then unchanged.
     pub fn list(&self, alloc: Global) -> Result<Vec<Pair>, Fault>
         ensures exact { IfOk result (λ list. list.items ≡ self.now) }
         ensures memory { IsOkUnless result Memory }
@@ -57,8 +60,8 @@ impl Pairs {
         paired(alloc, self.key, self.txs.as_slice(), &wanted)
     }
 
-    /// The same pairs once more, which share all. It takes no memory: the only error is `Fault::Memory`, where a count of owners
-    /// is full.
+    /// Shares the same pairs. Nothing is allocated. Fails only with `Fault::Memory`, if a reference
+    /// count is full.
     pub fn copy(&self) -> Result<Pairs, Fault>
         ensures same { IfOk result (λ copy. copy ≡ self.now) }
         ensures memory { IsOkUnless result Memory }
@@ -73,11 +76,12 @@ impl Pairs {
     }
 }
 
-/// The set of these ids, under a seed that all of them decide.
+/// The hash set of these ids. Its seed depends on all of them, so that no sender can choose ids
+/// that collide in it.
 fn set_of(alloc: Global, ids: &[u64]) -> Result<HashSet<u64, IdSeed>, Fault>
     ensures ids { IfOk result
         (λ wanted. (id : ℕ) → contains nat_eq wanted id ≡ is_among id ids.now) }
-    // No answer tells what the ids are hashed under.
+    // The seed decides only how long a lookup takes. No result shows it, so it is fixed here.
     ensures seed { IfOk result (λ wanted. hasher_of wanted ≡ seed_of ids.now) }
     ensures memory { IsOkUnless result Memory }
 {
@@ -88,7 +92,7 @@ fn set_of(alloc: Global, ids: &[u64]) -> Result<HashSet<u64, IdSeed>, Fault>
     Ok(wanted)
 }
 
-/// The transactions whose short ids are wanted, in order, each with its short id.
+/// The transactions whose short ids are in `wanted`, in order, each with its short id.
 fn paired(
     alloc: Global,
     key: (u64, u64),

@@ -15,16 +15,18 @@ use cb_tx::Tx;
 use std::alloc::Global;
 use std::marker::Model;
 
-/// Transactions that wait for a block, each with the number of its arrival, in order: each of them can be spent behind those
-/// before it. It is seen as the list of them, and the number that the next one will take.
+/// The mempool: transactions that wait for a block, in order of arrival, each with its arrival
+/// number. Over the UTXO set that it is used with, each of them can be spent after those before it.
+/// Contracts see it as the list of them and the number that the next one gets.
 ///
-/// They are shared and never copied, and each is hashed once.
+/// The transactions are shared and never copied, and each is hashed once.
 #[derive(Drop)]
 pub struct Pool {
     pub(crate) alloc: Global,
     pub(crate) members: Members,
     pub(crate) next: u64,
-    // Its transactions with their names, from the first `pairs` on and until it changes.
+    // All transactions with their txids: built by the first call of `pairs` and kept until the pool
+    // changes.
     pub(crate) named: Option<Shared<Vec<NamedTx>>>,
 }
 
@@ -42,7 +44,7 @@ impl Model for Pool {
 }
 
 impl Pool {
-    /// A pool without transactions, whose first number is 0.
+    /// An empty pool. The first transaction gets the number 0.
     pub fn new(alloc: Global) -> Pool
         ensures list { result.list ≡ [] }
         ensures next { result.next ≡ 0 }
@@ -55,15 +57,22 @@ impl Pool {
         }
     }
 
-    /// Takes a transaction behind the others, and answers its number. The pool's list must apply in turn to the ledger.
+    /// Appends a transaction and returns its arrival number. The pool's transactions must be
+    /// spendable in order over `ledger`.
     ///
-    /// It is refused with the first of these: `Fault::BadTx` with the first rule that it breaks, `Fault::BadCoinbase` where
-    /// it is a coinbase, `Fault::Size64` where it has 64 bytes, `Fault::Known` where one of its name is there,
-    /// `Fault::NoInput` where an input isn't unspent behind the others, `Fault::Overspent` where its outputs are worth more
-    /// than its inputs, `Fault::Remade` where an output to be made is already unspent, `Fault::PoolFull` where 10,000 are
-    /// there. Then the pool is as before, and so with `Fault::Memory`.
+    /// Fails with the first of these; the pool is then unchanged:
+    /// - `Fault::BadTx` with the first transaction rule that is broken.
+    /// - `Fault::BadCoinbase` if it is a coinbase.
+    /// - `Fault::Size64` if its size is 64 bytes (CVE-2017-12842).
+    /// - `Fault::Known` if the pool has a transaction with the same txid.
+    /// - `Fault::NoInput` if an input's output isn't unspent after the pool's transactions.
+    /// - `Fault::Overspent` if its outputs are worth more than its inputs.
+    /// - `Fault::Remade` if one of its outputs is already unspent.
+    /// - `Fault::PoolFull` if the pool has 10,000 transactions.
     ///
-    /// Its number is the next one. The number after 18,446,744,073,709,551,615 is that number again.
+    /// `Fault::Memory` leaves the pool unchanged, too.
+    ///
+    /// The numbers count up by one. After 18,446,744,073,709,551,615 the same number comes again.
     pub fn insert(&mut self, ledger: &Ledger, tx: Shared<Tx>) -> Result<u64, Fault>
         requires { IsOk (spend ledger.now.unspent (txs_of self.old.list)) }
         ensures exact { MatchResult result
@@ -72,16 +81,18 @@ impl Pool {
             (λ fault. ((fault ≡ Memory)
             ⊎ Refuses ledger.now.unspent (txs_of self.old.list) tx fault) × (self.new ≡ self.old)) }
         ensures applies { IsOk (spend ledger.now.unspent (txs_of self.new.list)) }
-        // What can be told without memory is told first.
+        // Errors that are found without memory come before `Fault::Memory`.
         ensures unpaid { result ≡ Err Memory → IsUntold tx }
     {
         let candidate = Candidate::new(self.alloc, tx)?;
         self.insert_candidate(ledger, candidate)
     }
 
-    /// Takes a transaction that stands by itself, as `insert` does: it is neither checked nor hashed here.
+    /// Appends a transaction that was already checked on its own, and returns its number. It works
+    /// as `insert`, from `Fault::Known` on: the transaction is neither checked on its own nor
+    /// hashed again.
     ///
-    /// `Fault::Memory` only where there is no other reason against it.
+    /// `Fault::Memory` is returned only if nothing else speaks against the transaction.
     pub fn insert_candidate(&mut self, ledger: &Ledger, candidate: Candidate) -> Result<u64, Fault>
         requires { IsOk (spend ledger.now.unspent (txs_of self.old.list)) }
         ensures exact { MatchResult result
@@ -105,7 +116,7 @@ impl Pool {
         Ok(number)
     }
 
-    /// The transaction of this name.
+    /// The transaction with this txid.
     pub fn get(&self, txid: &Hash256) -> Option<&Candidate>
         ensures { MatchOption result (named_in (txs_of self.now.list) txid.now ≡ None)
             (λ tx. named_in (txs_of self.now.list) txid.now ≡ Some tx.now) }
@@ -113,14 +124,14 @@ impl Pool {
         self.members.get(txid)
     }
 
-    /// Whether a transaction of this name is there.
+    /// Whether the pool has a transaction with this txid.
     pub fn contains(&self, txid: &Hash256) -> bool
         ensures { result ≡ is_named_in (txs_of self.now.list) txid.now }
     {
         self.members.get(txid).is_some()
     }
 
-    /// The transaction at a place, in order from 0.
+    /// The transaction at a place, counted from 0 in order of arrival.
     pub fn at(&self, place: usize) -> Option<&Candidate>
         ensures { MatchOption result (slice_get (txs_of self.now.list) place ≡ None)
             (λ tx. slice_get (txs_of self.now.list) place ≡ Some tx.now) }
@@ -128,7 +139,7 @@ impl Pool {
         self.members.at(place)
     }
 
-    /// How many transactions there are, at most 10,000.
+    /// The number of transactions, at most 10,000.
     pub fn len(&self) -> usize
         ensures len { result ≡ length self.now.list }
         ensures few { result ≤ 10000 }
@@ -136,30 +147,30 @@ impl Pool {
         self.members.len()
     }
 
-    /// Whether there is none.
+    /// Whether the pool has no transactions.
     pub fn is_empty(&self) -> bool
         ensures { result ≡ (length self.now.list == 0) }
     {
         self.len() == 0
     }
 
-    /// The number that the next transaction takes.
+    /// The arrival number that the next transaction gets.
     pub fn next_number(&self) -> u64
         ensures { result ≡ self.now.next }
     {
         self.next
     }
 
-    /// Whether it is seen by the next number alone that each transaction's is below this one. So who has heard of all may ask again
-    /// and again, and the pool isn't walked.
+    /// Whether the next number alone shows that each transaction's number is below `number`. A
+    /// caller that has seen them all can then ask again and again without a walk over the pool.
     fn is_before(&self, number: u64) -> bool
         ensures { IsTrue result → since_of self.now.list number ≡ [] }
     {
         self.next < u64::MAX && self.next <= number
     }
 
-    /// The names of those whose number is at least this one, in order. The only error is `Fault::Memory`, and only where
-    /// there is one.
+    /// The txids of the transactions whose number is at least `number`, in order. Fails only with
+    /// `Fault::Memory`, and never if there are no such transactions.
     pub fn since(&self, number: u64) -> Result<Vec<Hash256>, Fault>
         ensures exact { IfOk result (λ txids. txids.items ≡ since_of self.now.list number) }
         ensures none { since_of self.now.list number ≡ [] → IsOk result }
@@ -177,11 +188,13 @@ impl Pool {
         Ok(txids)
     }
 
-    /// The transactions whose short ids under a key are among these (BIP 152), in order, each with its short id, as the pool is
-    /// now. No transaction is hashed or copied: which of them they are is found by `Pairs::list`.
+    /// The transactions whose short ids under `key` are among `ids` (BIP 152), in order, each with
+    /// its short id, as the pool is now. No transaction is hashed or copied. The matching itself is
+    /// done by `Pairs::list`.
     ///
-    /// The first call makes a list of all transactions for it, which the pool keeps until it changes; the others take no memory.
-    /// The only error is `Fault::Memory`.
+    /// The first call after a change builds a list of all transactions, which the pool keeps until
+    /// it changes. Further calls allocate nothing. Fails only with `Fault::Memory`; what contracts
+    /// see of the pool never changes.
     pub fn pairs(&mut self, key: (u64, u64), ids: &Shared<ShortIds>) -> Result<Pairs, Fault>
         ensures exact { IfOk result (λ pairs. pairs ≡ pairs_of key ids.now (txs_of self.old.list)) }
         ensures same { self.new ≡ self.old }
@@ -191,7 +204,7 @@ impl Pool {
         Ok(Pairs::new(txs, key, ids.clone()?))
     }
 
-    /// Its transactions with their names.
+    /// The shared list of all transactions with their txids. It is built if the pool has none.
     fn shared_list(&mut self) -> Result<Shared<Vec<NamedTx>>, Fault>
         ensures exact { IfOk result (λ txs. txs.items ≡ txs_of self.old.list) }
         ensures same { self.new ≡ self.old }
@@ -206,7 +219,8 @@ impl Pool {
         Ok(txs)
     }
 
-    /// A pool that equals it, and shares its transactions. The only error is `Fault::Memory`.
+    /// An equal pool that shares the transactions. Fails only with `Fault::Memory`, and never if
+    /// the pool is empty.
     pub fn copy(&self) -> Result<Pool, Fault>
         ensures same { IfOk result (λ copy. copy ≡ self.now) }
         ensures none { self.now.list ≡ [] → IsOk result }

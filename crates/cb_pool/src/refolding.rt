@@ -14,8 +14,9 @@ use std::alloc::Global;
 use std::marker::Model;
 use std::mem;
 
-/// A plan by which a pool is folded anew over another ledger: the transactions that come first, and the room for all. It is
-/// seen as these transactions, and the room.
+/// A plan for refolding: rebuilding the pool over another UTXO set, as Bitcoin Core does in
+/// `MaybeUpdateMempoolForReorg`. It has the transactions that are offered first, such as those of
+/// disconnected blocks, and room for all. Contracts see it as these transactions and the room.
 #[derive(Drop)]
 pub struct Refolding {
     first: Vec<Candidate>,
@@ -33,7 +34,8 @@ impl Model for Refolding {
     ghost invariant = { λ plan. plan.members.list ≡ [] };
 }
 
-/// How many outputs these touch.
+/// The number of outputs that these transactions spend or make. Fails with `Fault::Memory` if it
+/// exceeds `usize`.
 fn touched_by_first(first: &[Candidate]) -> Result<usize, Fault>
     ensures sum { IfOk result (λ sum. sum ≡ touched_by_all first.now) }
     ensures none { first.now ≡ [] → IsOk result }
@@ -49,7 +51,8 @@ fn touched_by_first(first: &[Candidate]) -> Result<usize, Fault>
     Ok(sum)
 }
 
-/// How many outputs a pool's transactions touch, and so many more.
+/// `more`, plus the number of outputs that a pool's transactions spend or make. Fails with
+/// `Fault::Memory` if the sum exceeds `usize`.
 fn touched_by_members(members: &Members, more: usize) -> Result<usize, Fault>
     ensures sum { IfOk result (λ sum. sum ≡ more + touched_by_all (txs_of members.now.list)) }
     ensures none { members.now.list ≡ [] → IsOk result }
@@ -65,7 +68,8 @@ fn touched_by_members(members: &Members, more: usize) -> Result<usize, Fault>
     Ok(sum)
 }
 
-/// Takes those that apply in turn behind the members, each with the next number, and answers the number after them.
+/// Appends those that can be taken after the members, each with the next number. Returns the number
+/// after the last one's. There must be room for all.
 fn take_new(members: &mut Members, ledger: &Ledger, first: Vec<Candidate>, next: u64) -> u64
     requires applies { IsOk (spend ledger.now.unspent (txs_of members.old.list)) }
     requires places { length first.items ≤ members.old.places }
@@ -88,7 +92,8 @@ fn take_new(members: &mut Members, ledger: &Ledger, first: Vec<Candidate>, next:
     next
 }
 
-/// Takes those of a pool that apply in turn behind the members, each with its number.
+/// Appends those of an old pool that can be taken after the members. Each keeps its number. There
+/// must be room for all.
 fn take_old(members: &mut Members, ledger: &Ledger, old: Members, next: u64)
     requires applies { IsOk (spend ledger.now.unspent (txs_of members.old.list)) }
     requires places { length old.list ≤ members.old.places }
@@ -108,11 +113,11 @@ fn take_old(members: &mut Members, ledger: &Ledger, old: Members, next: u64)
 }
 
 impl Pool {
-    /// Makes a plan for folding the pool anew over another ledger, with these transactions first. All memory that it takes
-    /// is taken here: `refold_with` can't fail, so that ledger and pool change together or not at all. Nothing has changed
-    /// yet.
+    /// Makes a plan for rebuilding the pool over another UTXO set. The transactions `first` are
+    /// offered before the pool's own. All memory is allocated here, so `refold_with` can't fail,
+    /// and the ledger and the pool can change together or not at all. The pool doesn't change yet.
     ///
-    /// The only error is `Fault::Memory`, and only where there are any transactions.
+    /// Fails only with `Fault::Memory`, and never if `first` and the pool are both empty.
     pub fn refolding(&self, first: Vec<Candidate>) -> Result<Refolding, Fault>
         ensures first { IfOk result (λ plan. plan.first ≡ first.items) }
         ensures room { IfOk result (λ plan. HasRoom plan self.now.list) }
@@ -126,8 +131,10 @@ impl Pool {
         Ok(Refolding { first, members })
     }
 
-    /// Folds the pool anew by a plan with room for it: it becomes those of the plan's first transactions and then of its own
-    /// that apply in turn to the ledger, at most 10,000. Its own ones keep their numbers, the others take the next ones.
+    /// Rebuilds the pool by a plan that has room for it. The plan's first transactions and then the
+    /// pool's own are offered in order. Each is taken if it can be spent over the ledger after
+    /// those taken before it, no taken one has its txid, and fewer than 10,000 are taken. The
+    /// pool's own transactions keep their numbers, and the others get the next ones.
     ///
     /// No transaction is hashed or copied, and each input and output is looked up once.
     pub fn refold_with(&mut self, ledger: &Ledger, plan: Refolding)
@@ -145,9 +152,11 @@ impl Pool {
         self.named = None;
     }
 
-    /// Folds the pool anew over another ledger, with these transactions first: a plan and `refold_with` in one.
+    /// Rebuilds the pool over another UTXO set, with the transactions `first` before its own:
+    /// `refolding` and `refold_with` in one call.
     ///
-    /// The only error is `Fault::Memory`, and only where there are any transactions: then the pool is as before.
+    /// Fails only with `Fault::Memory`, and never if `first` and the pool are both empty; the pool
+    /// is then unchanged.
     pub fn refold(&mut self, ledger: &Ledger, first: Vec<Candidate>) -> Result<(), Fault>
         ensures folds { OnOk result (Refolds ledger.now.unspent first.items self.old self.new) }
         ensures applies { OnOk result (IsOk (spend ledger.now.unspent (txs_of self.new.list))) }
