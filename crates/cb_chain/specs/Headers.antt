@@ -1,4 +1,4 @@
--- What headers that are given in turn do to the tree (Bitcoin's protocol, `headers`).
+-- What a list of headers does to the tree (Bitcoin's protocol, `headers`).
 use Rattle.std.specs.Prelude.{◌≡◌, ◌⊎◌, Bool, true, false, List, [], ◌∷◌, Option, None, Some}
 use Rattle.cb_base.specs.declared.fault.Fault.{Fault}
 use Rattle.cb_base.specs.declared.fault.Fault.TheVariants.{Known}
@@ -7,18 +7,19 @@ use Rattle.cb_block.specs.declared.header.Header.{Header}
 use Rattle.cb_chain.specs.Calls.{AcceptsHeader}
 use Rattle.cb_chain.specs.Entries.{Tree, block_hash}
 
--- behind a header that is kept, or known, comes the next
+-- after this answer to a header, the next header is looked at: the header was added or is known
 abbrev pub goes_on : Option Fault → Bool
 goes_on None = true
 goes_on (Some Known) = true
 goes_on other = false
 
--- a header is kept, or known
+-- a header is added, or known already
 abbrev pub Meets : Tree → Header → Tree → Type 0
 Meets old header new = (answer : Option Fault) × (goes_on answer ≡ true) × AcceptsHeader old header answer new
 
--- The hashes of headers that are kept or known are met, in order. The first header that is refused for anything else ends it:
--- that is told, and nothing behind it is looked at.
+-- The headers are looked at in order. `met` has the hashes of those that are added or known. The
+-- first header that is refused for another reason ends it: `against` is that reason, and no header
+-- after it is looked at.
 abbrev pub TakesHeaders : Tree → List Header → Option Fault → List Hash256 → Tree → Type 0
 TakesHeaders old [] against met new = (against ≡ None) × (met ≡ []) × (new ≡ old)
 TakesHeaders old (header ∷ headers) against met new =

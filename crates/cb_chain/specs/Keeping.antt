@@ -1,4 +1,5 @@
--- How the code keeps a tree: the nodes in the order in which they came, each with what follows from those before it.
+-- How the code stores a tree: the nodes in the order in which they were added, each with what
+-- follows from those before it.
 use Rattle.std.specs.Prelude.{◌≡◌, ◌+◌, ◌++◌, ◌≤◌, ◌<◌, ◌⊎◌, ◌&&◌, not, ⊤, ℕ, suc, Bool, true, false, Ok, Err, is_some, nat_eq, if◌then◌else◌, List, [], ◌∷◌, length, take, drop, reverse, Option, None, Some, option_map, option_and_then, slice_get, slice_index_or}
 use Rattle.std.specs.Prelude as lists
 use Rattle.std.specs.Map.{lookup}
@@ -16,31 +17,31 @@ use Rattle.cb_chain.specs.Best.{active, best, branch, leads_through}
 use Rattle.cb_chain.specs.Calls.{is_full_under}
 use Rattle.cb_chain.specs.Following.{above_branch}
 
--- What a tree of the code shows: its nodes, what takes the block at each place back, where it was connected once, and for
--- how many more there is room.
+-- What contracts see of the stored tree: its nodes, the undo record of each block that was
+-- connected once, and for how many more nodes there is room.
 pub record Grown : Type 0 where
   pub nodes : List Node
   pub undos : List (Option (List CoinChange))
   pub room : ℕ
 
--- a node, without what follows from others
+-- the entry of a node, without what follows from other nodes
 abbrev pub entry_from : Node → Entry
 entry_from node = record { header = node.header; block = node.kept; marked = node.marked }
 
--- above the first, the newest first
+-- the nodes above the first one, the newest first
 abbrev pub above_first : List Node → List Node
 above_first nodes = reverse (drop 1 nodes)
 
 abbrev pub tree_of : List Node → Tree
 tree_of nodes = lists.map entry_from (above_first nodes)
 
--- the place of a hash among the nodes
+-- the place of a hash's newest node
 abbrev pub place_of : Tree → Hash256 → Option ℕ
 place_of [] hash = if same hash genesis_hash then Some 0 else None
 place_of (entry ∷ older) hash = if same hash (block_hash entry.header) then Some (suc (length older)) else place_of older hash
 
--- The node is as those before it say. No block of its hash is kept before it; a kept block stands on a kept one, and is
--- marked where that is.
+-- The node agrees with those before it. No block with its hash is kept before it. A kept block has
+-- a kept parent, and is marked bad if the parent is.
 pub record IsNode (node : Node) (older : Tree) : Type 0 where
   pub hash : node.hash ≡ block_hash node.header
   pub parent : place_of older node.header.prev ≡ Some node.parent
@@ -54,7 +55,7 @@ abbrev pub AreNodes : List Node → Type 0
 AreNodes [] = ⊤
 AreNodes (node ∷ older) = IsNode node (lists.map entry_from older) × AreNodes older
 
--- the first node
+-- the node of the genesis block
 pub record IsFirst (node : Node) : Type 0 where
   pub header : node.header ≡ genesis_header
   pub hash : node.hash ≡ genesis_hash
@@ -62,62 +63,63 @@ pub record IsFirst (node : Node) : Type 0 where
   pub block : node.kept ≡ Some genesis_block
   pub marked : node.marked ≡ false
 
--- all of them
+-- all nodes agree with those before them
 abbrev pub IsTree : List Node → Type 0
 IsTree [] = ⊥
 IsTree (first ∷ others) = IsFirst first × AreNodes (reverse others)
 
--- the nodes, and the place of each hash
+-- the nodes make a tree, and the map has the place of each hash
 pub record IsPlaced (nodes : List Node) (entries : List (Hash256 × ℕ)) : Type 0 where
   pub tree : IsTree nodes
   pub places : (hash : Hash256) → lookup (same hash) entries ≡ place_of (tree_of nodes) hash
 
--- the places of the kept blocks that stand on the one at a place, the newest first
+-- the places of the kept blocks on top of the node at a place, the newest first
 abbrev pub above_at : List Node → ℕ → List ℕ
 above_at [] place = []
 above_at (node ∷ older) place = if is_some node.kept && nat_eq node.parent place then suc (length older) ∷ above_at older place else above_at older place
 
--- From the newest each leads to the one before it, and the last to 0.
+-- A linked list of places: each leads to the one before it, and the last to 0.
 abbrev pub AreLinked : List ℕ → ℕ → List ℕ → Type 0
 AreLinked elder newest [] = newest ≡ 0
 AreLinked elder newest (place ∷ places) = (newest ≡ place) × (0 < place) × (place < length elder) × AreLinked elder (slice_index_or elder place 0) places
 
--- so the kept blocks on each of the nodes are found
+-- the links lead to the kept blocks on top of each node
 pub record AreLinks (nodes : List Node) (newest elder : List ℕ) : Type 0 where
   pub newest_long : length newest ≡ length nodes
   pub elder_long : length elder ≡ length nodes
   pub each : (place : ℕ) → AreLinked elder (slice_index_or newest place 0) (above_at (above_first nodes) place)
 
--- An entry on the way from the first block to a known one, at its place among the nodes.
+-- An entry on the path from the genesis block to a known header, with its place among the nodes.
 pub record Step : Type 0 where
   pub place : ℕ
   pub entry : Entry
 
--- from a known one down to the lowest above the first block
+-- the path from a known header down to the lowest above the genesis block
 unfoldable pub way : Tree → Hash256 → List Step
 way [] hash = []
 way (entry ∷ older) hash = if same hash (block_hash entry.header) then record { place = suc (length older); entry = entry } ∷ way older entry.header.prev else way older hash
 
--- the same from the lowest up: the n-th of them has the height n + 1
+-- the same path from the lowest up: its n-th entry, from 0, has the height n + 1
 abbrev pub climb : Tree → Hash256 → List Step
 climb tree hash = reverse (way tree hash)
 
--- the places of the active blocks by their heights
+-- the places of the active chain's nodes by height
 abbrev pub active_places : Tree → List ℕ
 active_places tree = 0 ∷ lists.map (λ step. step.place) (climb tree (best tree))
 
 abbrev pub block_at : List Node → ℕ → Option Block
 block_at nodes place = option_and_then (λ node. node.kept) (slice_get nodes place)
 
--- Where a branch leaves the active chain, by the height of the highest on both: what stands above it on the active chain,
--- and for a kept block the way below it, which is the active one's.
+-- The fork of a branch with the active chain: the height of the highest header on both. The clauses
+-- say what is above it on the active chain, and that a kept block's path below it is the active
+-- chain's.
 pub record IsFork (tree : Tree) (hash : Hash256) (fork : ℕ) : Type 0 where
   pub low : fork < length (active tree)
   pub short : fork ≤ length (way tree hash)
   pub above : above_branch (branch tree hash) (active tree) ≡ drop (suc fork) (active tree)
   pub below : is_kept tree hash ≡ true → take fork (climb tree hash) ≡ take fork (climb tree (best tree))
 
--- where a header will stand on its parent
+-- where a header goes on top of its parent
 pub record IsSpot (spot : Spot) (given : Header) (older : Tree) : Type 0 where
   pub header : spot.header ≡ given
   pub hash : spot.hash ≡ block_hash given
@@ -125,7 +127,7 @@ pub record IsSpot (spot : Spot) (given : Header) (older : Tree) : Type 0 where
   pub height : option_map suc (height_of older given.prev) ≡ Some spot.height
   pub low : spot.height ≤ 1000000000
 
--- the node of a header that stands there
+-- the node of a header that goes there
 abbrev pub node_on : Spot → Option Block → Bool → Node
 node_on spot kept marked = record { header = spot.header; hash = spot.hash; height = spot.height; parent = spot.parent; kept = kept; marked = marked }
 
@@ -137,7 +139,8 @@ parent_fault tree parent block =
     else (if block && not (is_kept tree parent) then Some NoParent
     else (if is_full_under tree parent then Some TooMany else None)))
 
--- Nodes above the first, the newest first, where a block and all kept ones above it are marked.
+-- The nodes above the first one, the newest first, with a block and all kept ones above it marked
+-- bad.
 abbrev pub mark_node : Hash256 → Tree → Node → Node
 mark_node first older node =
     if is_some node.kept && leads_through (entry_from node ∷ older) first (block_hash node.header) then record { header = node.header; hash = node.hash; height = node.height; parent = node.parent; kept = node.kept; marked = true } else node

@@ -1,4 +1,4 @@
--- What a block changes of the active chain that stands on a branch of it.
+-- How a block on top of a branch changes the active chain.
 use Rattle.std.specs.Prelude.{◌≡◌, ◌+◌, take, ℕ, suc, List, [], ◌∷◌, ◌++◌, map, drop, reverse, unwrap_or, option_map, slice_get}
 use Rattle.cb_base.specs.declared.hash.Hash256.{Hash256}
 use Rattle.cb_block.specs.declared.header.Header.{Header}
@@ -12,14 +12,16 @@ use Rattle.cb_chain.specs.Keeping.{IsFork, climb}
 abbrev pub hash_at : List Node → ℕ → Hash256
 hash_at nodes place = unwrap_or (option_map (λ node. node.hash) (slice_get nodes place)) genesis_hash
 
--- What changes where the chain leaves all above a height for the branch of a header's parent, and the header.
+-- The change if the active chain drops all above the height `fork` for the branch of a header's
+-- parent and the header.
 abbrev pub change_at : Tree → Header → ℕ → Change
 change_at tree header fork = record {
   off = reverse (map block_hash (drop (suc fork) (active tree)));
   on = map (λ step. block_hash step.entry.header) (drop fork (climb tree header.prev)) ++ block_hash header ∷ [];
 }
 
--- The active chain leaves all above a height for the branch of a header's parent, and the header's place.
+-- The places of the active chain after that change: those up to the fork, those of the branch, and
+-- the header's own.
 pub record Moved (tree : Tree) (header : Header) (path : List ℕ) (last : ℕ) (now : List ℕ) (change : Change) : Type 0 where
   pub fork : ℕ
   pub fork_is : IsFork tree header.prev fork

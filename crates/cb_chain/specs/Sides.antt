@@ -1,5 +1,5 @@
--- Blocks that were connected once, the records that take them back, and the branch beside the active chain that was tried
--- last.
+-- Blocks that were connected once, their undo records, and the branch beside the active chain that
+-- was tried last.
 use Rattle.std.specs.Prelude.{◌≡◌, ◌⊎◌, ◌<◌, ◌-◌, ℕ, suc, true, Ok, Err, is_some, List, [], ◌∷◌, length, Option, Some, option_map, option_and_then, slice_get, IfSome}
 use Rattle.cb_base.specs.declared.fault.Fault.{Fault}
 use Rattle.cb_base.specs.declared.hash.Hash256.{Hash256}
@@ -14,29 +14,30 @@ use Rattle.cb_chain.specs.Best.{best, faulty, unspent_after}
 use Rattle.cb_chain.specs.Entries.{Tree, entry_of, is_kept}
 use Rattle.cb_chain.specs.Keeping.{Grown, active_places, place_of, tree_of}
 
--- the record at a place
+-- the undo record at a place
 abbrev pub record_at : List (Option (List CoinChange)) → ℕ → Option (List CoinChange)
 record_at undos place = option_and_then (λ undo. undo) (slice_get undos place)
 
 abbrev pub HasRecord : List (Option (List CoinChange)) → ℕ → Type 0
 HasRecord undos place = (changes : List CoinChange) × (record_at undos place ≡ Some changes)
 
--- what has a record keeps one
+-- each place that has a record still has one
 abbrev pub KeepRecords : List (Option (List CoinChange)) → List (Option (List CoinChange)) → Type 0
 KeepRecords old new = (place : ℕ) → HasRecord old place → HasRecord new place
 
--- what the header of a known hash names
+-- the parent's hash in the header of a known hash
 abbrev pub prev_of : Tree → Hash256 → Option Hash256
 prev_of tree hash = option_map (λ entry. entry.header.prev) (entry_of tree hash)
 
--- A kept block was connected once: it is the first, or has its record.
+-- A kept block was connected once: it is the genesis block, or has an undo record.
 pub record WasConnected (tree : Tree) (undos : List (Option (List CoinChange))) (hash : Hash256) : Type 0 where
   pub place : ℕ
   pub at : place_of tree hash ≡ Some place
   pub kept : is_kept tree hash ≡ true
   pub has : (place ≡ 0) ⊎ HasRecord undos place
 
--- A block's record leads from what is unspent after it to what is unspent after its parent, which was connected before it.
+-- A block's undo record leads from the UTXO set after it to the one after its parent, which was
+-- connected before it.
 pub record IsUndo (tree : Tree) (undos : List (Option (List CoinChange))) (hash : Hash256) (changes : List CoinChange) : Type 0 where
   pub kept : is_kept tree hash ≡ true
   pub prev : Hash256
@@ -44,21 +45,22 @@ pub record IsUndo (tree : Tree) (undos : List (Option (List CoinChange))) (hash 
   pub back : (u : Unspent) → unspent_after tree hash ≡ Ok u → unspent_after tree prev ≡ Ok (changed u changes)
   pub below : WasConnected tree undos prev
 
--- each record is that of the block at its place
+-- each record is the undo record of the block at its place
 pub record AreUndos (tree : Tree) (undos : List (Option (List CoinChange))) : Type 0 where
   pub long : length undos ≡ suc (length tree)
   pub each : (hash : Hash256) (place : ℕ) (changes : List CoinChange) → place_of tree hash ≡ Some place → record_at undos place ≡ Some changes → IsUndo tree undos hash changes
 
--- The last block of a branch was connected, and the changes lead from what is unspent after the active chain to what is
--- unspent after it.
+-- The branch's last block was connected once, and the branch's changes lead from the UTXO set after
+-- the tip to the one after that block.
 pub record IsSide (tree : Tree) (undos : List (Option (List CoinChange))) (unspent : Unspent) (side : Side) : Type 0 where
   pub hash : Hash256
   pub connected : WasConnected tree undos hash
   pub end : connected.place ≡ side.end
   pub after : unspent_after tree hash ≡ Ok (changed unspent side.overlay)
 
--- What a chain keeps follows from its tree: the places of the active blocks by their heights, what is unspent after them,
--- the records of connected blocks, the tip's among them, and the branch that was tried last.
+-- What a chain stores follows from its tree: the places of the active chain's nodes by height, the
+-- UTXO set after the tip, the undo records of connected blocks, including the tip's, and the branch
+-- that was tried last.
 pub record IsChain (tree : Tree) (path : List ℕ) (undos : List (Option (List CoinChange))) (unspent : Unspent) (side : Option Side) : Type 0 where
   pub places : path ≡ active_places tree
   pub ledger : unspent_after tree (best tree) ≡ Ok unspent
@@ -66,18 +68,18 @@ pub record IsChain (tree : Tree) (path : List ℕ) (undos : List (Option (List C
   pub tip : WasConnected tree undos (best tree)
   pub side_is : IfSome side (IsSide tree undos unspent)
 
--- with no other change a chain over the one tree is one over the other
+-- a chain over the old tree is, with all else unchanged, one over the new tree
 abbrev pub KeepsChains : Grown → Grown → Type 0
 KeepsChains old new =
     (path : List ℕ) (unspent : Unspent) (side : Option Side) → IsChain (tree_of old.nodes) path old.undos unspent side → IsChain (tree_of new.nodes) path new.undos unspent side
 
--- a kept block stands at a place
+-- a kept block is at this place
 pub record IsKeptPlace (nodes : List Node) (place : ℕ) : Type 0 where
   pub hash : Hash256
   pub at : place_of (tree_of nodes) hash ≡ Some place
   pub kept : is_kept (tree_of nodes) hash ≡ true
 
--- a kept block's node that stands on the node at another place
+-- the node at `place` has a kept block, and its parent is the node at `below`
 pub record StandsOn (nodes : List Node) (below place : ℕ) : Type 0 where
   pub node : Node
   pub at : slice_get nodes place ≡ Some node
@@ -85,16 +87,16 @@ pub record StandsOn (nodes : List Node) (below place : ℕ) : Type 0 where
   pub parent : node.parent ≡ below
   pub above : below < place
 
--- places of nodes, each of which stands on the one before it, from above one place up to another
+-- places of nodes from above one place up to another, each node on top of the one before it
 abbrev pub LeadUp : List Node → ℕ → List ℕ → ℕ → Type 0
 LeadUp nodes below [] top = below ≡ top
 LeadUp nodes below (place ∷ places) top = StandsOn nodes below place × LeadUp nodes place places top
 
--- the block at a place can't be spent behind those below it
+-- the block at a place can't be spent after those below it
 abbrev pub FailsAt : List Node → ℕ → Fault → Type 0
 FailsAt nodes place fault = (node : Node) → slice_get nodes place ≡ Some node → unspent_after (tree_of nodes) node.hash ≡ Err (faulty node.hash fault)
 
--- the path to a node stops at another's place
+-- the path to the node `target` can't be connected: the first block that can't is at `place`
 pub record StopsBelow (nodes : List Node) (target place : ℕ) (fault : Fault) : Type 0 where
   pub first : Node
   pub at : slice_get nodes place ≡ Some first
@@ -102,25 +104,28 @@ pub record StopsBelow (nodes : List Node) (target place : ℕ) (fault : Fault) :
   pub above : 0 < place
   pub stops : (node : Node) → slice_get nodes target ≡ Some node → unspent_after (tree_of nodes) node.hash ≡ Err (faulty first.hash fault)
 
--- The path of a block stops that isn't in the tree yet, and will stand behind its last node: below it, or at it.
+-- The path of a block that isn't in the tree yet, and will be its last node, can't be connected:
+-- the first block that can't is below it, or is the block itself.
 pub data Stops (nodes : List Node) (block : Block) (place : ℕ) (fault : Fault) : Type 0 where
   below : (target : ℕ) → place_of (tree_of nodes) block.header.prev ≡ Some target → StopsBelow nodes target place fault → Stops nodes block place fault
   here : (before : Unspent) → unspent_after (tree_of nodes) block.header.prev ≡ Ok before → spend before block.txs ≡ Err fault → place ≡ length nodes → Stops nodes block place fault
 
--- Such a block can be spent behind its parent's path, with what is then unspent, and the record leads back.
+-- A block that isn't in the tree yet can be spent after its parent's path, and the record leads
+-- back from the UTXO set `after` it. The parent was connected once.
 pub record Tops (tree : Tree) (undos : List (Option (List CoinChange))) (block : Block) (changes : List CoinChange) (after : Unspent) : Type 0 where
   pub before : Unspent
   pub below : unspent_after tree block.header.prev ≡ Ok before
   pub leads : LeadsBack changes block.txs before after
   pub connected : WasConnected tree undos block.header.prev
 
--- A branch over another ledger: its last block is the same, and its changes lead from where the record leads back as they did.
+-- A branch over another ledger: it has the same last block, and its changes lead from the new
+-- ledger to the same UTXO set, where `back` leads from the new ledger to the old one.
 pub record IsRested (old : Side) (back : List CoinChange) (new : Side) : Type 0 where
   pub end : new.end ≡ old.end
   pub over : (unspent : Unspent) → changed unspent new.overlay ≡ changed (changed unspent back) old.overlay
 
--- The ledger of the active chain has changed. The branch that was tried last leaves the same over it, or else the tip that
--- was left is that branch.
+-- The active chain's ledger has changed. The branch that was tried last leads to the same UTXO set
+-- over it, or its place is taken by the branch that ends at the old tip.
 pub data RestsOn (path : List ℕ) (before after : Unspent) (old : Option Side) (new : Side) : Type 0 where
   stays : (side : Side) → old ≡ Some side → new.end ≡ side.end → changed after new.overlay ≡ changed before side.overlay → RestsOn path before after old new
   left : slice_get path (length path - 1) ≡ Some new.end → changed after new.overlay ≡ before → RestsOn path before after old new

@@ -16,10 +16,10 @@ use crate::tree::Tree;
 use cb_base::{Fault, Hash256};
 use cb_block::{Header, SoundBlock, check_block, hash_with_work};
 
-/// The greatest height.
+/// The greatest height that a header may have.
 pub const MOST_HEIGHT: u32 = 1_000_000_000;
 
-/// Where a header will stand in the tree.
+/// Where a header will be put in the tree: its parent's place and its height.
 #[derive(Clone, Copy)]
 pub(crate) struct Spot {
     pub(crate) header: Header,
@@ -29,7 +29,7 @@ pub(crate) struct Spot {
 }
 
 impl Spot {
-    /// The node of a header that stands here.
+    /// The tree node of the header, with its block if that is kept.
     pub(crate) fn node(self, kept: Option<Kept>, marked: bool) -> Node
         ensures { result ≡ node_on self kept marked }
     {
@@ -45,7 +45,8 @@ impl Spot {
 }
 
 impl Tree {
-    /// Where a header stands on its parent, or the first reason against that. Its parent's block may be asked for.
+    /// Where a header goes on top of its parent, or the first reason against it. With `block` the
+    /// parent's block must be kept, too.
     fn spot_on_parent(&self, header: Header, hash: Hash256, block: bool) -> Result<Spot, Fault>
         requires { hash ≡ block_hash header }
         ensures ok { IfOk result (λ spot. IsSpot spot header (tree_of self.now.nodes)) }
@@ -75,7 +76,7 @@ impl Tree {
         })
     }
 
-    /// Where a header will stand, or the first reason against it.
+    /// Where a header goes, or the first reason against it.
     pub(crate) fn header_spot(&self, header: Header, hash: Hash256) -> Result<Spot, Fault>
         requires { hash ≡ block_hash header }
         ensures ok { IfOk result (λ spot. IsSpot spot header (tree_of self.now.nodes)) }
@@ -95,7 +96,7 @@ impl Tree {
 }
 
 impl Chain {
-    /// Where a block will stand, or the first reason against it.
+    /// Where a block goes, or the first reason against it.
     fn block_spot(&self, header: Header, hash: Hash256) -> Result<Spot, Fault>
         requires { hash ≡ block_hash header }
         ensures ok { IfOk result (λ spot. IsSpot spot header self.now) }
@@ -115,23 +116,28 @@ impl Chain {
         self.tree.spot_on_parent(header, hash, true)
     }
 
-    /// Keeps a header.
+    /// Adds a header to the tree.
     ///
-    /// The first of these that holds is told, and then nothing has changed: `Fault::BadWork` where `hash_with_work`
-    /// refuses it, `Fault::BadParent` where it is marked bad, `Fault::Known` where it is known, `Fault::NoParent` where its parent
-    /// isn't, `Fault::BadParent` where its parent is marked bad, `Fault::TooMany` where its height would be above
-    /// 1,000,000,000, and `Fault::Memory`.
+    /// Fails with the first of these; nothing has then changed:
+    /// - `Fault::BadWork` if `hash_with_work` refuses the header.
+    /// - `Fault::BadParent` if the header is known and marked bad.
+    /// - `Fault::Known` if it is known.
+    /// - `Fault::NoParent` if its parent isn't known.
+    /// - `Fault::BadParent` if its parent is marked bad.
+    /// - `Fault::TooMany` if its height would be above 1,000,000,000.
+    /// - `Fault::Memory`, which comes only if nothing speaks against the header.
     pub fn accept_header(&mut self, header: Header) -> Result<(), Fault>
         ensures ok { OnOk result (AcceptsHeader self.old header None self.new) }
         ensures err { IfErr result (λ fault. ((fault ≡ Memory) × (self.new ≡ self.old))
             ⊎ AcceptsHeader self.old header (Some fault) self.new) }
-        // What is kept is that of the calls so far with this one, or without it where memory was wanting.
+        // The tree is that of all calls so far, including this one unless it failed with
+        // `Fault::Memory`.
         ensures history { (calls : List Call) → IsHistory calls self.old
             → MatchResult result (λ _. IsHistory (HeaderCall header ∷ calls) self.new)
             (λ fault. ((fault ≡ Memory) × IsHistory calls self.new)
             ⊎ IsHistory (HeaderCall header ∷ calls) self.new) }
         ensures unchanged { result ≡ Err Memory → self.new ≡ self.old }
-        // Memory is wanted only of a header that nothing speaks against.
+        // `Fault::Memory` comes only if nothing speaks against the header.
         ensures unpaid { result ≡ Err Memory →
             HasWork header × (header_fault self.old header ≡ None) }
     {
@@ -142,33 +148,45 @@ impl Chain {
         Ok(())
     }
 
-    /// Keeps a block, and makes it the tip where it is higher than the tip.
+    /// Adds a block to the tree, and makes it the tip if it is higher than the tip. Returns which
+    /// blocks left the active chain and which joined it.
     ///
-    /// The first of these that holds is told, and then nothing has changed: `Fault::BadWork` where `hash_with_work` refuses
-    /// its header, `Fault::BadParent` where it is marked bad, `Fault::Known` where it is kept, `Fault::BadParent` where
-    /// its parent is marked bad, `Fault::NoParent` where its parent isn't kept, `Fault::TooMany` where its height would be
-    /// above 1,000,000,000. Then what `check_block` tells: the header is kept, and marked bad. Then, where it is higher
-    /// than the tip, the fault of the first block on its path that can't be connected: that block and all kept blocks
-    /// above it are marked bad, and the tip stays. `Fault::Memory` changes nothing; it is told in place of a refusal that
-    /// keeps something, where there is no place for that.
+    /// Fails with the first of these; nothing has then changed:
+    /// - `Fault::BadWork` if `hash_with_work` refuses the header.
+    /// - `Fault::BadParent` if the block's hash is marked bad.
+    /// - `Fault::Known` if the block is kept already.
+    /// - `Fault::BadParent` if its parent is marked bad.
+    /// - `Fault::NoParent` if its parent's block isn't kept.
+    /// - `Fault::TooMany` if its height would be above 1,000,000,000.
+    ///
+    /// Then come two kinds of errors that are remembered:
+    /// - What `check_block` returns: the header is added and marked bad, and the block isn't kept.
+    /// - If the block is higher than the tip, the fault of the first block on its path that can't
+    ///   be connected. The block is added. That first block and all kept blocks above it are marked
+    ///   bad, and the tip stays.
+    ///
+    /// `Fault::Memory` changes nothing. It takes the place of a remembered error if there is no
+    /// memory to remember it.
     pub fn accept_block(&mut self, block: SoundBlock) -> Result<Change, Fault>
         ensures ok { IfOk result (λ change. AcceptsBlock self.old block (Ok change) self.new) }
-        // From the old active chain to the new one.
+        // The change leads from the old active chain to the new one.
         ensures moves { IfOk result
             (λ change. LeadsOver (active_hashes self.old) change (active_hashes self.new)) }
-        // What leaves the active chain for it stood above its parent's branch. Else the active chain stays.
+        // If the tip moves, the blocks that leave are those above the parent's branch. Otherwise
+        // the active chain stays.
         ensures leads { IfOk result (λ change. change.on ≢ [] → MayLead self.old block.header.prev
             × (change.off ≡ reverse (map block_hash (headers_above self.old block.header.prev)))) }
         ensures stays { IfOk result (λ change. change.on ≡ []) → Stays self.old self.new }
         ensures err { IfErr result (λ fault. ((fault ≡ Memory) × (self.new ≡ self.old))
             ⊎ AcceptsBlock self.old block (Err fault) self.new) }
-        // What is kept is that of the calls so far with this one, or without it where memory was wanting.
+        // The tree is that of all calls so far, including this one unless it failed with
+        // `Fault::Memory`.
         ensures history { (calls : List Call) → IsHistory calls self.old
             → MatchResult result (λ _. IsHistory (BlockCall block ∷ calls) self.new)
             (λ fault. ((fault ≡ Memory) × IsHistory calls self.new)
             ⊎ IsHistory (BlockCall block ∷ calls) self.new) }
         ensures unchanged { result ≡ Err Memory → self.new ≡ self.old }
-        // Memory is wanted only of a block whose header nothing speaks against.
+        // `Fault::Memory` comes only if nothing speaks against the block's header.
         ensures unpaid { result ≡ Err Memory →
             HasWork block.header × (block_fault self.old block.header ≡ None) }
     {
@@ -186,7 +204,8 @@ impl Chain {
         }
     }
 
-    /// Keeps a block that meets its rules.
+    /// Adds a block that meets the block rules. It becomes the tip if it is higher and its path can
+    /// be connected.
     fn join(&mut self, spot: Spot, kept: Kept) -> Result<Change, Fault>
         requires spot { IsSpot spot kept.header self.old }
         requires none { block_fault self.old kept.header ≡ None }

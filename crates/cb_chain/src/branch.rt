@@ -11,7 +11,8 @@ use crate::tree::Tree;
 use cb_base::Fault;
 use std::alloc::Global;
 
-/// Whether the active chain, of nodes by their heights, has this node's hash at its height.
+/// Whether the node is on the active chain: whether its hash is the one at its height there.
+/// `places` has the active chain's nodes by height.
 fn stands(tree: &Tree, places: &[usize], place: usize) -> bool
     requires place { place < length tree.now.nodes }
     requires places { places.now ≡ active_places (tree_of tree.now.nodes) }
@@ -25,7 +26,7 @@ fn stands(tree: &Tree, places: &[usize], place: usize) -> bool
     }
 }
 
-/// The height of the highest node of a branch that stands on the active chain.
+/// The fork's height: that of the highest node on the branch that is on the active chain.
 pub(crate) fn fork_of(tree: &Tree, places: &[usize], from: usize) -> usize
     requires place { from < length tree.now.nodes }
     requires places { places.now ≡ active_places (tree_of tree.now.nodes) }
@@ -39,7 +40,8 @@ pub(crate) fn fork_of(tree: &Tree, places: &[usize], from: usize) -> usize
     tree.node(place).height as usize
 }
 
-/// The places of a kept block's branch above a height, from the lowest up to its own.
+/// The places of the nodes on a kept block's branch above the height `fork`, from the lowest up to
+/// the block's own. Fails only with `Fault::Memory`.
 pub(crate) fn branch_above(
     alloc: Global,
     tree: &Tree,

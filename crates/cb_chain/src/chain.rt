@@ -13,18 +13,21 @@ use cb_ledger::Ledger;
 use std::alloc::Global;
 use std::marker::Model;
 
-/// The headers and blocks that a node keeps, the best chain among them, and what is unspent after it.
+/// The headers and blocks that are kept, the best chain among them (here: the active chain), and
+/// the UTXO set after its tip. A header is known if it is in the tree. A block is kept if its
+/// transactions are stored, too.
 ///
-/// It is seen as what it keeps above the network's first block, the newest first. All else follows from that.
+/// Contracts see it as the headers and blocks above the genesis block, the newest first. The active
+/// chain and the UTXO set follow from these.
 #[derive(Drop)]
 pub struct Chain {
     pub(crate) alloc: Global,
     pub(crate) tree: Tree,
-    // The nodes of the best chain, by their heights.
+    // The places in the tree of the active chain's nodes, by height.
     pub(crate) active: Vec<usize>,
-    // What is unspent after it.
+    // The UTXO set after the tip.
     pub(crate) ledger: Ledger,
-    // The branch beside it that was tried last.
+    // The branch beside the active chain that was tried last.
     pub(crate) side: Option<Side>,
 }
 
@@ -45,7 +48,8 @@ impl Model for Chain {
 }
 
 impl Chain {
-    /// The chain of the network's first block alone. Nothing is unspent after it. The only error is `Fault::Memory`.
+    /// The chain of the genesis block alone. Its UTXO set is empty. Fails only with
+    /// `Fault::Memory`.
     pub fn new(alloc: Global) -> Result<Chain, Fault>
         ensures first { IfOk result (λ chain. chain ≡ []) }
         ensures memory { IsOkUnless result Memory }
@@ -63,7 +67,7 @@ impl Chain {
         })
     }
 
-    /// The node of the tip.
+    /// The tree node of the tip.
     fn tip_node(&self) -> &Node
         ensures hash { result.now.hash ≡ best self.now }
         ensures height { height_of self.now (best self.now) ≡ Some result.now.height }
@@ -71,21 +75,21 @@ impl Chain {
         self.tree.node(self.active[self.active.len() - 1])
     }
 
-    /// The hash of the tip: the last block of the best chain.
+    /// The hash of the tip: the last block of the active chain.
     pub fn tip(&self) -> Hash256
         ensures { result ≡ best self.now }
     {
         self.tip_node().hash
     }
 
-    /// How far above the first block the tip stands.
+    /// The height of the tip. The genesis block has height 0.
     pub fn tip_height(&self) -> u32
         ensures { height_of self.now (best self.now) ≡ Some result }
     {
         self.tip_node().height
     }
 
-    /// How far above the first block a header stands, where it is known.
+    /// The height of a header, if it is known.
     pub fn height(&self, hash: &Hash256) -> Option<u32>
         ensures { result ≡ height_of self.now hash.now }
     {
@@ -95,7 +99,7 @@ impl Chain {
         }
     }
 
-    /// The header of this hash, where it is known.
+    /// The header with this hash, if it is known.
     pub fn header(&self, hash: &Hash256) -> Option<&Header>
         ensures { option_copied result
             ≡ option_map (λ entry. entry.header) (entry_of self.now hash.now) }
@@ -106,7 +110,7 @@ impl Chain {
         }
     }
 
-    /// The block of this hash, where it is kept and isn't marked bad.
+    /// The block with this hash, if it is kept and not marked bad.
     pub fn block(&self, hash: &Hash256) -> Option<&SoundBlock>
         ensures { option_copied result ≡ block_of self.now hash.now }
     {
@@ -116,7 +120,7 @@ impl Chain {
         }
     }
 
-    /// Whether the block of this hash is neither kept nor marked bad.
+    /// Whether the block with this hash is missing: neither kept nor marked bad.
     pub fn lacks(&self, hash: &Hash256) -> bool
         ensures { result ≡ is_lacking self.now hash.now }
     {
@@ -126,14 +130,14 @@ impl Chain {
         }
     }
 
-    /// What is unspent after the tip.
+    /// The UTXO set after the tip.
     pub fn ledger(&self) -> &Ledger
         ensures { unspent_after self.now (best self.now) ≡ Ok result.now.unspent }
     {
         &self.ledger
     }
 
-    /// A chain that equals it. The only error is `Fault::Memory`.
+    /// An equal chain. Fails only with `Fault::Memory`.
     pub fn copy(&self) -> Result<Chain, Fault>
         ensures same { IfOk result (λ copy. copy ≡ self.now) }
         ensures memory { IsOkUnless result Memory }
@@ -151,7 +155,7 @@ impl Chain {
     }
 }
 
-/// The block of a node that isn't marked.
+/// The node's block, if it is kept and not marked bad.
 fn shown_block(node: &Node) -> Option<&SoundBlock>
     ensures { option_copied result ≡ sound_block (entry_from node.now) }
 {

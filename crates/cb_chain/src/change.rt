@@ -3,7 +3,7 @@ ghost use Rattle.std.specs.Prelude.{◌≡◌};
 use cb_base::Hash256;
 use std::marker::Model;
 
-/// Hashes of blocks. They are seen as their list.
+/// A list of block hashes. Contracts see it as the list.
 #[derive(Drop)]
 pub struct Hashes {
     list: Vec<Hash256>,
@@ -19,7 +19,7 @@ impl Model for Hashes {
 }
 
 impl Hashes {
-    /// The list as hashes.
+    /// Wraps a list.
     pub fn new(list: Vec<Hash256>) -> Hashes
         ensures { result ≡ list.items }
     {
@@ -33,7 +33,7 @@ impl Hashes {
         self.list.as_slice()
     }
 
-    /// Their list, given out.
+    /// Gives out the list.
     pub fn into_vec(self) -> Vec<Hash256>
         ensures { result.items ≡ self }
     {
@@ -41,11 +41,11 @@ impl Hashes {
     }
 }
 
-/// What a block changed of the active chain: nothing where both are empty.
+/// How a block changed the active chain. Both lists are empty if it didn't.
 #[derive(Drop)]
 pub struct Change {
-    /// The blocks that were put off, from the old tip down.
+    /// The disconnected blocks, from the old tip down.
     pub off: Hashes,
-    /// The blocks that came on, from the fork up to the new tip.
+    /// The connected blocks, from the lowest above the fork up to the new tip.
     pub on: Hashes,
 }

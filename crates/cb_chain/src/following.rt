@@ -12,10 +12,11 @@ use cb_base::{Fault, Hash256};
 use cb_block::Header;
 use std::alloc::Global;
 
-/// How many headers `Chain::after` answers at the most.
+/// The largest number of headers that `Chain::after` returns, as in a `headers` message.
 pub const MOST_HEADERS: usize = 2_000;
 
-/// The active headers above a height, of nodes by their heights.
+/// The headers of the active chain above a height. `places` has the active chain's nodes by height.
+/// Fails only with `Fault::Memory`, and never if there are no such headers.
 fn headers_from(
     alloc: Global,
     tree: &Tree,
@@ -37,7 +38,8 @@ fn headers_from(
     Ok(headers)
 }
 
-/// The same up to the stop and with it, and at most 2,000.
+/// The headers of the active chain above a height, up to and including the hash `stop`, and at most
+/// 2,000. Fails only with `Fault::Memory`, and never if there are no such headers.
 fn headers_to(
     alloc: Global,
     tree: &Tree,
@@ -70,7 +72,7 @@ fn headers_to(
 }
 
 impl Chain {
-    /// The height of a hash, where it stands on the best chain.
+    /// The height of a hash, if it is on the active chain.
     fn active_height(&self, hash: &Hash256) -> Option<usize>
         ensures height { result ≡ place_in (active self.now) 0 hash.now }
         ensures low { IfSome result (λ height. height < length (active_places self.now)) }
@@ -83,7 +85,7 @@ impl Chain {
         }
     }
 
-    /// The height of the first of these hashes that stands on the best chain, or else 0.
+    /// The height of the first of these hashes that is on the active chain, or 0 if none is.
     fn start(&self, locator: &[Hash256]) -> usize
         ensures height { result ≡ start_of (active self.now) locator.now }
         ensures low { result < length (active_places self.now) }
@@ -96,10 +98,11 @@ impl Chain {
         0
     }
 
-    /// The headers of the best chain after the first hash of the locator that stands on it, or after the first block's
-    /// where none does: up to the stop and with it, where it is among them, and at most 2,000.
+    /// The answer to a `getheaders` message: the headers of the active chain after the first hash
+    /// of the locator that is on it, or after the genesis block if none is. They end with the hash
+    /// `stop` if it is among them. There are at most 2,000.
     ///
-    /// The only error is `Fault::Memory`, and only where there are such headers.
+    /// Fails only with `Fault::Memory`, and never if there are no such headers.
     pub fn after(&self, locator: &[Hash256], stop: &Hash256) -> Result<Vec<Header>, Fault>
         ensures exact { IfOk result
             (λ headers. headers.items ≡ headers_after self.now locator.now stop.now) }
@@ -116,8 +119,9 @@ impl Chain {
         )
     }
 
-    /// The headers of the best chain above the place where it left the branch of a known header, up to the tip. Of an
-    /// unknown one there are none. The only error is `Fault::Memory`, and only where there are such headers.
+    /// The headers of the active chain above the fork with the branch of a known header, up to the
+    /// tip. There are none if the header isn't known. Fails only with `Fault::Memory`, and never if
+    /// there are no such headers.
     pub fn path(&self, from: &Hash256) -> Result<Vec<Header>, Fault>
         ensures exact { IfOk result (λ headers. headers.items ≡ headers_above self.now from.now) }
         ensures none { headers_above self.now from.now ≡ [] → IsOk result }
@@ -130,8 +134,9 @@ impl Chain {
         headers_from(self.alloc, &self.tree, self.active.as_slice(), fork)
     }
 
-    /// Hashes of the best chain from the tip down: the first twelve one after another, then by steps of 2, 4, 8 and so
-    /// on, and last the first block's, once. The only error is `Fault::Memory`.
+    /// The block locator of the active chain: hashes from the tip down, first twelve one after
+    /// another, then in steps of 2, 4, 8 and so on. The last is always the genesis block's, which
+    /// comes once. Fails only with `Fault::Memory`.
     pub fn locator(&self) -> Result<Vec<Hash256>, Fault>
         ensures exact { IfOk result (λ hashes. hashes.items ≡ locator_of self.now) }
         ensures memory { IsOkUnless result Memory }

@@ -13,16 +13,17 @@ use crate::tree::Tree;
 use cb_base::{Fault, Hash256};
 use cb_block::{Header, hash_with_work};
 
-/// What headers met that were given in turn.
+/// The result of adding several headers in order.
 #[derive(Drop)]
 pub struct Accepted {
-    /// The hashes of those that were kept or known, in order.
+    /// The hashes of the headers that were added or known already, in order.
     pub met: Hashes,
-    /// Why the next was refused, if one was.
+    /// Why the next header was refused, if one was.
     pub refused: Option<Fault>,
 }
 
-/// Keeps a header, for which there is room, or passes over one that is known, and answers its hash. Any other refusal is told.
+/// Adds a header, or skips it if it is known, and returns its hash. Fails if it is refused for any
+/// other reason. There must be room for it.
 fn meet_header(tree: &mut Tree, header: Header) -> Result<Hash256, Fault>
     requires { 0 < tree.old.room }
     ensures hash { IfOk result (λ hash. hash ≡ block_hash header) }
@@ -45,8 +46,8 @@ fn meet_header(tree: &mut Tree, header: Header) -> Result<Hash256, Fault>
     }
 }
 
-/// Keeps headers in turn, for which there is room, and pushes the hashes of those that are kept or known. The first other
-/// refusal ends it, and is answered.
+/// Adds headers in order, and pushes the hashes of those that are added or known. Stops at the
+/// first that is refused for another reason, and returns that. There must be room for all.
 fn meet_headers(tree: &mut Tree, headers: &[Header], met: &mut Vec<Hash256>) -> Option<Fault>
     requires room { length headers.now ≤ tree.old.room }
     requires none { met.old.items ≡ [] }
@@ -65,9 +66,12 @@ fn meet_headers(tree: &mut Tree, headers: &[Header], met: &mut Vec<Hash256>) -> 
 }
 
 impl Chain {
-    /// Keeps headers in turn. One that is known is passed over, and the first other refusal ends it.
+    /// Adds headers in order, as `accept_header` does. A known header is skipped. The first header
+    /// that is refused for another reason ends it: the reason is in `Accepted::refused`, the
+    /// headers before it stay added, and those after it aren't looked at.
     ///
-    /// The only error is `Fault::Memory`, which changes nothing: none of them is kept.
+    /// The active chain stays. Fails only with `Fault::Memory`; nothing has then changed, and none
+    /// of the headers is added.
     pub fn accept_headers(&mut self, headers: &[Header]) -> Result<Accepted, Fault>
         ensures ok { IfOk result
             (λ accepted. TakesHeaders self.old headers.now accepted.refused accepted.met self.new) }

@@ -1,5 +1,6 @@
-//! What holds of every chain, and of every list of calls. Each law is the contract of a function that changes nothing. What
-//! holds of a chain holds of each tree that calls leave, so those laws rest on `has_history` alone.
+//! What holds of every chain and of every list of calls. Each law is the contract of a function
+//! that changes nothing. The laws of a chain hold of every tree that calls lead to, so they follow
+//! from `has_history` alone.
 ghost use Rattle.std.specs.Prelude.{◌≡◌, ◌≤◌, ◌∷◌, ◌++◌, All, Err, IfSome, IsErr, IsOk, List, Ok, Option, Result, false, true};
 ghost use Rattle.cb_base.specs.declared.fault.Fault.{Fault};
 ghost use Rattle.cb_base.specs.declared.hash.Hash256.{Hash256};
@@ -17,7 +18,8 @@ ghost use Rattle.cb_chain.specs.Laws.{ComesAfter, IsLeftBy, IsMarkedFor, Reaches
 
 use crate::chain::Chain;
 
-/// Every chain is what some list of calls leaves: headers and blocks that it was told of, from the network's first block on.
+/// Every chain is the result of a list of calls that gave it headers and blocks, starting from the
+/// genesis block alone.
 pub fn has_history(chain: &Chain)
     ensures { IsHistoric chain.now }
 {
@@ -25,8 +27,8 @@ pub fn has_history(chain: &Chain)
     let _ = &chain.tree;
 }
 
-/// One list of calls leaves one tree, and to a call over a tree there is one answer: to headers in turn too, which leave one
-/// tree.
+/// The rules are deterministic. A list of calls leads to one tree, and a call on a tree has one
+/// answer. A list of headers on a tree also has one answer, and leads to one tree.
 pub fn one_tree()
     ensures tree { (calls : List Call) (one other : Tree) → IsHistory calls one →
         IsHistory calls other → one ≡ other }
@@ -40,16 +42,17 @@ pub fn one_tree()
         (against ≡ again) × (met ≡ others) × (one ≡ other) }
 {}
 
-/// The active headers are linked: the first is the network's first header, each next one names the one before it by its
-/// hash, and the last one's hash is the tip's.
+/// The active chain is linked: its first header is the genesis block's, each later header has the
+/// hash of the one before it in `prev`, and the last one's hash is the tip's.
 pub fn active_is_linked(chain: &Chain)
     ensures { ReachesUp (active chain.now) (best chain.now) }
 {
     has_history(chain);
 }
 
-/// What is unspent after the tip, which `Chain::ledger` shows, is what the blocks of the active chain above the first one
-/// leave: their transactions as one list, spent in order and from nothing, with no fault.
+/// The UTXO set after the tip, as `Chain::ledger` returns it, is what the active chain's blocks
+/// above the genesis block leave: their transactions as one list, spent in order from the empty set
+/// without a fault.
 pub fn ledger_is_folded(chain: &Chain)
     ensures { (unspent : Unspent) → unspent_after chain.now (best chain.now) ≡ Ok unspent →
         IsLeftBy chain.now unspent }
@@ -57,8 +60,8 @@ pub fn ledger_is_folded(chain: &Chain)
     has_history(chain);
 }
 
-/// No block whose whole path can be spent stands higher than the tip. Of those that stand as high the tip is the one that
-/// was kept first.
+/// No block that can be connected with its whole path is higher than the tip. Among such blocks of
+/// the tip's height the tip is the one that was kept first.
 pub fn none_higher(chain: &Chain)
     ensures highest { (hash : Hash256) → IsOk (unspent_after chain.now hash)
         → height_in chain.now hash ≤ height_in chain.now (best chain.now) }
@@ -69,9 +72,10 @@ pub fn none_higher(chain: &Chain)
     has_history(chain);
 }
 
-/// What can't be spent with its whole path: a block that is marked bad, and what isn't kept, be it a header alone or a hash
-/// that isn't known. Of a kept block no block of the path is missing, and it is marked just where the first of them that
-/// can't be connected is.
+/// Two kinds of hash can't be connected with their whole path: a block that is marked bad, and a
+/// hash whose block isn't kept, known or not. A kept block has no missing block on its path. If its
+/// path can't be connected, it is marked bad exactly if the first of its blocks that can't be
+/// connected is marked.
 pub fn marked_is_never_spent(chain: &Chain)
     ensures marked { (hash : Hash256) → is_marked chain.now hash ≡ true →
         IsErr (unspent_after chain.now hash) }
@@ -86,8 +90,9 @@ pub fn marked_is_never_spent(chain: &Chain)
     has_history(chain);
 }
 
-/// Nothing is marked bad without a reason. Of a header alone that is marked, a block came in a call which breaks a rule by
-/// itself. A kept block that is marked can't be connected, or stands on one that can't, and that one is marked too.
+/// Nothing is marked bad without a reason. If only the header is kept and it is marked, a call gave
+/// a block with this hash that breaks a block rule. A kept block that is marked can't be connected
+/// itself, or is on top of a marked block that can't.
 pub fn marked_for_a_reason(chain: &Chain)
     ensures alone { (calls : List Call) (hash : Hash256) → IsHistory calls chain.now →
         is_kept chain.now hash ≡ false
@@ -99,8 +104,8 @@ pub fn marked_for_a_reason(chain: &Chain)
     has_history(chain);
 }
 
-/// Each block that is kept above the first meets the rules that a block meets by itself, and its transactions are sound
-/// under its header, be it marked or not.
+/// Each kept block above the genesis block meets the block rules, and its transactions are the
+/// sound ones under its header. This holds whether or not it is marked bad.
 pub fn kept_meet_rules(chain: &Chain)
     ensures rules { All (λ entry. IfSome entry.block MeetsBlockRules) chain.now }
     ensures sound { All (λ entry. IfSome entry.block IsSoundBlock) chain.now }
@@ -108,8 +113,8 @@ pub fn kept_meet_rules(chain: &Chain)
     has_history(chain);
 }
 
-/// Nothing comes under the hash of a block that is kept: so each block is kept once, and stays what its hash names. It
-/// stands there under its own header.
+/// Once a block is kept, nothing else is added under its hash. So each block is kept once and never
+/// replaced. It is kept under its own header.
 pub fn kept_once(chain: &Chain)
     ensures once { (newer older : Tree) (entry : Entry) → chain.now ≡ newer ++ entry ∷ older
         → is_kept older (block_hash entry.header) ≡ false }

@@ -1,4 +1,6 @@
-//! The chain: the tree of headers and blocks, the best chain in it, and the ledger of that chain.
+//! The chain: the tree of headers and blocks, the best chain in it, and the UTXO set of that chain
+//! (here: the ledger, see `cb_ledger`). Bitcoin Core keeps these in `BlockManager` and
+//! `Chainstate`. The first block is the genesis block.
 #![tactic(auto)]
 
 mod accepting;

@@ -4,7 +4,8 @@ use cb_base::Hash256;
 use cb_block::{Header, SoundBlock};
 use std::marker::Model;
 
-/// A block whose transactions have few outputs each, so that it may be connected. It is seen as the block.
+/// A kept block: each of its transactions has fewer than 4,294,967,296 outputs, so that it may be
+/// connected. Contracts see it as the block.
 #[derive(Drop)]
 pub(crate) struct Kept {
     block: SoundBlock,
@@ -37,17 +38,18 @@ impl Kept {
     }
 }
 
-/// A header in the tree.
+/// A header in the tree, with its block if that is kept (in Bitcoin Core: `CBlockIndex`).
 #[derive(Drop)]
 pub(crate) struct Node {
     pub(crate) header: Header,
     pub(crate) hash: Hash256,
-    // How far above the first block it stands.
+    // The height. The genesis block has 0.
     pub(crate) height: u32,
-    // The place of its parent among the nodes. The first names itself.
+    // The place of the parent's node. The first node has its own place here, 0.
     pub(crate) parent: usize,
-    // The block, where it is kept.
+    // The block, if it is kept.
     pub(crate) kept: Option<Kept>,
-    // It is marked bad.
+    // Whether it is marked bad: the block breaks a rule or can't be connected, or is on top of one
+    // that can't.
     pub(crate) marked: bool,
 }

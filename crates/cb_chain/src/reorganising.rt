@@ -22,17 +22,18 @@ use cb_base::{Fault, Hash256};
 use cb_ledger::Ledger;
 use std::alloc::Global;
 
-/// How a block becomes the tip.
+/// How a block will become the tip.
 #[derive(Drop)]
 struct Plan {
-    // The height at which its branch leaves the active chain.
+    // The fork's height: where the block's branch leaves the active chain.
     fork: usize,
-    // The nodes of its branch above that, without its own.
+    // The nodes of the branch above the fork, without the block's own.
     branch: Vec<usize>,
     change: Change,
 }
 
-/// The active chain leaves what stands above a height for a branch and the node that comes next. There is room.
+/// Replaces what is above the height `fork` on the active chain by a branch and the node `last`.
+/// There must be room.
 fn put_on(active: &mut Vec<usize>, fork: usize, branch: Vec<usize>, last: usize)
     requires fork { fork < length active.old.items }
     requires places { vec_len active.old + (vec_len branch + 1) ≤ vec_capacity active.old }
@@ -45,7 +46,7 @@ fn put_on(active: &mut Vec<usize>, fork: usize, branch: Vec<usize>, last: usize)
     active.push(last).unwrap();
 }
 
-/// The hashes of nodes.
+/// The hashes of the nodes at these places. Fails only with `Fault::Memory`.
 fn hashes_at(alloc: Global, tree: &Tree, places: &[usize]) -> Result<Vec<Hash256>, Fault>
     requires { All (λ place. place < length tree.now.nodes) places.now }
     ensures hashes { IfOk result
@@ -59,8 +60,8 @@ fn hashes_at(alloc: Global, tree: &Tree, places: &[usize]) -> Result<Vec<Hash256
     Ok(hashes)
 }
 
-/// What a block changes, where these nodes leave the active chain for a branch of these and the block: each from the lowest
-/// up.
+/// The change of the active chain if the nodes `off` leave it, and the nodes `branch` and then the
+/// block join it. Both lists are given from the lowest up. Fails only with `Fault::Memory`.
 fn change_to(
     alloc: Global,
     tree: &Tree,
@@ -86,7 +87,8 @@ fn change_to(
     })
 }
 
-/// How a block becomes the tip that stands on a kept one.
+/// The plan that makes a block the tip. The block's parent must be kept. Fails only with
+/// `Fault::Memory`.
 fn plan_for(alloc: Global, tree: &Tree, active: &[usize], spot: Spot) -> Result<Plan, Fault>
     requires tree { IsTree tree.now.nodes }
     requires active { active.now ≡ active_places (tree_of tree.now.nodes) }
@@ -118,7 +120,8 @@ fn plan_for(alloc: Global, tree: &Tree, active: &[usize], spot: Spot) -> Result<
     })
 }
 
-/// Keeps a block whose path stops, and marks from there on. Where memory was wanting it keeps nothing.
+/// Adds a block whose path can't be connected, and marks bad the first block that can't and all
+/// kept blocks above it. If the reason was `Fault::Memory`, nothing changes.
 fn mark_stop(tree: &mut Tree, node: Node, stop: Stop)
     requires room { 0 < tree.old.room }
     requires node { IsNode node (tree_of tree.old.nodes) }
@@ -138,8 +141,10 @@ fn mark_stop(tree: &mut Tree, node: Node, stop: Stop)
     tree.mark_above(stop.place);
 }
 
-/// The active chain leaves for a branch that was tried and a block on it. Where memory is wanting it stays, and so does the
-/// ledger. The branch that was tried last rests on the ledger anew, or else the tip that was left takes its place.
+/// Reorganises the chain to a branch that was tried and a block on top of it. Fails only with
+/// `Fault::Memory`; the active chain, the ledger and `side` are then unchanged. After it, `side` is
+/// the branch that was tried last, adapted to the new ledger, or, if there was none, the branch of
+/// the old tip. If memory doesn't suffice for that, it is none.
 fn switch(
     alloc: Global,
     tree: &Tree,
@@ -182,7 +187,8 @@ fn switch(
 }
 
 impl Chain {
-    /// Keeps a block that stands on the tip: it becomes the tip, or can't be spent.
+    /// Adds a block on top of the tip. It becomes the new tip, or is marked bad if it can't be
+    /// connected.
     fn extend(&mut self, spot: Spot, kept: Kept) -> Result<Change, Fault>
         requires spot { IsSpot spot kept.header self.old }
         requires none { block_fault self.old kept.header ≡ None }
@@ -221,7 +227,8 @@ impl Chain {
         Ok(change)
     }
 
-    /// Keeps a block that stands on another branch: that becomes the active chain, or its path stops.
+    /// Adds a block on top of another branch. The chain is reorganised to that branch, or the first
+    /// block on the path that can't be connected is marked bad with all above it.
     fn turn(&mut self, spot: Spot, kept: Kept) -> Result<Change, Fault>
         requires spot { IsSpot spot kept.header self.old }
         requires none { block_fault self.old kept.header ≡ None }
@@ -261,7 +268,8 @@ impl Chain {
         Ok(change)
     }
 
-    /// Keeps a block that is higher than the tip: it becomes the tip, or its path stops.
+    /// Adds a block that is higher than the tip. It becomes the tip, unless its path can't be
+    /// connected.
     pub(crate) fn lead(&mut self, spot: Spot, kept: Kept) -> Result<Change, Fault>
         requires spot { IsSpot spot kept.header self.old }
         requires none { block_fault self.old kept.header ≡ None }

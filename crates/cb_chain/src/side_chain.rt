@@ -12,24 +12,26 @@ use cb_base::Fault;
 use cb_ledger::{Ledger, Overlay, Undo};
 use std::alloc::Global;
 
-/// So many steps from a block to another are few.
+/// Up to this many steps two blocks are near each other.
 const FEW_STEPS: usize = 20;
 
-/// How often the steps are doubled that are looked at: then they are more than a tree has.
+/// How often the number of steps is doubled in a search. It then exceeds the size of any tree.
 const DOUBLINGS: usize = 31;
 
-/// A branch is kept while it ends at most so far below the tip.
+/// The branch that was tried last is kept while its end is at most this far below the tip.
 const MOST_BELOW: u32 = 1_000;
 
-/// The place of the first block that can't be spent, and why.
+/// The place of the first block that can't be connected, and why.
 #[derive(Clone, Copy)]
 pub(crate) struct Stop {
     pub(crate) place: usize,
     pub(crate) fault: Fault,
 }
 
-/// The last block of a branch that was connected, and what is unspent after it: as changes over the ledger of the active
-/// chain. It goes up and down the tree block by block, so that a block on a branch that was tried costs what the block costs.
+/// A branch beside the active chain whose blocks were connected: its last block, and the changes
+/// that lead from the UTXO set after the tip to the one after that block. It moves up and down the
+/// tree block by block. So a further block on a branch that was tried costs only what that block
+/// costs.
 #[derive(Drop)]
 pub(crate) struct Side {
     pub(crate) end: usize,
@@ -37,7 +39,7 @@ pub(crate) struct Side {
 }
 
 impl Side {
-    /// At the tip itself nothing is changed.
+    /// The branch that ends at the tip, without changes.
     pub(crate) fn at(alloc: Global, tip: usize) -> Side
         ensures end { result.end ≡ tip }
         ensures overlay { result.overlay ≡ [] }
@@ -48,7 +50,8 @@ impl Side {
         }
     }
 
-    /// The same over a ledger that has changed: this record leads back to what it was. None where memory was wanting.
+    /// The same branch over a ledger that has changed; `undo` leads from the new ledger back to the
+    /// old one. Returns `None` if memory doesn't suffice.
     fn rest_on(self, undo: &Undo) -> Option<Side>
         ensures { IfSome result (λ side. IsRested self undo.now side) }
     {
@@ -59,7 +62,7 @@ impl Side {
         }
     }
 
-    /// Its changes, as a record for the ledger.
+    /// The branch's changes, as a record that the ledger can take. Fails only with `Fault::Memory`.
     pub(crate) fn into_changes(self, alloc: Global) -> Result<Undo, Fault>
         ensures same { IfOk result (λ changes. changes ≡ self.overlay) }
         ensures memory { IsOkUnless result Memory }
@@ -68,7 +71,7 @@ impl Side {
         overlay.into_undo(alloc)
     }
 
-    /// Takes the last block back.
+    /// Disconnects the last block. Fails only with `Fault::Memory`.
     fn lower(&mut self, tree: &Tree) -> Result<(), Fault>
         requires tree { IsTree tree.now.nodes }
         requires undos { AreUndos (tree_of tree.now.nodes) tree.now.undos }
@@ -88,8 +91,9 @@ impl Side {
         Ok(())
     }
 
-    /// Takes blocks back until the last one stands on the path of another, and answers the places from that one's down to the
-    /// lowest above the last one's.
+    /// Disconnects blocks until the last one is on the path of the block `target`. Returns the
+    /// places from the target's down to the lowest above the last block's. Fails only with
+    /// `Fault::Memory`.
     fn lower_to(&mut self, alloc: Global, tree: &Tree, target: usize) -> Result<Vec<usize>, Fault>
         requires tree { IsTree tree.now.nodes }
         requires undos { AreUndos (tree_of tree.now.nodes) tree.now.undos }
@@ -116,7 +120,7 @@ impl Side {
         Ok(down)
     }
 
-    /// Connects a block that stands on the last one.
+    /// Connects a block whose parent is the last one.
     fn raise(&mut self, ledger: &Ledger, tree: &mut Tree, place: usize) -> Result<(), Fault>
         requires tree { IsTree tree.old.nodes }
         requires undos { AreUndos (tree_of tree.old.nodes) tree.old.undos }
@@ -140,7 +144,8 @@ impl Side {
         Ok(())
     }
 
-    /// Goes to a block, or stays where the path to it stops.
+    /// Moves to a block, or stops below the first block on the path that can't be connected, and
+    /// returns that one with its fault. Otherwise fails only with `Fault::Memory`.
     fn reach(
         &mut self,
         alloc: Global,
@@ -178,8 +183,8 @@ impl Side {
         Ok(())
     }
 
-    /// Goes to a block and connects one on it that isn't in the tree yet: what takes that one back. The overlay is then what
-    /// it leaves.
+    /// Moves to the block `parent`, and connects a block on top of it that isn't in the tree yet.
+    /// Returns the record that disconnects it. The overlay then includes that block's changes.
     pub(crate) fn try_on(
         &mut self,
         alloc: Global,
@@ -216,7 +221,8 @@ impl Side {
     }
 }
 
-/// A branch that ends far below a height is let go: what it keeps grows with all that comes on the tip.
+/// Drops a branch that ends more than 1,000 blocks below a height. Its changes grow with every
+/// block on the tip.
 pub(crate) fn not_far_below(tree: &Tree, side: Option<Side>, height: u32) -> Option<Side>
     requires tree { IsTree tree.now.nodes }
     requires side { IfSome side (λ side. side.end < length tree.now.nodes) }
@@ -229,14 +235,15 @@ pub(crate) fn not_far_below(tree: &Tree, side: Option<Side>, height: u32) -> Opt
     Some(side)
 }
 
-/// A branch over a ledger that has changed, where there is one: the record leads back to what the ledger was.
+/// The branch over a ledger that has changed, if there is one; `undo` leads from the new ledger
+/// back to the old one.
 pub(crate) fn rest_on(side: Option<Side>, undo: &Undo) -> Option<Side>
     ensures { IfSome result (λ new. (old : Side) × (side ≡ Some old) × IsRested old undo.now new) }
 {
     side?.rest_on(undo)
 }
 
-/// Whether at the most so many steps of the tree lie between two blocks.
+/// Whether at most `steps` steps of the tree are between two blocks.
 fn is_near(tree: &Tree, one: usize, other: usize, steps: usize) -> bool
     requires tree { IsTree tree.now.nodes }
     requires one { one < length tree.now.nodes }
@@ -256,8 +263,8 @@ fn is_near(tree: &Tree, one: usize, other: usize, steps: usize) -> bool
     low == high
 }
 
-/// Whether a block is found from the end of a branch before it is from the tip, where ever longer ways are looked at: this
-/// takes as long as the shorter way is.
+/// Whether a search from the branch's end finds the block before one from the tip does. Both get
+/// ever more steps in turn, so the time follows the shorter way.
 fn is_found_first(tree: &Tree, end: usize, tip: usize, block: usize) -> bool
     requires tree { IsTree tree.now.nodes }
     requires end { end < length tree.now.nodes }
@@ -277,8 +284,9 @@ fn is_found_first(tree: &Tree, end: usize, tip: usize, block: usize) -> bool
     false
 }
 
-/// From where a block is tried. Near the tip it is the tip, and the branch that was tried last stays as it is: what that one
-/// changes may be much more than what a few blocks do. Else it is that branch, or the tip where that is nearer.
+/// From where a block on `parent` is tried. Near the tip it is the tip, and the branch that was
+/// tried last is left as it is: its changes may be many more than those of a few blocks. Otherwise
+/// it is that branch, or the tip if that is nearer.
 pub(crate) fn starts_from(
     alloc: Global,
     tree: &Tree,
@@ -307,7 +315,7 @@ pub(crate) fn starts_from(
     fresh
 }
 
-/// Keeps a branch that was tried, where none is kept that was left aside for it.
+/// Stores a branch that was tried, unless another one is still stored.
 pub(crate) fn keep_side(side: &mut Option<Side>, tried: Side)
     ensures { (side.new ≡ Some tried) ⊎ (side.new ≡ side.old) }
 {

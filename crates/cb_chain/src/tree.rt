@@ -14,19 +14,21 @@ use std::alloc::Global;
 use std::collections::HashMap;
 use std::marker::Model;
 
-/// The headers and blocks, in the order in which they came. A header comes before those that stand on it. It is seen as the
-/// list of its nodes, the records at their places, and for how many more there is room.
+/// The headers and blocks in the order in which they were added, so a header comes before its
+/// children. Contracts see the list of the nodes, the undo records at their places, and for how
+/// many more nodes there is room.
 #[derive(Drop)]
 pub(crate) struct Tree {
     alloc: Global,
     nodes: Vec<Node>,
-    // The place of the newest node of each hash.
+    // The place of each hash's newest node.
     places: HashMap<Hash256, usize>,
-    // The place of the newest kept block that stands on each node. 0 stands for none.
+    // For each node, the place of the newest kept block on top of it, or 0 if there is none.
     newest: Vec<usize>,
-    // The place of the kept block that came before each on the same parent. 0 stands for none.
+    // For each kept block, the place of the one before it on the same parent, or 0 if there is
+    // none.
     elder: Vec<usize>,
-    // What takes a block back, at the place of each that was connected once.
+    // The undo record of each block that was connected once, at the block's place.
     undos: Vec<Option<Undo>>,
     // The places that were marked last. It has room for all nodes, so that marking needs no memory.
     found: Vec<usize>,
@@ -51,7 +53,7 @@ impl Model for Tree {
         × (vec_len tree.nodes ≤ vec_capacity tree.found) };
 }
 
-/// The first node.
+/// The node of the genesis block.
 fn first_node(alloc: Global) -> Result<Node, Fault>
     ensures first { IfOk result IsFirst }
     ensures memory { IsOkUnless result Memory }
@@ -69,7 +71,7 @@ fn first_node(alloc: Global) -> Result<Node, Fault>
 }
 
 impl Tree {
-    /// The tree of the first block alone.
+    /// The tree of the genesis block alone. Fails only with `Fault::Memory`.
     pub(crate) fn new(alloc: Global) -> Result<Tree, Fault>
         ensures nodes { IfOk result (λ tree. tree_of tree.nodes ≡ []) }
         ensures undos { IfOk result (λ tree. tree.undos ≡ None ∷ []) }
@@ -99,14 +101,14 @@ impl Tree {
         })
     }
 
-    /// How many nodes there are.
+    /// The number of nodes.
     pub(crate) fn len(&self) -> usize
         ensures { result ≡ length self.now.nodes }
     {
         self.nodes.len()
     }
 
-    /// The place of a hash.
+    /// The place of the newest node with this hash.
     pub(crate) fn place(&self, hash: &Hash256) -> Option<usize>
         ensures place { result ≡ place_of (tree_of self.now.nodes) hash.now }
         ensures within { IfSome result (λ place. place < length self.now.nodes) }
@@ -124,7 +126,7 @@ impl Tree {
         &self.nodes[place]
     }
 
-    /// The newest node of a hash.
+    /// The newest node with this hash.
     pub(crate) fn find(&self, hash: &Hash256) -> Option<&Node>
         ensures entry { entry_of (tree_of self.now.nodes) hash.now
             ≡ option_map entry_from (option_copied result) }
@@ -137,7 +139,7 @@ impl Tree {
         }
     }
 
-    /// What takes the block at a place back, where it was connected once.
+    /// The undo record of the block at a place, if it was connected once.
     pub(crate) fn undo(&self, place: usize) -> Option<&Undo>
         ensures { option_copied result ≡ record_at self.now.undos place }
     {
@@ -147,7 +149,7 @@ impl Tree {
         }
     }
 
-    /// Notes what takes the block at a place back.
+    /// Stores the undo record of the block at a place.
     pub(crate) fn note(&mut self, place: usize, undo: Undo)
         requires { place < length self.old.undos }
         ensures nodes { self.new.nodes ≡ self.old.nodes }
@@ -157,7 +159,8 @@ impl Tree {
         self.undos[place] = Some(undo);
     }
 
-    /// Room for so many nodes more.
+    /// Reserves room for `count` more nodes. Fails only with `Fault::Memory`; the nodes and records
+    /// are unchanged in every case.
     pub(crate) fn reserve(&mut self, count: usize) -> Result<(), Fault>
         ensures same { self.new.nodes ≡ self.old.nodes }
         ensures undos { self.new.undos ≡ self.old.undos }
@@ -174,7 +177,7 @@ impl Tree {
         Ok(())
     }
 
-    /// One node more, for which there is room, and what takes its block back, where that is connected.
+    /// Adds a node, with its undo record if its block is connected. There must be room for it.
     pub(crate) fn add(&mut self, node: Node, undo: Option<Undo>)
         requires room { 0 < self.old.room }
         requires node { IsNode node (tree_of self.old.nodes) }
@@ -192,7 +195,7 @@ impl Tree {
         self.nodes.push(node).unwrap();
     }
 
-    /// Marks the block at a place and all kept blocks above it.
+    /// Marks the block at a place and all kept blocks above it as bad.
     pub(crate) fn mark_above(&mut self, first: usize)
         requires above { 0 < first }
         requires kept { IsSome (block_at self.old.nodes first) }
@@ -211,7 +214,7 @@ impl Tree {
         );
     }
 
-    /// A tree that equals it.
+    /// An equal tree. Fails only with `Fault::Memory`.
     pub(crate) fn copy(&self) -> Result<Tree, Fault>
         ensures same { IfOk result (λ copy. copy.nodes ≡ self.now.nodes) }
         ensures undos { IfOk result (λ copy. copy.undos ≡ self.now.undos) }
@@ -238,7 +241,8 @@ impl Tree {
     }
 }
 
-/// Makes the next node, where its block is kept, the newest on its parent. Answers which was the newest before.
+/// If the node's block is kept, makes it the newest on its parent. Returns the place of the one
+/// that was the newest before, or 0.
 fn put_above(newest: &mut [usize], node: &Node, place: usize) -> usize
     requires { node.now.parent < length newest.old }
     ensures len { length newest.new ≡ length newest.old }
@@ -254,7 +258,7 @@ fn put_above(newest: &mut [usize], node: &Node, place: usize) -> usize
     elder
 }
 
-/// Adds the places of kept blocks on one parent, from the newest on. There is room.
+/// Adds the places of the kept blocks on one parent, from the newest on. There must be room.
 fn push_linked(found: &mut Vec<usize>, elder: &[usize], newest: usize)
     requires links { (places : List ℕ) × AreLinked elder.now newest places
         × (vec_len found.old + length places ≤ vec_capacity found.old) }
@@ -269,7 +273,8 @@ fn push_linked(found: &mut Vec<usize>, elder: &[usize], newest: usize)
     }
 }
 
-/// Marks the block at a place and all kept blocks above it, whose places it leaves in `found`. There is room for all.
+/// Marks the block at a place and all kept blocks above it as bad, and leaves their places in
+/// `found`. There must be room for all nodes.
 fn mark_from(
     nodes: &mut [Node],
     newest: &[usize],
