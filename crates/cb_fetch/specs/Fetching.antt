@@ -1,5 +1,6 @@
--- The blocks that a session fetches from its peer (Bitcoin's peer-to-peer protocol, `getdata`): those that lack are wanted, and
--- a few of them are in flight. The limits 16 and 2,000 are this node's own.
+-- The blocks that a session downloads from its peer (Bitcoin's peer-to-peer protocol, `getdata`):
+-- wanted blocks are queued for download, and a few blocks are in flight. The limits 16 and 2,000
+-- are this program's own.
 use Rattle.std.specs.Prelude.{◌≡◌, ◌≤◌, ⊤, Bool, false, ◌&&◌, ◌||◌, not, nat_lt, ◌==◌, if◌then◌else◌, List, [], ◌∷◌, ◌++◌, length, map, filter, fold}
 use Rattle.std.specs.List.{list_any}
 use Rattle.cb_base.specs.declared.hash.Hash256.{Hash256}
@@ -8,56 +9,57 @@ use Rattle.cb_payload.specs.declared.inventory.InvEntry.{InvEntry}
 use Rattle.cb_state.specs.declared.inventory.Inventory.{Inventory}
 use Rattle.cb_state.specs.declared.inventory.Inventory.TheVariants.{Block}
 
--- What a session fetches, by the hashes of the blocks, each list in order.
+-- What a session downloads, by the hashes of the blocks, each list in order.
 pub record FetchState : Type 0 where
-  -- asked for, and not come yet: at most 16
+  -- requested, and not received yet: at most 16
   pub flight : List Hash256
-  -- to be asked for: at most 2,000
+  -- queued for download: at most 2,000
   pub wanted : List Hash256
 
--- the opening state
+-- the state at the start of a session
 abbrev pub idle : FetchState
 idle = record { flight = []; wanted = [] }
 
 abbrev pub has : List Hash256 → Hash256 → Bool
 has hashes hash = list_any (same hash) hashes
 
--- it is in flight, or wanted
+-- the block is in flight or wanted
 abbrev pub is_fetched : FetchState → Hash256 → Bool
 is_fetched fetch hash = has fetch.flight hash || has fetch.wanted hash
 
--- nothing is in flight and something is wanted: it is time to ask for more
+-- it is time to request more: nothing is in flight, and something is wanted
 abbrev pub is_due : FetchState → Bool
 is_due fetch = (length fetch.flight == 0) && nat_lt 0 (length fetch.wanted)
 
 -- ---- what changes
 
--- a block came: it is in flight no longer
+-- a block was received: it is no longer in flight
 abbrev pub landed : Hash256 → FetchState → FetchState
 landed hash fetch = record { flight = filter (λ other. not (same hash other)) fetch.flight; wanted = fetch.wanted }
 
--- it is the last of those in flight
+-- with one more block in flight, as the last
 abbrev pub with_flight : FetchState → Hash256 → FetchState
 with_flight fetch hash = record { flight = fetch.flight ++ hash ∷ []; wanted = fetch.wanted }
 
--- it is the last of those that are wanted, where there are fewer than 2,000
+-- with one more wanted block, as the last, if fewer than 2,000 are wanted
 abbrev pub with_wanted : FetchState → Hash256 → FetchState
 with_wanted fetch hash = if nat_lt (length fetch.wanted) 2000 then record { flight = fetch.flight; wanted = fetch.wanted ++ hash ∷ [] } else fetch
 
--- a block lacks: it is wanted, unless it is in flight or wanted
+-- a block is missing: it becomes wanted, unless it is in flight or wanted
 abbrev pub wanting : FetchState → Hash256 → FetchState
 wanting fetch hash = if is_fetched fetch hash then fetch else with_wanted fetch hash
 
--- several, in order
+-- several missing blocks, in order
 abbrev pub wanting_all : FetchState → List Hash256 → FetchState
 wanting_all fetch hashes = fold wanting fetch hashes
 
--- a block is still needed: it goes in flight where fewer than 16 are, and else it stays wanted
+-- a block is still needed: it goes in flight if fewer than 16 are, and otherwise becomes wanted, if
+-- fewer than 2,000 are
 abbrev pub taking_on : FetchState → Hash256 → FetchState
 taking_on fetch hash = if is_fetched fetch hash then fetch else (if nat_lt (length fetch.flight) 16 then with_flight fetch hash else with_wanted fetch hash)
 
--- what is fetched once it is known which of the wanted blocks are still needed: the first 16 different ones go in flight, and
--- the next 2,000 stay wanted
+-- The state once it is known which of the wanted blocks are still needed: the first 16 different
+-- ones are in flight, and the next 2,000 are wanted.
 abbrev pub taken_on : List Hash256 → FetchState
 taken_on hashes = fold taking_on idle hashes
 
@@ -70,18 +72,18 @@ abbrev pub block_in : Inventory → List Hash256
 block_in (Block hash) = hash ∷ []
 block_in other = []
 
--- the hashes of the blocks among entries
+-- the hashes of the blocks among inventory entries
 abbrev pub blocks_in : List Inventory → List Hash256
 blocks_in [] = []
 blocks_in (entry ∷ entries) = block_in entry ++ blocks_in entries
 
--- the entries of `getdata` that ask for blocks: of type 2
+-- the `getdata` entries that request blocks, of type 2
 abbrev pub requests_of : List Hash256 → List InvEntry
 requests_of hashes = map (λ hash. record { kind = 2; hash = hash }) hashes
 
 -- ---- what always holds
 
--- none of them stands twice
+-- no two of the hashes are equal
 abbrev pub AreDifferent : List Hash256 → Type 0
 AreDifferent [] = ⊤
 AreDifferent (hash ∷ hashes) = (has hashes hash ≡ false) × AreDifferent hashes
@@ -92,7 +94,7 @@ pub record IsFetch (fetch : FetchState) : Type 0 where
   pub wanted : length fetch.wanted ≤ 2000
   pub once : AreDifferent (fetch.flight ++ fetch.wanted)
 
--- what calls lead to, from the opening state on
+-- the states that calls lead to, from the start of a session on
 pub data IsReached : FetchState → Type 0 where
   opening : IsReached idle
   wants : (fetch : FetchState) (hashes : List Hash256) → IsReached fetch → IsReached (wanting_all fetch hashes)
@@ -101,10 +103,10 @@ pub data IsReached : FetchState → Type 0 where
 
 -- ---- each once
 
--- it comes last, unless it is there
+-- appends a hash, unless it is in the list
 abbrev pub with_hash : List Hash256 → Hash256 → List Hash256
 with_hash hashes hash = if has hashes hash then hashes else hashes ++ hash ∷ []
 
--- each different one once, where it stands first
+-- each different hash once, at its first place
 abbrev pub once : List Hash256 → List Hash256
 once hashes = fold with_hash [] hashes

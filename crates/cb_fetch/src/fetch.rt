@@ -9,18 +9,20 @@ use indexmap::IndexSet;
 use std::alloc::Global;
 use std::marker::Model;
 
-/// How many blocks are in flight at the most.
+/// The largest number of blocks in flight. This limit is the program's own.
 pub const MOST_IN_FLIGHT: usize = 16;
 
-/// How many blocks are wanted at the most, beside those in flight.
+/// The largest number of wanted blocks, not counting those in flight. This limit is the program's
+/// own.
 pub const MOST_WANTED: usize = 2_000;
 
-/// The type of a block among the entries of `getdata`.
+/// The inventory type of a block in `getdata`.
 const BLOCK: u32 = 2;
 
-/// The blocks that a session fetches from its peer, by their hashes (Bitcoin's peer-to-peer protocol, `getdata`). Those that lack
-/// are wanted, at most 2,000; at most 16 are in flight: asked for, and not come yet. None is in flight or wanted twice. It is seen
-/// as the two lists, in order.
+/// The blocks that a session downloads from its peer, by hash (Bitcoin's peer-to-peer protocol,
+/// `getdata`). A block is wanted if it is queued for download: at most 2,000 are. A block is in
+/// flight if it was requested and hasn't been received yet: at most 16 are. No block is in flight
+/// or wanted twice. Contracts see the two lists, in order.
 #[derive(Drop)]
 pub struct Fetch {
     alloc: Global,
@@ -39,7 +41,7 @@ impl Model for Fetch {
 }
 
 impl Fetch {
-    /// Nothing is in flight and nothing wanted. It takes no memory.
+    /// Nothing is in flight, and nothing is wanted. Allocates nothing.
     pub fn new(alloc: Global) -> Fetch
         ensures { result ≡ idle }
     {
@@ -50,14 +52,14 @@ impl Fetch {
         }
     }
 
-    /// Whether it is time to ask for more: nothing is in flight, and something is wanted.
+    /// Whether it is time to request more blocks: nothing is in flight, and something is wanted.
     pub fn is_due(&self) -> bool
         ensures { result ≡ is_due self.now }
     {
         self.flight.is_empty() && !self.wanted.is_empty()
     }
 
-    /// The blocks in flight, in the order in which they are asked for.
+    /// The hashes of the blocks in flight, in the order in which they are requested, at most 16.
     pub fn flight(&self) -> &[Hash256]
         ensures same { result.now ≡ self.now.flight }
         ensures few { length result.now ≤ 16 }
@@ -65,7 +67,8 @@ impl Fetch {
         self.flight.as_slice()
     }
 
-    /// A block came: it is in flight no longer. One that isn't in flight changes nothing.
+    /// Notes that a block was received: it is no longer in flight. A block that isn't in flight
+    /// changes nothing.
     pub fn land(&mut self, hash: &Hash256)
         ensures { self.new ≡ landed hash.now self.old }
     {
@@ -79,7 +82,8 @@ impl Fetch {
         self.flight.iter().any(|other| *hash == *other) || self.wanted.contains(hash)
     }
 
-    /// A block that isn't in flight or wanted is wanted as the last one, where there is room.
+    /// Appends a block that isn't in flight or wanted to the wanted ones, unless 2,000 are wanted.
+    /// Fails only with `Fault::Memory`.
     fn put_wanted(&mut self, hash: Hash256) -> Result<(), Fault>
         requires { is_fetched self.old hash ≡ false }
         ensures wanted { OnOk result (self.new ≡ with_wanted self.old hash) }
@@ -91,7 +95,8 @@ impl Fetch {
         Ok(())
     }
 
-    /// A block that isn't in flight or wanted goes in flight as the last one. There must be room for it.
+    /// Appends a block that isn't in flight or wanted to those in flight. Fewer than 16 must be in
+    /// flight. Fails only with `Fault::Memory`.
     fn put_flight(&mut self, hash: Hash256) -> Result<(), Fault>
         requires fresh { is_fetched self.old hash ≡ false }
         requires room { length self.old.flight < 16 }
@@ -102,7 +107,8 @@ impl Fetch {
         Ok(())
     }
 
-    /// A block is wanted, unless it is in flight or wanted.
+    /// Appends a block to the wanted ones, unless it is in flight or wanted, or 2,000 are wanted.
+    /// Fails only with `Fault::Memory`.
     fn want_one(&mut self, hash: Hash256) -> Result<(), Fault>
         ensures wanted { OnOk result (self.new ≡ wanting self.old hash) }
         ensures memory { IsOkUnless result Memory }
@@ -113,7 +119,9 @@ impl Fetch {
         self.put_wanted(hash)
     }
 
-    /// A block goes in flight where there is room, and else is wanted, unless it is in flight or wanted.
+    /// Puts a block in flight if fewer than 16 are, and otherwise appends it to the wanted ones, if
+    /// fewer than 2,000 are. A block that is in flight or wanted changes nothing. Fails only with
+    /// `Fault::Memory`.
     fn take_one(&mut self, hash: Hash256) -> Result<(), Fault>
         ensures taken { OnOk result (self.new ≡ taking_on self.old hash) }
         ensures memory { IsOkUnless result Memory }
@@ -127,9 +135,11 @@ impl Fetch {
         self.put_wanted(hash)
     }
 
-    /// Blocks lack: each is wanted, in order, unless it is in flight or wanted, or 2,000 are wanted.
+    /// Queues missing blocks for download: each becomes wanted, in order, unless it is in flight or
+    /// wanted, or 2,000 are wanted.
     ///
-    /// The only error is `Fault::Memory`. After it this is of no use. No hashes take no memory.
+    /// Fails only with `Fault::Memory`, and never without hashes. What is wanted after that error
+    /// isn't specified, so the value is then of no use.
     pub fn want(&mut self, hashes: &[Hash256]) -> Result<(), Fault>
         ensures wanted { OnOk result (self.new ≡ wanting_all self.old hashes.now) }
         ensures memory { IsOkUnless result Memory }
@@ -141,7 +151,8 @@ impl Fetch {
         Ok(())
     }
 
-    /// An entry of a block is taken on as its hash, another is passed over.
+    /// Takes the block of an inventory entry of type 2 as `take_one` does. Another entry changes
+    /// nothing. Fails only with `Fault::Memory`.
     fn take_entry(&mut self, entry: Inventory) -> Result<(), Fault>
         ensures taken { OnOk result (self.new ≡ fold taking_on self.old (block_in entry)) }
         ensures memory { IsOkUnless result Memory }
@@ -154,10 +165,10 @@ impl Fetch {
         }
     }
 
-    /// It is told which blocks are still needed, and fetches these alone from now on: the first 16 different ones go in flight, and
-    /// the next 2,000 stay wanted. Entries that aren't blocks are passed over.
+    /// Replaces everything by the blocks that are still needed: the first 16 different ones are in
+    /// flight, and the next 2,000 are wanted. Entries that aren't of type 2 are skipped.
     ///
-    /// The only error is `Fault::Memory`. After it all is as it was. No entries take no memory.
+    /// Fails only with `Fault::Memory`, and never without entries; nothing has then changed.
     pub fn take_on(&mut self, needed: &[Inventory]) -> Result<(), Fault>
         ensures taken { OnOk result (self.new ≡ taken_on (blocks_in needed.now)) }
         ensures memory { IsOkUnless result Memory }
@@ -172,9 +183,10 @@ impl Fetch {
         Ok(())
     }
 
-    /// The wanted blocks as entries of inventory, in order: to ask which of them are still needed.
+    /// The wanted blocks as inventory entries, in order. With them the session asks which are still
+    /// needed.
     ///
-    /// The only error is `Fault::Memory`. It takes none where nothing is wanted.
+    /// Fails only with `Fault::Memory`, and never if nothing is wanted.
     pub fn wanted(&self, alloc: Global) -> Result<Inventories, Fault>
         ensures entries { IfOk result (λ entries. entries ≡ as_blocks self.now.wanted) }
         ensures memory { IsOkUnless result Memory }
@@ -184,9 +196,9 @@ impl Fetch {
         Ok(Inventories::from_few(entries))
     }
 
-    /// The entries of `getdata` that ask for the blocks in flight, of type 2, in order.
+    /// The `getdata` entries that request the blocks in flight, of type 2, in order.
     ///
-    /// The only error is `Fault::Memory`. It takes none where nothing is in flight.
+    /// Fails only with `Fault::Memory`, and never if nothing is in flight.
     pub fn flight_entries(&self, alloc: Global) -> Result<cb_payload::Entries, Fault>
         ensures entries { IfOk result (λ entries. entries ≡ requests_of self.now.flight) }
         ensures memory { IsOkUnless result Memory }
@@ -196,7 +208,8 @@ impl Fetch {
         Ok(cb_payload::Entries::from_few(entries))
     }
 
-    /// The same once more. The only error is `Fault::Memory`, and where nothing is in flight or wanted it takes none.
+    /// An equal value. Fails only with `Fault::Memory`, and never if nothing is in flight or
+    /// wanted.
     pub fn copy(&self, alloc: Global) -> Result<Fetch, Fault>
         ensures same { IfOk result (λ copy. copy ≡ self.now) }
         ensures memory { IsOkUnless result Memory }
@@ -216,7 +229,8 @@ impl Fetch {
     }
 }
 
-/// The entries of inventory of blocks with these hashes.
+/// The inventory entries of the blocks with these hashes. Fails only with `Fault::Memory`, and
+/// never without hashes.
 fn block_entries(alloc: Global, hashes: &[Hash256]) -> Result<Vec<Inventory>, Fault>
     ensures entries { IfOk result (λ entries. entries.items ≡ as_blocks hashes.now) }
     ensures memory { IsOkUnless result Memory }
@@ -229,7 +243,8 @@ fn block_entries(alloc: Global, hashes: &[Hash256]) -> Result<Vec<Inventory>, Fa
     Ok(entries)
 }
 
-/// The entries of `getdata` that ask for the blocks with these hashes, of type 2.
+/// The `getdata` entries that request the blocks with these hashes, of type 2. Fails only with
+/// `Fault::Memory`, and never without hashes.
 fn request_entries(alloc: Global, hashes: &[Hash256]) -> Result<Vec<InvEntry>, Fault>
     ensures entries { IfOk result (λ entries. entries.items ≡ requests_of hashes.now) }
     ensures memory { IsOkUnless result Memory }

@@ -1,6 +1,7 @@
-//! What holds of all that a session fetches: laws of the definitions that the contracts cite.
+//! What holds of the blocks that a session downloads: laws of the definitions that the contracts
+//! use.
 //!
-//! Each is a function that does nothing and whose contract is the law.
+//! Each law is the contract of a function that does nothing.
 ghost use Rattle.std.specs.Prelude.{◌≡◌, ◌≤◌, ◌++◌, List, [], true, drop, length, take};
 ghost use Rattle.cb_base.specs.declared.hash.Hash256.{Hash256};
 ghost use Rattle.cb_fetch.specs.Fetching.{AreDifferent, FetchState, IsFetch, IsReached, has, is_due, once, taken_on, wanting, wanting_all};
@@ -17,12 +18,14 @@ pub fn each_is_fetched_once(fetch: &Fetch)
     let _ = &fetch.flight;
 }
 
-/// The same of every state that calls lead to, whatever a peer sends.
+/// The same limits hold in every state that calls lead to, whatever a peer sends.
 pub fn limits_hold()
     ensures { (fetch : FetchState) → IsReached fetch → IsFetch fetch }
 {}
 
-/// A block in flight isn't wanted once more, and what is wanted is asked for only when nothing is in flight.
+/// No block is requested twice at a time: a block in flight doesn't become wanted, new wanted
+/// blocks don't change what is in flight, and it is time to request wanted blocks only when nothing
+/// is in flight.
 pub fn none_is_asked_for_twice()
     ensures same { (fetch : FetchState) (hash : Hash256) → has fetch.flight hash ≡ true →
         wanting fetch hash ≡ fetch }
@@ -31,7 +34,8 @@ pub fn none_is_asked_for_twice()
     ensures due { (fetch : FetchState) → is_due fetch ≡ true → fetch.flight ≡ [] }
 {}
 
-/// What is asked for is what was needed: the first 16 different blocks are in flight, and the next 2,000 stay wanted.
+/// What is requested is what is needed: the first 16 different blocks are in flight, the next 2,000
+/// are wanted, and every block in flight is one of the needed ones.
 pub fn what_is_needed_is_fetched()
     ensures flight { (hashes : List Hash256) → (taken_on hashes).flight ≡ take 16 (once hashes) }
     ensures wanted { (hashes : List Hash256) →

@@ -1,5 +1,6 @@
-//! The blocks that a session fetches from its peer (Bitcoin's peer-to-peer protocol, `getdata`): at most 2,000 are wanted, and at
-//! most 16 of them are in flight, each once.
+//! The blocks that one session downloads from its peer (Bitcoin's peer-to-peer protocol,
+//! `getdata`). At most 2,000 are queued (here: wanted), and at most 16 more are in flight:
+//! requested, and not received yet. No block is queued or in flight twice.
 #![tactic(auto)]
 
 mod fetch;
