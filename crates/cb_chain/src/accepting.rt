@@ -159,13 +159,15 @@ impl Chain {
     /// - `Fault::NoParent` if its parent's block isn't kept.
     /// - `Fault::TooMany` if its height would be above 1,000,000,000.
     ///
-    /// Then come two kinds of errors that are remembered:
-    /// - What `check_block` returns: the header is added and marked bad, and the block isn't kept.
-    /// - If the block is higher than the tip, the fault of the first block on its path that can't
-    ///   be connected. The block is added. That first block and all kept blocks above it are marked
-    ///   bad, and the tip stays.
+    /// Then come two kinds of errors that are remembered in the tree:
+    /// - `Fault::Oversize`, `Fault::BadCoinbase` or `Fault::BadTx` from `check_block`. The header
+    ///   is added and marked bad, and the block isn't kept.
+    /// - `Fault::NoInput`, `Fault::Overspent` or `Fault::Remade`, if the block is higher than the
+    ///   tip and its path can't be connected: the fault of the first block on the path that can't.
+    ///   The new block is added. The first block that can't be connected and all kept blocks above
+    ///   it are marked bad, and the tip stays.
     ///
-    /// `Fault::Memory` changes nothing. It takes the place of a remembered error if there is no
+    /// `Fault::Memory` changes nothing. It may take the place of a remembered error, if there is no
     /// memory to remember it.
     pub fn accept_block(&mut self, block: SoundBlock) -> Result<Change, Fault>
         ensures ok { IfOk result (λ change. AcceptsBlock self.old block (Ok change) self.new) }

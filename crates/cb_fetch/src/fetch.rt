@@ -151,7 +151,7 @@ impl Fetch {
         Ok(())
     }
 
-    /// Takes the block of an inventory entry of type 2 as `take_one` does. Another entry changes
+    /// Takes the block of an `Inventory::Block` entry as `take_one` does. Another entry changes
     /// nothing. Fails only with `Fault::Memory`.
     fn take_entry(&mut self, entry: Inventory) -> Result<(), Fault>
         ensures taken { OnOk result (self.new ≡ fold taking_on self.old (block_in entry)) }
@@ -166,7 +166,7 @@ impl Fetch {
     }
 
     /// Replaces everything by the blocks that are still needed: the first 16 different ones are in
-    /// flight, and the next 2,000 are wanted. Entries that aren't of type 2 are skipped.
+    /// flight, and the next 2,000 are wanted. Entries other than `Inventory::Block` are skipped.
     ///
     /// Fails only with `Fault::Memory`, and never without entries; nothing has then changed.
     pub fn take_on(&mut self, needed: &[Inventory]) -> Result<(), Fault>

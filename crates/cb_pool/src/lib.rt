@@ -1,5 +1,6 @@
-//! The mempool (here: the pool): transactions that wait for a block, in order of arrival. They are
-//! checked against the UTXO set (here: the ledger, see `cb_ledger`).
+//! The mempool (here: the pool): transactions that wait for a block, each of which can be spent
+//! after those before it. They are checked against the UTXO set (here: the ledger, see
+//! `cb_ledger`).
 #![tactic(auto)]
 
 mod apart;

@@ -76,8 +76,8 @@ impl Pairs {
     }
 }
 
-/// The hash set of these ids. Its seed depends on all of them, so that no sender can choose ids
-/// that collide in it.
+/// The hash set of these ids. Its seed depends on all of them, so that a sender can't know it
+/// before the ids are chosen.
 fn set_of(alloc: Global, ids: &[u64]) -> Result<HashSet<u64, IdSeed>, Fault>
     ensures ids { IfOk result
         (λ wanted. (id : ℕ) → contains nat_eq wanted id ≡ is_among id ids.now) }

@@ -15,9 +15,10 @@ use cb_tx::Tx;
 use std::alloc::Global;
 use std::marker::Model;
 
-/// The mempool: transactions that wait for a block, in order of arrival, each with its arrival
-/// number. Over the UTXO set that it is used with, each of them can be spent after those before it.
-/// Contracts see it as the list of them and the number that the next one gets.
+/// The mempool: transactions that wait for a block, each with its arrival number. Over the UTXO set
+/// that it is used with, each of them can be spent after those before it. A new transaction comes
+/// last; refolding may put others first. Contracts see it as the list of them and the number that
+/// the next one gets.
 ///
 /// The transactions are shared and never copied, and each is hashed once.
 #[derive(Drop)]
@@ -70,7 +71,8 @@ impl Pool {
     /// - `Fault::Remade` if one of its outputs is already unspent.
     /// - `Fault::PoolFull` if the pool has 10,000 transactions.
     ///
-    /// `Fault::Memory` leaves the pool unchanged, too.
+    /// `Fault::Memory` leaves the pool unchanged, too. It comes only if the checks that need no
+    /// memory pass, as in `Candidate::new`.
     ///
     /// The numbers count up by one. After 18,446,744,073,709,551,615 the same number comes again.
     pub fn insert(&mut self, ledger: &Ledger, tx: Shared<Tx>) -> Result<u64, Fault>
@@ -90,7 +92,7 @@ impl Pool {
 
     /// Appends a transaction that was already checked on its own, and returns its number. It works
     /// as `insert`, from `Fault::Known` on: the transaction is neither checked on its own nor
-    /// hashed again.
+    /// hashed again. A failure leaves the pool unchanged.
     ///
     /// `Fault::Memory` is returned only if nothing else speaks against the transaction.
     pub fn insert_candidate(&mut self, ledger: &Ledger, candidate: Candidate) -> Result<u64, Fault>
@@ -131,7 +133,7 @@ impl Pool {
         self.members.get(txid).is_some()
     }
 
-    /// The transaction at a place, counted from 0 in order of arrival.
+    /// The transaction at a place of the list, counted from 0.
     pub fn at(&self, place: usize) -> Option<&Candidate>
         ensures { MatchOption result (slice_get (txs_of self.now.list) place ≡ None)
             (λ tx. slice_get (txs_of self.now.list) place ≡ Some tx.now) }
@@ -169,8 +171,8 @@ impl Pool {
         self.next < u64::MAX && self.next <= number
     }
 
-    /// The txids of the transactions whose number is at least `number`, in order. Fails only with
-    /// `Fault::Memory`, and never if there are no such transactions.
+    /// The txids of the transactions whose number is at least `number`, in the pool's order. Fails
+    /// only with `Fault::Memory`, and never if there are no such transactions.
     pub fn since(&self, number: u64) -> Result<Vec<Hash256>, Fault>
         ensures exact { IfOk result (λ txids. txids.items ≡ since_of self.now.list number) }
         ensures none { since_of self.now.list number ≡ [] → IsOk result }
@@ -188,13 +190,13 @@ impl Pool {
         Ok(txids)
     }
 
-    /// The transactions whose short ids under `key` are among `ids` (BIP 152), in order, each with
-    /// its short id, as the pool is now. No transaction is hashed or copied. The matching itself is
-    /// done by `Pairs::list`.
+    /// The transactions whose short ids under `key` are among `ids` (BIP 152), in the pool's order,
+    /// each with its short id, as the pool is now. No transaction is hashed or copied. The matching
+    /// itself is done by `Pairs::list`.
     ///
     /// The first call after a change builds a list of all transactions, which the pool keeps until
-    /// it changes. Further calls allocate nothing. Fails only with `Fault::Memory`; what contracts
-    /// see of the pool never changes.
+    /// it changes. Further calls allocate nothing. Fails only with `Fault::Memory`. The call never
+    /// changes what contracts see of the pool.
     pub fn pairs(&mut self, key: (u64, u64), ids: &Shared<ShortIds>) -> Result<Pairs, Fault>
         ensures exact { IfOk result (λ pairs. pairs ≡ pairs_of key ids.now (txs_of self.old.list)) }
         ensures same { self.new ≡ self.old }

@@ -134,7 +134,8 @@ impl Pool {
     /// Rebuilds the pool by a plan that has room for it. The plan's first transactions and then the
     /// pool's own are offered in order. Each is taken if it can be spent over the ledger after
     /// those taken before it, no taken one has its txid, and fewer than 10,000 are taken. The
-    /// pool's own transactions keep their numbers, and the others get the next ones.
+    /// pool's own transactions keep their numbers, and the others get the next ones, although they
+    /// come first.
     ///
     /// No transaction is hashed or copied, and each input and output is looked up once.
     pub fn refold_with(&mut self, ledger: &Ledger, plan: Refolding)
