@@ -88,7 +88,8 @@ abbrev pub AreDifferent : List Hash256 → Type 0
 AreDifferent [] = ⊤
 AreDifferent (hash ∷ hashes) = (has hashes hash ≡ false) × AreDifferent hashes
 
--- at most 16 blocks are in flight and at most 2,000 are wanted, and no block is in flight or wanted twice
+-- at most 16 blocks are in flight and at most 2,000 are wanted, and no block is in flight or wanted
+-- twice
 pub record IsFetch (fetch : FetchState) : Type 0 where
   pub flight : length fetch.flight ≤ 16
   pub wanted : length fetch.wanted ≤ 2000

@@ -8,7 +8,8 @@ ghost use Rattle.cb_fetch.specs.Fetching.{AreDifferent, FetchState, IsFetch, IsR
 
 use crate::fetch::Fetch;
 
-/// At most 16 blocks are in flight and at most 2,000 are wanted, and no block is in flight or wanted twice.
+/// At most 16 blocks are in flight and at most 2,000 are wanted, and no block is in flight or
+/// wanted twice.
 pub fn each_is_fetched_once(fetch: &Fetch)
     ensures flight { length fetch.now.flight ≤ 16 }
     ensures wanted { length fetch.now.wanted ≤ 2000 }

@@ -175,6 +175,7 @@ impl Members {
         self.entries.into_values()
     }
 
+    /// The number of transactions, at most 10,000.
     pub(crate) fn len(&self) -> usize
         ensures len { result ≡ length self.now.list }
         ensures few { result ≤ 10000 }
