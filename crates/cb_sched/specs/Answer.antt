@@ -3,8 +3,8 @@ use Rattle.std.specs.Prelude.{Result, Ok, Err}
 use Rattle.cb_base.specs.declared.fault.Fault.{Fault}
 use Rattle.cb_base.specs.declared.fault.Fault.TheVariants as fault
 
--- It was granted and did so; or it can't come, and nothing changed; or it could come but memory ran out, and nothing
--- changed.
+-- Success: the act was possible and was done. `NotEnabled`: it wasn't possible, and nothing
+-- changed. `Memory`: it was possible, but an allocation failed, and nothing changed.
 abbrev pub Answers : (enabled step takes_memory same : Type 0) → Result (Unit {0}) Fault → Type 0
 Answers enabled step takes_memory same (Ok done) = step
 Answers enabled step takes_memory same (Err fault.NotEnabled) = (enabled → ⊥) × same

@@ -1,4 +1,4 @@
--- What a System's fields are seen as, and what they keep.
+-- How contracts see a System, and what always holds for its fields.
 use Rattle.std.specs.Prelude.{◌≤◌, map, vec_len}
 use Rattle.std.specs.Option.{option_to_list}
 use Rattle.std.specs.VecDeque.{deque_capacity}
@@ -11,7 +11,8 @@ machine_of a = record {
   crew = record { lines = a.inboxes.items; desks = record { ring = a.ring.items; held = map option_to_list a.held.items } };
 }
 
--- Acts lead to the state, the ring has room for all desks, and there are as many peers and handlers as may be.
+-- Acts lead to the state, the ring has room for all desks, and the numbers of peers and handlers
+-- are within their limits.
 pub record Keeps (a : Inside) : Type 0 where
   pub reached : IsReached (vec_len a.inboxes) (vec_len a.held) a.capacity (machine_of a).crew
   pub room : vec_len a.inboxes ≤ deque_capacity a.ring

@@ -2,12 +2,12 @@ ghost use Rattle.std.specs.Prelude.{Some};
 
 use std::fmt;
 
-/// What lies in an inbox: an item, or a mark between a peer's connections.
+/// An entry of an inbox: an item, or a mark between two connections of the peer.
 #[derive(Clone, Copy, Debug, PartialEq, Eq)]
 pub enum Mark {
     /// An item.
     Item(u64),
-    /// The connection ends: nothing comes after it but an open mark.
+    /// The connection ends. Only an open mark may come next.
     End,
     /// The next connection begins.
     Open,
@@ -28,19 +28,20 @@ impl fmt::Display for Mark {
     }
 }
 
-/// One step of the crew. A peer and a handler are named by their numbers, from 0 on.
+/// One step of the crew. Peers and handlers are numbered from 0.
 #[derive(Clone, Copy, Debug, PartialEq, Eq)]
 pub enum Act {
-    /// The peer's reader puts an item on the peer's inbox.
+    /// The peer's reader puts an item at the back of the peer's inbox.
     Put(u16, u64),
-    /// The peer's reader puts the end mark there.
+    /// The peer's reader puts the end mark at the back of the peer's inbox.
     End(u16),
-    /// The peer's reader puts an open mark there, behind its end mark: its next connection begins.
+    /// The peer's reader puts an open mark there, behind an end mark. The peer's next connection
+    /// begins.
     Open(u16),
-    /// The handler takes the desk at the ring's front.
+    /// The handler takes the desk at the front of the ring.
     Claim(u16),
-    /// The handler takes the front of the inbox of the desk that it holds.
+    /// The handler takes the mark at the front of its desk's inbox.
     Take(u16),
-    /// The handler puts its desk at the ring's back.
+    /// The handler puts its desk at the back of the ring.
     Give(u16),
 }

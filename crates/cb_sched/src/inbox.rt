@@ -11,7 +11,8 @@ use std::marker::Model;
 /// How many connections a peer may have, one after another.
 const MOST_CONNECTIONS: u16 = 256;
 
-/// A peer's inbox with its whole history: all marks that were ever put, and how many of them were taken.
+/// A peer's inbox with its whole history: all marks that were ever put, and how many of them were
+/// taken.
 #[derive(Drop)]
 pub struct Inbox {
     marks: Vec<Mark>,
@@ -35,7 +36,7 @@ impl Model for Inbox {
 }
 
 impl Inbox {
-    /// Nothing was put yet. It takes no memory.
+    /// An inbox without any mark. It allocates nothing.
     pub fn new(alloc: Global) -> Inbox
         ensures { result ≡ empty_line }
     {
@@ -47,35 +48,35 @@ impl Inbox {
         }
     }
 
-    /// All that was put.
+    /// All marks that were put, in order.
     pub fn queued(&self) -> &[Mark]
         ensures { result.now ≡ self.now.queued }
     {
         self.marks.as_slice()
     }
 
-    /// What lies there.
+    /// The marks that weren't taken yet, the front first.
     pub fn waiting(&self) -> &[Mark]
         ensures { result.now ≡ self.now.inbox }
     {
         &self.marks.as_slice()[self.taken..]
     }
 
-    /// All that was taken.
+    /// All marks that were taken, in order.
     pub fn taken(&self) -> &[Mark]
         ensures { result.now ≡ self.now.taken }
     {
         &self.marks.as_slice()[..self.taken]
     }
 
-    /// Whether fewer marks lie there than the capacity.
+    /// Whether fewer marks than `capacity` wait in the inbox.
     pub fn has_room(&self, capacity: usize) -> bool
         ensures { IsTrue result ↔ (length self.now.inbox < capacity) }
     {
         self.marks.len() - self.taken < capacity
     }
 
-    /// Whether this mark may come next, as far as the marks before it tell.
+    /// Whether the marks before allow this mark to come next. Room in the inbox isn't looked at.
     pub fn may_follow(&self, mark: Mark) -> bool
         ensures { IsTrue result ↔ MayFollow is_open self.now mark }
     {
@@ -85,14 +86,14 @@ impl Inbox {
         }
     }
 
-    /// Whether nothing lies there.
+    /// Whether no mark waits in the inbox.
     pub fn is_empty(&self) -> bool
         ensures { IsTrue result ↔ (length self.now.inbox ≡ 0) }
     {
         self.taken == self.marks.len()
     }
 
-    /// Puts a mark that may come next behind all others. The only refusal is `Fault::Memory`, and it changes nothing.
+    /// Puts a mark at the back. Fails only with `Fault::Memory`; the inbox is then unchanged.
     pub fn put(&mut self, mark: Mark) -> Result<(), Fault>
         requires { MayFollow is_open self.old mark }
         ensures ok { OnOk result (self.new ≡ line_put is_end self.old mark) }
@@ -107,7 +108,7 @@ impl Inbox {
         Ok(())
     }
 
-    /// Takes the front away.
+    /// Takes the mark at the front.
     pub fn take(&mut self)
         requires { 0 < length self.old.inbox }
         ensures { self.new ≡ line_taken self.old }

@@ -1,4 +1,5 @@
-//! What holds of every list of acts. Each law is the contract of a function that does nothing.
+//! Laws that hold for every list of acts. Each law is the contract of a function with an empty
+//! body.
 ghost use Rattle.std.specs.Prelude.{◌≡◌, ℕ, ◌+◌, ◌<◌, ◌≤◌, false, List, ◌++◌, length};
 ghost use Rattle.std.specs.List.{sum_by, range_with_len};
 ghost use Rattle.cb_sched.specs.declared.act.Act.{Act};
@@ -9,7 +10,8 @@ ghost use Rattle.cb_sched.specs.Desks.{Desks, DesksReached, held_by};
 ghost use Rattle.cb_sched.specs.Crew.{Crew, IsEnabled, Step, Run, HoldsDesk, line_of, desk_of, is_end, is_open};
 ghost use Rattle.cb_sched.specs.Laws.{Reaches, IsBeginning, OpensFollowEnds, ends_last, EachDeskOnce, CanGoOn, TakesAll, LineRuns, DesksRun};
 
-/// From each state an act leads to one state where it can come, and to none where it can't.
+/// An act that is possible in a state leads to exactly one state. An act that isn't possible leads
+/// to none.
 pub fn one_step_for_each_act()
     ensures leads { (capacity : ℕ) (s : Crew) (a : Act) → IsEnabled capacity s a →
         (t : Crew) × Step capacity s a t }
@@ -19,16 +21,16 @@ pub fn one_step_for_each_act()
         Step capacity s a u → t ≡ u }
 {}
 
-/// For each peer, what was queued is what was taken, followed by what lies in the inbox: nothing is lost, doubled, made up
-/// or out of order.
+/// For each peer, the queued marks are the taken marks followed by the marks in the inbox. So no
+/// mark is lost, doubled, invented or out of order.
 pub fn queued_is_taken_then_inbox()
     ensures { (peers handlers capacity : ℕ) (acts : List Act) (s : Crew) →
         Reaches peers handlers capacity acts s → (p : ℕ) →
         (line_of s p).queued ≡ (line_of s p).taken ++ (line_of s p).inbox }
 {}
 
-/// Each open mark follows an end mark, and each end mark is last or is followed by an open mark. A peer has ended just where
-/// its last mark is an end mark, and it had 256 connections at the most.
+/// Each open mark follows an end mark. Each end mark is last or is followed by an open mark. A peer
+/// has ended exactly if its last mark is an end mark. A peer has at most 256 connections.
 pub fn opens_follow_ends()
     ensures follow { (peers handlers capacity : ℕ) (acts : List Act) (s : Crew) →
         Reaches peers handlers capacity acts s → (p : ℕ) →
@@ -41,8 +43,9 @@ pub fn opens_follow_ends()
         connections is_open (line_of s p).queued ≤ 256 }
 {}
 
-/// Of each connection of a peer, what was taken is a beginning of what was queued, and it is all of it once the open mark of
-/// the next connection was taken. There are as many parts as connections.
+/// In each connection of a peer, the taken marks are a prefix of the queued ones. They are all of
+/// them once the open mark of the next connection was taken. There are as many parts as
+/// connections.
 pub fn connections_in_order()
     ensures begins { (peers handlers capacity : ℕ) (acts : List Act) (s : Crew) →
         Reaches peers handlers capacity acts s → (p k : ℕ) →
@@ -54,27 +57,29 @@ pub fn connections_in_order()
     ensures count { (marks : List Mark) → length (parts is_open marks) ≡ connections is_open marks }
 {}
 
-/// No inbox holds more marks than the capacity.
+/// No inbox holds more marks than its capacity.
 pub fn inboxes_within_capacity()
     ensures { (peers handlers capacity : ℕ) (acts : List Act) (s : Crew) →
         Reaches peers handlers capacity acts s → (p : ℕ) → length (line_of s p).inbox ≤ capacity }
 {}
 
-/// Each peer's desk stands once, in the ring or with one handler; there is no other desk, and no handler holds two.
+/// Each peer's desk is in exactly one place, in the ring or with one handler. There is no other
+/// desk, and no handler holds two.
 pub fn each_desk_once()
     ensures once { (peers handlers capacity : ℕ) (acts : List Act) (s : Crew) →
         Reaches peers handlers capacity acts s → EachDeskOnce peers s.desks }
     ensures one_each { (peers handlers capacity : ℕ) (acts : List Act) (s : Crew) →
         Reaches peers handlers capacity acts s → (k : ℕ) → length (held_by s.desks k) ≤ 1 }
 
-    // Whatever weights the desks are given, those in the ring and in hands weigh what all peers' desks do.
+    // Give each desk any weight. The desks in the ring and with handlers weigh together as much as
+    // the desks of all peers.
     ensures weights { (weight : ℕ → ℕ) (peers handlers capacity : ℕ) (acts : List Act) (s : Crew) →
         Reaches peers handlers capacity acts s →
         sum_by weight s.desks.ring + sum_by (sum_by weight) s.desks.held
         ≡ sum_by weight (range_with_len 0 peers) }
 {}
 
-/// From any state on, what was queued and what was taken only grow, at their ends.
+/// Further acts only add to what was queued and to what was taken, at the end.
 pub fn taken_only_grows()
     ensures queued { (capacity : ℕ) (acts : List Act) (s t : Crew) → Run capacity s acts t →
         (p : ℕ) → IsBeginning (line_of s p).queued (line_of t p).queued }
@@ -82,8 +87,9 @@ pub fn taken_only_grows()
         (p : ℕ) → IsBeginning (line_of s p).taken (line_of t p).taken }
 {}
 
-/// Whatever order the acts of any number of peers and handlers come in: the items taken for a peer are a beginning of those
-/// that its reader queued, each once and in order, and further acts only take on from there.
+/// The acts of any number of peers and handlers may come in any order. The items taken for a peer
+/// are always a prefix of those that its reader queued, each once and in order. Further acts only
+/// make that prefix longer.
 pub fn items_in_order()
     ensures now { (peers handlers capacity : ℕ) (acts : List Act) (s : Crew) →
         Reaches peers handlers capacity acts s → (p : ℕ) →
@@ -94,8 +100,9 @@ pub fn items_in_order()
         × IsBeginning (line_of t p).taken (line_of t p).queued }
 {}
 
-/// In each state some handler's act can come, and a desk that is held can be taken from until its inbox is empty. It says
-/// that acts can come and not that they do: nothing is promised of progress or fairness.
+/// In each state some handler has a possible act. A handler that holds a desk can take from its
+/// inbox until that is empty. This says only that acts are possible, not that they happen: it
+/// promises neither progress nor fairness.
 pub fn never_stuck()
     ensures some { (peers handlers capacity : ℕ) (acts : List Act) (s : Crew) → 0 < peers →
         0 < handlers → Reaches peers handlers capacity acts s → (k : ℕ) × CanGoOn capacity s k }
@@ -103,7 +110,8 @@ pub fn never_stuck()
         Reaches peers handlers capacity acts s → (k : ℕ) → HoldsDesk s k → TakesAll capacity s k }
 {}
 
-/// Lists of acts and the rules by which one line, or the desks alone, go on agree on what can be reached.
+/// States reached by lists of acts agree with the rules for one line alone (`LineReached`) and for
+/// the desks alone (`DesksReached`).
 pub fn reached_as_data()
     ensures lines { (peers handlers capacity : ℕ) (acts : List Act) (s : Crew) →
         Reaches peers handlers capacity acts s → (p : ℕ) →

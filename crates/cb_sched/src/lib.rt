@@ -1,4 +1,7 @@
-//! The core of a crew of handlers: what any order of their steps does to the peers' inboxes and desks.
+//! The core of a crew of handler threads, without the threads: a state machine whose steps are
+//! called acts. It says what acts in any order do to the peers' inboxes and desks.
+//!
+//! A desk is what serves one peer. It waits in the ring, the run queue, or one handler holds it.
 #![tactic(auto)]
 
 mod act;

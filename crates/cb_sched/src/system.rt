@@ -17,10 +17,11 @@ use std::alloc::Global;
 use std::collections::{VecDeque, vec_deque};
 use std::marker::Model;
 
-/// A crew's inboxes and desks. It is seen as its state and the capacity of its inboxes; acts lead from the opening state to
-/// each state that it is ever in.
+/// A crew's inboxes and desks. Contracts see it as its state and the capacity of its inboxes. It is
+/// always in a state to which some acts lead from the opening state.
 ///
-/// An act copies no list: what was taken is the front of what was queued, and the rest lies in the inbox.
+/// An act copies no list: the taken marks are the front of the queued ones, and the rest waits in
+/// the inbox.
 #[derive(Drop)]
 pub struct System {
     inboxes: Vec<Inbox>,
@@ -42,10 +43,10 @@ impl Model for System {
 }
 
 impl System {
-    /// A system whose ring holds the desks 0, 1, 2, .. and in which nothing is queued. An inbox holds up to `capacity`
-    /// marks, end marks and open marks counted.
+    /// A system with nothing queued, whose ring holds the desks 0, 1, 2 and so on. An inbox holds
+    /// up to `capacity` marks, end marks and open marks included.
     ///
-    /// The only error is `Fault::Memory`.
+    /// Fails only with `Fault::Memory`.
     pub fn new(alloc: Global, peers: u16, handlers: u16, capacity: usize) -> Result<System, Fault>
         requires peers { (1 ≤ peers) × (peers ≤ 64) }
         requires handlers { (1 ≤ handlers) × (handlers ≤ 16) }
@@ -65,10 +66,11 @@ impl System {
         })
     }
 
-    /// Does one act, if it can come now.
+    /// Does one act, if it is possible now.
     ///
-    /// It is refused with `Fault::NotEnabled` where the act can't come now, and with `Fault::Memory` where a growth was
-    /// refused, which only a Put, an End or an Open can meet. After a refusal the system is as it was.
+    /// Fails with `Fault::NotEnabled` if the act isn't possible now. A Put, End or Open that is
+    /// possible fails with `Fault::Memory` if an allocation fails. After a failure the system is
+    /// unchanged.
     pub fn apply(&mut self, act: Act) -> Result<(), Fault>
         ensures step { OnOk result (Step self.old.capacity self.old.crew act self.new.crew) }
         ensures refused { (result ≡ Err NotEnabled) ↔
@@ -88,16 +90,17 @@ impl System {
         }
     }
 
-    /// Tells that some list of acts leads from the opening state of as many peers and handlers to this state, so that every
-    /// law of this crate holds of it.
+    /// A fact for the prover: some list of acts leads to this state from the opening state with as
+    /// many peers and handlers. So every law of this crate holds for it.
     pub fn reached(&self)
         ensures { IsReached (length self.now.crew.lines)
             (length self.now.crew.desks.held) self.now.capacity self.now.crew }
     {
+        // No effect when it runs: it tells the prover what the type keeps.
         let _ = &self.capacity;
     }
 
-    /// A mark comes on a peer's inbox.
+    /// Puts a mark at the back of a peer's inbox.
     fn put(&mut self, peer: u16, mark: Mark) -> Result<(), Fault>
         ensures answers { Answers (MayPut self.old.capacity self.old.crew peer mark)
             (Puts self.old.capacity self.old.crew peer mark self.new.crew) ⊤
@@ -116,7 +119,7 @@ impl System {
         inbox.put(mark)
     }
 
-    /// A handler takes the desk at the ring's front.
+    /// A handler takes the desk at the front of the ring.
     fn claim(&mut self, handler: u16) -> Result<(), Fault>
         ensures answers { Answers (MayClaim self.old.crew handler)
             (MayClaim self.old.crew handler
@@ -137,7 +140,7 @@ impl System {
         }
     }
 
-    /// A handler takes the front of its desk's inbox.
+    /// A handler takes the mark at the front of its desk's inbox.
     fn take(&mut self, handler: u16) -> Result<(), Fault>
         ensures answers { Answers (MayTake self.old.crew handler)
             (MayTake self.old.crew handler
@@ -164,7 +167,7 @@ impl System {
         }
     }
 
-    /// A handler puts its desk at the ring's back, where there is always room.
+    /// A handler puts its desk at the back of the ring, which always has room for it.
     fn give(&mut self, handler: u16) -> Result<(), Fault>
         ensures answers { Answers (HoldsDesk self.old.crew handler)
             (HoldsDesk self.old.crew handler
@@ -204,14 +207,14 @@ impl System {
         self.held.len() as u16
     }
 
-    /// How many marks an inbox may hold.
+    /// How many marks an inbox may hold, 1 to 1,024.
     pub fn capacity(&self) -> usize
         ensures { result ≡ self.now.capacity }
     {
         self.capacity
     }
 
-    /// All that was queued for a peer, end marks and open marks too.
+    /// All marks queued for a peer, end marks and open marks included.
     pub fn queued(&self, peer: u16) -> &[Mark]
         requires { peer < length self.now.crew.lines }
         ensures { result.now ≡ (line_of self.now.crew peer).queued }
@@ -219,7 +222,7 @@ impl System {
         self.inboxes[usize::from(peer)].queued()
     }
 
-    /// What lies in a peer's inbox, the front first.
+    /// The marks that wait in a peer's inbox, the front first.
     pub fn inbox(&self, peer: u16) -> &[Mark]
         requires { peer < length self.now.crew.lines }
         ensures { result.now ≡ (line_of self.now.crew peer).inbox }
@@ -227,7 +230,7 @@ impl System {
         self.inboxes[usize::from(peer)].waiting()
     }
 
-    /// All that was taken from a peer's inbox.
+    /// All marks taken from a peer's inbox, in order.
     pub fn taken(&self, peer: u16) -> &[Mark]
         requires { peer < length self.now.crew.lines }
         ensures { result.now ≡ (line_of self.now.crew peer).taken }
@@ -242,7 +245,7 @@ impl System {
         self.ring.iter()
     }
 
-    /// The desk that a handler holds.
+    /// The desk that a handler holds, if any.
     pub fn held(&self, handler: u16) -> Option<u16>
         requires { handler < length self.now.crew.desks.held }
         ensures { option_to_list result ≡ held_by self.now.crew.desks handler }
@@ -263,7 +266,7 @@ fn empty_inboxes(alloc: Global, peers: u16) -> Result<Vec<Inbox>, Fault>
     Ok(inboxes)
 }
 
-/// A ring with the desks of all peers, in their order, and room for no fewer.
+/// A ring with the desks of all peers, in their order. It has room for all of them.
 fn full_ring(alloc: Global, peers: u16) -> Result<VecDeque<u16>, Fault>
     ensures items { IfOk result (λ ring. ring.items ≡ range_with_len 0 peers) }
     ensures room { IfOk result (λ ring. peers ≤ deque_capacity ring) }
@@ -276,7 +279,7 @@ fn full_ring(alloc: Global, peers: u16) -> Result<VecDeque<u16>, Fault>
     Ok(ring)
 }
 
-/// For each handler no desk.
+/// No desk for each handler.
 fn free_hands(alloc: Global, handlers: u16) -> Result<Vec<Option<u16>>, Fault>
     ensures items { IfOk result (λ held. held.items ≡ replicate handlers None) }
     ensures memory { IsOkUnless result Memory }
