@@ -10,10 +10,12 @@ use cb_base::Fault;
 use std::alloc::Global;
 use std::marker::Model;
 
-/// A peer's inbox, which its seats share. It is seen as its peer, its capacity and its name, by which it knows its seats.
+/// A peer's inbox: a bounded queue, shared by the reader's seat and the taker's seat. Contracts see
+/// its peer, its capacity and its name. The name tells which seats belong to it.
 ///
-/// What lies there changes at any moment, so no contract names it. At every moment what was queued is what was taken,
-/// followed by what lies there, and both are as the acts of the crew's core leave them.
+/// What waits in it can change at any moment, so no contract speaks of it. At every moment the
+/// queued marks are the taken marks followed by the waiting ones, in a state to which acts of the
+/// crew's core (cb_sched) lead.
 #[derive(Drop)]
 pub struct Inbox<M: Drop, O: Opening + Drop> {
     peer: u16,
@@ -34,10 +36,10 @@ impl<M: Drop, O: Opening + Drop> Model for Inbox<M, O> {
 }
 
 impl<M: Drop, O: Opening + Drop> Inbox<M, O> {
-    /// An empty inbox of this peer for up to `capacity` items and marks, with its two seats. It takes all memory that the
-    /// inbox ever needs.
+    /// An empty inbox of this peer with its two seats. It holds up to `capacity` items and marks.
+    /// All memory that it ever needs is allocated here.
     ///
-    /// The only error is `Fault::Memory`.
+    /// Fails only with `Fault::Memory`.
     pub fn new(
         alloc: Global,
         peer: u16,
@@ -62,7 +64,7 @@ impl<M: Drop, O: Opening + Drop> Inbox<M, O> {
         self.peer
     }
 
-    /// How many items and marks may lie there.
+    /// How many items and marks it may hold, 1 to 1,024.
     pub fn capacity(&self) -> usize
         ensures value { result ≡ self.now.capacity }
         ensures some { 1 ≤ self.now.capacity }

@@ -1,5 +1,5 @@
-//! The inbox of one peer: a bounded queue that one reader fills and one taker empties, connection after connection, on any
-//! threads.
+//! The inbox of one peer: a bounded queue between two threads. One reader queues in it and one
+//! taker takes from it, connection after connection.
 #![tactic(auto)]
 
 mod inbox;

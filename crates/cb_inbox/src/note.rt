@@ -4,8 +4,8 @@ use crate::queued::{Opening, Queued};
 use crate::rule::LinePass;
 use std::marker::Model;
 
-/// What a seat knew when it told it: how much was queued and taken, as far as it had seen. Another seat of the same inbox can
-/// learn it. It has no bytes, and no right to queue or to take.
+/// What a seat tells another seat of the same inbox: which marks were queued and taken, as far as
+/// it knows. It exists for the prover only: it has no bytes, and no right to queue or to take.
 #[derive(Drop)]
 pub struct Note<M: Drop, O: Opening + Drop> {
     pub(crate) pass: LinePass<M, O>,

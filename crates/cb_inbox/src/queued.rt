@@ -1,11 +1,11 @@
-/// What lies in an inbox: an item, or a mark between a peer's connections.
+/// An entry of an inbox: an item, or a mark between two connections of the peer.
 #[derive(Debug, Drop, PartialEq, Eq)]
 pub enum Queued<M, O> {
     /// An item.
     Item(M),
-    /// The connection ends: nothing comes after it but an open mark.
+    /// The connection ends. Only an open mark may come next.
     End,
-    /// The next connection begins, with this to serve it.
+    /// The next connection begins. It brings what serves that connection.
     Open(O),
 }
 
@@ -21,8 +21,9 @@ impl<M, O> Queued<M, O> {
     }
 }
 
-/// What an open mark brings.
+/// What an open mark brings: what serves the next connection.
 pub trait Opening {
-    /// It may begin a connection. Who opens one has to show it, and who takes the mark may rely on it.
+    /// It may begin a connection. Who queues an open mark has to prove it; who takes the mark may
+    /// rely on it.
     ghost fresh: { Self → Type 0 };
 }

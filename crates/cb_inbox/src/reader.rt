@@ -17,8 +17,8 @@ use std::sync::Wait;
 /// How many connections a peer may have, one after another.
 const MOST_CONNECTIONS: u16 = 256;
 
-/// The right to queue, with the numbers of what was queued. It is seen as all that was queued, and as a beginning of what was
-/// taken, as far as notes told it.
+/// The right to queue, with counts of what was queued. Contracts see all that was queued, and a
+/// prefix of what was taken, as far as notes told it.
 #[derive(Drop)]
 struct Queueing<M: Drop, O: Opening + Drop> {
     pass: LinePass<M, O>,
@@ -38,7 +38,8 @@ impl<M: Drop, O: Opening + Drop> Model for Queueing<M, O> {
 }
 
 impl<M: Drop, O: Opening + Drop> Queueing<M, O> {
-    /// Queues an item or a mark that may come next. It comes back only where the inbox was full at some moment of the call.
+    /// Queues an item or a mark that may come next. Gives it back only if the inbox was full at
+    /// some moment of the call.
     fn queue<R: Wait>(
         &mut self,
         rt: &R,
@@ -60,7 +61,7 @@ impl<M: Drop, O: Opening + Drop> Queueing<M, O> {
         Ok(())
     }
 
-    /// A note of what this seat knows: all that it queued.
+    /// A note of what this seat knows, which includes all that it queued.
     fn note(&mut self, inbox: &Inbox<M, O>) -> Note<M, O>
         requires { self.old.inbox ≡ inbox.now.name }
         ensures { (result ≡ self.old) × (self.new ≡ self.old) }
@@ -70,25 +71,27 @@ impl<M: Drop, O: Opening + Drop> Queueing<M, O> {
         }
     }
 
-    /// Learns what a note of another seat tells: how much was taken.
+    /// Learns from another seat's note how much was taken.
     fn learn(&mut self, inbox: &Inbox<M, O>, note: Note<M, O>)
         requires { (self.old.inbox ≡ inbox.now.name) × (note.inbox ≡ inbox.now.name) }
         ensures { self.new ≡ told_of_taken self.old note }
     {
         inbox.line.absorb::<Learns>(&mut self.pass, note.pass);
+        // No effect when it runs: it tells the prover what the type keeps.
         inbox.line.learn_as::<Sights>(&mut self.pass);
     }
 
-    /// Tells that its lists are of a line that acts lead to.
+    /// A fact for the prover: acts of the crew's core lead to a line with these lists.
     fn reached(&self)
         ensures { IsOfALine true false self.now.queued self.now.taken }
     {
+        // No effect when it runs: it tells the prover what the type keeps.
         let _ = &self.pass;
     }
 }
 
-/// The one seat that queues items, while a connection lasts. It is seen as all that was queued, and as a beginning of what was
-/// taken, as far as notes told it.
+/// The one seat that queues in an inbox, while a connection lasts. Contracts see all that was
+/// queued, and a prefix of what was taken, as far as notes told it.
 #[derive(Drop)]
 pub struct ReaderSeat<M: Drop, O: Opening + Drop> {
     queueing: Queueing<M, O>,
@@ -107,7 +110,7 @@ impl<M: Drop, O: Opening + Drop> Model for ReaderSeat<M, O> {
     ghost invariant = { λ a. has_ended a.queueing.queued ≡ false };
 }
 
-/// The reader's seat behind an end mark: nothing can be queued until the next connection opens.
+/// The reader's seat after an end mark. Nothing can be queued until the next connection opens.
 #[derive(Drop)]
 pub struct EndedSeat<M: Drop, O: Opening + Drop> {
     queueing: Queueing<M, O>,
@@ -126,26 +129,26 @@ impl<M: Drop, O: Opening + Drop> Model for EndedSeat<M, O> {
     ghost invariant = { λ a. has_ended a.queueing.queued ≡ true };
 }
 
-/// An item that found its inbox full (F27).
+/// An item that wasn't queued because the inbox was full (F27).
 #[derive(Debug, Drop, PartialEq, Eq)]
 pub struct Full<M> {
     /// The item.
     pub item: M,
 }
 
-/// A connection that didn't open: the seat and what was to open it come back.
+/// A connection that wasn't opened. The seat and the opening come back.
 #[derive(Drop)]
 pub struct NotOpened<M: Drop, O: Opening + Drop> {
-    /// The seat, as it was.
+    /// The seat, unchanged.
     pub seat: EndedSeat<M, O>,
-    /// What was to open the connection.
+    /// What was to serve the connection.
     pub opening: O,
-    /// `Fault::NoMore` where the peer had 256 connections, else `Fault::Full`.
+    /// `Fault::NoMore` if the peer had 256 connections already, else `Fault::Full`.
     pub cause: Fault,
 }
 
 impl<M: Drop, O: Opening + Drop> ReaderSeat<M, O> {
-    /// The seat of an inbox in which nothing was queued.
+    /// The reader's seat of a new inbox, in which nothing was queued.
     pub(crate) fn first(pass: LinePass<M, O>) -> ReaderSeat<M, O>
         requires { IsFirst true false pass }
         ensures { result ≡ opening_seat pass.table_id }
@@ -159,10 +162,10 @@ impl<M: Drop, O: Opening + Drop> ReaderSeat<M, O> {
         }
     }
 
-    /// Queues an item behind all others. It takes no memory.
+    /// Queues an item at the back. It allocates nothing.
     ///
-    /// The item comes back only where the inbox was full at some moment of the call: of what was queued, as many as the inbox
-    /// holds aren't among those that this seat was told were taken.
+    /// Fails only if the inbox was full at some moment of the call: a full capacity of the queued
+    /// marks isn't known to this seat as taken. The item then comes back and the seat is unchanged.
     pub fn put<R: Wait>(&mut self, rt: &R, inbox: &Inbox<M, O>, item: M) -> Result<(), Full<M>>
         requires inbox { self.old.inbox ≡ inbox.now.name }
         requires count { length self.old.queued < 2 ^ 48 }
@@ -178,9 +181,10 @@ impl<M: Drop, O: Opening + Drop> ReaderSeat<M, O> {
         }
     }
 
-    /// Queues the end mark: the connection ends. It takes no memory.
+    /// Queues the end mark: the connection ends. It allocates nothing.
     ///
-    /// The seat comes back, as it was, only where the inbox was full at some moment of the call.
+    /// Fails only if the inbox was full at some moment of the call. The seat then comes back
+    /// unchanged.
     pub fn end<R: Wait>(
         self,
         rt: &R,
@@ -205,7 +209,7 @@ impl<M: Drop, O: Opening + Drop> ReaderSeat<M, O> {
         self.queueing.count
     }
 
-    /// A note of what this seat knows: all that it queued.
+    /// A note of what this seat knows, which includes all that it queued.
     pub fn note(&mut self, inbox: &Inbox<M, O>) -> Note<M, O>
         requires { self.old.inbox ≡ inbox.now.name }
         ensures { (result ≡ self.old) × (self.new ≡ self.old) }
@@ -213,7 +217,7 @@ impl<M: Drop, O: Opening + Drop> ReaderSeat<M, O> {
         self.queueing.note(inbox)
     }
 
-    /// Learns what a note of another seat tells: how much was taken.
+    /// Learns from another seat's note how much was taken.
     pub fn learn(&mut self, inbox: &Inbox<M, O>, note: Note<M, O>)
         requires { (self.old.inbox ≡ inbox.now.name) × (note.inbox ≡ inbox.now.name) }
         ensures { self.new ≡ told_of_taken self.old note }
@@ -221,21 +225,24 @@ impl<M: Drop, O: Opening + Drop> ReaderSeat<M, O> {
         self.queueing.learn(inbox, note);
     }
 
-    /// Tells that the lists of this seat are of a line that acts lead to, so that every law of the crew's core holds of it, and
-    /// that no end mark stands last.
+    /// A fact for the prover: acts of the crew's core lead to a line with this seat's lists, so
+    /// every law of the core holds for it. The last mark isn't an end mark.
     pub fn reached(&self)
         ensures line { IsOfALine true false self.now.queued self.now.taken }
         ensures live { has_ended self.now.queued ≡ false }
     {
+        // No effect when it runs: it tells the prover what the type keeps.
         self.queueing.reached();
     }
 }
 
 impl<M: Drop, O: Opening + Drop> EndedSeat<M, O> {
-    /// Queues an open mark with what is to serve the next connection, which begins. It takes no memory.
+    /// Queues an open mark with what serves the next connection: that connection begins. It
+    /// allocates nothing.
     ///
-    /// Seat and opening come back with `Fault::NoMore` where the peer had 256 connections, and else with `Fault::Full`, only
-    /// where the inbox was full at some moment of the call.
+    /// Fails with `Fault::NoMore` if the peer had 256 connections already. Fails with `Fault::Full`
+    /// only if the inbox was full at some moment of the call. The seat, unchanged, and the opening
+    /// then come back.
     pub fn open<R: Wait>(
         self,
         rt: &R,
@@ -276,7 +283,7 @@ impl<M: Drop, O: Opening + Drop> EndedSeat<M, O> {
         }
     }
 
-    /// A note of what this seat knows: all that it queued.
+    /// A note of what this seat knows, which includes all that was queued.
     pub fn note(&mut self, inbox: &Inbox<M, O>) -> Note<M, O>
         requires { self.old.inbox ≡ inbox.now.name }
         ensures { (result ≡ self.old) × (self.new ≡ self.old) }
@@ -284,7 +291,7 @@ impl<M: Drop, O: Opening + Drop> EndedSeat<M, O> {
         self.queueing.note(inbox)
     }
 
-    /// Learns what a note of another seat tells: how much was taken.
+    /// Learns from another seat's note how much was taken.
     pub fn learn(&mut self, inbox: &Inbox<M, O>, note: Note<M, O>)
         requires { (self.old.inbox ≡ inbox.now.name) × (note.inbox ≡ inbox.now.name) }
         ensures { self.new ≡ told_of_taken self.old note }
@@ -292,11 +299,13 @@ impl<M: Drop, O: Opening + Drop> EndedSeat<M, O> {
         self.queueing.learn(inbox, note);
     }
 
-    /// Tells that the lists of this seat are of a line that acts lead to, and that an end mark stands last.
+    /// A fact for the prover: acts of the crew's core lead to a line with this seat's lists, so
+    /// every law of the core holds for it. The last mark is an end mark.
     pub fn reached(&self)
         ensures line { IsOfALine true false self.now.queued self.now.taken }
         ensures ended { has_ended self.now.queued ≡ true }
     {
+        // No effect when it runs: it tells the prover what the type keeps.
         self.queueing.reached();
     }
 }

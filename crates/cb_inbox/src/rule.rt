@@ -1,5 +1,5 @@
-//! The rule of an inbox: what lies there, what was queued and what was taken are those of a line that the acts of the crew's
-//! core lead to.
+//! The rule that an inbox's queue keeps: what waits, what was queued and what was taken form a line
+//! to which acts of the crew's core lead. Nothing in this file exists at run time but the queue.
 ghost use Rattle.std.specs.Prelude.{◌≡◌, ◌+◌, ◌≤◌, ◌++◌, ◌∷◌, length};
 ghost use Rattle.cb_sched.specs.Laws.{IsBeginning};
 ghost use Rattle.cb_inbox.specs.Queued.{IsFresh};
@@ -10,23 +10,23 @@ use crossbeam_queue::protocol::{Join, Lesson, Outcome, Protocol, Split};
 use crossbeam_queue::{Pass, RuledArrayQueue};
 use std::collections::LinkedList;
 
-/// What a seat knows. No value of it is made.
+/// What a seat knows. It is for the prover only: no value of it is ever made.
 pub struct SeatView<M, O> {
-    /// It may queue: its first list is all that was queued, and else a beginning of it.
+    /// The seat may queue. Its first list is then all that was queued, else a prefix of it.
     pub reads: bool,
-    /// It may take: its second list is all that was taken, and else a beginning of it.
+    /// The seat may take. Its second list is then all that was taken, else a prefix of it.
     pub takes: bool,
     pub queued: LinkedList<Queued<M, O>>,
     pub taken: LinkedList<Queued<M, O>>,
 }
 
-/// The queue of an inbox.
+/// The queue behind an inbox.
 pub type Line<M, O> = RuledArrayQueue<Queued<M, O>, SeatView<M, O>, InOrder>;
 
-/// What one seat of it knows. It has no bytes.
+/// What one seat of the queue knows. It has no bytes.
 pub type LinePass<M, O> = Pass<Queued<M, O>, SeatView<M, O>>;
 
-/// The rule.
+/// The rule of the queue: see `IsInbox` in specs/Rule.antt.
 pub struct InOrder;
 
 impl<M, O: Opening> Protocol<Queued<M, O>, SeatView<M, O>> for InOrder {
@@ -35,7 +35,8 @@ impl<M, O: Opening> Protocol<Queued<M, O>, SeatView<M, O>> for InOrder {
     ghost first = { first_view };
 }
 
-/// A push by the reader: its list grows by the mark. Where the queue is full, what it was told of leaves as many untaken.
+/// A push by the reader adds the mark to its first list. If the queue is full, a full capacity of
+/// the queued marks isn't known to the reader as taken.
 pub struct Queues;
 
 impl<M, O> Outcome<Queued<M, O>, SeatView<M, O>> for Queues {
@@ -46,7 +47,8 @@ impl<M, O> Lesson<Queued<M, O>, SeatView<M, O>> for Queues {
     ghost fact = { λ v items. length v.taken + length items ≤ length v.queued };
 }
 
-/// A pop by the taker: its list grows by the mark. Where the queue is empty, all that it was told of was taken.
+/// A pop by the taker adds the mark to its second list. If the queue is empty, all that the taker
+/// was told was queued has been taken.
 pub struct Takes;
 
 impl<M, O: Opening> Outcome<Queued<M, O>, SeatView<M, O>> for Takes {
@@ -57,7 +59,8 @@ impl<M, O> Lesson<Queued<M, O>, SeatView<M, O>> for Takes {
     ghost fact = { λ v items. IsBeginning v.queued (v.taken ++ items) };
 }
 
-/// A seat is cut in two: the first keeps the right to queue, the second has the right to take. Both know what it knew.
+/// A seat is split in two. The first keeps the right to queue, the second gets the right to take.
+/// Both know what the seat knew.
 pub struct Halves;
 
 impl<M, O> Split<SeatView<M, O>> for Halves {
@@ -66,7 +69,7 @@ impl<M, O> Split<SeatView<M, O>> for Halves {
     ghost right = { without_reading };
 }
 
-/// A seat learns what another one knows, which is then spent.
+/// A seat learns what another one knows. The other one is then spent.
 pub struct Learns;
 
 impl<M, O> Join<SeatView<M, O>> for Learns {
@@ -75,7 +78,7 @@ impl<M, O> Join<SeatView<M, O>> for Learns {
     ghost spent = { spent_view };
 }
 
-/// What a seat knows is of one line that acts lead to.
+/// What a seat knows is part of one line to which acts lead.
 pub struct Sights;
 
 impl<M, O> Lesson<Queued<M, O>, SeatView<M, O>> for Sights {

@@ -12,8 +12,8 @@ use std::marker::Model;
 use std::mem;
 use std::sync::Wait;
 
-/// The one seat that takes from an inbox. It is seen as all that was taken, and as a beginning of what was queued, as far as
-/// notes told it.
+/// The one seat that takes from an inbox. Contracts see all that was taken, and a prefix of what
+/// was queued, as far as notes told it.
 #[derive(Drop)]
 pub struct TakerSeat<M: Drop, O: Opening + Drop> {
     pass: LinePass<M, O>,
@@ -32,7 +32,7 @@ impl<M: Drop, O: Opening + Drop> Model for TakerSeat<M, O> {
 }
 
 impl<M: Drop, O: Opening + Drop> TakerSeat<M, O> {
-    /// The seat of an inbox from which nothing was taken.
+    /// The taker's seat of a new inbox, from which nothing was taken.
     pub(crate) fn first(pass: LinePass<M, O>) -> TakerSeat<M, O>
         requires { IsFirst false true pass }
         ensures { result ≡ opening_seat pass.table_id }
@@ -40,9 +40,10 @@ impl<M: Drop, O: Opening + Drop> TakerSeat<M, O> {
         TakerSeat { pass }
     }
 
-    /// Takes the front of the inbox. An open mark brings what is fresh.
+    /// Takes the mark at the front. What an open mark brings is fresh.
     ///
-    /// None only where the inbox was empty at some moment of the call: all that this seat was told of was taken.
+    /// Returns `None` only if the inbox was empty at some moment of the call: all that this seat
+    /// was told was queued has been taken. The seat is then unchanged.
     pub fn take<R: Wait>(&mut self, rt: &R, inbox: &Inbox<M, O>) -> Option<Queued<M, O>>
         requires { self.old.inbox ≡ inbox.now.name }
         ensures some { IfSome result
@@ -53,7 +54,7 @@ impl<M: Drop, O: Opening + Drop> TakerSeat<M, O> {
         inbox.line.pop_as::<Takes, R>(rt, &mut self.pass)
     }
 
-    /// A note of what this seat knows: all that it took.
+    /// A note of what this seat knows, which includes all that it took.
     pub fn note(&mut self, inbox: &Inbox<M, O>) -> Note<M, O>
         requires { self.old.inbox ≡ inbox.now.name }
         ensures { (result ≡ self.old) × (self.new ≡ self.old) }
@@ -64,19 +65,22 @@ impl<M: Drop, O: Opening + Drop> TakerSeat<M, O> {
         }
     }
 
-    /// Learns what a note of another seat tells: how much was queued.
+    /// Learns from another seat's note how much was queued.
     pub fn learn(&mut self, inbox: &Inbox<M, O>, note: Note<M, O>)
         requires { (self.old.inbox ≡ inbox.now.name) × (note.inbox ≡ inbox.now.name) }
         ensures { self.new ≡ told_of_queued self.old note }
     {
         inbox.line.absorb::<Learns>(&mut self.pass, note.pass);
+        // No effect when it runs: it tells the prover what the type keeps.
         inbox.line.learn_as::<Sights>(&mut self.pass);
     }
 
-    /// Tells that the lists of this seat are of a line that acts lead to, so that every law of the crew's core holds of it.
+    /// A fact for the prover: acts of the crew's core lead to a line with this seat's lists, so
+    /// every law of the core holds for it.
     pub fn reached(&self)
         ensures { IsOfALine false true self.now.queued self.now.taken }
     {
+        // No effect when it runs: it tells the prover what the type keeps.
         let _ = &self.pass;
     }
 }
