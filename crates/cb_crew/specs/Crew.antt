@@ -1,4 +1,4 @@
--- What contracts see of a crew, of its handlers and of its readers' sides.
+-- How contracts see a crew, its handlers and its readers' sides.
 use Rattle.std.specs.Prelude.{◌≡◌, ℕ, ◌<◌, ◌≤◌, ◌^◌, List, [], ◌∷◌, ◌++◌, length, map, All}
 use Rattle.std.specs.List.{sum_by, range_with_len}
 use Rattle.atomic_table.specs.Seated.{TableId}
@@ -13,8 +13,8 @@ use Rattle.cb_crew.specs.Turn.{HandlerState}
 pub record CrewState : Type 0 where
   pub ring : RingState
   pub inboxes : List InboxState  -- one for each peer, in their order
-  pub handlers : ℕ  -- how many it has
-  pub labels : List ℕ  -- of the works with which it was made, one for each peer, in their order
+  pub handlers : ℕ  -- how many handlers it has
+  pub labels : List ℕ  -- the labels of the works with which it was made, one for each peer, in their order
 
 abbrev pub names_of : CrewState → List TableId
 names_of crew = map (λ (inbox : InboxState). inbox.name) crew.inboxes
@@ -27,12 +27,12 @@ pub record IsCrew (crew : CrewState) : Type 0 where
   pub working : 1 ≤ crew.handlers
   pub room : length crew.inboxes ≤ crew.ring.capacity
 
--- these are the names of its desks, in the order of their peers
+-- these are the names of the crew's desks, in the order of their peers
 pub record AreDeskNames (crew : CrewState) (names : List DeskName) : Type 0 where
   pub inboxes : map (λ (name : DeskName). name.inbox) names ≡ names_of crew
   pub labels : map (λ (name : DeskName). name.label) names ≡ crew.labels
 
--- a hand of this crew while it runs, which holds no desk
+-- a hand of this crew, while it runs, that holds no desk
 pub record IsFreeHandOf {X : Type 0} (crew : CrewState) (hand : HandState X) : Type 0 where
   pub ring_is : hand.ring ≡ crew.ring.name
   pub names_is : AreDeskNames crew hand.names
@@ -44,12 +44,12 @@ pub record IsFreeHandOf {X : Type 0} (crew : CrewState) (hand : HandState X) : T
 abbrev pub IsHandlerOf : {X : Type 0} → CrewState → HandlerState X → Type 0
 IsHandlerOf crew handler = IsFreeHandOf crew handler.hand × (handler.hand.hands ≡ 1)
 
--- the first one's list has room for the desks of all peers
+-- the first handler's list has room for the desks of all peers
 abbrev pub FirstHasRoom : {X : Type 0} → CrewState → List (HandlerState X) → Type 0
 FirstHasRoom crew [] = length crew.inboxes ≤ 0
 FirstHasRoom crew (first ∷ others) = length crew.inboxes ≤ first.room
 
--- all handlers of the crew, the first of them first
+-- all handlers of the crew, with the crew's first handler first
 pub record AreHandlersOf {X : Type 0} (crew : CrewState) (handlers : List (HandlerState X)) : Type 0 where
   pub each : All (IsHandlerOf crew) handlers
   pub all : length handlers ≡ crew.handlers
@@ -61,34 +61,34 @@ abbrev pub inbox_of : {M O : Type 0} → ReaderSide M O → TableId
 inbox_of (side.Live seat) = seat.inbox
 inbox_of (side.Ended seat) = seat.inbox
 
--- all that it queued, with the end mark that a live one comes to
+-- all that a reader queued, with the end mark that a live side is given at the end
 abbrev pub all_queued : {M O : Type 0} → ReaderSide M O → List (Queued M O)
 all_queued (side.Live seat) = seat.queued ++ queued.End ∷ []
 all_queued (side.Ended seat) = seat.queued
 
--- fewer than 2^48 marks were queued where one more comes
+-- a live side has queued fewer than 2^48 marks, so its end mark can be queued
 abbrev pub HasPlace : {M O : Type 0} → ReaderSide M O → Type 0
 HasPlace (side.Live seat) = length seat.queued < 2 ^ 48
 HasPlace (side.Ended seat) = Unit {0}
 
--- the sides of all peers, in their order
+-- the readers' sides of all peers, in their order
 pub record AreSidesOf {M O : Type 0} (crew : CrewState) (sides : List (ReaderSide M O)) : Type 0 where
   pub inboxes : map inbox_of sides ≡ names_of crew
   pub places : All HasPlace sides
 
 -- ---- a new crew
 
--- of so many peers and handlers, with inboxes of this capacity
+-- a crew of so many peers and handlers, with inboxes of this capacity
 pub record IsNewCrew (peers handlers capacity : ℕ) (crew : CrewState) : Type 0 where
   pub peers_are : length crew.inboxes ≡ peers
   pub handlers_are : crew.handlers ≡ handlers
   pub capacities : All (λ (inbox : InboxState). inbox.capacity ≡ capacity) crew.inboxes
 
--- the reader's seats of all peers, in their order: nothing was queued
+-- the readers' seats of all peers, in their order, with nothing queued
 abbrev pub AreOpeningSeats : {Q : Type 0} → CrewState → List (SeatState Q) → Type 0
 AreOpeningSeats crew seats = seats ≡ map opening_seat (names_of crew)
 
--- none of them made a turn
+-- none of these handlers made a turn
 abbrev pub MadeNoTurn : {X : Type 0} → List (HandlerState X) → Type 0
 MadeNoTurn {X} handlers = All (λ (handler : HandlerState X). handler.turns ≡ 0) handlers
 
@@ -101,7 +101,7 @@ pub record AreAllDesks {X : Type 0} (crew : CrewState) (desks : List (Shown X)) 
   pub each : (weight : ℕ → ℕ) → sum_by weight (peers_of desks) ≡ sum_by weight (range_with_len 0 (length crew.inboxes))
   pub named : All (IsOfCrew names) desks
 
--- and they stand in the order of their peers
+-- the desks of all peers, in the order of their peers
 pub record AreInOrder {X : Type 0} (crew : CrewState) (desks : List (Shown X)) : Type 0 where
   pub peers : peers_of desks ≡ range_with_len 0 (length crew.inboxes)
   pub names : AreDeskNames crew (map (λ (desk : Shown X). desk.name) desks)

@@ -1,4 +1,5 @@
--- A peer's desk: what was taken from its inbox, and what the works of its connections were given of it.
+-- A peer's desk: what was taken from its inbox, and what the works of its connections were given of
+-- that.
 use Rattle.std.specs.Prelude.{◌≡◌, ℕ, ◌+◌, ◌<◌, ◌≤◌, ◌⊎◌, Bool, true, false, List, [], ◌∷◌, ◌++◌, length, All}
 use Rattle.std.specs.List.{AllZip, count_by}
 use Rattle.cb_sched.specs.Laws.{IsBeginning}
@@ -13,15 +14,15 @@ use Rattle.cb_crew.specs.Work.{AreWorksOf, IsTicked, IsUnticked, WorksOn, connec
 
 pub record DeskState (W M : Type 0) : Type 0 where
   pub inbox : InboxState
-  pub queued : List (Queued M W)  -- a beginning of what was queued, as far as the seat was told
+  pub queued : List (Queued M W)  -- a prefix of what was queued, as far as the seat was told
   pub taken : List (Queued M W)
-  pub work : W  -- of the latest connection
-  pub past : List W  -- of those before it
+  pub work : W  -- the work of the latest connection
+  pub past : List W  -- the works of earlier connections
 
 abbrev pub desk_state : {W M : Type 0} → InboxState → SeatState (Queued M W) → W → List W → DeskState W M
 desk_state inbox seat work past = record { inbox = inbox; queued = seat.queued; taken = seat.taken; work = work; past = past }
 
--- after its seat learnt from a note how much was queued
+-- after its seat learned from a note how much was queued
 abbrev pub desk_told : {W M : Type 0} → DeskState W M → SeatState (Queued M W) → DeskState W M
 desk_told d note = record { inbox = d.inbox; queued = longer d.queued note.queued; taken = d.taken; work = d.work; past = d.past }
 
@@ -29,35 +30,38 @@ desk_told d note = record { inbox = d.inbox; queued = longer d.queued note.queue
 abbrev pub desk_note : {W M : Type 0} → DeskState W M → SeatState (Queued M W)
 desk_note d = record { inbox = d.inbox.name; queued = d.queued; taken = d.taken }
 
--- the label of the work of its first connection
+-- the label of the first connection's work
 abbrev pub first_label : {W M : Type 0} → (W → ℕ) → DeskState W M → ℕ
 first_label label d = label (first_of d.past d.work)
 
--- Each work was given a beginning of its connection as it was taken, and all of it while it is open, and it is that
--- connection's. Works of earlier connections are closed, and so is one whose connection's end was taken.
+-- Each connection has its own work. That work was given a prefix of what was taken of the
+-- connection; an open work was given all of it. The works of earlier connections are closed. The
+-- latest work is closed if its connection's end was taken.
 pub record IsDesk {W M : Type 0} (label : W → ℕ) (given : W → List (Given M) → Type 0) (is_closed : W → Bool) (d : DeskState W M) : Type 0 where
   pub whose : AreWorksOf label (first_label label d) d.taken (d.past ++ d.work ∷ [])
   pub works : AllZip (WorksOn given is_closed) (d.past ++ d.work ∷ []) (connections_of d.taken)
   pub past_closed : All (λ work. is_closed work ≡ true) d.past
   pub ended : has_ended d.taken ≡ true → is_closed d.work ≡ true
 
--- it is the same inbox, and its seat was told nothing new
+-- the inbox is the same, and the seat was told nothing new
 abbrev pub IsSameDesk : {W M : Type 0} → DeskState W M → DeskState W M → Type 0
 IsSameDesk old new = (new.inbox ≡ old.inbox) × (new.queued ≡ old.queued)
 
--- and nothing was taken
+-- the same, and nothing was taken
 abbrev pub IsSameLine : {W M : Type 0} → DeskState W M → DeskState W M → Type 0
 IsSameLine old new = IsSameDesk old new × (new.taken ≡ old.taken)
 
--- What a step did: one mark was taken, and given to a work that was open; or it was passed over, being an open mark, or of a
--- work that is closed; or nothing was taken, since all that the seat was told of had been.
+-- What a step did. Worked: a mark was taken and given to a work that was open. Passed: a mark was
+-- taken and passed over, since it is an open mark or the work is closed. Empty: nothing was taken,
+-- since all that the seat was told was queued had been taken.
 abbrev pub Stepped : {W M : Type 0} → (W → Bool) → DeskState W M → DeskState W M → Step → Type 0
 Stepped {W} {M} is_closed old new step.Worked = IsSameDesk old new × ((mark : Queued M W) × (new.taken ≡ old.taken ++ mark ∷ []) × (is_open mark ≡ false) × (is_closed old.work ≡ false))
 Stepped {W} {M} is_closed old new step.Passed = IsSameDesk old new × ((mark : Queued M W) × (new.taken ≡ old.taken ++ mark ∷ []) × ((is_open mark ≡ true) ⊎ (is_closed new.work ≡ true)))
 Stepped {W} {M} is_closed old new step.Empty = IsSameLine old new × IsBeginning old.queued old.taken × (is_closed old.work ≡ true → is_closed new.work ≡ true)
 
--- So many marks were taken, in their order, some given to works and some passed over. Open marks were passed over. Where the
--- work was closed, something was given to a work only behind an open mark, and with no open mark it is closed still.
+-- So many marks were taken, in order. Some were given to works and some passed over, among these
+-- all open marks. If the work was closed before, only a work that an open mark brought was given
+-- anything; without an open mark the work is still closed.
 pub record HasTaken {W M : Type 0} (is_closed : W → Bool) (old new : DeskState W M) (worked passed : ℕ) : Type 0 where
   pub marks : List (Queued M W)
   pub taken : new.taken ≡ old.taken ++ marks
@@ -66,19 +70,19 @@ pub record HasTaken {W M : Type 0} (is_closed : W → Bool) (old new : DeskState
   pub behind : is_closed old.work ≡ true → 1 ≤ worked → 1 ≤ count_by is_open marks
   pub stays : is_closed old.work ≡ true → count_by is_open marks ≡ 0 → is_closed new.work ≡ true
 
--- The same of one inbox, and the seat was told nothing.
+-- The same, of the same inbox, and the seat was told nothing new.
 pub record HasServed {W M : Type 0} (is_closed : W → Bool) (old new : DeskState W M) (worked passed : ℕ) : Type 0 where
   pub same : IsSameDesk old new
   pub has : HasTaken is_closed old new worked passed
 
--- The same within a budget, and fewer only where all that the seat was told of had been taken, or something was given to a
--- work and the work is closed now.
+-- The same within a budget. Fewer marks than the budget were taken only if all that the seat was
+-- told was queued has been taken, or something was given to a work and the work is closed now.
 pub record IsServed {W M : Type 0} (is_closed : W → Bool) (old new : DeskState W M) (budget worked passed : ℕ) : Type 0 where
   pub has : HasServed is_closed old new worked passed
   pub within : worked + passed ≤ budget
   pub all_told : worked + passed < budget → IsBeginning new.queued new.taken ⊎ ((1 ≤ worked) × (is_closed new.work ≡ true))
 
--- Marks were taken, in their order, until all that the seat was told of had been.
+-- Marks were taken, in order, until all that the seat was told was queued had been taken.
 pub record HasServedAll {W M : Type 0} (old new : DeskState W M) : Type 0 where
   pub same : IsSameDesk old new
   pub taken : IsBeginning old.taken new.taken
@@ -86,8 +90,8 @@ pub record HasServedAll {W M : Type 0} (old new : DeskState W M) : Type 0 where
 
 -- ---- ticks
 
--- The works of a desk after something was done with it: those before the latest are as they were, the latest became what is
--- told of it, and those that came since were not ticked.
+-- The works of a desk before and after. The earlier works are unchanged. The latest work became
+-- `latest`, as `becomes` tells. The works that came since were never ticked.
 pub record WorksAfter {W M : Type 0} (ticked : W → List ℕ → Type 0) (becomes : W → W → Type 0) (old new : DeskState W M) : Type 0 where
   pub latest : W
   pub later : List W
@@ -95,7 +99,8 @@ pub record WorksAfter {W M : Type 0} (ticked : W → List ℕ → Type 0) (becom
   pub became : becomes old.work latest
   pub later_none : All (λ work. ticked work []) later
 
--- If the latest work was open it was ticked once, before it was given anything more. No other work was ticked.
+-- If the latest work was open, it was ticked once, before it was given anything more. No other work
+-- was ticked.
 abbrev pub TickedOnce : {W M : Type 0} → (W → List (Given M) → Type 0) → (W → List ℕ → Type 0) → (W → Bool) → DeskState W M → DeskState W M → Type 0
 TickedOnce given ticked is_closed old new = WorksAfter ticked (IsTicked given ticked is_closed) old new
 

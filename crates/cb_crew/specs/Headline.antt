@@ -1,4 +1,4 @@
--- What a crew promises of each peer: what its works were given of what its reader queued.
+-- What a crew promises for each peer: what its works were given of what its reader queued.
 use Rattle.std.specs.Prelude.{◌≡◌, ℕ, Bool, true, List, [], ◌∷◌, ◌++◌, length, map, All, Contains}
 use Rattle.std.specs.List.{AllZip, range_with_len}
 use Rattle.cb_sched.specs.Laws.{IsBeginning}
@@ -10,14 +10,15 @@ use Rattle.cb_crew.specs.Work.{AreWorksOf, connections_of}
 use Rattle.cb_crew.specs.Desk.{DeskState, first_label}
 use Rattle.cb_crew.specs.Crew.{CrewState, names_of, all_queued}
 
--- nothing stands behind an end
+-- nothing comes after an end
 abbrev pub NothingAfterEnd : {M : Type 0} → List (Given M) → Type 0
 NothingAfterEnd [] = Unit {0}
 NothingAfterEnd (given.Item item ∷ rest) = NothingAfterEnd rest
 NothingAfterEnd (given.End ∷ rest) = rest ≡ []
 
--- Of its connection the work was given a beginning: the items that the reader queued, each once, in their order, and none
--- after the connection's end. It was given all of them where it was given the end, and so where nothing closed it before.
+-- The work was given a prefix of its connection: the items that the reader queued, each once and in
+-- order, and nothing after the connection's end. If it was given the end, it was given all of the
+-- connection. So it was given all of it unless something closed it before.
 pub record InOrder {W M : Type 0} (was_given : W → List (Given M) → Type 0) (work : W) (connection : List (Given M)) : Type 0 where
   pub items : List (Given M)
   pub are_given : was_given work items
@@ -25,24 +26,24 @@ pub record InOrder {W M : Type 0} (was_given : W → List (Given M) → Type 0) 
   pub none_after : NothingAfterEnd items
   pub whole : Contains items given.End → items ≡ connection
 
--- Of a peer: each of its connections was served by a work of its own, the first by the crew's work of this label and each
--- later one by the work that its open mark brought, and each work is closed.
+-- Each connection of a peer was served by a work of its own. The first is the crew's work with the
+-- label `first`. Each later one is the work that its open mark brought. All works are closed.
 pub record IsServedInOrder {W M : Type 0} (label : W → ℕ) (was_given : W → List (Given M) → Type 0) (is_closed : W → Bool) (first : ℕ) (queued : List (Queued M W)) (works : List W) : Type 0 where
   pub whose : AreWorksOf label first queued works
   pub each : AllZip (InOrder was_given) works (connections_of queued)
   pub closed : All (λ work. is_closed work ≡ true) works
 
--- the works of a desk, of the first connection first
+-- the works of a desk, in the order of the connections
 abbrev pub works_of : {W M : Type 0} → DeskState W M → List W
 works_of desk = desk.past ++ desk.work ∷ []
 
--- Of a desk: all that was queued was taken, and its works are those of it.
+-- All that was queued was taken, and the desk's works have served it.
 pub record IsSettled {W M : Type 0} (label : W → ℕ) (was_given : W → List (Given M) → Type 0) (is_closed : W → Bool) (queued : List (Queued M W)) (desk : DeskState W M) : Type 0 where
   pub taken : desk.taken ≡ queued
   pub served : IsServedInOrder label was_given is_closed (first_label label desk) queued (works_of desk)
 
--- All peers: their desks, in their order, each with the works of all that the peer's reader queued, of which the first is the
--- work with which the crew was made for this peer.
+-- The desks of all peers, in order. Each has served all that the peer's reader queued. Its first
+-- work is the one with which the crew was made for this peer.
 pub record IsFinished {W M : Type 0} (label : W → ℕ) (was_given : W → List (Given M) → Type 0) (is_closed : W → Bool) (crew : CrewState) (sides : List (ReaderSide M W)) (desks : List (DeskState W M)) : Type 0 where
   pub peers : map (λ desk. desk.inbox.peer) desks ≡ range_with_len 0 (length crew.inboxes)
   pub names : map (λ desk. desk.inbox.name) desks ≡ names_of crew

@@ -1,4 +1,4 @@
--- What the ring sees of a tray, the desk of its tests.
+-- What the ring sees of a tray, the desk of the ring's tests.
 use Rattle.std.specs.Prelude.{ℕ, false, []}
 use Rattle.cb_crew.specs.Ring.{Shown}
 

@@ -14,19 +14,19 @@ abbrev pub IsEnd : {M : Type 0} → Given M → Type 0
 IsEnd (given.Item item) = ⊥
 IsEnd given.End = Unit {0}
 
--- a work that is open, and was given nothing and not ticked
+-- a work that is open, was given nothing and was never ticked
 pub record IsFresh {W M : Type 0} (was_given : W → List (Given M) → Type 0) (ticked : W → List ℕ → Type 0) (is_closed : W → Bool) (work : W) : Type 0 where
   pub nothing : was_given work []
   pub unticked : ticked work []
   pub live : is_closed work ≡ false
 
--- what a mark of an inbox gives to a work: an open mark nothing
+-- what a mark of an inbox gives to a work; an open mark gives nothing
 abbrev pub given_by : {M O : Type 0} → Queued M O → List (Given M)
 given_by (queued.Item item) = given.Item item ∷ []
 given_by queued.End = given.End ∷ []
 given_by (queued.Open opening) = []
 
--- what each connection of a peer is for its work, one after another
+-- what each connection of a peer gives to its work, one connection after another
 abbrev pub connections_of : {M O : Type 0} → List (Queued M O) → List (List (Given M))
 connections_of marks = map (flat_map given_by) (parts is_open marks)
 
@@ -36,32 +36,33 @@ brought_by (queued.Item item) = []
 brought_by queued.End = []
 brought_by (queued.Open opening) = opening ∷ []
 
--- the works of a peer's connections but the first, one after another
+-- the works of a peer's later connections, all but the first, in order
 abbrev pub openings_of : {M O : Type 0} → List (Queued M O) → List O
 openings_of marks = flat_map brought_by marks
 
--- the work of the first connection: the first that is past, or the latest
+-- the work of the first connection: the first past work, or the latest work if none is past
 abbrev pub first_of : {W : Type 0} → List W → W → W
 first_of [] work = work
 first_of (first ∷ later) work = first
 
--- The works are those of a peer's connections: the first has the label of the crew's work for that peer, and each later one
+-- These are the works of a peer's connections. The first has the label `first`. Each later one has
 -- the label of the work that its open mark brought.
 abbrev pub AreWorksOf : {W M : Type 0} → (W → ℕ) → ℕ → List (Queued M W) → List W → Type 0
 AreWorksOf label first marks works = map label works ≡ first ∷ map label (openings_of marks)
 
--- The work was given a beginning of its connection, in order and each once, and all of it while it is open.
+-- The work was given a prefix of its connection, in order and each once. An open work was given all
+-- of it.
 pub record WorksOn {W M : Type 0} (was_given : W → List (Given M) → Type 0) (is_closed : W → Bool) (work : W) (connection : List (Given M)) : Type 0 where
   pub items : List (Given M)
   pub are_given : was_given work items
   pub begin : IsBeginning items connection
   pub whole : is_closed work ≡ false → items ≡ connection
 
--- An open work was ticked once, before it was given anything more, and a closed one not at all.
+-- An open work was ticked once, before it was given anything more. A closed work wasn't ticked.
 pub record IsTicked {W M : Type 0} (was_given : W → List (Given M) → Type 0) (ticked : W → List ℕ → Type 0) (is_closed : W → Bool) (old new : W) : Type 0 where
   pub once : is_closed old ≡ false → (items : List (Given M)) (at : List ℕ) → was_given old items → ticked old at → ticked new (at ++ length items ∷ [])
   pub none : is_closed old ≡ true → (at : List ℕ) → ticked old at → ticked new at
 
--- it was ticked no more than before
+-- it wasn't ticked again
 abbrev pub IsUnticked : {W : Type 0} → (W → List ℕ → Type 0) → W → W → Type 0
 IsUnticked ticked old new = (at : List ℕ) → ticked old at → ticked new at

@@ -15,13 +15,15 @@ use std::alloc::Global;
 use std::marker::Model;
 use std::sync::Wait;
 
-/// A crew: the ring of its desks, and an inbox for each peer. Threads share it.
+/// A crew: a few handler threads that serve many peers. It has an inbox for each peer, and a desk
+/// that serves that inbox. Free desks wait in the ring, the run queue. Threads share a crew by
+/// reference.
 #[derive(Drop)]
 pub struct Crew<W: Work> {
     pub(crate) ring: Ring<Desk<W>>,
     pub(crate) inboxes: Vec<Shared<Inbox<W::Item, Fresh<W>>>>,
     pub(crate) handlers: u16,
-    /// The labels of the works with which it was made, one for each peer in their order.
+    /// The labels of the works with which the crew was made, one for each peer in their order.
     pub(crate) labels: Vec<u64>,
 }
 
@@ -36,14 +38,14 @@ impl<W: Work> Model for Crew<W> {
 }
 
 impl<W: Work> Crew<W> {
-    /// How many peers it has.
+    /// How many peers the crew has, 1 to 64.
     pub fn peers(&self) -> u16
         ensures { result ≡ length self.now.inboxes }
     {
         self.inboxes.len() as u16
     }
 
-    /// How many handlers it has.
+    /// How many handlers the crew has.
     pub fn handlers(&self) -> u16
         ensures { result ≡ self.now.handlers }
     {

@@ -13,31 +13,34 @@ use std::marker::Model;
 use std::mem;
 use std::sync::Wait;
 
-/// What one step did with the front of an inbox.
+/// What one step did with the mark at the front of an inbox.
 #[derive(Drop)]
 enum Step {
-    /// It was given to the work.
+    /// The mark was given to the work.
     Worked,
-    /// It was passed over: its work is closed, or it is an open mark.
+    /// The mark was passed over: it is an open mark, or the work is closed.
     Passed,
-    /// There was none.
+    /// The inbox was empty.
     Empty,
 }
 
-/// How many marks of an inbox were given to works, and how many passed over.
+/// How many marks of an inbox were given to works, and how many were passed over.
 #[derive(Clone, Copy, Debug, PartialEq, Eq)]
 pub struct Count {
-    /// Items and end marks that a work was given.
+    /// Items and end marks that were given to a work.
     pub worked: u32,
-    /// Open marks, and what came for a work that is closed.
+    /// Open marks, and items and end marks that came to a closed work.
     pub passed: u32,
 }
 
-/// A peer's desk: its inbox with the one seat that takes from it, the work of its connection, and the works of those before.
+/// A peer's desk: the session of one peer, which waits its turn in the ring or is held by one
+/// handler. It has the taker's seat of the peer's inbox, the work that serves the latest
+/// connection, and the works of earlier connections.
 ///
-/// Each work is its connection's: the first has kept its label, and each later one that of the work that its open mark brought.
-/// It was given a beginning of its connection as it was taken, in order and each once, and all of it while it is open. The works
-/// of earlier connections are closed.
+/// Each connection has its own work. The first work keeps its label. Each later work has the label
+/// of the work that its open mark brought. A work was given a prefix of what was taken of its
+/// connection, in order and each once. An open work was given all of that. The works of earlier
+/// connections are closed.
 #[derive(Drop)]
 pub struct Desk<W: Work> {
     inbox: Shared<Inbox<W::Item, Fresh<W>>>,
@@ -64,8 +67,8 @@ impl<W: Work> Travels for Desk<W> {
 }
 
 impl<W: Work> Desk<W> {
-    /// The desk of an inbox from which nothing was taken, with the work of its first connection. The list that is handed in
-    /// is for the works of past connections, and has room for 255 of them.
+    /// The desk of an inbox from which nothing was taken, with the work of the first connection.
+    /// `past` must be empty and have room for 255 works of past connections.
     pub fn new(
         inbox: Shared<Inbox<W::Item, Fresh<W>>>,
         seat: TakerSeat<W::Item, Fresh<W>>,
@@ -84,14 +87,14 @@ impl<W: Work> Desk<W> {
         }
     }
 
-    /// The peer whose desk it is.
+    /// The peer that the desk serves.
     pub fn peer(&self) -> u16
         ensures { result ≡ self.now.inbox.peer }
     {
         self.inbox.peer()
     }
 
-    /// The inbox.
+    /// The peer's inbox.
     pub fn inbox(&self) -> &Inbox<W::Item, Fresh<W>>
         ensures { result.now ≡ self.now.inbox }
     {
@@ -105,28 +108,30 @@ impl<W: Work> Desk<W> {
         &self.work
     }
 
-    /// The works of the connections before, in their order. All are closed.
+    /// The works of earlier connections, in order. All are closed.
     pub fn past(&self) -> &[W]
         ensures { result.now ≡ self.now.past }
     {
         self.past.as_slice()
     }
 
-    /// Tells what the works of this desk were given of what was taken from its inbox.
+    /// A fact for the prover: what the works of this desk were given of what was taken from its
+    /// inbox (`IsDesk`).
     pub fn served(&self)
         ensures { IsDesk W.label W.given W.is_closed self.now }
     {
+        // No effect when it runs: it tells the prover what the type keeps.
         let _ = &self.seat;
     }
 
-    /// The work of the latest connection, and those of the connections before, given out.
+    /// The work of the latest connection, then the works of earlier connections.
     pub fn into_works(self) -> (W, Vec<W>)
         ensures { (result.0 ≡ self.work) × (result.1.items ≡ self.past) }
     {
         (self.work, self.past)
     }
 
-    /// Learns what a note of the reader tells: how much was queued.
+    /// Learns from a note of the reader how much was queued.
     pub fn learn(&mut self, note: Note<W::Item, Fresh<W>>)
         requires { note.inbox ≡ self.old.inbox.name }
         ensures { self.new ≡ desk_told self.old note }
@@ -134,8 +139,11 @@ impl<W: Work> Desk<W> {
         self.seat.learn(&self.inbox, note);
     }
 
-    /// Gives an open work its tick, and then takes up to so many marks, and gives them to works or passes them over. It takes
-    /// fewer only where a work closed on what it was given last, or the inbox was empty at some moment.
+    /// Ticks the work if it is open. Then takes up to `budget` marks, and gives them to works or
+    /// passes them over. It takes fewer only if a work closed on what it was given last, or the
+    /// inbox was empty at some moment.
+    ///
+    /// Returns how many marks were given and how many passed over.
     pub fn serve<R: Wait>(&mut self, rt: &R, budget: u32) -> Count
         requires { budget ≤ 64 }
         ensures served { IsServed W.is_closed self.old self.new budget result.worked result.passed }
@@ -162,7 +170,8 @@ impl<W: Work> Desk<W> {
         count
     }
 
-    /// Takes marks, and gives them to works or passes them over, until the inbox was empty at some moment.
+    /// Takes marks until the inbox was empty at some moment, and gives them to works or passes them
+    /// over.
     pub fn serve_all<R: Wait>(&mut self, rt: &R)
         ensures served { HasServedAll self.old self.new }
         ensures ticks { NotTicked W.ticked self.old self.new }
@@ -176,14 +185,14 @@ impl<W: Work> Desk<W> {
         unreachable!()
     }
 
-    /// A note of what was taken.
+    /// A note of what this desk's seat knows, which includes all that was taken.
     pub fn note(&mut self) -> Note<W::Item, Fresh<W>>
         ensures { (result ≡ desk_note self.old) × (self.new ≡ self.old) }
     {
         self.seat.note(&self.inbox)
     }
 
-    /// Gives an open work its tick.
+    /// Ticks the work if it is open.
     fn tick<R: Wait>(&mut self, rt: &R)
         ensures line { IsSameLine self.old self.new }
         ensures past { self.new.past ≡ self.old.past }
@@ -196,7 +205,8 @@ impl<W: Work> Desk<W> {
         }
     }
 
-    /// Takes the front of the inbox, and gives it to the work if that is open. An open mark brings the next connection's work.
+    /// Takes the mark at the front of the inbox and gives it to the work if that is open. An open
+    /// mark brings the work of the next connection.
     fn advance<R: Wait>(&mut self, rt: &R) -> Step
         ensures stepped { Stepped W.is_closed self.old self.new result }
         ensures ticks { NotTicked W.ticked self.old self.new }
@@ -208,6 +218,7 @@ impl<W: Work> Desk<W> {
             Some(Queued::Item(item)) => give(rt, &mut self.work, ready, Given::Item(item)),
             Some(Queued::End) => give(rt, &mut self.work, ready, Given::End),
             Some(Queued::Open(next)) => {
+                // No effect when it runs: it tells the prover what the type keeps.
                 self.seat.reached();
                 let past = mem::replace(&mut self.work, next.into_work());
                 self.past.push_reserved(past);
@@ -217,7 +228,7 @@ impl<W: Work> Desk<W> {
     }
 }
 
-/// Makes room in an open work for its next step, and tells whether the work is open still.
+/// Makes room in an open work for its next step. Returns whether the work is open now.
 fn make_ready<W: Work>(work: &mut W) -> bool
     ensures ready { result ≡ true →
         (W.is_closed work.old ≡ false) × (W.is_closed work.new ≡ false) × W.primed work.new }
@@ -231,7 +242,7 @@ fn make_ready<W: Work>(work: &mut W) -> bool
     !work.closed() && work.ready()
 }
 
-/// Gives an item to a work that is ready; a closed one is passed over.
+/// Gives an item, or the end, to a work that is ready. A closed work is passed over.
 fn give<W: Work, R: Wait>(rt: &R, work: &mut W, ready: bool, item: Given<W::Item>) -> Step
     requires { ready ≡ true → (W.is_closed work.old ≡ false) × W.primed work.old }
     ensures worked { ready ≡ true →

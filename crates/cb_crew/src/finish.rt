@@ -16,10 +16,16 @@ use cb_inbox::{EndedSeat, Inbox};
 use std::sync::Wait;
 
 impl<W: Work> Crew<W> {
-    /// Takes all desks out of the ring, serves all that is queued, ends each connection that lasts, and serves its end. The
-    /// desks come in the order of their peers. It takes no memory.
+    /// Ends the crew, once no thread works on it any more. Takes all desks out of the ring, serves
+    /// all that is queued, ends each connection that lasts, and serves its end. Returns the desks
+    /// in the order of their peers. It allocates nothing.
     ///
-    /// The sides stand in the order of their peers, and the crew's first handler stands first.
+    /// `sides` must have the reader's side of each peer, in their order. `handlers` must have all
+    /// handlers, with the crew's first handler first.
+    ///
+    /// Promises (`IsFinished`): each connection was served by its own work. That work was given the
+    /// connection's items in order, each once, and nothing after the end. It was given all of them
+    /// if it was given the end. All works are closed.
     pub fn finish<R: Wait>(
         &self,
         rt: &R,
@@ -36,7 +42,8 @@ impl<W: Work> Crew<W> {
         self.settle_all(rt, sides, desks)
     }
 
-    /// Gives the one hand that stands for all handlers, and the list of the first.
+    /// Joins the hands of all handlers to one. Returns it with the first handler's empty list,
+    /// which has room for all desks.
     fn gather(&self, handlers: Vec<Handler<W>>) -> (Hand<Desk<W>>, Vec<Desk<W>>)
         requires { AreHandlersOf self.now handlers.items }
         ensures hand { IsFreeHandOf self.now result.0 × StandsForAll result.0 }
@@ -93,7 +100,7 @@ impl<W: Work> Crew<W> {
     }
 }
 
-/// Serves all that a reader queued, ends its connection if one lasts, and serves its end.
+/// Serves all that a reader queued. If a connection lasts, ends it and serves its end.
 fn settle<W: Work, R: Wait>(
     rt: &R,
     inbox: &Inbox<W::Item, Fresh<W>>,
@@ -111,6 +118,7 @@ fn settle<W: Work, R: Wait>(
             desk.learn(reader.note(inbox));
             desk.serve_all(rt);
             reader.learn(inbox, desk.note());
+            // No effect when it runs: it tells the prover what the type keeps.
             let _some = inbox.capacity();
             match reader.end(rt, inbox) {
                 Ok(ended) => settle_ended(rt, inbox, ended, desk),
@@ -136,6 +144,8 @@ fn settle_ended<W: Work, R: Wait>(
     desk.learn(ended.note(inbox));
     desk.serve_all(rt);
     ended.learn(inbox, desk.note());
+    // No effect when it runs: it tells the prover what the type keeps.
     ended.reached();
+    // No effect when it runs: it tells the prover what the type keeps.
     desk.served();
 }

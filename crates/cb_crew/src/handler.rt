@@ -13,27 +13,29 @@ use cb_inbox::Note;
 use std::marker::Model;
 use std::sync::Wait;
 
-/// How many turns a handler makes at the most.
+/// How many turns a handler makes at most.
 const MOST_TURNS: u64 = 1 << 40;
 
 /// What a turn did.
 #[derive(Clone, Copy, Debug, PartialEq, Eq)]
 pub enum Turn {
-    /// Of this peer's inbox so many items and end marks were given to its work, and so many marks passed over: open marks, and
-    /// what came for a work that is closed. Together these are one at the least.
+    /// Marks were taken from the inbox of this peer, at least one. The numbers are how many items
+    /// and end marks were given to works, and how many marks were passed over: open marks, and what
+    /// came to a closed work.
     Served(u16, u32, u32),
-    /// This peer's inbox was empty, and its work is open.
+    /// The inbox of this peer was empty, and its work is open.
     Idle(u16),
-    /// This peer's inbox was empty, and its work is closed.
+    /// The inbox of this peer was empty, and its work is closed.
     Shut(u16),
-    /// The ring was empty: all desks were held.
+    /// The ring was empty: handlers held all desks.
     NoDesk,
-    /// The handler made all its turns, 2^40 of them.
+    /// The handler has made all its turns, 2^40 of them.
     Spent,
 }
 
-/// One of a crew's handlers. It is seen as its hand, which claims desks and gives them back, the number of its turns, and
-/// the room of a list for desks, which the crew's first handler keeps for the end.
+/// A thread's share of a crew: it claims desks and gives them back. Contracts see its hand, the
+/// number of its turns, and for how many desks its list has room. The list of the crew's first
+/// handler is kept for `Crew::finish`.
 #[derive(Drop)]
 pub struct Handler<W: Work> {
     hand: Hand<Desk<W>>,
@@ -54,7 +56,7 @@ impl<W: Work> Model for Handler<W> {
 }
 
 impl<W: Work> Handler<W> {
-    /// A handler with this hand and an empty list, which made no turn.
+    /// A handler with this hand and this empty list, which made no turn yet.
     pub(crate) fn new(hand: Hand<Desk<W>>, desks: Vec<Desk<W>>) -> Handler<W>
         requires { desks.items ≡ [] }
         ensures { result ≡ record { hand = hand; turns = 0; room = vec_capacity desks } }
@@ -66,7 +68,7 @@ impl<W: Work> Handler<W> {
         }
     }
 
-    /// Its hand and its list, given out.
+    /// The handler's hand and its list.
     pub(crate) fn into_parts(self) -> (Hand<Desk<W>>, Vec<Desk<W>>)
         ensures hand { result.0 ≡ self.hand }
         ensures desks { (result.1.items ≡ []) × (vec_capacity result.1 ≡ self.room) }
@@ -74,15 +76,18 @@ impl<W: Work> Handler<W> {
         (self.hand, self.desks)
     }
 
-    /// How many turns were made.
+    /// How many turns the handler made.
     pub fn turns(&self) -> u64
         ensures { result ≡ self.now.turns }
     {
         self.turns
     }
 
-    /// Claims the desk at the ring's front, ticks its work if that is open, takes up to `budget` marks from its inbox, gives
-    /// them to works or passes them over, and gives the desk back.
+    /// Makes one turn. Claims the desk at the front of the ring, and ticks its work if that is
+    /// open. Takes up to `budget` marks from its inbox, 1 to 64, and gives them to works or passes
+    /// them over. Then gives the desk back.
+    ///
+    /// Returns what was done. After 2^40 turns it returns `Turn::Spent` and changes nothing.
     pub fn turn<R: Wait>(&mut self, rt: &R, crew: &Crew<W>, budget: u32) -> Turn
         requires crew { IsHandlerOf crew.now self.old }
         requires budget { (1 ≤ budget) × (budget ≤ 64) }
@@ -100,8 +105,10 @@ impl<W: Work> Handler<W> {
         }
     }
 
-    /// Makes a turn as `turn` does. If the desk is this peer's, its seat first learns what the note of the peer's reader
-    /// tells. So where the turn is Idle or Shut, all that the note tells was taken. Else the note comes back.
+    /// Makes one turn, as `turn` does, and brings a note of a peer's reader. If the claimed desk is
+    /// this peer's, its seat learns the note before it is served. `Turn::Idle` or `Turn::Shut` then
+    /// tells that everything in the note was taken. If it is another peer's desk, or there is none,
+    /// the note comes back.
     pub fn turn_told<R: Wait>(
         &mut self,
         rt: &R,
@@ -131,7 +138,8 @@ impl<W: Work> Handler<W> {
         }
     }
 
-    /// Claims the desk at the ring's front for a turn.
+    /// Claims the desk at the front of the ring for a turn. Without a desk, returns how the turn
+    /// ends.
     fn begin<R: Wait>(&mut self, rt: &R, crew: &Crew<W>) -> Result<Desk<W>, Turn>
         requires { IsHandlerOf crew.now self.old }
         ensures begins { Begins W.label W.is_closed self.old self.new result }
@@ -146,7 +154,7 @@ impl<W: Work> Handler<W> {
         crew.ring.claim(rt, &mut self.hand).ok_or(Turn::NoDesk)
     }
 
-    /// Serves a desk that the hand holds, gives it back, and tells what was done.
+    /// Serves a desk that the hand holds, and gives it back. Returns what was done.
     fn complete<R: Wait>(&mut self, rt: &R, crew: &Crew<W>, mut desk: Desk<W>, budget: u32) -> Turn
         requires hand { IsHandOf crew.now.ring self.old.hand × (self.old.hand.stage ≡ running) }
         requires desk { IsClaimed W.label self.old.hand desk }
@@ -161,7 +169,7 @@ impl<W: Work> Handler<W> {
     }
 }
 
-/// Tells a desk what a note of its peer's reader tells. The note of another peer's reader comes back.
+/// Tells a desk the note of its peer's reader. The note of another peer's reader comes back.
 fn hear<W: Work>(
     desk: &mut Desk<W>,
     peer: u16,
@@ -177,7 +185,7 @@ fn hear<W: Work>(
     None
 }
 
-/// Serves a desk, and tells what was done.
+/// Serves a desk. Returns what was done.
 fn serve_desk<W: Work, R: Wait>(rt: &R, desk: &mut Desk<W>, budget: u32) -> Turn
     requires { (1 ≤ budget) × (budget ≤ 64) }
     ensures turns { TurnsDesk W.label W.is_closed desk.old desk.new budget result }

@@ -1,4 +1,6 @@
-//! A crew of handlers that work on the items of many peers: each peer's in order, each once, on any threads.
+//! A crew: a few handler threads that serve the items of many peers. Each peer's items are served
+//! in order, each once; different peers are served side by side. The crew knows nothing of Bitcoin:
+//! it runs any `Work`.
 #![tactic(auto)]
 
 mod crew;

@@ -19,21 +19,21 @@ use std::marker::Model;
 use std::mem;
 use std::sync::Wait;
 
-/// How many works of past connections a desk may keep.
+/// How many works of past connections a desk keeps at most.
 const MOST_PAST: usize = 255;
 
-/// A new crew, with all that shares it.
+/// A new crew, with its readers' seats and its handlers.
 #[derive(Drop)]
 pub struct NewCrew<W: Work> {
     /// The crew.
     pub crew: Crew<W>,
-    /// The reader's seats of all peers, in their order.
+    /// The readers' seats of all peers, in their order.
     pub readers: Vec<ReaderSeat<W::Item, Fresh<W>>>,
-    /// All handlers, the first of them first.
+    /// All handlers, with the crew's first handler first.
     pub handlers: Vec<Handler<W>>,
 }
 
-/// All of a desk but its work. It is seen as its inbox.
+/// A desk without its work. Contracts see its inbox.
 #[derive(Drop)]
 struct Vacancy<W: Work> {
     inbox: Shared<Inbox<W::Item, Fresh<W>>>,
@@ -52,7 +52,7 @@ impl<W: Work> Model for Vacancy<W> {
     ghost invariant = { λ a. (a.seat ≡ opening_seat a.inbox.name) × (a.past.items ≡ []) × (255 ≤ vec_capacity a.past) };
 }
 
-/// A crew's inboxes, with the reader's seat and the vacancy of each.
+/// The inboxes of a crew. Each has its reader's seat and its vacancy.
 #[derive(Drop)]
 struct Lines<W: Work> {
     inboxes: Vec<Shared<Inbox<W::Item, Fresh<W>>>>,
@@ -60,7 +60,8 @@ struct Lines<W: Work> {
     vacancies: Vec<Vacancy<W>>,
 }
 
-/// A crew whose works are still to come, seen as the crew. It has all memory that the crew ever needs.
+/// A crew that has no works yet. Contracts see the crew. It has all memory that the crew ever
+/// needs.
 #[derive(Drop)]
 struct Unmanned<W: Work> {
     crew: Crew<W>,
@@ -84,10 +85,10 @@ impl<W: Work> Model for Unmanned<W> {
 }
 
 impl<W: Work> Crew<W> {
-    /// A crew of these works, one for each peer in their order, with so many handlers and inboxes of this capacity. It takes
-    /// all memory that the crew ever needs.
+    /// A crew with these works, one for each peer in their order. It has so many handlers, and
+    /// inboxes of this capacity. All memory that the crew ever needs is allocated here.
     ///
-    /// The only error is `Fault::Memory`, and hands the works back.
+    /// Fails only with `Fault::Memory`; the works then come back.
     pub fn new<R: Wait>(
         rt: &R,
         alloc: Global,
@@ -113,7 +114,7 @@ impl<W: Work> Crew<W> {
         }
     }
 
-    /// Puts the desk of each peer into the ring, with its work. The crew runs.
+    /// Puts the desk of each peer with its work into the ring. From then on the crew runs.
     fn place<R: Wait>(
         &self,
         rt: &R,
@@ -134,7 +135,8 @@ impl<W: Work> Crew<W> {
         self.ring.start(hand);
     }
 
-    /// All handlers, out of the one hand that stands for them. The first of them has the list.
+    /// Makes all handlers out of the one hand that stands for them. The first handler gets the
+    /// list.
     fn hire_all(
         &self,
         alloc: Global,
@@ -167,7 +169,8 @@ impl<W: Work> Vacancy<W> {
 }
 
 impl<W: Work> Lines<W> {
-    /// The inboxes of so many peers.
+    /// The empty inboxes of so many peers, each with its reader's seat and its vacancy. Fails only
+    /// with `Fault::Memory`.
     fn new(alloc: Global, peers: u16, capacity: usize) -> Result<Lines<W>, Fault>
         requires { (1 ≤ capacity) × (capacity ≤ 1024) }
         ensures lines { IfOk result (λ made. AreLines peers capacity made.inboxes.items made.readers.items made.vacancies.items) }
@@ -195,7 +198,7 @@ impl<W: Work> Lines<W> {
     }
 }
 
-/// The labels of works.
+/// The labels of these works. Fails only with `Fault::Memory`.
 fn labels_of<W: Work>(alloc: Global, works: &[W]) -> Result<Vec<u64>, Fault>
     ensures labels { IfOk result (λ labels. labels.items ≡ map W.label works.now) }
     ensures memory { IsOkUnless result Memory }
@@ -208,9 +211,10 @@ fn labels_of<W: Work>(alloc: Global, works: &[W]) -> Result<Vec<u64>, Fault>
 }
 
 impl<W: Work> Unmanned<W> {
-    /// A crew for these works, one for each peer, of so many handlers, with inboxes of this capacity.
+    /// A crew for these works, one for each peer, which come later. It has so many handlers, and
+    /// inboxes of this capacity.
     ///
-    /// The only error is `Fault::Memory`.
+    /// Fails only with `Fault::Memory`.
     fn new(
         alloc: Global,
         works: &Vec<W>,
@@ -244,7 +248,7 @@ impl<W: Work> Unmanned<W> {
         })
     }
 
-    /// The crew with these works. It takes no memory.
+    /// The crew with these works. It allocates nothing.
     fn man<R: Wait>(self, rt: &R, alloc: Global, works: Vec<W>) -> NewCrew<W>
         requires works { (length works.items ≡ length self.inboxes)
             × All (IsFresh W.given W.ticked W.is_closed) works.items }

@@ -1,6 +1,7 @@
 use cb_inbox::{EndedSeat, Opening, ReaderSeat};
 
-/// A reader's side of a peer when its crew finishes: its seat while a connection lasts, or behind an end mark.
+/// What a peer's reader brings to `Crew::finish`: its seat, during a connection or after an end
+/// mark.
 #[derive(Drop)]
 pub enum ReaderSide<M: Drop, O: Opening + Drop> {
     /// A connection lasts.

@@ -10,11 +10,13 @@ use std::alloc::Global;
 use std::marker::Model;
 use std::sync::Wait;
 
-/// The ring of a crew, through which its desks travel: hands claim desks from its front and give them back at its back. It is
-/// seen as its name, by which it knows its hands, and as how many desks it has room for.
+/// A crew's ring, its run queue. Hands claim desks from its front and give them back at its back.
+/// Contracts see its name, which tells which hands belong to it, and for how many desks it has
+/// room.
 ///
-/// Which desks wait there changes at any moment, so no contract names them. At every moment each peer's desk waits there or
-/// is held by one hand, and while the crew runs the desks are at places to which acts of the crew's core lead.
+/// Which desks wait in it can change at any moment, so no contract speaks of them. At every moment
+/// each peer's desk waits in the ring or one hand holds it. While the crew runs, the desks are
+/// where acts of the crew's core (cb_sched) lead.
 #[derive(Drop)]
 pub struct Ring<D: Travels + Drop> {
     queue: RingQueue<D>,
@@ -29,8 +31,9 @@ impl<D: Travels + Drop> Model for Ring<D> {
     ghost view = { λ a. ring_state a.queue };
 }
 
-/// A hand of a crew, which stands for one handler or more. It is seen as what it knows of the crew, the desks that it holds,
-/// and what it remembers of the one that it gave back last.
+/// A hand of a crew: it claims desks from the ring and gives them back for one handler or more. It
+/// has no bytes. Contracts see what it knows of the crew, the desks that it holds, and what it
+/// remembers of the desk that it gave back last.
 #[derive(Drop)]
 pub struct Hand<D: Travels + Drop> {
     pass: HandPass<D>,
@@ -48,10 +51,10 @@ impl<D: Travels + Drop> Model for Hand<D> {
 }
 
 impl<D: Travels + Drop> Ring<D> {
-    /// An empty ring for so many desks, with the one hand of its crew, which stands for all handlers. It takes all memory
-    /// that the ring ever needs.
+    /// An empty ring for so many desks, with the one hand of its crew, which stands for all
+    /// handlers. All memory that the ring ever needs is allocated here.
     ///
-    /// The only error is `Fault::Memory`.
+    /// Fails only with `Fault::Memory`.
     pub fn new(alloc: Global, peers: u16, handlers: u16) -> Result<(Ring<D>, Hand<D>), Fault>
         requires peers { (1 ≤ peers) × (peers ≤ 64) }
         requires handlers { (1 ≤ handlers) × (handlers ≤ 16) }
@@ -61,12 +64,14 @@ impl<D: Travels + Drop> Ring<D> {
     {
         let (queue, mut pass) = RingQueue::ruled(alloc, usize::from(peers))?;
         for grown in 1..handlers {
+            // No effect when it runs: it tells the prover what the type keeps.
             let _ = queue.another::<Grows>(&mut pass);
         }
         Ok((Ring { queue }, Hand { pass }))
     }
 
-    /// Puts the next peer's desk at the back of the ring. The crew's names grow by that of its inbox.
+    /// Puts the next peer's desk at the back of the ring. The desk's name is added to the crew's
+    /// names.
     pub fn make<R: Wait>(&self, rt: &R, hand: &mut Hand<D>, desk: D)
         requires hand { IsHandOf self.now hand.old × StandsForAll hand.old }
         requires stage { hand.old.stage ≡ making }
@@ -81,16 +86,17 @@ impl<D: Travels + Drop> Ring<D> {
         }
     }
 
-    /// All desks are made: from now on hands can be hired, claim and give.
+    /// All desks are in the ring. From now on hands may be hired, and may claim and give.
     pub fn start(&self, hand: &mut Hand<D>)
         requires hand { IsHandOf self.now hand.old × StandsForAll hand.old }
         requires stage { hand.old.stage ≡ making }
         ensures { hand.new ≡ running_hand hand.old }
     {
+        // No effect when it runs: it tells the prover what the type keeps.
         let _ = self.queue.another::<Starts>(&mut hand.pass);
     }
 
-    /// A new hand, which stands for one of the handlers for which this hand stood.
+    /// A new hand for one handler. The old hand then stands for one handler fewer.
     pub fn hire(&self, hand: &mut Hand<D>) -> Hand<D>
         requires hand { IsHandOf self.now hand.old × (2 ≤ hand.old.hands) }
         requires stage { hand.old.stage ≡ running }
@@ -102,9 +108,10 @@ impl<D: Travels + Drop> Ring<D> {
         }
     }
 
-    /// Claims the desk at the front of the ring. From now on the hand holds it.
+    /// Claims the desk at the front of the ring. The hand then holds it.
     ///
-    /// None only where the ring was empty at some moment of the call, which can be only with fewer desks than handlers.
+    /// Returns `None` only if the ring was empty at some moment of the call. That can happen only
+    /// if there are fewer desks than handlers.
     pub fn claim<R: Wait>(&self, rt: &R, hand: &mut Hand<D>) -> Option<D>
         requires hand { IsHandOf self.now hand.old × (hand.old.held ≡ []) }
         requires stage { hand.old.stage ≡ running }
@@ -117,7 +124,8 @@ impl<D: Travels + Drop> Ring<D> {
         self.queue.pop_as::<Claims, R>(rt, &mut hand.pass)
     }
 
-    /// Gives the desk that the hand holds back, at the back of the ring. The hand remembers what was done with it.
+    /// Gives the desk that the hand holds back, at the back of the ring. The hand remembers what
+    /// was done with it.
     pub fn give<R: Wait>(&self, rt: &R, hand: &mut Hand<D>, desk: D)
         requires hand { IsHandOf self.now hand.old × IsHeld hand.old.held (D.shown desk) }
         requires stage { hand.old.stage ≡ running }
@@ -129,7 +137,7 @@ impl<D: Travels + Drop> Ring<D> {
         }
     }
 
-    /// The hand stands for the other one's handlers too.
+    /// Joins two hands: from now on the first stands for the other one's handlers too.
     pub fn join(&self, hand: &mut Hand<D>, other: Hand<D>)
         requires hand { IsHandOf self.now hand.old × IsHandOf self.now other }
         requires free { other.held ≡ [] }
@@ -138,9 +146,9 @@ impl<D: Travels + Drop> Ring<D> {
         self.queue.absorb::<Joins>(&mut hand.pass, other.pass);
     }
 
-    /// Claims the desk at the front of the ring to keep it, once the hand stands for all handlers.
+    /// Claims the desk at the front of the ring to keep it. The hand must stand for all handlers.
     ///
-    /// None only where no desk is left: the hand holds the desks of all peers, each once.
+    /// Returns `None` only if no desk is left: the hand holds the desks of all peers, each once.
     pub fn keep<R: Wait>(&self, rt: &R, hand: &mut Hand<D>) -> Option<D>
         requires { IsHandOf self.now hand.old × StandsForAll hand.old }
         ensures kept { IfSome result
@@ -152,14 +160,15 @@ impl<D: Travels + Drop> Ring<D> {
         self.queue.pop_as::<Keeps, R>(rt, &mut hand.pass)
     }
 
-    /// Tells that the hand holds what a handler holds where acts of the crew's core lead, so that each law of the core's desks
-    /// holds of this ring.
+    /// A fact for the prover: the hand holds what some handler holds in a state to which acts of
+    /// the crew's core lead. So each law of the core about desks holds for this ring.
     pub fn in_turn(&self, hand: &mut Hand<D>)
         requires hand { IsHandOf self.now hand.old }
         requires stage { hand.old.stage ≡ running }
         ensures same { hand.new ≡ hand.old }
         ensures turn { HoldsInTurn hand.old }
     {
+        // No effect when it runs: it tells the prover what the type keeps.
         self.queue.learn_as::<Places>(&mut hand.pass);
     }
 }

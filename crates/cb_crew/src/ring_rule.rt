@@ -1,5 +1,6 @@
-//! The rule of a crew's ring: each desk waits there or is held by one hand, and while the crew runs the desks move as the
-//! crew's core has it.
+//! The rule that a crew's ring keeps: each desk waits in the ring or one hand holds it. While the
+//! crew runs, the desks move by acts of the crew's core. All of it is for the prover; only the
+//! queue exists at run time.
 ghost use Rattle.std.specs.Prelude.{◌≡◌, ℕ, ◌+◌, ◌<◌, length, map};
 ghost use Rattle.std.specs.List.{sum_by, range_with_len};
 ghost use Rattle.atomic_table.specs.Seated.{TableId};
@@ -15,11 +16,11 @@ use std::marker::{Model, PhantomData};
 pub trait Travels {
     ghost use Rattle.cb_crew.specs.Ring.{Shown};
 
-    /// What the ring sees of it.
+    /// What the ring's rule sees of it.
     ghost shown: { Self → Shown Self };
 }
 
-/// What a hand knows. No value of it is made.
+/// What a hand knows. It is for the prover only: no value of it is ever made.
 pub struct Knowledge<D> {
     of: PhantomData<D>,
 }
@@ -32,13 +33,13 @@ impl<D> Model for Knowledge<D> {
     ghost view = { λ _. idle_view };
 }
 
-/// The queue of a ring.
+/// The queue behind a ring.
 pub type RingQueue<D> = RuledArrayQueue<D, Knowledge<D>, InTurn>;
 
-/// What one hand knows of it. It has no bytes.
+/// What one hand of the queue knows. It has no bytes.
 pub type HandPass<D> = Pass<D, Knowledge<D>>;
 
-/// The rule.
+/// The rule of the queue: see `IsRing` in specs/RingRule.antt.
 pub struct InTurn;
 
 impl<D: Travels> Protocol<D, Knowledge<D>> for InTurn {
@@ -47,7 +48,7 @@ impl<D: Travels> Protocol<D, Knowledge<D>> for InTurn {
     ghost first = { first_view };
 }
 
-/// The one hand of a new crew stands for one handler more.
+/// The one hand of a new crew stands for one more handler.
 pub struct Grows;
 
 impl<D: Travels> Split<Knowledge<D>> for Grows {
@@ -56,7 +57,7 @@ impl<D: Travels> Split<Knowledge<D>> for Grows {
     ghost right = { λ v. idle_view };
 }
 
-/// All desks are made: the crew runs.
+/// All desks are in the ring, and the crew runs from now on.
 pub struct Starts;
 
 impl<D: Travels> Split<Knowledge<D>> for Starts {
@@ -65,7 +66,7 @@ impl<D: Travels> Split<Knowledge<D>> for Starts {
     ghost right = { λ v. idle_view };
 }
 
-/// A new hand stands for one of the handlers.
+/// A new hand takes over one of the hand's handlers.
 pub struct Hires;
 
 impl<D: Travels> Split<Knowledge<D>> for Hires {
@@ -74,7 +75,7 @@ impl<D: Travels> Split<Knowledge<D>> for Hires {
     ghost right = { hired_view };
 }
 
-/// A hand takes in another one's handlers.
+/// A hand takes over all handlers of another hand.
 pub struct Joins;
 
 impl<D: Travels> Join<Knowledge<D>> for Joins {
@@ -83,7 +84,7 @@ impl<D: Travels> Join<Knowledge<D>> for Joins {
     ghost spent = { idle_view };
 }
 
-/// A push of a new desk. The ring has as many as there are names.
+/// A push of a new desk. The ring has as many desks as the crew has names.
 pub struct Makes;
 
 impl<D: Travels> Outcome<D, Knowledge<D>> for Makes {
@@ -94,7 +95,8 @@ impl<D: Travels> Lesson<D, Knowledge<D>> for Makes {
     ghost fact = { λ v desks. length desks ≡ length v.crew.names };
 }
 
-/// A pop by a hand that is to work on the desk. Where the ring is empty there are fewer desks than handlers.
+/// A pop by a hand that is going to serve the desk. If the ring is empty, there are fewer desks
+/// than handlers.
 pub struct Claims;
 
 impl<D: Travels> Outcome<D, Knowledge<D>> for Claims {
@@ -116,7 +118,7 @@ impl<D: Travels> Lesson<D, Knowledge<D>> for Gives {
     ghost fact = { λ v desks. length desks < length v.crew.names };
 }
 
-/// A pop by the one hand that is left. What waits and what it holds are all desks.
+/// A pop by the last hand. The desks that wait and those that it holds are all desks.
 pub struct Keeps;
 
 impl<D: Travels> Outcome<D, Knowledge<D>> for Keeps {
@@ -127,7 +129,7 @@ impl<D: Travels> Lesson<D, Knowledge<D>> for Keeps {
     ghost fact = { λ v desks. (weight : ℕ → ℕ) → sum_by weight (peers_of (map D.shown desks)) + sum_by weight (peers_of v.held) ≡ sum_by weight (range_with_len 0 (length v.crew.names)) };
 }
 
-/// What a hand holds is what a handler holds where acts of the crew's core lead.
+/// The hand holds what some handler holds in a state to which acts of the crew's core lead.
 pub struct Places;
 
 impl<D: Travels> Lesson<D, Knowledge<D>> for Places {

@@ -5,7 +5,7 @@ use cb_inbox::Opening;
 use std::marker::Model;
 use std::sync::Wait;
 
-/// What a work is given: an item of its connection, or that the connection ended.
+/// What a work is given: an item of its connection, or the connection's end.
 #[derive(Debug, Drop, PartialEq, Eq)]
 pub enum Given<M> {
     /// An item.
@@ -14,43 +14,45 @@ pub enum Given<M> {
     End,
 }
 
-/// What works on the items of one connection, one after another.
+/// What serves the items of one connection, one after another.
 ///
-/// A call may wait, for a lock that others hold or for a writer; its contract holds if it returns.
+/// A call may wait, for a lock or for a writer. Its contract holds if it returns.
 ///
-/// A work keeps its label, by which contracts say whose it is.
+/// A work never changes its label. Contracts tell by the label whose work it is.
 pub trait Work: Drop {
     ghost use Rattle.std.specs.Prelude.{◌≡◌, ℕ, Bool, true, false, List, ◌++◌, ◌∷◌, [], length};
     ghost use Rattle.cb_crew.specs.declared.work.Given.{Given};
     ghost use Rattle.cb_crew.specs.Work.{IsEnd};
 
-    /// The items.
+    /// The type of the items.
     type Item: Drop;
 
-    /// The work was given these, in order, and no others.
+    /// The work was given exactly these, in this order.
     ghost given: { Self → List (Given Self.Item) → Type 0 };
 
-    /// It was ticked just so often, each time after it was given so many.
+    /// The work was ticked exactly as often as the list is long. Each number tells how much it had
+    /// been given before that tick.
     ghost ticked: { Self → List ℕ → Type 0 };
 
-    /// It has made all room that its next step needs.
+    /// The work has made all room that its next step needs.
     ghost primed: { Self → Type 0 };
 
-    /// It takes nothing more.
+    /// The work accepts nothing more.
     ghost is_closed: { Self → Bool };
 
     /// Whose work it is.
     ghost label: { Self → ℕ };
 
-    /// Its label.
+    /// The work's label.
     fn whose(&self) -> u64
         ensures { result ≡ label self.now };
 
-    /// Whether it takes nothing more.
+    /// Whether the work accepts nothing more.
     fn closed(&self) -> bool
         ensures { result ≡ is_closed self.now };
 
-    /// Makes room for the next step. Where memory lacks, the work closes, and the answer is false.
+    /// Makes room for the next step, and returns true. If that fails, for example for lack of
+    /// memory, the work closes and the result is false.
     fn ready(&mut self) -> bool
         requires { is_closed self.old ≡ false }
         ensures ready { result ≡ true → (is_closed self.new ≡ false) × primed self.new }
@@ -60,7 +62,7 @@ pub trait Work: Drop {
             given self.new items }
         ensures ticked { (at : List ℕ) → ticked self.old at → ticked self.new at };
 
-    /// Takes the next item, or the end, which closes it.
+    /// Handles the next item, or the end. The end closes the work.
     fn step<R: Wait>(&mut self, rt: &R, item: Given<Self::Item>)
         requires open { is_closed self.old ≡ false }
         requires primed { primed self.old }
@@ -80,7 +82,7 @@ pub trait Work: Drop {
             ticked self.old at → ticked self.new (at ++ length items ∷ []) };
 }
 
-/// A work that may begin a connection: it is open, and was given nothing and not ticked.
+/// A work that may begin a connection: it is open, was given nothing and was never ticked.
 #[derive(Drop)]
 pub struct Fresh<W: Work> {
     work: W,
@@ -103,7 +105,7 @@ impl<W: Work> Opening for Fresh<W> {
 }
 
 impl<W: Work> Fresh<W> {
-    /// This work, which is open, and was given nothing and not ticked.
+    /// Wraps a work that is open, was given nothing and was never ticked.
     pub fn new(work: W) -> Fresh<W>
         requires { IsFresh W.given W.ticked W.is_closed work }
         ensures { result ≡ work }
@@ -111,7 +113,7 @@ impl<W: Work> Fresh<W> {
         Fresh { work }
     }
 
-    /// The work, given out.
+    /// The work itself.
     pub fn into_work(self) -> W
         ensures work { result ≡ self }
         ensures fresh { IsFresh W.given W.ticked W.is_closed result }
