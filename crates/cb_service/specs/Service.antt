@@ -1,4 +1,4 @@
--- The threads of a crew, and what each promises to hand back.
+-- The threads of a crew, and what each promises to return.
 use Rattle.std.specs.Prelude.{◌≡◌, ℕ, Bool, List, map, All}
 use Rattle.std.specs.declared.thread.PromisedHandle.{PromisedHandle}
 use Rattle.cb_inbox.specs.Seat.{InboxState}
@@ -11,7 +11,7 @@ use Rattle.cb_crew.specs.Headline.{IsFinished}
 use Rattle.cb_service.specs.declared.service.OfCrew.{OfCrew}
 use Rattle.cb_service.specs.declared.service.OfInbox.{OfInbox}
 
--- whose thread it is: the handler, its crew, and the inbox of a reader
+-- whose thread it is: the handler and its crew, or the inbox of a reader
 abbrev pub handler_of : {W M : Type 0} → PromisedHandle (HandlerState (DeskState W M)) (OfCrew W M) → HandlerState (DeskState W M)
 handler_of thread = thread.promise.handler.value
 
@@ -30,7 +30,7 @@ pub record HandBack {W M : Type 0} (crew : CrewState) (threads : List (PromisedH
 abbrev pub HandBackSides : {W M : Type 0} → List (PromisedHandle (ReaderSide M W) (OfInbox W M)) → List InboxState → Type 0
 HandBackSides threads inboxes = map inbox_for threads ≡ inboxes
 
--- the desks of a crew that was served and finished, of all that its readers' sides queued
+-- The desks of a crew that was served and has finished, for all that its readers' sides queued.
 pub record IsServed {W M : Type 0} (label : W → ℕ) (was_given : W → List (Given M) → Type 0) (is_closed : W → Bool) (crew : CrewState) (desks : List (DeskState W M)) : Type 0 where
   pub sides : List (ReaderSide M W)
   pub are_sides : AreSidesOf crew sides

@@ -5,19 +5,21 @@ use crate::signals::Signals;
 use cb_crew::{Crew, Handler, Turn, Work};
 use std::sync::Wait;
 
-/// For how many milliseconds a handler sleeps at first, and at the most, before it looks at the desks again.
+/// How many milliseconds a handler's sleep lasts at most: the first one, and any later one.
 const SHORTEST_SLEEP: u64 = 10;
 
 const LONGEST_SLEEP: u64 = 1_000;
 
-/// How long a handler found nothing to do.
+/// How long a handler has found nothing to do.
 #[derive(Drop)]
 struct Vigil {
-    /// How many turns in a row served nothing, since the last one that served something or the last round in vain.
+    /// How many turns in a row served nothing, since the last turn that served something or the
+    /// last round in vain.
     fruitless: u16,
-    /// By what it may sleep, once it lay down.
+    /// After the handler lay down: the count of the bell's rings at that moment, by which it may
+    /// sleep.
     seen: Option<u64>,
-    /// How many milliseconds its next sleep lasts at the most.
+    /// How many milliseconds the next sleep lasts at most.
     longest: u64,
 }
 
@@ -30,21 +32,22 @@ impl Vigil {
         }
     }
 
-    /// A turn served something.
+    /// A turn served something: counts from the beginning again.
     fn served(&mut self, signals: &Signals) {
         self.fruitless = 0;
         self.longest = SHORTEST_SLEEP;
         self.stand_up(signals);
     }
 
-    /// The handler stands from now on.
+    /// The handler gets up if it lay down.
     fn stand_up(&mut self, signals: &Signals) {
         if self.seen.take().is_some() {
             signals.get_up();
         }
     }
 
-    /// A turn served nothing. Whether a round was in vain: as many such turns one after the other as there are peers.
+    /// A turn served nothing. Returns whether that completes a round in vain: as many such turns in
+    /// a row as there are peers.
     fn is_in_vain(&mut self, peers: u16) -> bool {
         self.fruitless = self.fruitless.saturating_add(1);
         if self.fruitless < peers {
@@ -54,7 +57,8 @@ impl Vigil {
         true
     }
 
-    /// After a round in vain the handler lies down, and after another one it sleeps, twice as long each time.
+    /// What a handler does after a round in vain. First it lies down. After another round in vain
+    /// it sleeps and then gets up. Each sleep is twice as long as the one before, up to a limit.
     fn rest<R: Wait>(&mut self, rt: &R, signals: &Signals) {
         match self.seen.take() {
             None => self.seen = Some(signals.lie_down()),
@@ -67,9 +71,12 @@ impl Vigil {
     }
 }
 
-/// What a handler's thread does: it makes turns until it is told to stop and a round is in vain, and hands its handler back. It
-/// stands then, so that no reader rings for it any more.
-/// So what is queued when the last reader returned is served by all handlers, and not by one thread at the end.
+/// What a handler's thread does. It makes turns until it is told to stop and a round is in vain, or
+/// it has made all its turns. It then returns its handler, after getting up, so that no reader
+/// rings for it any more.
+///
+/// So what is still queued when the last reader returns is shared by all handlers. It isn't left to
+/// the one thread that finishes the crew.
 pub fn handle<W: Work, R: Wait>(
     rt: &R,
     crew: &Crew<W>,

@@ -1,5 +1,6 @@
-//! A crew in threads: readers in threads put numbers into their peers' inboxes, handlers in threads give them to works, and in
-//! the end the crew finishes.
+//! A crew run by threads. Each peer's reader is a thread that queues numbers in the peer's inbox.
+//! Each handler is a thread that gives them to works. At the end the crew finishes. The readers are
+//! an example; bench_crew uses them.
 #![tactic(auto)]
 
 mod handling;

@@ -7,11 +7,12 @@ use cb_crew::{Fresh, ReaderSide, Work};
 use cb_inbox::{EndedSeat, Inbox, Opening, ReaderSeat};
 use std::sync::Wait;
 
-/// How many items and marks a reader may have queued where it queues one more item or an end mark. Over all connections an
-/// inbox takes 2^48.
+/// A reader with this many marks queued queues no more items or end marks. An inbox takes fewer
+/// than 2^48 marks over all connections.
 const MOST_QUEUED: u64 = 1 << 40;
 
-/// Queues an item, and waits where the inbox is full. False where the threads are told to return, or the seat queued 2^40.
+/// Queues an item, and waits while the inbox is full. Returns false if the threads are told to
+/// return, or if the seat has queued 2^40 marks; the item is then dropped.
 pub fn put<M: Drop, O: Opening + Drop, R: Wait>(
     rt: &R,
     inbox: &Inbox<M, O>,
@@ -44,8 +45,8 @@ pub fn put<M: Drop, O: Opening + Drop, R: Wait>(
     unreachable!()
 }
 
-/// Ends the connection, and waits where the inbox is full. The seat comes back where the threads are told to return,
-/// or where it queued 2^40.
+/// Ends the connection, and waits while the inbox is full. Returns the unchanged seat as an error
+/// if the threads are told to return, or if the seat has queued 2^40 marks.
 pub fn end<M: Drop, O: Opening + Drop, R: Wait>(
     rt: &R,
     inbox: &Inbox<M, O>,
@@ -78,8 +79,9 @@ pub fn end<M: Drop, O: Opening + Drop, R: Wait>(
     unreachable!()
 }
 
-/// Opens the next connection, and waits where the inbox is full. The seat comes back where the peer has had all its
-/// connections, or where the threads are told to return.
+/// Opens the next connection, and waits while the inbox is full. Returns the seat as an error if
+/// the peer has had 256 connections, or if the threads are told to return; `opening` is then
+/// dropped.
 pub fn open<M: Drop, O: Opening + Drop, R: Wait>(
     rt: &R,
     inbox: &Inbox<M, O>,
@@ -118,12 +120,12 @@ pub fn open<M: Drop, O: Opening + Drop, R: Wait>(
     unreachable!()
 }
 
-/// The item of a peer's connection at this place. No two of a run are the same.
+/// The item with this place in a connection of a peer. All items of a run differ.
 pub fn item_at(peer: u16, connection: u16, place: u32) -> u64 {
     u64::from(peer) << 48 | u64::from(connection) << 32 | u64::from(place)
 }
 
-/// Queues so many items of a connection. False where they can't all be queued.
+/// Queues so many items of a connection. Returns false if not all of them could be queued.
 fn put_all<O: Opening + Drop, R: Wait>(
     rt: &R,
     inbox: &Inbox<u64, O>,
@@ -151,8 +153,9 @@ fn put_all<O: Opening + Drop, R: Wait>(
     true
 }
 
-/// What a reader's thread does: it queues so many items in each connection and ends it, opens the next with the next of these
-/// works, and hands its seat back.
+/// What a reader's thread does. It queues so many items in each connection and ends it. It opens
+/// each next connection with the next work of `later`. It returns its seat, early if something
+/// can't be queued.
 pub fn read<W: Work<Item = u64>, R: Wait>(
     rt: &R,
     inbox: &Inbox<u64, Fresh<W>>,

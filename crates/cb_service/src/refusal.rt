@@ -10,7 +10,7 @@ pub enum Refusal {
 }
 
 impl From<Fault> for Refusal {
-    /// Making what threads share is refused for want of memory alone.
+    /// Making what threads share fails only for lack of memory.
     fn from(_fault: Fault) -> Refusal {
         Refusal::Memory
     }

@@ -18,7 +18,8 @@ use std::thread;
 use std::thread::{Promise, PromisedHandle, Scope, Threads};
 use std::time::{Clock, Duration};
 
-/// A handler's thread hands back a handler of this crew, with the room that it had.
+/// A promise: a handler's thread returns a handler of this crew, whose list has as much room as
+/// before.
 #[derive(Drop)]
 pub struct OfCrew<W: Work> {
     crew: Snapshot<Crew<W>>,
@@ -29,7 +30,7 @@ impl<W: Work> Promise<Handler<W>> for OfCrew<W> {
     ghost kept_by = { λ promise handler. IsHandlerOf promise.crew.value handler × (handler.room ≡ promise.handler.value.room) };
 }
 
-/// A reader's thread hands back its side of this inbox.
+/// A promise: a reader's thread returns the reader's side of this inbox.
 #[derive(Drop)]
 pub struct OfInbox<W: Work> {
     inbox: Snapshot<Inbox<W::Item, Fresh<W>>>,
@@ -39,49 +40,49 @@ impl<W: Work> Promise<ReaderSide<W::Item, Fresh<W>>> for OfInbox<W> {
     ghost kept_by = { λ promise side. (inbox_of side ≡ promise.inbox.value.name) × HasPlace side };
 }
 
-/// A handler's thread.
+/// The handle of a handler's thread.
 type Handling<W> = PromisedHandle<Handler<W>, OfCrew<W>>;
 
-/// A reader's thread.
+/// The handle of a reader's thread.
 type Reading<W> = PromisedHandle<ReaderSide<<W as Work>::Item, Fresh<W>>, OfInbox<W>>;
 
-/// What threads are told to do.
+/// What the threads are told to do.
 #[derive(Clone, Copy)]
 pub struct Orders {
     /// How many items each reader queues in each connection.
     pub items: u32,
-    /// How many marks a handler takes in a turn at the most, 1 to 64.
+    /// How many marks a handler takes in a turn at most, 1 to 64.
     pub budget: u32,
-    /// For how many milliseconds a reader waits before it queues its first item.
+    /// How many milliseconds a reader waits before it queues its first item.
     pub pause: u32,
 }
 
 /// The readers of all peers, in their order.
 #[derive(Drop)]
 pub struct Readers<W: Work> {
-    /// Their seats.
+    /// The readers' seats, one for each peer.
     pub seats: Vec<ReaderSeat<W::Item, Fresh<W>>>,
-    /// The works of each peer's later connections. A peer for which there are none has one connection.
+    /// The works of each peer's later connections. A peer without any has one connection.
     pub later: Vec<Vec<Fresh<W>>>,
 }
 
-/// Who works in a crew.
+/// The readers and handlers of a crew.
 #[derive(Drop)]
 pub struct Staff<W: Work> {
-    /// The readers of its peers.
+    /// The readers of all peers.
     pub readers: Readers<W>,
-    /// All its handlers, the first of them first.
+    /// All handlers, with the crew's first handler first.
     pub handlers: Vec<Handler<W>>,
 }
 
-/// Waits for so many milliseconds.
+/// Sleeps for so many milliseconds.
 fn pause<R: Clock>(rt: &R, milliseconds: u32) {
     if milliseconds > 0 {
         thread::sleep(rt, Duration::from_millis(u64::from(milliseconds)));
     }
 }
 
-/// Starts a thread for each handler.
+/// Starts a thread for each handler. Fails if a thread can't be started or memory runs out.
 fn start_handlers<'s, E, W: Work + Send + 's, R: Threads + Wait + Clock + Sync>(
     scope: &Scope<'s, E>,
     rt: &'s R,
@@ -120,7 +121,7 @@ where
     Ok(threads)
 }
 
-/// Starts a thread for each peer's reader.
+/// Starts a thread for each peer's reader. Fails if a thread can't be started or memory runs out.
 fn start_readers<'s, E, W: Work<Item = u64> + Send + 's, R: Threads + Wait + Clock + Sync>(
     scope: &Scope<'s, E>,
     rt: &'s R,
@@ -166,8 +167,8 @@ fn start_readers<'s, E, W: Work<Item = u64> + Send + 's, R: Threads + Wait + Clo
     Ok(threads)
 }
 
-/// Runs handlers and readers in threads of this scope until each reader has returned, then stops the handlers, and gives what
-/// all threads handed back.
+/// Runs handlers and readers in threads of this scope. Once each reader has returned, stops the
+/// handlers. Returns the readers' sides and the handlers.
 fn run<'s, E, W: Work<Item = u64> + Send + 's, R: Threads + Wait + Clock + Sync>(
     scope: &Scope<'s, E>,
     rt: &'s R,
@@ -197,8 +198,12 @@ fn run<'s, E, W: Work<Item = u64> + Send + 's, R: Threads + Wait + Clock + Sync>
     Ok((sides, handlers))
 }
 
-/// Serves a crew in threads: one for each handler, and one for each peer's reader. Once all readers have returned, the handlers
-/// are stopped and the crew finishes. Where it is refused, all threads have returned too.
+/// Serves a crew by threads: one for each handler, and one for each peer's reader. Once all readers
+/// have returned, the handlers are stopped and the crew finishes. Returns the desks of all peers,
+/// in their order.
+///
+/// Fails with `Refusal::Thread` if a thread can't be started, and with `Refusal::Memory` if memory
+/// runs out. All threads have returned then too, but the crew isn't finished.
 pub fn serve_peers<W: Work<Item = u64> + Send, R: Threads + Wait + Clock + Sync>(
     rt: &R,
     alloc: Global,

@@ -5,13 +5,14 @@ use std::sync::atomic::{AtomicBool, AtomicU64, Ordering};
 use std::thread::Parker;
 use std::time::Duration;
 
-/// How the threads of a crew wait for each other: handlers sleep where nothing is queued, and a reader where its inbox is full.
-/// No thread spins.
+/// How the threads of a crew wait for each other. A handler sleeps while nothing is queued, and a
+/// reader while its inbox is full. No thread spins.
 ///
-/// A handler that is to sleep lies down first, goes round the ring once more, and then sleeps, unless the bell rang since it lay
-/// down. While it went round another handler may have held a desk, so it sleeps for a while only, and looks again. A reader
-/// rings after it queued something, but only where a handler lies down or sleeps. So while all handlers work, a reader looks
-/// at one number and writes none.
+/// Before a handler sleeps, it lies down and goes round the ring once more. It then sleeps unless
+/// the bell rang since it lay down. During that round another handler may have held a desk, so each
+/// sleep ends by itself after a while. A reader rings after it queued something, but only if a
+/// handler lies down or sleeps. So while all handlers work, a reader reads one number and writes
+/// none.
 #[derive(Drop)]
 pub struct Signals {
     stopped: AtomicBool,
@@ -19,14 +20,12 @@ pub struct Signals {
     lying: AtomicU64,
     /// How often the bell rang.
     rings: AtomicU64,
-    /// On each the reader of a peer waits for room.
+    /// What each peer's reader waits on for room.
     readers: Vec<Parker>,
 }
 
 impl Signals {
-    /// For so many peers.
-    ///
-    /// The only error is `Fault::Memory`.
+    /// The signals of a crew with so many peers. Fails only with `Fault::Memory`.
     pub fn new(alloc: Global, peers: u16) -> Result<Signals, Fault> {
         let mut readers = Vec::with_capacity(alloc, usize::from(peers))?;
         for _ in 0..peers {
@@ -40,7 +39,7 @@ impl Signals {
         })
     }
 
-    /// Tells all threads to return.
+    /// Tells all threads to return, and wakes those that wait.
     pub fn stop(&self) {
         self.stopped.store(true, Ordering::SeqCst);
         self.rings.fetch_add(1, Ordering::SeqCst);
@@ -50,12 +49,12 @@ impl Signals {
         }
     }
 
-    /// Whether all threads are to return.
+    /// Whether all threads are told to return.
     pub fn is_stopped(&self) -> bool {
         self.stopped.load(Ordering::SeqCst)
     }
 
-    /// Wakes a handler, if one lies down or sleeps: something was queued.
+    /// Wakes a handler after something was queued, if one lies down or sleeps.
     pub fn ring(&self) {
         if self.lying.load(Ordering::SeqCst) > 0 {
             self.rings.fetch_add(1, Ordering::SeqCst);
@@ -63,14 +62,15 @@ impl Signals {
         }
     }
 
-    /// A handler lies down. It may sleep by the number that it gets, once it looked at all desks again.
+    /// A handler lies down. Returns the number by which it may sleep, once it has looked at all
+    /// desks again.
     pub fn lie_down(&self) -> u64 {
         self.lying.fetch_add(1, Ordering::SeqCst);
         self.rings.load(Ordering::SeqCst)
     }
 
-    /// A handler that lay down sleeps until the bell rings, so many milliseconds at the most. It doesn't sleep where the bell
-    /// rang since then.
+    /// A handler that lay down sleeps until the bell rings, at most so many milliseconds. It
+    /// doesn't sleep if the bell rang since it lay down.
     pub fn sleep<R: Wait>(&self, rt: &R, seen: u64, longest: u64) {
         let rings = (seen % (1 << 32)) as u32;
         self.rings
@@ -82,14 +82,15 @@ impl Signals {
         self.lying.fetch_sub(1, Ordering::SeqCst);
     }
 
-    /// Wakes the reader of a peer, if it waits: its inbox has room.
+    /// Wakes a peer's reader if it waits, since its inbox has room.
     pub fn make_room(&self, peer: u16) {
         if let Some(reader) = self.readers.get(usize::from(peer)) {
             reader.unpark();
         }
     }
 
-    /// The reader of a peer waits until its inbox had room since it last waited.
+    /// The reader of a peer waits until its inbox has room. It doesn't wait if `make_room` was
+    /// called since its last wait.
     pub fn wait_for_room<R: Wait>(&self, rt: &R, peer: u16) {
         if let Some(reader) = self.readers.get(usize::from(peer)) {
             reader.park(rt);
