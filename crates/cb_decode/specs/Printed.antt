@@ -25,11 +25,11 @@ use Rattle.cb_wire.specs.declared.item.Item.{Item}
 use Rattle.cb_wire.specs.declared.item.Item.TheVariants.{Good, Damaged, Bad}
 use Rattle.cb_wire.specs.Command.{command_name}
 
--- a hash as people write it: lower-case hex of its bytes in reverse
+-- a hash as people write it: its bytes reversed, in lower-case hex
 abbrev pub hash_shown : Hash256 → List ℕ
 hash_shown hash = encode_lower (reverse hash.0)
 
--- a transaction: its txid, and how many bytes its text has
+-- a transaction: its txid, and how many bytes it has
 abbrev pub tx_line : transactions.Tx → List ℕ
 tx_line tx = codes "tx " ++ hash_shown (double_hash (tx_text tx)) ++ codes " " ++ decimal (length (tx_text tx)) ++ codes "\n"
 
@@ -37,48 +37,48 @@ tx_line tx = codes "tx " ++ hash_shown (double_hash (tx_text tx)) ++ codes " " +
 abbrev pub block_line : blocks.Block → List ℕ
 block_line block = codes "block " ++ hash_shown (double_hash (header_text block.header)) ++ codes " " ++ decimal (length block.txs) ++ codes "\n"
 
--- a compact block: its hash, and how many transactions it has in short ids and how many whole
+-- a compact block: its hash, how many short ids it has, and how many transactions are prefilled
 abbrev pub compact_block_line : HeaderAndShortIds → List ℕ
 compact_block_line block =
     codes "cmpctblock " ++ hash_shown (double_hash (header_text block.header)) ++ codes " ids " ++ decimal (length block.txs.ids) ++ codes " prefilled " ++ decimal (length block.txs.prefilled) ++ codes "\n"
 
--- a request for a block's transactions: the block's hash, and how many are asked for
+-- a `getblocktxn`: the block's hash, and how many transactions are asked for
 abbrev pub txs_request_line : BlockTransactionsRequest → List ℕ
 txs_request_line request = codes "getblocktxn " ++ hash_shown request.block ++ codes " " ++ decimal (length request.differences) ++ codes "\n"
 
--- a block's transactions: the block's hash, and how many they are
+-- a `blocktxn`: the block's hash, and how many transactions it has
 abbrev pub block_txs_line : BlockTransactions → List ℕ
 block_txs_line txs = codes "blocktxn " ++ hash_shown txs.block ++ codes " " ++ decimal (length txs.txs) ++ codes "\n"
 
--- a version: its number, the services, the height and the agent in hex
+-- a `version`: its number, the services, the height, and the user agent in hex
 abbrev pub version_line : versions.Version → List ℕ
 version_line v =
     codes "version " ++ signed_decimal v.version ++ codes " services " ++ decimal v.services ++ codes " height " ++ signed_decimal v.height ++ codes " agent " ++ encode_lower v.agent ++ codes "\n"
 
--- how a peer wants to be told of blocks: the flag as a number, and the version
+-- a `sendcmpct`: the high-bandwidth flag as 0 or 1, and the version
 abbrev pub compact_relay_line : CompactRelay → List ℕ
 compact_relay_line relay = codes "sendcmpct " ++ (if relay.high_bandwidth then codes "1 " else codes "0 ") ++ decimal relay.version ++ codes "\n"
 
--- a request for headers: how many hashes its locator has, and the hash to stop at
+-- a `getheaders`: how many hashes its locator has, and the hash to stop at
 abbrev pub counted_line : ℕ → Hash256 → List ℕ
 counted_line count stop = codes "getheaders " ++ decimal count ++ codes " " ++ hash_shown stop ++ codes "\n"
 
 abbrev pub request_line : HeadersRequest → List ℕ
 request_line request = counted_line (length request.locator) request.stop
 
--- an entry of inventory: two spaces, its type and its hash
+-- an inventory entry: two spaces, its type and its hash
 abbrev pub entry_line : InvEntry → List ℕ
 entry_line entry = codes "  " ++ decimal entry.kind ++ codes " " ++ hash_shown entry.hash ++ codes "\n"
 
--- entries, behind how many there are
+-- an inventory list: the message's name, how many entries there are, then the entries
 abbrev pub entries_text : List ℕ → List InvEntry → List ℕ
 entries_text name entries = name ++ codes " " ++ decimal (length entries) ++ codes "\n" ++ flat_map entry_line entries
 
--- a header: two spaces and its hash
+-- a block header: two spaces and its hash
 abbrev pub header_line : headers.Header → List ℕ
 header_line header = codes "  " ++ hash_shown (double_hash (header_text header)) ++ codes "\n"
 
--- headers, behind how many there are
+-- a `headers`: how many there are, then the headers
 abbrev pub headers_text : List headers.Header → List ℕ
 headers_text list = codes "headers " ++ decimal (length list) ++ codes "\n" ++ flat_map header_line list
 
@@ -112,7 +112,7 @@ item_text (Bad command fault) = codes "bad " ++ command_name command ++ codes " 
 abbrev pub items_text : List Item → List ℕ
 items_text items = flat_map item_text items
 
--- a stream's fault
+-- a stream's fault, if it has one
 abbrev pub broken_text : Option Fault → List ℕ
 broken_text None = []
 broken_text (Some fault) = codes "broken " ++ fault_text fault ++ codes "\n"

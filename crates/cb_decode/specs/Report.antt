@@ -11,18 +11,18 @@ use Rattle.cb_run.specs.declared.ending.Status.{Status}
 use Rattle.cb_run.specs.declared.ending.Status.TheVariants.{Success, BadInput}
 use Rattle.cb_decode.specs.Printed.{items_text, broken_text}
 
--- a stream that is decoded: what is left over behind the last whole envelope, and the stream's fault
+-- a stream that is decoded: the bytes left after the last whole envelope, and the stream's fault
 pub record Decoded : Type 0 where
   pub rest : List ℕ
   pub fault : Option Fault
 
--- the bytes are such a stream, and the text is what is printed of its items and its fault
+-- the bytes are such a stream, and the text is what is printed for its items and its fault
 pub record Decodes (bytes text : List ℕ) (stream : Decoded) : Type 0 where
   pub items : List Item
   pub spelled : Stream bytes items stream.rest stream.fault
   pub printed : text ≡ items_text items ++ broken_text stream.fault
 
--- each line is hex, and the bytes are what they are the hex of, one after another
+-- each line is hex, and the bytes are the lines decoded, one after another
 abbrev pub AreHexOf : List (List ℕ) → List ℕ → Type 0
 AreHexOf [] bytes = bytes ≡ []
 AreHexOf (line ∷ more) bytes =
@@ -36,16 +36,17 @@ IsNotHex line = (error : FromHexError) × (decode_of line ≡ Err error)
 abbrev pub rest_text : ℕ → List ℕ
 rest_text n = codes "rest " ++ decimal n ++ codes "\n"
 
--- the last line where a line isn't hex
+-- the last line if a line isn't hex: that line's number
 abbrev pub not_hex_text : ℕ → List ℕ
 not_hex_text number = codes "line " ++ decimal number ++ codes " not hex\n"
 
--- the status after a stream: its fault is a fault of the input; an item that is damaged or bad is told and isn't
+-- The status after a stream. A fault of the stream is bad input. A damaged or bad item is only
+-- printed.
 abbrev pub stream_status : Option Fault → Status
 stream_status None = Success
 stream_status (Some fault) = BadInput
 
--- all lines are hex: what their stream prints, and then how many bytes are left over
+-- All lines are hex. The output is what their stream prints, and then how many bytes are left over.
 pub record ReportsAll (input out : List ℕ) (status : Status) : Type 0 where
   pub bytes : List ℕ
   pub text : List ℕ
@@ -55,7 +56,8 @@ pub record ReportsAll (input out : List ℕ) (status : Status) : Type 0 where
   pub out_is : out ≡ text ++ rest_text (length stream.rest)
   pub status_is : status ≡ stream_status stream.fault
 
--- a line isn't hex: what the stream of the lines before it prints, and then that line's number
+-- A line isn't hex. The output is what the stream of the lines before it prints, and then that
+-- line's number.
 pub record ReportsUpTo (input out : List ℕ) (status : Status) : Type 0 where
   pub before : List (List ℕ)
   pub line : List ℕ
@@ -70,11 +72,11 @@ pub record ReportsUpTo (input out : List ℕ) (status : Status) : Type 0 where
   pub out_is : out ≡ text ++ not_hex_text (length before + 1)
   pub status_is : status ≡ BadInput
 
--- what the run printed and how it ended, for its whole input
+-- what a run prints for its whole input, and its status
 abbrev pub Reports : List ℕ → List ℕ → Status → Type 0
 Reports input out status = ReportsAll input out status ⊎ ReportsUpTo input out status
 
--- the same where the reader and the writer tell their bytes
+-- the same, if the bytes of the reader and the writer are known
 abbrev pub ReportsKnown : Option (List ℕ) → Option (List ℕ) → Option (List ℕ) → Status → Type 0
 ReportsKnown None old new status = ⊤
 ReportsKnown (Some input) None new status = ⊤

@@ -1,4 +1,4 @@
-//! The command `decode`: a stream's items, one line each.
+//! The command `decode`: prints the items of a stream of P2P messages, one per line.
 
 ghost use Rattle.std.specs.Prelude.{◌≡◌, ◌⊎◌, ℕ, List, [], ◌++◌, ◌%◌, length, ⊤, IsOk, IfOk, IfErr, IsOkUnless, OnOk, MatchOption, None, string_bytes, Ok, true, false};
 ghost use Rattle.std.specs.Io.KnownBytes.{Appends};
@@ -16,19 +16,25 @@ use hex::FromHexError;
 use std::alloc::Global;
 use std::marker::Model;
 
-/// Prints the items of a stream whose pieces come in hex, one in each line.
+/// Prints the items of a stream of P2P messages. Each line of the input is a piece of the stream in
+/// hex.
 ///
-/// A fault of the stream is printed once, and the lines after it print nothing. A line that isn't hex ends the run.
-/// Else what is left over behind the last envelope is printed last.
+/// A fault of the stream is printed once; the lines after it print nothing. A line that isn't hex
+/// is printed by its number and ends the run. Otherwise the last line tells how many bytes are left
+/// after the last whole envelope.
+///
+/// Returns `Status::Success`, or `Status::BadInput` for a fault of the stream or a line that isn't
+/// hex. Fails if memory runs out, a read or a write fails, or there are too many lines.
 pub fn decode<R: Source, W: Sink>(
     alloc: Global,
     reader: &mut R,
     writer: &mut W,
 ) -> Result<Status, Halt>
-    // Over a reader and a writer that tell their bytes: what is printed for the whole input, and the status.
+    // For a reader and a writer whose bytes are known: the status, and what is printed for the
+    // whole input.
     ensures report { IfOk result
         (ReportsKnown (R.remaining reader.old) (W.contents writer.old) (W.contents writer.new)) }
-    // Over every reader and writer: the status, and why a run ends early.
+    // For every reader and writer: the status, and why a run ends early.
     ensures status { IfOk result
         (λ status. (status ≡ Status.Success) ⊎ (status ≡ Status.BadInput)) }
     ensures halts { IfErr result
@@ -63,7 +69,7 @@ fn print_rest<W: Sink>(alloc: Global, rest: usize, writer: &mut W) -> Result<(),
     write_all(writer, text.as_bytes())
 }
 
-/// Prints that a line isn't hex.
+/// Prints that the line with this number isn't hex.
 fn print_not_hex<W: Sink>(alloc: Global, number: u64, writer: &mut W) -> Result<(), Halt>
     ensures text { OnOk result
         (Appends (W.contents writer.old) (W.contents writer.new) (not_hex_text number)) }
@@ -74,8 +80,8 @@ fn print_not_hex<W: Sink>(alloc: Global, number: u64, writer: &mut W) -> Result<
     write_all(writer, text.as_bytes())
 }
 
-/// A stream that is decoded piece by piece. It is seen as what is left over behind the last whole envelope, and the
-/// stream's fault.
+/// A stream that is decoded piece by piece. Contracts see the bytes left after the last whole
+/// envelope, and the stream's fault.
 #[derive(Drop)]
 pub struct Decoding {
     alloc: Global,
@@ -97,7 +103,7 @@ impl Model for Decoding {
 impl Decoding {
     ghost use Rattle.cb_decode.specs.Report.{Decoded};
 
-    /// At a stream's beginning.
+    /// A stream of which no byte came yet.
     pub fn new(alloc: Global) -> Decoding
         ensures { result ≡ record { rest = []; fault = None } }
     {
@@ -108,11 +114,10 @@ impl Decoding {
         }
     }
 
-    /// Takes the piece that a line is the hex of, and answers what is printed for it; None where the line isn't hex.
-    ///
-    /// The only error is want of memory.
+    /// Decodes the piece whose hex is this line. Returns what is printed for it, or `None` if the
+    /// line isn't hex; the stream is then unchanged. Fails only with `Halt::Memory`.
     pub fn line(&mut self, line: &[u8]) -> Result<Option<String>, Halt>
-        // Behind what was printed for all bytes so far.
+        // The text continues what was printed for all bytes before.
         ensures hex { IfOk result
             (λ printed. MatchOption printed (IsNotHex line.now)
             (λ text. (piece : List ℕ) × (decode_of line.now ≡ Ok piece)
@@ -121,7 +126,7 @@ impl Decoding {
         ensures not_hex { IfOk result
             (λ printed. MatchOption printed (self.new ≡ self.old) (λ text. ⊤)) }
         ensures memory { IsOkUnless result Memory }
-        // For a line of an odd length no memory is taken.
+        // A line of odd length needs no memory.
         ensures odd { length line.now % 2 ≡ 1 → IsOk result }
     {
         match hex::decode(self.alloc, line) {
@@ -131,7 +136,7 @@ impl Decoding {
         }
     }
 
-    /// Takes the next piece, and answers what is printed for it. The only error is want of memory.
+    /// Decodes the next piece. Returns what is printed for it. Fails only with `Halt::Memory`.
     fn piece(&mut self, piece: &[u8]) -> Result<String, Halt>
         ensures printed { IfOk result (λ text. (bytes out : List ℕ) → Decodes bytes out self.old →
             Decodes (bytes ++ piece.now) (out ++ string_bytes text) self.new) }
@@ -148,14 +153,14 @@ impl Decoding {
         Ok(text)
     }
 
-    /// How many bytes are left over behind the last whole envelope.
+    /// How many bytes are left after the last whole envelope.
     pub fn rest_len(&self) -> usize
         ensures { result ≡ length self.now.rest }
     {
         self.assembler.rest_len()
     }
 
-    /// The status of a run that ends here.
+    /// The status of a run that ends now.
     pub fn status(&self) -> Status
         ensures { result ≡ stream_status self.now.fault }
     {

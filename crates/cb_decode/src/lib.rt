@@ -1,4 +1,4 @@
-//! The command `decode`: the items of a stream of messages, printed a line each.
+//! The command `decode`: prints the items of a stream of P2P messages, one per line.
 #![tactic(auto)]
 
 mod decoding;

@@ -1,4 +1,5 @@
-//! What `decode` prints of an item: one arm for each message, and for each entry of a list a line of its own.
+//! What `decode` prints for an item. There is one arm for each message, and a line of its own for
+//! each entry of a list. Each function here fails only with `Halt::Memory`.
 
 ghost use Rattle.std.specs.Prelude.{◌≡◌, [], ◌++◌, length, None, IfOk, IsOk, OnOk, IsOkUnless, string_bytes};
 ghost use Rattle.hex.specs.Hex.{encode_lower};
@@ -15,7 +16,7 @@ use cb_wire::{
 };
 use std::alloc::Global;
 
-/// Appends what is printed of items, one after another. The only error is want of memory.
+/// Appends the lines of items, one after another. Fails only with `Halt::Memory`.
 pub fn push_items(alloc: Global, text: &mut String, items: &[Item]) -> Result<(), Halt>
     ensures text { OnOk result
         (string_bytes text.new ≡ string_bytes text.old ++ items_text items.now) }
@@ -28,7 +29,7 @@ pub fn push_items(alloc: Global, text: &mut String, items: &[Item]) -> Result<()
     Ok(())
 }
 
-/// Appends the line of an item. The only error is want of memory.
+/// Appends the line of an item. Fails only with `Halt::Memory`.
 pub fn push_item(alloc: Global, text: &mut String, item: &Item) -> Result<(), Halt>
     ensures text { OnOk result
         (string_bytes text.new ≡ string_bytes text.old ++ item_text item.now) }
@@ -45,7 +46,7 @@ pub fn push_item(alloc: Global, text: &mut String, item: &Item) -> Result<(), Ha
     Ok(())
 }
 
-/// Appends the line of a message: one arm for each command. The only error is want of memory.
+/// Appends the line of a message, with one arm for each command. Fails only with `Halt::Memory`.
 fn push_message(alloc: Global, text: &mut String, message: &Message) -> Result<(), Halt>
     ensures text { OnOk result
         (string_bytes text.new ≡ string_bytes text.old ++ message_text message.now) }
@@ -77,8 +78,8 @@ fn push_message(alloc: Global, text: &mut String, message: &Message) -> Result<(
     Ok(())
 }
 
-/// Appends the line of a version: its number, the services, the height, and the agent in hex. The only error is want of
-/// memory.
+/// Appends the line of a `version`: its number, the services, the height, and the user agent in
+/// hex.
 fn push_version(alloc: Global, text: &mut String, version: &Version) -> Result<(), Halt>
     ensures text { OnOk result
         (string_bytes text.new ≡ string_bytes text.old ++ version_line version.now) }
@@ -93,7 +94,7 @@ fn push_version(alloc: Global, text: &mut String, version: &Version) -> Result<(
     Ok(())
 }
 
-/// The name of a node's software in hex. The only error is want of memory.
+/// A user agent in hex.
 fn hex_of(alloc: Global, agent: &Agent) -> Result<String, Halt>
     ensures text { IfOk result (λ text. string_bytes text ≡ encode_lower agent.now) }
     ensures memory { IsOkUnless result Memory }
@@ -104,7 +105,7 @@ fn hex_of(alloc: Global, agent: &Agent) -> Result<String, Halt>
     }
 }
 
-/// Appends the line of how a peer wants to be told of blocks. The only error is want of memory.
+/// Appends the line of a `sendcmpct`: the high-bandwidth flag as 0 or 1, and the version (BIP 152).
 fn push_compact_relay(text: &mut String, relay: &CompactRelay) -> Result<(), Halt>
     ensures text { OnOk result
         (string_bytes text.new ≡ string_bytes text.old ++ compact_relay_line relay.now) }
@@ -116,8 +117,7 @@ fn push_compact_relay(text: &mut String, relay: &CompactRelay) -> Result<(), Hal
     Ok(())
 }
 
-/// Appends the line of a request for headers: how many hashes its locator has, and where to stop. The only error is want of
-/// memory.
+/// Appends the line of a `getheaders`: how many hashes its locator has, and the hash to stop at.
 fn push_request(alloc: Global, text: &mut String, request: &HeadersRequest) -> Result<(), Halt>
     ensures text { OnOk result
         (string_bytes text.new ≡ string_bytes text.old ++ request_line request.now) }
@@ -126,7 +126,7 @@ fn push_request(alloc: Global, text: &mut String, request: &HeadersRequest) -> R
     push_count_and_stop(alloc, text, locator_len(&request.locator), &request.stop)
 }
 
-/// Appends the line of a request with so many hashes, and this one to stop at. The only error is want of memory.
+/// Appends the line of a `getheaders` with so many hashes and this hash to stop at.
 fn push_count_and_stop(
     alloc: Global,
     text: &mut String,
@@ -149,7 +149,8 @@ fn locator_len(locator: &Locator) -> usize
     locator.as_slice().len()
 }
 
-/// Appends the lines of entries: a name and their number, and one line for each. The only error is want of memory.
+/// Appends the lines of an inventory list: the message's name and how many entries there are, then
+/// one line per entry.
 fn push_entries(
     alloc: Global,
     text: &mut String,
@@ -168,7 +169,7 @@ fn push_entries(
     Ok(())
 }
 
-/// Appends the line of an entry of inventory. The only error is want of memory.
+/// Appends the line of an inventory entry.
 fn push_entry(alloc: Global, text: &mut String, entry: &InvEntry) -> Result<(), Halt>
     ensures text { OnOk result
         (string_bytes text.new ≡ string_bytes text.old ++ entry_line entry.now) }
@@ -180,7 +181,7 @@ fn push_entry(alloc: Global, text: &mut String, entry: &InvEntry) -> Result<(), 
     Ok(())
 }
 
-/// Appends the lines of headers: their number, and the hash of each. The only error is want of memory.
+/// Appends the lines of `headers`: how many there are, then the hash of each.
 fn push_headers(alloc: Global, text: &mut String, headers: &[Header]) -> Result<(), Halt>
     ensures text { OnOk result
         (string_bytes text.new ≡ string_bytes text.old ++ headers_text headers.now) }
@@ -194,7 +195,7 @@ fn push_headers(alloc: Global, text: &mut String, headers: &[Header]) -> Result<
     Ok(())
 }
 
-/// Appends the line of a header: its hash. The only error is want of memory.
+/// Appends the line of a block header: its hash.
 fn push_header(alloc: Global, text: &mut String, header: &Header) -> Result<(), Halt>
     ensures text { OnOk result
         (string_bytes text.new ≡ string_bytes text.old ++ header_line header.now) }
@@ -205,8 +206,8 @@ fn push_header(alloc: Global, text: &mut String, header: &Header) -> Result<(), 
     Ok(())
 }
 
-/// Appends the line of a transaction: its txid, and how many bytes its text has. The text is written once, and hashed
-/// once. The only error is want of memory.
+/// Appends the line of a transaction: its txid, and how many bytes it has. It is serialised once
+/// and hashed once.
 fn push_tx(alloc: Global, text: &mut String, tx: &Tx) -> Result<(), Halt>
     ensures text { OnOk result (string_bytes text.new ≡ string_bytes text.old ++ tx_line tx.now) }
     ensures memory { IsOkUnless result Memory }
@@ -219,7 +220,7 @@ fn push_tx(alloc: Global, text: &mut String, tx: &Tx) -> Result<(), Halt>
     Ok(())
 }
 
-/// Appends the line of a block: its hash, and how many transactions it has. The only error is want of memory.
+/// Appends the line of a block: its hash, and how many transactions it has.
 fn push_block(alloc: Global, text: &mut String, block: &Block) -> Result<(), Halt>
     ensures text { OnOk result
         (string_bytes text.new ≡ string_bytes text.old ++ block_line block.now) }
@@ -231,8 +232,8 @@ fn push_block(alloc: Global, text: &mut String, block: &Block) -> Result<(), Hal
     Ok(())
 }
 
-/// Appends the line of a compact block: its hash, and how many transactions it has in short ids and how many whole. The only error is
-/// want of memory.
+/// Appends the line of a compact block: its hash, how many short ids it has, and how many
+/// transactions are prefilled.
 fn push_compact_block(
     alloc: Global,
     text: &mut String,
@@ -250,8 +251,7 @@ fn push_compact_block(
     Ok(())
 }
 
-/// Appends the line of a request for a block's transactions: the block's hash, and how many are asked for. The only error is want of
-/// memory.
+/// Appends the line of a `getblocktxn`: the block's hash, and how many transactions are asked for.
 fn push_txs_request(
     alloc: Global,
     text: &mut String,
@@ -274,7 +274,7 @@ fn differences_len(differences: &Differences) -> usize
     differences.as_slice().len()
 }
 
-/// Appends the line of a block's transactions: the block's hash, and how many they are. The only error is want of memory.
+/// Appends the line of a `blocktxn`: the block's hash, and how many transactions it has.
 fn push_block_txs(alloc: Global, text: &mut String, txs: &BlockTransactions) -> Result<(), Halt>
     ensures text { OnOk result
         (string_bytes text.new ≡ string_bytes text.old ++ block_txs_line txs.now) }
@@ -286,7 +286,7 @@ fn push_block_txs(alloc: Global, text: &mut String, txs: &BlockTransactions) -> 
     Ok(())
 }
 
-/// Appends the line of a stream's fault, if it has one. The only error is want of memory.
+/// Appends the line of a stream's fault, if it has one. Fails only with `Halt::Memory`.
 pub fn push_fault(text: &mut String, fault: Option<Fault>) -> Result<(), Halt>
     ensures text { OnOk result
         (string_bytes text.new ≡ string_bytes text.old ++ broken_text fault) }
