@@ -5,8 +5,8 @@ use Rattle.cb_sim.specs.declared.sim.Flow.{Flow}
 use Rattle.cb_sim.specs.declared.sim.Stage.TheVariants.{Opening}
 use Rattle.cb_sim.specs.SimRun.{SimState, DoesLine, final_text, status_of}
 
--- The lines, one after another, lead the run from old to new, with this printed. Behind one that can't be read, all
--- others do nothing, by what a line does there.
+-- The lines, one after another, lead the run from old to new and print this. After a line that
+-- can't be read, all others do nothing (`LineAt`).
 abbrev pub DoesLines : List (List ℕ) → SimState → List ℕ → SimState → Type 0
 DoesLines [] old printed new = (printed ≡ []) × (new ≡ old)
 DoesLines (line ∷ more) old printed new =
@@ -16,7 +16,7 @@ DoesLines (line ∷ more) old printed new =
 abbrev pub opening_run : SimState
 opening_run = record { lines = 0; stage = Opening; refused = false }
 
--- what is printed for all lines of the input, then how the run stands at its end, and the status
+-- what is printed for all lines of the input, then the report, and the exit status
 pub record Simulates (input out : List ℕ) (status : ℕ) : Type 0 where
   pub printed : List ℕ
   pub at_end : SimState
@@ -24,7 +24,7 @@ pub record Simulates (input out : List ℕ) (status : ℕ) : Type 0 where
   pub out_is : out ≡ printed ++ final_text at_end.stage
   pub status_is : status ≡ status_of at_end.stage at_end.refused
 
--- the same where the reader and the writer tell their bytes
+-- the same, if the bytes of the reader and the writer are known
 abbrev pub SimulatesKnown : Option (List ℕ) → Option (List ℕ) → Option (List ℕ) → ℕ → Type 0
 SimulatesKnown None old new status = ⊤
 SimulatesKnown (Some input) None new status = ⊤

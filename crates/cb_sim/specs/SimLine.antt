@@ -1,4 +1,4 @@
--- The lines of a run of the crew's core: how each act and the sizes of a crew are written.
+-- How the lines of `sim` are written: the acts, and the sizes of a crew.
 use Rattle.std.specs.Prelude.{◌≡◌, ℕ, ◌^◌, ◌<◌, ◌≤◌, ◌==◌, nat_lt, nat_le, Bool, false, ◌&&◌, if◌then◌else◌, List, [], ◌∷◌, ◌++◌, codes, Option, Some, None, option_and_then, option_map}
 use Rattle.std.specs.Str.{all_ascii_digits, bytes_eq}
 use Rattle.std.specs.Str.Parse.{IsNumeral, digits_value}
@@ -6,15 +6,15 @@ use Rattle.cb_sim.specs.declared.sim.read.Sizes.{Sizes}
 use Rattle.cb_sched.specs.declared.act.Act.{Act}
 use Rattle.cb_sched.specs.declared.act.Act.TheVariants as act
 
--- the word is a decimal number: one digit or more and nothing else, zeros may stand in front
+-- the word is this decimal number: one digit or more and nothing else; leading zeros are allowed
 abbrev pub Writes : List ℕ → ℕ → Type 0
 Writes word n = IsNumeral 10 word × (digits_value 10 word ≡ n)
 
--- a name, a space and a number below 2^16
+-- a name, one space and a number below 2^16
 abbrev pub NamesOne : List ℕ → List ℕ → ℕ → Type 0
 NamesOne text name n = (word : List ℕ) × Writes word n × (n < 2 ^ 16) × (text ≡ name ++ 32 ∷ word)
 
--- The line tells this act: its name and its numbers, with one space between two words.
+-- The line is this act: its name and its numbers, with one space between two words.
 abbrev pub TellsAct : List ℕ → Act → Type 0
 TellsAct text (act.Put p x) =
     (peer : List ℕ) × (item : List ℕ) × Writes peer p × (p < 2 ^ 16) × Writes item x × (x < 2 ^ 64) × (text ≡ codes "put" ++ 32 ∷ (peer ++ 32 ∷ item))
@@ -24,7 +24,7 @@ TellsAct text (act.Claim k) = NamesOne text (codes "claim") k
 TellsAct text (act.Take k) = NamesOne text (codes "take") k
 TellsAct text (act.Give k) = NamesOne text (codes "give") k
 
--- The line tells the sizes of a crew, within their ranges.
+-- The line has the sizes of a crew, within their ranges.
 pub record TellsSizes (text : List ℕ) (sizes : Sizes) : Type 0 where
   pub peers : List ℕ
   pub handlers : List ℕ
@@ -39,7 +39,7 @@ pub record TellsSizes (text : List ℕ) (sizes : Sizes) : Type 0 where
 
 -- ---- the same as functions of the text
 
--- what stands before the first space and behind it
+-- the text before the first space, and the text after it
 abbrev pub cut_of : List ℕ → Option (List ℕ × List ℕ)
 cut_of [] = None
 cut_of (c ∷ cs) = if c == 32 then Some ([], cs) else option_map (λ p. (c ∷ p.0, p.1)) (cut_of cs)
@@ -48,11 +48,11 @@ abbrev pub is_numeral : List ℕ → Bool
 is_numeral [] = false
 is_numeral (c ∷ cs) = all_ascii_digits (c ∷ cs)
 
--- the number that a word writes, if it does and the number is below the limit
+-- the number that a word writes, if it writes one and the number is below the limit
 abbrev pub number_in : ℕ → List ℕ → Option ℕ
 number_in limit word = if is_numeral word && nat_lt (digits_value 10 word) limit then Some (digits_value 10 word) else None
 
--- the act of this name, with these numbers behind it
+-- the act with this name and the numbers in `rest`
 abbrev pub act_named : List ℕ → List ℕ → Option Act
 act_named name rest =
     if bytes_eq name (codes "put")
@@ -72,7 +72,7 @@ act_named name rest =
 abbrev pub act_in : List ℕ → Option Act
 act_in text = option_and_then (λ p. act_named p.0 p.1) (cut_of text)
 
--- the sizes within their ranges, or none
+-- the sizes, if all are within their ranges
 abbrev pub sizes_named : List ℕ → Option ℕ → Option ℕ → Option ℕ → Option Sizes
 sizes_named name (Some p) (Some k) (Some c) =
     if bytes_eq name (codes "system") && (nat_le 1 p && nat_le p 64) && (nat_le 1 k && nat_le k 16) && (nat_le 1 c && nat_le c 1024) then Some (record { peers = p; handlers = k; capacity = c }) else None

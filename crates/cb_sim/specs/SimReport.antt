@@ -1,4 +1,4 @@
--- What is printed at the end of a run of the crew's core.
+-- What `sim` prints at the end of a run: the report.
 use Rattle.std.specs.Prelude.{ℕ, List, [], ◌∷◌, ◌++◌, length, codes}
 use Rattle.std.specs.List.{flat_map, range_with_len}
 use Rattle.std.specs.Fmt.{decimal}
@@ -7,7 +7,7 @@ use Rattle.cb_sched.specs.Text.{mark_text}
 use Rattle.cb_sched.specs.Desks.{held_by}
 use Rattle.cb_sched.specs.Crew.{Crew, line_of}
 
--- items as f prints them, with commas between, or `-` where there is none
+-- each item as f prints it, separated by commas, or `-` if there are none
 abbrev pub joined : {A : Type 0} → (A → List ℕ) → List A → List ℕ
 joined f [] = codes "-"
 joined f (x ∷ xs) = f x ++ flat_map (λ y. codes "," ++ f y) xs

@@ -1,4 +1,4 @@
-//! The command `sim`: the pure core of a crew, run by lines of acts.
+//! The command `sim`: runs the core of a crew (cb_sched), without threads, from lines of text.
 #![tactic(auto)]
 
 mod sim;

@@ -1,4 +1,5 @@
-//! The crew's core, run by hand: a line for the sizes of the crew, and then a line for each act.
+//! The core of a crew, run from lines of text. The first line has the sizes of the crew; each
+//! further line is an act.
 
 ghost use Rattle.std.specs.Prelude.{◌≡◌, ℕ, List, ◌++◌, false, IsOk, IfOk, OnOk, IsOkUnless, string_bytes};
 ghost use Rattle.cb_base.specs.declared.fault.Fault.TheVariants.{Memory};
@@ -18,24 +19,24 @@ use std::marker::Model;
 /// Whether a run goes on after a line.
 #[derive(Clone, Copy, Debug, PartialEq, Eq)]
 pub enum Flow {
-    /// The next line may come.
+    /// The run goes on with the next line.
     Next,
-    /// The line can't be read, and the run is over.
+    /// The line can't be read, or an earlier one couldn't. The run is over.
     Stop,
 }
 
-/// Where a run stands.
+/// The stage of a run.
 #[derive(Drop)]
 enum Stage {
-    /// The sizes of the crew haven't come yet.
+    /// The line with the crew's sizes hasn't come yet.
     Opening,
-    /// Acts may come.
+    /// The crew is made, and lines with acts come.
     Running(System),
-    /// A line couldn't be read.
+    /// A line couldn't be read. The run is over.
     Unreadable,
 }
 
-/// A run of the crew's core over lines of text, which are counted from 1 on.
+/// A run of the crew's core over lines of text. Lines are counted from 1.
 #[derive(Drop)]
 pub struct Simulation {
     alloc: Global,
@@ -53,7 +54,7 @@ impl Model for Simulation {
 }
 
 impl Simulation {
-    /// Before the first line.
+    /// A run before its first line.
     pub fn new(alloc: Global) -> Simulation
         ensures { result ≡ record { lines = 0; stage = Stage.Opening; refused = false } }
     {
@@ -65,16 +66,18 @@ impl Simulation {
         }
     }
 
-    /// Takes the next line, without its end, and adds to `out` what is printed for it: nothing, that its act is refused, or
-    /// that it can't be read.
+    /// Does the next line, given without its line end. Appends to `out` what is printed for it:
+    /// nothing, or that its act is refused, or that the line can't be read. Returns whether the run
+    /// goes on.
     ///
-    /// The only error is `Fault::Memory`.
+    /// Fails only with `Fault::Memory`.
     pub fn line(&mut self, text: &[u8], out: &mut String) -> Result<Flow, Fault>
         ensures does { IfOk result
             (λ flow. (printed : List ℕ) × (string_bytes out.new ≡ string_bytes out.old ++ printed)
             × DoesLine text.now self.old flow printed self.new) }
         ensures memory { IsOkUnless result Memory }
-        // A line of a run that is over takes no memory, and neither does an act that can come and takes none of its own.
+        // Two kinds of lines need no memory: a line after the run is over, and a possible Claim,
+        // Take or Give.
         ensures over { self.old.stage ≡ Stage.Unreadable → IsOk result }
         ensures calm { (m : Machine) (act : Act) → self.old.stage ≡ Stage.Running m →
             TellsAct text.now act → IsEnabled m.capacity m.crew act → (TakesMemory act → ⊥) →
@@ -112,7 +115,7 @@ impl Simulation {
         }
     }
 
-    /// The line that came last can't be read.
+    /// Prints that the current line can't be read, and ends the run.
     fn unreadable(&mut self, out: &mut String) -> Result<Flow, Fault>
         ensures stop { IfOk result
             (λ flow. (flow ≡ Flow.Stop)
@@ -126,10 +129,11 @@ impl Simulation {
         Ok(Flow::Stop)
     }
 
-    /// Ends the run: adds the report to `out` and gives the exit status, 0, or 2 where an act was refused. Where a line
-    /// couldn't be read, or none came, there is no report, and the status is 3.
+    /// Ends the run: appends the report to `out` and returns the exit status. The status is 0, or 2
+    /// if an act was refused. If a line couldn't be read, or no line came, there is no report and
+    /// the status is 3.
     ///
-    /// The only error is `Fault::Memory`.
+    /// Fails only with `Fault::Memory`.
     pub fn finish(self, out: &mut String) -> Result<u8, Fault>
         ensures text { OnOk result
             (string_bytes out.new ≡ string_bytes out.old ++ final_text self.stage) }
@@ -151,7 +155,7 @@ impl Simulation {
     }
 }
 
-/// Prints that the act of a line can't come.
+/// Prints that the act of this line is refused.
 fn print_refusal(line: u64, out: &mut String) -> Result<(), Fault>
     ensures text { OnOk result (string_bytes out.new ≡ string_bytes out.old ++ refusal_text line) }
     ensures memory { IsOkUnless result Memory }

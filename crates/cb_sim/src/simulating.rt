@@ -1,4 +1,4 @@
-//! The command `sim`: a run of the crew's core, a line for each act.
+//! The command `sim`: runs the crew's core, one act per line.
 
 ghost use Rattle.std.specs.Prelude.{◌≡◌, ◌⊎◌, true, IfOk, IfErr, OnOk};
 ghost use Rattle.std.specs.Io.KnownBytes.{Appends};
@@ -12,19 +12,22 @@ use cb_io::{Sink, Source};
 use cb_run::{Halt, LineReader, write_all};
 use std::alloc::Global;
 
-/// Runs the crew's core by the lines of the input, and prints how it stands at the end. The answer is the exit status.
+/// Runs the crew's core from the lines of the input, and prints the report at the end. Returns the
+/// exit status: 0; 2 if an act was refused; 3 if a line couldn't be read or there was none.
 ///
-/// What a line prints is written before the next line is taken. A line that can't be read ends the run, and no report
-/// is printed.
+/// What a line prints is written before the next line is read. A line that can't be read ends the
+/// run, and no report is printed. Fails if memory runs out, a read or a write fails, or there are
+/// too many lines.
 pub fn simulate<R: Source, W: Sink>(
     alloc: Global,
     reader: &mut R,
     writer: &mut W,
 ) -> Result<u8, Halt>
-    // Over a reader and a writer that tell their bytes: what is printed for the whole input, and the status.
+    // For a reader and a writer whose bytes are known: the status, and what is printed for the
+    // whole input.
     ensures report { IfOk result
         (SimulatesKnown (R.remaining reader.old) (W.contents writer.old) (W.contents writer.new)) }
-    // Over every reader and writer: the status, and why a run ends early.
+    // For every reader and writer: the status, and why a run ends early.
     ensures status { IfOk result (λ status. (status ≡ 0) ⊎ ((status ≡ 2) ⊎ (status ≡ 3))) }
     ensures halts { IfErr result
         (HasCause (R.remaining reader.old) (R.has_failed reader.new) (W.has_failed writer.new)) }
@@ -47,7 +50,7 @@ pub fn simulate<R: Source, W: Sink>(
     Err(Halt::TooManyLines)
 }
 
-/// Prints how the run stands at its end, and answers the exit status.
+/// Prints the report, and returns the exit status.
 fn report<W: Sink>(alloc: Global, simulation: Simulation, writer: &mut W) -> Result<u8, Halt>
     ensures text { OnOk result
         (Appends (W.contents writer.old) (W.contents writer.new) (final_text simulation.stage)) }

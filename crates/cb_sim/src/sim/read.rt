@@ -13,10 +13,10 @@ pub struct Sizes {
     pub capacity: usize,
 }
 
-/// The sizes that a line tells: `system PEERS HANDLERS CAPACITY`, with 1 to 64 peers, 1 to 16 handlers, and 1 to 1,024 marks
-/// in an inbox. Words are parted by one space.
+/// Reads the sizes of a crew from a line: `system PEERS HANDLERS CAPACITY`, with 1 to 64 peers, 1
+/// to 16 handlers, and 1 to 1,024 marks in an inbox. One space separates two words.
 ///
-/// It is `None` just where the line tells none.
+/// Returns `None` exactly if the line isn't of this form.
 pub fn read_sizes(text: &[u8]) -> Option<Sizes>
     ensures told { (sizes : Sizes) → (result ≡ Some sizes) ↔ TellsSizes text.now sizes }
     ensures peers { IfSome result (λ sizes. (1 ≤ sizes.peers) × (sizes.peers ≤ 64)) }
@@ -29,7 +29,7 @@ pub fn read_sizes(text: &[u8]) -> Option<Sizes>
     }
 }
 
-/// The sizes that a text tells.
+/// Reads the sizes of a crew.
 fn sizes_of(text: &str) -> Option<Sizes>
     ensures { result ≡ sizes_in text.now }
 {
@@ -54,9 +54,10 @@ fn sizes_of(text: &str) -> Option<Sizes>
     }
 }
 
-/// The act that a line tells: `put PEER ITEM`, `end PEER`, `open PEER`, `claim HANDLER`, `take HANDLER` or `give HANDLER`.
+/// Reads an act from a line: `put PEER ITEM`, `end PEER`, `open PEER`, `claim HANDLER`, `take
+/// HANDLER` or `give HANDLER`.
 ///
-/// It is `None` just where the line tells none.
+/// Returns `None` exactly if the line isn't of one of these forms.
 pub fn read_act(text: &[u8]) -> Option<Act>
     ensures { (act : Act) → (result ≡ Some act) ↔ TellsAct text.now act }
 {
@@ -66,7 +67,7 @@ pub fn read_act(text: &[u8]) -> Option<Act>
     }
 }
 
-/// The act that a text tells.
+/// Reads an act.
 fn act_of(text: &str) -> Option<Act>
     ensures { result ≡ act_in text.now }
 {
@@ -74,7 +75,7 @@ fn act_of(text: &str) -> Option<Act>
     named(name, rest)
 }
 
-/// The act of a name, with its numbers behind it.
+/// The act with this name and the numbers in `rest`.
 fn named(name: &str, rest: &str) -> Option<Act>
     ensures { result ≡ act_named name.now rest.now }
 {
@@ -92,21 +93,21 @@ fn named(name: &str, rest: &str) -> Option<Act>
     }
 }
 
-/// What stands before the first space and behind it.
+/// The text before the first space, and the text after it.
 fn cut(text: &str) -> Option<(&str, &str)>
     ensures { option_map (λ parts. (parts.0.now, parts.1.now)) result ≡ cut_of text.now }
 {
     text.split_once(' ')
 }
 
-/// A number below 2^16.
+/// A decimal number below 2^16.
 fn short(word: &str) -> Option<u16>
     ensures { result ≡ number_in (2 ^ 16) word.now }
 {
     u16::try_from(number(word)?).ok()
 }
 
-/// A number in decimal: one digit or more and nothing else, below 2^64. Zeros may stand in front.
+/// A decimal number below 2^64: one digit or more and nothing else. Leading zeros are allowed.
 fn number(word: &str) -> Option<u64>
     ensures { result ≡ number_in (2 ^ 64) word.now }
 {

@@ -5,9 +5,9 @@ ghost use Rattle.cb_sim.specs.SimReport.{marks_text, peer_text, peers_text, hand
 use cb_base::Fault;
 use cb_sched::{Mark, System};
 
-/// Adds a line for each peer, one for the ring and one for each handler.
+/// Appends the report: a line for each peer, one for the ring and one for each handler.
 ///
-/// The only error is `Fault::Memory`.
+/// Fails only with `Fault::Memory`.
 pub fn write(system: &System, out: &mut String) -> Result<(), Fault>
     ensures text { OnOk result
         (string_bytes out.new ≡ string_bytes out.old ++ report_text system.now.crew) }
@@ -18,7 +18,7 @@ pub fn write(system: &System, out: &mut String) -> Result<(), Fault>
     handlers(system, out)
 }
 
-/// What was queued for each peer and what was taken.
+/// The lines of all peers: what was queued for each, and what was taken.
 fn peers(system: &System, out: &mut String) -> Result<(), Fault>
     ensures text { OnOk result
         (string_bytes out.new ≡ string_bytes out.old ++ peers_text system.now.crew) }
@@ -45,7 +45,7 @@ fn peer_line(system: &System, peer: u16, out: &mut String) -> Result<(), Fault>
     Ok(())
 }
 
-/// Marks with commas between, or `-` where there is none.
+/// Marks separated by commas, or `-` if there are none.
 fn marks(marks: &[Mark], out: &mut String) -> Result<(), Fault>
     ensures text { OnOk result
         (string_bytes out.new ≡ string_bytes out.old ++ marks_text marks.now) }
@@ -63,7 +63,7 @@ fn marks(marks: &[Mark], out: &mut String) -> Result<(), Fault>
     Ok(())
 }
 
-/// The desks that wait in the ring.
+/// The line of the ring: the desks that wait in it.
 fn ring(system: &System, out: &mut String) -> Result<(), Fault>
     ensures text { OnOk result
         (string_bytes out.new ≡ string_bytes out.old ++ ring_text system.now.crew) }
@@ -83,7 +83,7 @@ fn ring(system: &System, out: &mut String) -> Result<(), Fault>
     Ok(())
 }
 
-/// The desk that each handler holds.
+/// The lines of all handlers: the desk that each holds.
 fn handlers(system: &System, out: &mut String) -> Result<(), Fault>
     ensures text { OnOk result
         (string_bytes out.new ≡ string_bytes out.old ++ handlers_text system.now.crew) }
