@@ -1,4 +1,5 @@
-//! What the programs for bench/ share: records on standard input, what is read of their payloads, and how a run is told.
+//! What the programs for bench/ share: records read from standard input, what their payloads hold,
+//! and how the outcome is printed.
 #![tactic(auto)]
 
 mod playing;

@@ -5,7 +5,7 @@ use std::io::{self, BufReader, ErrorKind, Read};
 /// Why a run ended early.
 #[derive(Clone, Copy)]
 pub enum Stop {
-    /// A read failed, or the input ends within a record.
+    /// A read failed, or the input ends inside a record.
     Read,
     Fault(Fault),
 }
@@ -32,16 +32,16 @@ impl From<io::Error> for Stop {
     }
 }
 
-/// What records are played into.
+/// What plays records: it does what each record says, and tells the outcome.
 pub trait Play {
     /// Does what a record says.
     fn play_record(&mut self, kind: u8, payload: &[u8]) -> Result<(), Fault>;
 
-    /// What is printed in the end.
+    /// The text to print at the end.
     fn told(&self) -> Result<String, Fault>;
 }
 
-/// Reads the next record: its kind, or none at the end of the input.
+/// Reads the next record into `payload`. Returns its kind, or `None` at the end of the input.
 fn read_record<R: Read>(reader: &mut R, payload: &mut Vec<u8>) -> Result<Option<u8>, Stop> {
     let mut kind = [0u8; 1];
     if reader.read(&mut kind)? == 0 {
@@ -69,8 +69,11 @@ fn play_records<R: Read, P: Play>(
     Ok(())
 }
 
-/// Plays all records, and gives what is printed in the end. A record is a byte that tells its kind, the length of its payload
-/// in four bytes with the lowest first, and the payload.
+/// Plays all records. Returns the text to print at the end. A record is a byte for its kind, the
+/// length of its payload (four bytes, little-endian), and the payload.
+///
+/// Fails with `Stop::Read` if a read fails or the input ends inside a record, and with the first
+/// fault of a record.
 pub fn play_all<R: Read + Drop, P: Play>(
     alloc: Global,
     reader: R,

@@ -7,7 +7,7 @@ use cb_block::{Block, SoundBlock, read_block, sound};
 use cb_tx::read_hash;
 use std::alloc::Global;
 
-/// The block, if it is sound; else the first fault.
+/// Checks a block. Returns it if it is sound, else its first fault.
 pub fn judge(alloc: Global, block: Block) -> Result<SoundBlock, Fault>
     ensures { IfOk result (λ sound. (sound ≡ block) × IsSoundBlock block) }
 {
@@ -25,7 +25,7 @@ pub fn read_sound<'a>(alloc: Global, cursor: &mut Cursor<'a>) -> Result<SoundBlo
     judge(alloc, block)
 }
 
-/// All numbers of eight bytes that are left.
+/// Reads all numbers of eight bytes that are left.
 pub fn read_numbers(alloc: Global, cursor: &mut Cursor) -> Result<Vec<u64>, Fault> {
     let mut numbers = Vec::with_capacity(alloc, cursor.left() / 8)?;
     for _ in 0..cursor.left() / 8 {
@@ -34,7 +34,7 @@ pub fn read_numbers(alloc: Global, cursor: &mut Cursor) -> Result<Vec<u64>, Faul
     Ok(numbers)
 }
 
-/// All hashes that are left.
+/// Reads all hashes that are left.
 pub fn read_hashes(alloc: Global, cursor: &mut Cursor) -> Result<Vec<Hash256>, Fault> {
     let mut hashes = Vec::new(alloc);
     for _ in 0..cursor.left() / 32 {

@@ -4,20 +4,20 @@ use cb_block::Header;
 use std::alloc::Global;
 use std::io::Write;
 
-/// A word, or the end of a line.
+/// Appends a word, or a line end.
 pub fn push_word(line: &mut String, word: &str) -> Result<(), Fault> {
     line.push_str(word)?;
     Ok(())
 }
 
-/// A hash as people write it, behind a blank.
+/// Appends a space and a hash, as people write it.
 pub fn push_hash(alloc: Global, line: &mut String, hash: &Hash256) -> Result<(), Fault> {
     let shown = hash.show(alloc)?;
     write!(line, " {shown}")?;
     Ok(())
 }
 
-/// A word, and hashes, each behind a blank.
+/// Appends a word, then a space and a hash for each hash.
 pub fn push_hashes(
     alloc: Global,
     line: &mut String,
@@ -31,7 +31,7 @@ pub fn push_hashes(
     Ok(())
 }
 
-/// A word, and the hashes of headers, each behind a blank.
+/// Appends a word, then a space and a hash for each header.
 pub fn push_headers(
     alloc: Global,
     line: &mut String,
@@ -45,8 +45,9 @@ pub fn push_headers(
     Ok(())
 }
 
-/// Prints what a run told, or what ended it: a fault, or the line `unread`. The result is the exit status: 0, 4 of want of memory,
-/// else 3.
+/// Prints the text of a run, or what ended it: its fault, or the line `unread` if a read failed.
+/// Returns the exit status: 0; 4 if memory ran out, with nothing printed; else 3, also if printing
+/// fails.
 pub fn end<W: Write>(writer: &mut W, told: Result<String, Stop>, unread: &str) -> u8 {
     let (printed, status) = match told {
         Ok(text) => (write!(writer, "{text}"), 0),
