@@ -1,4 +1,5 @@
-//! Tells whether the block on standard input is sound. Its time is what bench/bench.py measures; the node has no part in it.
+//! Checks the block on standard input. bench/bench.py measures how long that takes. The node
+//! doesn't use this program.
 #![tactic(auto)]
 
 ghost use Rattle.std.specs.Prelude.{◌≡◌, length, IfOk};
@@ -13,7 +14,8 @@ use std::alloc::Global;
 use std::io::{ErrorKind, Read};
 use std::process::ExitCode;
 
-/// How many transactions the sound block has that these bytes spell; else the first fault.
+/// Reads a block that is all of these bytes. Returns how many transactions it has if it is sound,
+/// else its first fault.
 fn count_sound(alloc: Global, bytes: &[u8]) -> Result<usize, Fault>
     ensures { IfOk result
         (λ count. (block : Block) × (bytes.now ≡ block_text block) × IsSoundBlock block
@@ -28,7 +30,8 @@ fn count_sound(alloc: Global, bytes: &[u8]) -> Result<usize, Fault>
     Ok(sound.block().txs.as_slice().len())
 }
 
-/// What is printed, and the exit status: 0 of a sound block, 4 of want of memory, else 3.
+/// Prints `sound` and the number of transactions, or the fault. Exit status: 0 for a sound block, 4
+/// if memory ran out, else 3.
 fn main(rt: HostRuntime) -> ExitCode {
     let mut bytes = Vec::new(rt.alloc());
     if let Err(error) = rt.reader().read_to_end(&mut bytes) {
