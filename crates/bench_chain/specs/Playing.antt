@@ -6,12 +6,12 @@ use Rattle.cb_block.specs.Text.{IsBlock, IsHeader, block_text, header_text}
 use Rattle.cb_chain.specs.Entries.{Tree}
 use Rattle.cb_chain.specs.History.{BlockCall, Call, HeaderCall, IsHistory}
 
--- The chain has had the calls of before, and then this one.
+-- The chain has had its earlier calls, and then this one.
 unfoldable pub HasHad : Call → Tree → Tree → Type 0
 HasHad call old new = (calls : List Call) → IsHistory calls old → IsHistory (call ∷ calls) new
 
--- The one call of a record: of kind `h` it is that of the header with whose text the payload begins, of kind `b` that of the
--- block. Any other kind makes none.
+-- A record makes at most one call. For kind `h` (104) it gives the header at the beginning of the
+-- payload, for kind `b` (98) the block. Any other kind leaves the chain unchanged.
 pub data Plays (kind : ℕ) (payload : List ℕ) (old new : Tree) : Type 0 where
   plays_header : kind ≡ 104 → (header : Header) (rest : List ℕ) → IsHeader header → payload ≡ header_text header ++ rest → HasHad (HeaderCall header) old new → Plays kind payload old new
   plays_block : kind ≡ 98 → (block : Block) (rest : List ℕ) → IsBlock block → payload ≡ block_text block ++ rest → HasHad (BlockCall block) old new → Plays kind payload old new

@@ -2,15 +2,17 @@ use cb_base::{Cursor, Fault, Hash256};
 use cb_chain::Chain;
 use cb_tx::OutPoint;
 
-/// How many questions there are.
+/// How many questions there are, numbered from 0.
 const QUESTIONS: u8 = 7;
 
 fn has_first_output(chain: &Chain, txid: Hash256) -> bool {
     chain.ledger().has(&OutPoint { txid, index: 0 })
 }
 
-/// Asks a chain for the tip, its height, the tip as an outpoint, the tip's block, the locator, the headers after the tip, or the
-/// path from the tip, and tells the size of the answer.
+/// Asks a chain one question about its tip and returns a size. 0: the tip's height. 1, 2, 3: 1 or
+/// 0, for whether the tip has a height, the tip as a txid has an unspent first output, and the
+/// tip's block is kept. 4, 5, 6: how many entries the locator, the headers after the tip, and the
+/// path from the tip have.
 fn answer_size(chain: &Chain, question: u8) -> Result<usize, Fault> {
     let tip = chain.tip();
     match question {
@@ -24,8 +26,9 @@ fn answer_size(chain: &Chain, question: u8) -> Result<usize, Fault> {
     }
 }
 
-/// Asks what a record says, and tells the sizes of all answers, added up. The record: a question's number, and how often it is
-/// asked.
+/// Asks what a record says: a question's number in one byte, and how often to ask it in four.
+/// Returns the sum of all answers' sizes. Fails with `Fault::NotEnabled` if there is no such
+/// question.
 pub fn answer_sizes(chain: &Chain, cursor: &mut Cursor) -> Result<u64, Fault> {
     let question = cursor.u8()?;
     let count = cursor.u32()?;

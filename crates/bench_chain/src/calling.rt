@@ -7,7 +7,7 @@ use cb_base::Fault;
 use cb_block::{Header, SoundBlock};
 use cb_chain::{Chain, Change};
 
-/// Gives a header to a chain, and notes how that ended.
+/// Gives a header to a chain, and notes the outcome.
 pub fn take_header(chain: &mut Chain, notes: &mut Notes, header: Header) -> Result<(), Fault>
     ensures ok { OnOk result (HasHad (HeaderCall header) chain.old chain.new) }
     ensures err { OnErr result
@@ -20,7 +20,7 @@ pub fn take_header(chain: &mut Chain, notes: &mut Notes, header: Header) -> Resu
     notes.note_header(ended)
 }
 
-/// Gives a block to a chain, and notes how that ended.
+/// Gives a block to a chain, and notes the outcome.
 pub fn take_block(chain: &mut Chain, notes: &mut Notes, block: &SoundBlock) -> Result<(), Fault>
     ensures ok { OnOk result (HasHad (BlockCall block.now) chain.old chain.new) }
     ensures err { OnErr result
@@ -33,7 +33,8 @@ pub fn take_block(chain: &mut Chain, notes: &mut Notes, block: &SoundBlock) -> R
     notes.note_block(&ended)
 }
 
-/// Where memory runs out the chain must be as its copy is, and the call is made again.
+/// The same beside a copy of the chain. If memory runs out, the chain must equal its copy, and the
+/// call is made again.
 fn take_header_with_care(chain: &mut Chain, notes: &mut Notes, header: Header) -> Result<(), Fault>
     ensures ok { OnOk result (HasHad (HeaderCall header) chain.old chain.new) }
     ensures err { OnErr result (chain.new ≡ chain.old) }
@@ -95,7 +96,8 @@ fn offer_block_beside(
     Ok(())
 }
 
-/// Gives a header to a chain, and tells how that ended. The only error is `Fault::Memory`, which changes nothing.
+/// Gives a header to a chain. Returns the outcome. Fails only with `Fault::Memory`; the chain is
+/// then unchanged.
 #[tactic(auto, unfolding(crate::specs::Playing::HasHad))]
 fn offer_header(chain: &mut Chain, header: Header) -> Result<Result<(), Fault>, Fault>
     ensures ok { OnOk result (HasHad (HeaderCall header) chain.old chain.new) }
@@ -108,7 +110,8 @@ fn offer_header(chain: &mut Chain, header: Header) -> Result<Result<(), Fault>, 
     }
 }
 
-/// Gives a block to a chain, and tells how that ended. The only error is `Fault::Memory`, which changes nothing.
+/// Gives a block to a chain. Returns the outcome. Fails only with `Fault::Memory`; the chain is
+/// then unchanged.
 #[tactic(auto, unfolding(crate::specs::Playing::HasHad))]
 fn offer_block(chain: &mut Chain, block: &SoundBlock) -> Result<Result<Change, Fault>, Fault>
     ensures ok { OnOk result (HasHad (BlockCall block.now) chain.old chain.new) }

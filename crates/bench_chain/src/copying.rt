@@ -51,10 +51,11 @@ fn copy_read_message<'a>(alloc: Global, cursor: &mut Cursor<'a>, count: u32) -> 
     copy_message_often(alloc, &Message::Block(block), count)
 }
 
-/// Copies what a record names as often as it says, and tells the sizes of all copies, added up: a chain's height, how many
-/// transactions a block has, 1 for a message.
+/// Makes the copies that a record asks for. Returns the sum of their sizes: the height of a chain,
+/// the number of transactions of a block, and 1 for a message within its limits.
 ///
-/// The record: 0 for the chain, 1 for a block or 2 for a message that holds one, then how often, then the block.
+/// The record is one byte (0 for the chain, 1 for a block, 2 for a message with a block), how often
+/// to copy in four bytes, and then the block, if any.
 pub fn copy_sizes<'a>(alloc: Global, chain: &Chain, cursor: &mut Cursor<'a>) -> Result<u64, Fault> {
     let which = cursor.u8()?;
     let count = cursor.u32()?;

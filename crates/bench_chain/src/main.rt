@@ -1,6 +1,6 @@
-//! Plays headers and blocks from standard input into a chain, and tells how it stands. Its time and memory are what
-//! bench/chain.py measures, bench/count_growth.py counts its growths of memory, and bench/refuse_growth.py refuses them;
-//! the node has no part in it.
+//! Plays headers and blocks from standard input into a chain, and prints its state at the end.
+//! bench/chain.py measures time and memory, bench/count_growth.py counts allocations, and
+//! bench/refuse_growth.py makes them fail. The node doesn't use this program.
 #![tactic(auto)]
 
 mod asking;
@@ -16,13 +16,13 @@ use std::alloc::Global;
 use std::io::{Read, writer};
 use std::process::ExitCode;
 
-/// Plays all records, and tells how the chain stands then.
+/// Plays all records. Returns the lines to print.
 fn play<R: Read + Drop>(alloc: Global, reader: R) -> Result<String, Stop> {
     let mut player = Player::new(alloc)?;
     play_all(alloc, reader, &mut player)
 }
 
-/// What is printed, and the exit status: 0, 4 of want of memory, else 3.
+/// Prints the lines, or what ended the run. Exit status: 0, 4 if memory ran out, else 3.
 fn main(rt: HostRuntime) -> ExitCode {
     let told = play(rt.alloc(), rt.reader());
     ExitCode::from(end(&mut writer(&rt), told, "read failed"))

@@ -5,24 +5,25 @@ use cb_chain::{Chain, Change};
 use cb_tx::OutPoint;
 use std::alloc::Global;
 
-/// What is remembered and told of the calls that a chain had.
+/// What is remembered of the calls to a chain, and the lines to print.
 #[derive(Drop)]
 pub struct Notes {
     pub alloc: Global,
-    /// Each call is made beside a copy of the chain, and what it names is remembered.
+    /// Each call is made beside a copy of the chain, and the hashes and outpoints that it names are
+    /// remembered.
     pub careful: bool,
-    /// Each call tells how it ended.
+    /// Each call prints a line with its outcome.
     pub telling: bool,
     /// The lines of calls and answers.
     pub lines: String,
     names: Vec<Hash256>,
     points: Vec<OutPoint>,
-    // How many calls were accepted, and how many refused.
+    // How many calls were accepted, and how many failed.
     accepted: u64,
     refused: u64,
-    // The sizes of all answers, added up.
+    // The sum of the sizes of all answers.
     answered: u64,
-    // A refused call left another chain than it found.
+    // Whether a call that failed changed the chain.
     changed: bool,
 }
 
@@ -42,7 +43,7 @@ impl Notes {
         }
     }
 
-    /// Counts how a call ended.
+    /// Counts the outcome of a call.
     pub fn count(&mut self, accepted: bool) {
         if accepted {
             self.accepted = self.accepted.wrapping_add(1);
@@ -51,13 +52,13 @@ impl Notes {
         }
     }
 
-    /// Adds sizes of answers.
+    /// Adds the sizes of answers.
     pub fn add(&mut self, sizes: u64) -> Result<(), Fault> {
         self.answered = self.answered.wrapping_add(sizes);
         Ok(())
     }
 
-    /// Counts how a header ended, and tells it in a line.
+    /// Counts the outcome of a header, and appends its line if lines are printed.
     pub fn note_header(&mut self, ended: Result<(), Fault>) -> Result<(), Fault> {
         self.count(ended.is_ok());
         if self.telling {
@@ -66,7 +67,7 @@ impl Notes {
         Ok(())
     }
 
-    /// Counts how a block ended, and tells it in a line.
+    /// Counts the outcome of a block, and appends its line if lines are printed.
     pub fn note_block(&mut self, ended: &Result<Change, Fault>) -> Result<(), Fault> {
         self.count(ended.is_ok());
         if self.telling {
@@ -75,13 +76,13 @@ impl Notes {
         Ok(())
     }
 
-    /// Remembers what a header names.
+    /// Remembers the hash of a header.
     pub fn name_header(&mut self, header: &Header) -> Result<(), Fault> {
         self.names.push(header.hash())?;
         Ok(())
     }
 
-    /// Remembers what a block names: its hash, and the first outputs of its transactions.
+    /// Remembers the hash of a block and the first outpoint of each of its transactions.
     pub fn name_block(&mut self, block: &SoundBlock) -> Result<(), Fault> {
         self.name_header(&block.block().header)?;
         for txid in block.txids() {
@@ -93,7 +94,8 @@ impl Notes {
         Ok(())
     }
 
-    /// Notes where the chain isn't as it was before.
+    /// Notes whether the chain differs from its copy made before, as far as the remembered names
+    /// tell.
     pub fn compare(&mut self, now: &Chain, before: &Chain) {
         let mut differs = now.tip() != before.tip() || now.tip_height() != before.tip_height();
         for name in &self.names {
@@ -107,7 +109,7 @@ impl Notes {
         self.changed |= differs;
     }
 
-    /// The lines of calls and answers, and how the chain stands, in lines.
+    /// All lines: those of calls and answers, then the state of the chain.
     pub fn told(&self, chain: &Chain) -> Result<String, Fault> {
         let mut text = self.lines.clone()?;
         self.push_counts(&mut text, chain)?;
@@ -115,7 +117,7 @@ impl Notes {
         Ok(text)
     }
 
-    /// How the chain stands, and how many calls and answers there were.
+    /// Appends the tip, and how many calls and answers there were.
     fn push_counts(&self, text: &mut String, chain: &Chain) -> Result<(), Fault> {
         push_tip(self.alloc, text, chain)?;
         let (accepted, refused, answered) = (self.accepted, self.refused, self.answered);
@@ -129,7 +131,7 @@ impl Notes {
         Ok(())
     }
 
-    /// Of all that careful calls named.
+    /// Appends what the chain keeps of all hashes and outpoints that careful calls named.
     fn push_remembered(&self, text: &mut String, chain: &Chain) -> Result<(), Fault> {
         for name in &self.names {
             push_name(self.alloc, text, chain, name)?;

@@ -12,7 +12,7 @@ use cb_block::read_header;
 use cb_chain::Chain;
 use std::alloc::Global;
 
-/// A chain, and what was played into it.
+/// A chain, and the notes of what was played into it.
 #[derive(Drop)]
 pub struct Player {
     chain: Chain,
@@ -24,14 +24,14 @@ impl Play for Player {
         self.play(kind, payload)
     }
 
-    /// The lines of calls and answers, and how the chain stands, in lines.
+    /// All lines: those of calls and answers, then the state of the chain.
     fn told(&self) -> Result<String, Fault> {
         self.notes.told(&self.chain)
     }
 }
 
 impl Player {
-    /// A player of a new chain. The only error is `Fault::Memory`.
+    /// A player of a new chain. Fails only with `Fault::Memory`.
     pub fn new(alloc: Global) -> Result<Player, Fault>
         ensures { IfOk result (λ player. player.chain ≡ []) }
     {
@@ -41,9 +41,10 @@ impl Player {
         })
     }
 
-    /// Plays a record: `h` and a header, `b` and a block, or one that leaves the chain as it is (`play_other`).
+    /// Plays a record: `h` and a header, `b` and a block, or one of `play_other`, which leaves the
+    /// chain unchanged.
     ///
-    /// A refused record has made its call or left the chain as it was.
+    /// If it fails, the call was made or the chain is unchanged.
     pub fn play(&mut self, kind: u8, payload: &[u8]) -> Result<(), Fault>
         ensures ok { OnOk result (Plays kind payload.now self.old.chain self.new.chain) }
         ensures err { OnErr result
@@ -65,14 +66,15 @@ impl Player {
     }
 }
 
-/// Judges a block by itself, and tells how many transactions it has.
+/// Reads and checks a block without a chain. Returns how many transactions it has.
 fn judge_block<'a>(alloc: Global, cursor: &mut Cursor<'a>) -> Result<u64, Fault> {
     Ok(read_sound(alloc, cursor)?.txids().len() as u64)
 }
 
-/// Plays a record beside a chain: `s` and a block that is only judged by itself, `q` with a question's number and how often it is
-/// asked, `y` and what is copied how often (`copy_sizes`), `c`, from which on each call is made beside a copy, `t`, from which on
-/// each call tells in a line how it ended, or a question that is answered by a line (`push_answer`).
+/// Plays a record that leaves the chain unchanged. `s`: a block to check by itself. `q`: a
+/// question's number and how often to ask it. `y`: what to copy how often (`copy_sizes`). `c`: from
+/// now on make each call beside a copy. `t`: from now on print a line with each call's outcome. Any
+/// other: a question that is answered by a line (`push_answer`).
 fn play_other<'a>(
     chain: &Chain,
     notes: &mut Notes,

@@ -4,7 +4,7 @@ use cb_chain::{Chain, Change};
 use cb_tx::{OutPoint, read_hash};
 use std::alloc::Global;
 
-/// The line of how a header ended: `taken`, or the fault.
+/// Appends the outcome of a header: `taken`, or the fault.
 pub fn push_taken(lines: &mut String, ended: Result<(), Fault>) -> Result<(), Fault> {
     match ended {
         Ok(()) => writeln!(lines, "taken")?,
@@ -13,7 +13,8 @@ pub fn push_taken(lines: &mut String, ended: Result<(), Fault>) -> Result<(), Fa
     Ok(())
 }
 
-/// The line of how a block ended: what went off the best chain and what came on, or the fault.
+/// Appends the outcome of a block: the blocks that left the best chain and those that joined it, or
+/// the fault.
 pub fn push_change(
     alloc: Global,
     lines: &mut String,
@@ -30,7 +31,8 @@ pub fn push_change(
     Ok(())
 }
 
-/// The line of what is kept of a hash.
+/// Appends what the chain keeps of a hash: its height, whether it keeps the block, and whether it
+/// lacks the block (neither kept nor marked bad).
 pub fn push_name(
     alloc: Global,
     lines: &mut String,
@@ -47,14 +49,14 @@ pub fn push_name(
     Ok(())
 }
 
-/// The line of what an unspent output is worth; -1 where it isn't unspent.
+/// Appends the amount of an unspent output, or -1 if there is no such one.
 pub fn push_value(lines: &mut String, chain: &Chain, point: &OutPoint) -> Result<(), Fault> {
     let value = chain.ledger().value(point).unwrap_or(-1);
     writeln!(lines, "value {value}")?;
     Ok(())
 }
 
-/// The line of the tip.
+/// Appends the tip and its height.
 pub fn push_tip(alloc: Global, lines: &mut String, chain: &Chain) -> Result<(), Fault> {
     lines.push_str("tip")?;
     push_hash(alloc, lines, &chain.tip())?;
@@ -100,8 +102,9 @@ fn read_point<'a>(cursor: &mut Cursor<'a>) -> Result<OutPoint, Fault> {
     Ok(OutPoint { txid, index })
 }
 
-/// The line of a question's answer: `i` the tip, `n` what is kept of a hash, `v` what an unspent output is worth, `l` the
-/// locator, `f` the headers after a locator (behind their stop), `p` the path from a hash.
+/// Appends the answer to a question. `i`: the tip. `n`: what the chain keeps of a hash. `v`: the
+/// amount of an unspent output. `l`: the locator. `f`: the headers after a locator, given after the
+/// stop hash. `p`: the path from a hash. Fails with `Fault::NotEnabled` for any other kind.
 pub fn push_answer<'a>(
     alloc: Global,
     lines: &mut String,
