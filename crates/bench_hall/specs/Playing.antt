@@ -15,9 +15,9 @@ use Rattle.bench_hall.specs.declared.call.Call.TheVariants.{Ask, Checkpoint, Ext
 use Rattle.bench_hall.specs.declared.call.Sight.{Sight}
 use Rattle.bench_hall.specs.declared.call.Sight.TheVariants.{Again, Counts, Look, Mine, Pairs, Replay}
 
--- ---- the kinds of records, by their letters
+-- ---- the kinds of records, as the codes of their letters
 
--- a h l w t b s f e n d
+-- the letters a h l w t b s f e n d
 abbrev pub question_kind : Question → ℕ
 question_kind question.Admit = 97
 question_kind (question.Headers headers) = 104
@@ -31,7 +31,7 @@ question_kind (question.Serve (Places hash differences)) = 101
 question_kind (question.News told) = 110
 question_kind (question.Match sought) = 100
 
--- i j g r m v
+-- the letters i j g r m v
 abbrev pub sight_kind : Sight → ℕ
 sight_kind Look = 105
 sight_kind Counts = 106
@@ -40,7 +40,7 @@ sight_kind Replay = 114
 sight_kind (Mine mark) = 109
 sight_kind Pairs = 118
 
--- o k T B M p
+-- the letters o k T B M p
 abbrev pub call_kind : Call → ℕ
 call_kind (Ask connection asked) = question_kind asked
 call_kind (Open peer) = 111
@@ -53,7 +53,7 @@ call_kind (See sight) = sight_kind sight
 
 -- ---- what a call does
 
--- nobody has asked it anything yet
+-- a hall that wasn't asked anything yet
 unfoldable pub IsNew : JournalState → Type 0
 IsNew hall = hall ≡ new_journal
 
@@ -62,18 +62,18 @@ Makes (Ask connection asked) old new = (answer : Answer) × Grows old (entries.A
 Makes (Open peer) old new = Grows old (entries.Opened (next_connection old peer)) None new
 Makes (Kick peer) old new = Grows old (entries.Kick (latest_connection old peer)) None new
 Makes (Submit given) old new = (answer : Answer) × Submitted old given new answer
--- the block that is made is handed in
+-- a block is mined, and submitted
 Makes (Extend mark) old new = (block : Block) × (answer : Answer) × IsMined old.latest.node mark block × Submitted old (local.Block block) new answer
 Makes Checkpoint old new = new ≡ record { base = old.latest; entries = []; latest = old.latest }
 Makes (See sight) old new = new ≡ old
 
--- calls in turn
+-- any number of calls, one after another
 pub data MakesOften (old : JournalState) : JournalState → Type 0 where
   made_none : (new : JournalState) → new ≡ old → MakesOften old new
   made_more : (call : Call) (next new : JournalState) → MakesOften old next → Makes call next new → MakesOften old new
 
--- A record of another kind than `x`, `z` and `c` makes the one call of its kind; of `x` calls in turn, of `z` the hall is new,
--- and of `c` it stays as it is.
+-- What a record does. Kind `x` (120) makes any number of calls. Kind `z` (122) gives a new hall.
+-- Kind `c` (99) leaves the hall unchanged. Any other kind makes one call of that kind.
 pub data Plays (kind : ℕ) (old new : JournalState) : Type 0 where
   plays_one : (call : Call) → call_kind call ≡ kind → Makes call old new → Plays kind old new
   plays_often : kind ≡ 120 → MakesOften old new → Plays kind old new

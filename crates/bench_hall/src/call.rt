@@ -1,20 +1,22 @@
 use cb_journal::{Answer, Local, Question};
 use cb_state::Connection;
 
-/// What is looked at in a hall, which stays as it is.
+/// What a record looks at in a hall, which stays unchanged. A hall is what Bitcoin Core keeps in
+/// ChainstateManager and CTxMemPool: the chain, the UTXO set and the mempool, here with a journal
+/// of all calls.
 #[derive(Clone, Copy)]
 pub enum Sight {
-    /// How it stands.
+    /// The hall at a glance.
     Look,
-    /// How long the journal is, and how often who has asked.
+    /// How many entries the journal has, and how often each connection has asked.
     Counts,
-    /// Whether all is the same if it is computed again.
+    /// Whether the hall and its answers are the same when computed again from the journal.
     Again,
-    /// To what the journal leads, if all calls stand in it.
+    /// The hall to which the journal leads, if the journal has all calls.
     Replay,
-    /// The block that is made with this mark.
+    /// The block that is mined with this mark.
     Mine(u8),
-    /// The pairs that were told last, in a list that is made now.
+    /// The pairs that were answered last, as a list made now.
     Pairs,
 }
 
@@ -25,20 +27,20 @@ pub enum Call {
     Open(u16),
     Kick(u16),
     Submit(Local),
-    /// A block is made with this mark, and handed in.
+    /// Mines a block with this mark, and submits it.
     Extend(u8),
     Checkpoint,
     See(Sight),
 }
 
-/// How a call ended.
+/// The outcome of a call.
 #[derive(Drop)]
 pub enum Reply {
-    /// What a question was answered, or what was handed in met.
+    /// The answer to a question, or to a transaction or block that was submitted.
     Answered(Answer),
     Opened(Connection),
     Kicked(u16),
     Checkpoint,
-    /// What was looked at, in a line.
+    /// The lines of what was looked at.
     Seen(String),
 }

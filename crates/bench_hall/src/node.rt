@@ -10,7 +10,7 @@ use cb_journal::{Local, PEERS, Question};
 use cb_state::Connection;
 use std::alloc::Global;
 
-/// A hall, and the badges that it gave.
+/// A hall, and the badges that it gave. A badge is a connection's permit to ask the hall.
 #[derive(Drop)]
 pub struct Node {
     pub alloc: Global,
@@ -18,7 +18,8 @@ pub struct Node {
     pub badges: Vec<Badge>,
 }
 
-/// A new hall of so many peers, and the badges of their first connections. The only error is `Fault::Memory`.
+/// A new hall for so many peers, with the badges of their first connections. Fails only with
+/// `Fault::Memory`.
 #[tactic(auto, unfolding(crate::specs::Playing::IsNew))]
 pub fn new_hall(alloc: Global, peers: u16) -> Result<(Hall, Vec<Badge>), Fault>
     requires some { 1 ≤ peers }
@@ -28,7 +29,7 @@ pub fn new_hall(alloc: Global, peers: u16) -> Result<(Hall, Vec<Badge>), Fault>
     Hall::new(alloc, peers)
 }
 
-/// The place of a connection's badge.
+/// The index of a connection's badge, if it has one.
 #[tactic(auto, using(crate::proofs::Places::same_item))]
 fn place_of(badges: &[Badge], connection: Connection) -> Option<usize>
     ensures { IfSome result
@@ -45,7 +46,8 @@ fn place_of(badges: &[Badge], connection: Connection) -> Option<usize>
 }
 
 impl Node {
-    /// A new hall of 64 peers. The only error is `Fault::Memory`.
+    /// A new hall for 64 peers, with the badges of their first connections. Fails only with
+    /// `Fault::Memory`.
     pub fn new(alloc: Global) -> Result<Node, Fault>
         ensures { IfOk result (λ node. IsNew node.hall) }
     {
@@ -62,7 +64,8 @@ impl Node {
         self.hall.journal().len()
     }
 
-    /// A question under the badge of this connection.
+    /// Asks a question under the badge of this connection. Fails with `Fault::NotEnabled` if the
+    /// connection has no badge. If it fails, the hall is unchanged.
     #[tactic(auto, unfolding(crate::specs::Playing::Makes))]
     pub fn ask(&mut self, connection: Connection, question: &Question) -> Result<Reply, Fault>
         ensures { MatchResult result
@@ -115,7 +118,7 @@ impl Node {
         Ok(Reply::Answered(answer))
     }
 
-    /// Makes a block of the pool, and hands it in.
+    /// Mines a block from the mempool, and submits it. If it fails, the hall is unchanged.
     #[tactic(auto, unfolding(crate::specs::Playing::Makes))]
     pub fn extend(&mut self, mark: u8) -> Result<Reply, Fault>
         ensures { MatchResult result

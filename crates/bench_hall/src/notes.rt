@@ -6,27 +6,29 @@ use cb_journal::Answer;
 use cb_pool::Pairs;
 use std::alloc::Global;
 
-/// What was told of the calls of a hall.
+/// What is remembered of the calls to a hall, and the lines to print.
 #[derive(Drop)]
 pub struct Notes {
     pub alloc: Global,
-    /// Where memory runs out the hall is looked at, and the call is made again.
+    /// The hall is looked at before each call. If memory runs out, it is looked at again, and the
+    /// call is made again.
     pub careful: bool,
-    /// A refused call left another hall than it found.
+    /// Whether a call that failed changed the hall.
     pub changed: bool,
-    /// Calls are made of which no line is printed.
+    /// Whether calls were made for which no line is printed.
     pub repeated: bool,
-    // How much these told.
+    // The sum of the sizes of their answers.
     sum: u64,
     // The lines of all calls.
     lines: String,
     /// Whether the hall's journal ever began anew.
     pub anew: bool,
-    // How many answers there were since, the lines that were printed of them, and how many answers stood before each line.
+    // Since the journal began anew: how many answers there were, the lines printed for them, and
+    // how many answers came before each line.
     answers: usize,
     answer_lines: String,
     places: Vec<usize>,
-    /// The pairs that were told last.
+    /// The pairs that were answered last.
     pub pairs: Option<Pairs>,
 }
 
@@ -53,15 +55,15 @@ impl Notes {
         self.places.clear();
     }
 
-    /// Calls are made of a new hall.
+    /// From now on calls are made to a new hall.
     pub fn begin_hall(&mut self) {
         self.forget_answers();
         self.anew = false;
         self.pairs = None;
     }
 
-    /// Notes how a call ended before which the node's journal had so many entries. Its line is printed, or its answer's size is
-    /// added up.
+    /// Notes the outcome of a call; the node's journal had `had` entries before. Either its line is
+    /// printed, or its answer's size is added to the sum.
     pub fn note(
         &mut self,
         node: &Node,
@@ -83,7 +85,7 @@ impl Notes {
         }
     }
 
-    /// The journal begins anew where it doesn't have one entry more.
+    /// The journal has begun anew if it doesn't have one more entry than before.
     fn note_entries(&mut self, had: usize, has: usize) {
         if had > 0 && has != had.wrapping_add(1) {
             self.anew = true;
@@ -91,7 +93,7 @@ impl Notes {
         }
     }
 
-    /// One answer more. Pairs are kept.
+    /// Notes one more answer. Pairs are remembered.
     fn note_answer(&mut self, answer: &Answer, printed: bool) -> Result<(), Fault> {
         if printed {
             push_answer(self.alloc, &mut self.answer_lines, answer)?;
@@ -106,7 +108,8 @@ impl Notes {
         Ok(())
     }
 
-    /// Whether these answers are as many as there were, and those whose lines were printed have these lines.
+    /// Whether these answers are the ones that were noted: as many, and with the same lines where
+    /// lines were printed.
     pub fn is_told_by(&self, answers: &[Answer]) -> Result<bool, Fault> {
         let mut lines = String::new(self.alloc);
         for place in &self.places {
@@ -117,8 +120,8 @@ impl Notes {
         Ok(answers.len() == self.answers && lines.as_str() == self.answer_lines.as_str())
     }
 
-    /// The lines of all calls. Behind them stand how much those told of which none was printed, and whether a refused call
-    /// changed the hall.
+    /// The lines of all calls. After them comes the sum for the calls without a line, and whether a
+    /// call that failed changed the hall.
     pub fn told(&self) -> Result<String, Fault> {
         let mut text = self.lines.clone()?;
         if self.repeated {

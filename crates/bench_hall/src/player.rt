@@ -12,7 +12,7 @@ use cb_base::{Cursor, Fault};
 use std::alloc::Global;
 use std::mem;
 
-/// A node, and what was told of the calls that were played into it.
+/// A node, and the notes of the calls that were played into it.
 #[derive(Drop)]
 pub struct Player {
     node: Node,
@@ -31,7 +31,7 @@ impl Play for Player {
 }
 
 impl Player {
-    /// A player of a new hall. The only error is `Fault::Memory`.
+    /// A player of a new hall. Fails only with `Fault::Memory`.
     pub fn new(alloc: Global) -> Result<Player, Fault>
         ensures { IfOk result (λ player. IsNew player.node.hall) }
     {
@@ -41,9 +41,14 @@ impl Player {
         })
     }
 
-    /// Plays a record: a call (`read_call`), of which a line is printed; `x`, how often in four bytes, and the kind and the
-    /// payload of a call that is made so often and of which none is; `z`, after which calls are made of a new hall; or `c`, after
-    /// which the hall is looked at before each call, and where memory runs out once more, and the call is made again then.
+    /// Plays a record:
+    ///
+    /// - a call (`read_call`), whose line is printed;
+    /// - `x`, a count in four bytes, and the kind and payload of a call: it is made so often, and
+    ///   no line is printed;
+    /// - `z`: from now on calls are made to a new hall;
+    /// - `c`: from now on the hall is looked at before each call. If memory runs out, it is looked
+    ///   at again, and the call is made again.
     pub fn play(&mut self, kind: u8, payload: &[u8]) -> Result<(), Fault>
         ensures { OnOk result (Plays kind self.old.node.hall self.new.node.hall) }
     {
@@ -59,7 +64,7 @@ impl Player {
         }
     }
 
-    /// Calls are made of a new hall from now on.
+    /// From now on calls are made to a new hall.
     fn begin(&mut self) -> Result<(), Fault>
         ensures { OnOk result (IsNew self.new.node.hall) }
     {
@@ -69,7 +74,7 @@ impl Player {
         Ok(())
     }
 
-    /// Makes a call of this kind, and prints its line.
+    /// Reads a call of this kind, makes it and prints its line.
     fn play_call<'a>(&mut self, kind: u8, cursor: &mut Cursor<'a>) -> Result<(), Fault>
         ensures { OnOk result (Plays kind self.old.node.hall self.new.node.hall) }
     {
@@ -79,7 +84,7 @@ impl Player {
         told
     }
 
-    /// Makes a call, and notes how it ended.
+    /// Makes a call, and notes its outcome.
     fn tell(&mut self, call: &Call, printed: bool) -> Result<(), Fault>
         ensures { OnOk result (Makes call.now self.old.node.hall self.new.node.hall) }
     {
@@ -90,7 +95,7 @@ impl Player {
         noted
     }
 
-    /// Makes a call so often, and prints nothing.
+    /// Reads a call and makes it as often as the record says. No line is printed.
     fn repeat<'a>(&mut self, cursor: &mut Cursor<'a>) -> Result<(), Fault>
         ensures { OnOk result (MakesOften self.old.node.hall self.new.node.hall) }
     {
@@ -112,7 +117,7 @@ impl Player {
         Ok(())
     }
 
-    /// Makes a call. A refused one changes nothing.
+    /// Makes a call. If it fails, the hall is unchanged.
     fn perform(&mut self, call: &Call) -> Result<Reply, Fault>
         ensures { MatchResult result (λ reply. Makes call.now self.old.node.hall self.new.node.hall)
             (λ fault. self.new.node.hall ≡ self.old.node.hall) }
@@ -124,7 +129,7 @@ impl Player {
         self.make(call)
     }
 
-    /// Where memory runs out the hall must be as it was, and the call is made again.
+    /// Makes a call. If memory runs out, the hall must look as before, and the call is made again.
     fn perform_beside(&mut self, call: &Call, before: &str) -> Result<Reply, Fault>
         ensures { MatchResult result (λ reply. Makes call.now self.old.node.hall self.new.node.hall)
             (λ fault. self.new.node.hall ≡ self.old.node.hall) }
@@ -159,7 +164,7 @@ impl Player {
         }
     }
 
-    /// Looking changes nothing.
+    /// Looks at the hall, which stays unchanged.
     #[tactic(auto, unfolding(crate::specs::Playing::Makes))]
     fn look_at(&mut self, sight: Sight) -> Result<Reply, Fault>
         ensures { MatchResult result

@@ -11,14 +11,14 @@ use cb_state::{Connection, Inventories, Inventory};
 use cb_tx::{Tx, read_hash, read_tx};
 use std::alloc::Global;
 
-/// A peer and a generation.
+/// Reads a connection: a peer in two bytes and a generation in eight.
 fn read_connection(cursor: &mut Cursor) -> Result<Connection, Fault> {
     let peer = cursor.u16()?;
     let generation = cursor.u64()?;
     Ok(Connection { peer, generation })
 }
 
-/// An entry of inventory: a type in four bytes, and a hash.
+/// Reads an inventory entry: a type in four bytes, and a hash.
 fn read_entry(cursor: &mut Cursor) -> Result<Inventory, Fault> {
     let kind = cursor.u32()?;
     let hash = read_hash(cursor)?;
@@ -50,7 +50,7 @@ fn read_headers(alloc: Global, cursor: &mut Cursor) -> Result<HeaderList, Fault>
     as_listed(headers)
 }
 
-/// Short ids, or differences of places, each in eight bytes.
+/// Reads short ids or differences of indexes, each in eight bytes.
 fn read_listed<const MOST: usize>(
     alloc: Global,
     cursor: &mut Cursor,
@@ -58,7 +58,8 @@ fn read_listed<const MOST: usize>(
     as_listed(read_numbers(alloc, cursor)?)
 }
 
-/// A header, a nonce, and short ids.
+/// Reads what a compact block's transactions are matched by: a header, a nonce in eight bytes, and
+/// short ids.
 fn read_sought<'a>(alloc: Global, cursor: &mut Cursor<'a>) -> Result<Sought, Fault> {
     let header = read_header(cursor)?;
     let nonce = cursor.u64()?;
@@ -66,7 +67,7 @@ fn read_sought<'a>(alloc: Global, cursor: &mut Cursor<'a>) -> Result<Sought, Fau
     Ok(Sought { header, nonce, ids })
 }
 
-/// The list, if it isn't too long.
+/// The list, if it isn't too long, else `Fault::TooMany`.
 fn as_listed<T: Drop, const MOST: usize>(list: Vec<T>) -> Result<Listed<T, MOST>, Fault> {
     match Listed::new(list) {
         Ok(listed) => Ok(listed),
@@ -79,15 +80,16 @@ fn read_shared_tx<'a>(alloc: Global, cursor: &mut Cursor<'a>) -> Result<Shared<T
     Ok(Shared::new(alloc, tx)?)
 }
 
-/// Whether the peer knows compact blocks in a byte, and the block.
+/// Reads a block that a peer gives: whether the peer knows compact blocks in one byte, then the
+/// block.
 fn read_given<'a>(alloc: Global, cursor: &mut Cursor<'a>) -> Result<Given, Fault> {
     let capable = cursor.u8()? != 0;
     let block = read_sound(alloc, cursor)?;
     Ok(Given { block, capable })
 }
 
-/// Whether the block is asked for in a byte, the number of the first transaction that wasn't told, and the tip that was told, if
-/// one was.
+/// Reads what a peer was told: whether it wants the tip's block in one byte, the arrival number of
+/// the first transaction that it wasn't told of in eight, and the tip that it was told of, if any.
 fn read_told(cursor: &mut Cursor) -> Result<Told, Fault> {
     let whole = cursor.u8()? != 0;
     let from = cursor.u64()?;
@@ -126,17 +128,22 @@ fn read_question<'a>(alloc: Global, kind: u8, cursor: &mut Cursor<'a>) -> Result
     }
 }
 
-/// The call of a record. A question begins with its connection: a peer in two bytes and a generation in eight. Then comes, of
-/// the kinds
+/// Reads the call of a record. A question begins with its connection: a peer in two bytes and a
+/// generation in eight. Then comes, by the kind:
 ///
-/// - `a` and `l` (leave, locator) nothing;
-/// - `h` headers; `w` and `s` (want, serve) entries of inventory; `f` (after) a stop and the hashes of a locator;
-/// - `t` a transaction; `b` whether the peer knows compact blocks, and a block;
-/// - `n` (news) whether the block is asked for, a number of arrival in eight bytes, and the tip that was told, if one was;
-/// - `d` (match) a header, a nonce in eight bytes, and short ids; `e` (places) a block's hash and differences, each in eight bytes.
+/// - `a` (may the next item or tick be processed) and `l` (locator): nothing;
+/// - `h`: headers; `w` (want) and `s` (serve): inventory entries; `f` (headers after a locator): a
+///   stop hash and the hashes of the locator;
+/// - `t`: a transaction; `b`: whether the peer knows compact blocks in one byte, and a block;
+/// - `n` (news): whether the tip's block is wanted in one byte, an arrival number in eight bytes,
+///   and the tip that was told, if any;
+/// - `d` (match): a header, a nonce in eight bytes, and short ids; `e` (a block's transactions at
+///   places): the block's hash and differences, each in eight bytes.
 ///
-/// The others: `o` and `k` (open, kick) a peer, `T` and `B` what is handed in, `m` and `M` (mine, extend) a mark, and `p`, `i`,
-/// `j`, `g`, `r` and `v` (checkpoint, look, counts, again, replay, the pairs that were told last) nothing.
+/// Other calls: `o` (open) and `k` (kick) have a peer in two bytes; `T` and `B` have the
+/// transaction or block to submit; `m` (mine) and `M` (extend) have a mark in one byte. `p`
+/// (checkpoint), `i` (look), `j` (counts), `g` (again), `r` (replay) and `v` (the pairs answered
+/// last) have nothing.
 pub fn read_call<'a>(alloc: Global, kind: u8, cursor: &mut Cursor<'a>) -> Result<Call, Fault>
     ensures { IfOk result (λ call. call_kind call ≡ kind) }
 {

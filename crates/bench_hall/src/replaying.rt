@@ -7,7 +7,7 @@ use cb_hall::Hall;
 use cb_journal::{Connections, PEERS};
 use std::alloc::Global;
 
-/// Whether each peer has had its first connection alone.
+/// Whether each peer has its first connection now.
 fn are_first(connections: &Connections) -> bool
     ensures { result ≡ true → (peer : ℕ) → peer < 64 → latest_of connections.now peer ≡ 1 }
 {
@@ -19,14 +19,16 @@ fn are_first(connections: &Connections) -> bool
     true
 }
 
-/// The line of a hall that was made of a journal: how long its journal is, and how it is seen at a glance.
+/// Appends the line of a hall that was made from a journal: how long its journal is, and the hall
+/// at a glance.
 fn push_replayed(alloc: Global, lines: &mut String, other: &Hall) -> Result<(), Fault> {
     let length = other.journal().len();
     write!(lines, "replay journal {length} ")?;
     push_look(alloc, lines, other)
 }
 
-/// The line of the hall to which a journal leads. There is none where a connection was opened before the journal began.
+/// Appends the line of the hall to which a journal leads. There is no line if a connection was
+/// opened before the journal began.
 fn push_led_to(alloc: Global, lines: &mut String, hall: &Hall) -> Result<(), Fault> {
     let calls = hall.journal();
     if !are_first(hall.kept()) {
@@ -38,7 +40,8 @@ fn push_led_to(alloc: Global, lines: &mut String, hall: &Hall) -> Result<(), Fau
     pushed
 }
 
-/// The line of the hall to which a journal leads that has all calls.
+/// Appends the line of the hall to which the journal leads, if the journal has all calls; else a
+/// line that says that it hasn't.
 pub fn push_replay(
     alloc: Global,
     lines: &mut String,

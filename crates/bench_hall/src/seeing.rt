@@ -15,14 +15,14 @@ use std::alloc::Global;
 /// How many peers ask a hall that was computed again.
 const WATCHERS: u16 = 4;
 
-/// What is asked of all that waits in the pool.
+/// Asks for all transactions of the mempool.
 const ALL: Told = Told {
     tip: None,
     from: 0,
     whole: false,
 };
 
-/// The line of what is seen of a hall at a glance.
+/// Appends the hall at a glance: the tip's height, the size of the mempool, and the tip.
 pub fn push_look(alloc: Global, lines: &mut String, hall: &Hall) -> Result<(), Fault> {
     let look = hall.look();
     let (height, pool) = (look.height, look.pool);
@@ -32,7 +32,7 @@ pub fn push_look(alloc: Global, lines: &mut String, hall: &Hall) -> Result<(), F
     Ok(())
 }
 
-/// How often a connection has asked, 0 where there is no such one.
+/// How often a connection has asked, or 0 if there is no such connection.
 fn count_of(connections: &Connections, connection: Connection) -> u64 {
     match connections.get(connection) {
         Some(connected) => connected.count,
@@ -40,7 +40,8 @@ fn count_of(connections: &Connections, connection: Connection) -> u64 {
     }
 }
 
-/// Of a connection that has asked: how often before the journal, by now, and by its badge, and whether it was kicked.
+/// For a connection that has asked: appends how often it had before the journal began, how often by
+/// now, and how often by its badge, and whether it was kicked.
 fn push_badge(lines: &mut String, hall: &Hall, badge: &Badge) -> Result<(), Fault> {
     let (connection, count) = (badge.connection(), badge.count());
     if count > 0 {
@@ -56,7 +57,7 @@ fn push_badge(lines: &mut String, hall: &Hall, badge: &Badge) -> Result<(), Faul
     Ok(())
 }
 
-/// The line of how many entries the journal has, and how often the holders of these badges have asked.
+/// Appends how many entries the journal has, and how often the holders of these badges have asked.
 fn push_counts(lines: &mut String, hall: &Hall, badges: &[Badge]) -> Result<(), Fault> {
     let length = hall.journal().len();
     write!(lines, "journal {length}")?;
@@ -67,7 +68,7 @@ fn push_counts(lines: &mut String, hall: &Hall, badges: &[Badge]) -> Result<(), 
     Ok(())
 }
 
-/// The lines of `push_look` and `push_counts`.
+/// Appends the lines of `push_look` and `push_counts`.
 fn push_standing(
     alloc: Global,
     lines: &mut String,
@@ -86,7 +87,7 @@ fn push_script(alloc: Global, line: &mut String, input: &TxIn) -> Result<(), Fau
     Ok(())
 }
 
-/// A coinbase's script and size.
+/// Appends the coinbase's script and size.
 fn push_coinbase(alloc: Global, line: &mut String, block: &Block) -> Result<(), Fault> {
     let Some(coinbase) = block.txs.as_slice().first() else {
         return Ok(());
@@ -99,7 +100,8 @@ fn push_coinbase(alloc: Global, line: &mut String, block: &Block) -> Result<(), 
     Ok(())
 }
 
-/// A block that was made: its hash, its size, how many transactions it has, its time, and its coinbase's script and size.
+/// Appends the line of a mined block: its hash, its size, how many transactions it has, its time,
+/// and its coinbase's script and size.
 fn push_block(alloc: Global, line: &mut String, block: &Block) -> Result<(), Fault> {
     line.push_str("mined")?;
     push_hash(alloc, line, &block.header.hash())?;
@@ -110,13 +112,13 @@ fn push_block(alloc: Global, line: &mut String, block: &Block) -> Result<(), Fau
     Ok(())
 }
 
-/// The line of the block that is made with this mark.
+/// Appends the line of the block that is mined with this mark.
 fn push_mined(alloc: Global, lines: &mut String, hall: &Hall, mark: u8) -> Result<(), Fault> {
     let block: SoundBlock = hall.mine(mark)?;
     push_block(alloc, lines, block.block())
 }
 
-/// Asks a question.
+/// Asks a question, and appends the answer.
 fn push_asked(
     alloc: Global,
     lines: &mut String,
@@ -130,7 +132,8 @@ fn push_asked(
     pushed
 }
 
-/// What the holders of these badges are answered of the locator and of all that waits.
+/// Asks for the locator and for all transactions of the mempool, for each of these badges, and
+/// appends the answers.
 fn push_all_asked(
     alloc: Global,
     lines: &mut String,
@@ -144,20 +147,21 @@ fn push_all_asked(
     Ok(())
 }
 
-/// The badges of a few peers' first connections.
+/// The badges of the first connections of `WATCHERS` peers.
 fn watchers(alloc: Global) -> Result<Vec<Badge>, Fault> {
     let (hall, badges) = new_hall(alloc, WATCHERS)?;
     drop(hall);
     Ok(badges)
 }
 
-/// What the first connections of a few peers are answered.
+/// Asks a hall for the first connections of a few peers, and appends the answers.
 fn push_watched(alloc: Global, lines: &mut String, hall: &mut Hall) -> Result<(), Fault> {
     let mut watchers = watchers(alloc)?;
     push_all_asked(alloc, lines, hall, watchers.as_mut_slice())
 }
 
-/// What is told of the hall that is computed again: what is answered by it, or whether it is the same (`push_same`).
+/// What is printed of a hall that is computed again: its answers, or whether it is the same
+/// (`push_same`).
 #[derive(Clone, Copy)]
 enum Again {
     Asked,
@@ -178,7 +182,7 @@ fn push_of_again(
     }
 }
 
-/// Computes all again.
+/// Computes the hall again from its journal, and appends what is printed of it.
 fn push_again(lines: &mut String, node: &Node, notes: &Notes, told: Again) -> Result<(), Fault> {
     let (mut again, answers) = node.hall.again()?;
     let pushed = push_of_again(lines, node, notes, &mut again, answers.as_slice(), told);
@@ -186,8 +190,8 @@ fn push_again(lines: &mut String, node: &Node, notes: &Notes, told: Again) -> Re
     pushed
 }
 
-/// What is seen of a hall, in lines: how it stands, how often who has asked, and what the first connections of a few peers are
-/// answered by the hall that is computed again.
+/// A view of a hall, in lines: the hall at a glance, how often each connection has asked, and what
+/// the hall answers to a few peers when computed again.
 pub fn view(node: &Node, notes: &Notes) -> Result<String, Fault> {
     let mut lines = String::new(node.alloc);
     push_view(&mut lines, node, notes)?;
@@ -199,14 +203,14 @@ fn push_view(lines: &mut String, node: &Node, notes: &Notes) -> Result<(), Fault
     push_again(lines, node, notes, Again::Asked)
 }
 
-/// How a hall stands.
+/// The lines of `push_standing`.
 fn standing(alloc: Global, hall: &Hall, badges: &[Badge]) -> Result<String, Fault> {
     let mut lines = String::new(alloc);
     push_standing(alloc, &mut lines, hall, badges)?;
     Ok(lines)
 }
 
-/// Whether another hall stands as this one.
+/// Whether another hall has the same lines as this one (`standing`).
 fn stands_as(node: &Node, other: &Hall) -> Result<bool, Fault> {
     let badges = node.badges.as_slice();
     let here = standing(node.alloc, &node.hall, badges)?;
@@ -214,7 +218,8 @@ fn stands_as(node: &Node, other: &Hall) -> Result<bool, Fault> {
     Ok(here.as_str() == there.as_str())
 }
 
-/// The line of what was computed again: how it stands, and whether the hall and the answers are those that were told.
+/// Appends a line on what was computed again: the journal's length, the number of answers, and
+/// whether the hall and its answers are the same as before.
 fn push_same(
     lines: &mut String,
     node: &Node,
@@ -228,7 +233,7 @@ fn push_same(
     Ok(())
 }
 
-/// The pairs that were told last, in a list.
+/// Appends the pairs that were answered last.
 fn push_last_pairs(lines: &mut String, notes: &Notes) -> Result<(), Fault> {
     match &notes.pairs {
         Some(pairs) => push_pairs(notes.alloc, lines, pairs)?,
@@ -249,7 +254,7 @@ fn push_sight(lines: &mut String, node: &Node, notes: &Notes, sight: Sight) -> R
     }
 }
 
-/// What is looked at, in a line.
+/// The lines of what a record looks at.
 pub fn see(node: &Node, notes: &Notes, sight: Sight) -> Result<String, Fault> {
     let mut line = String::new(node.alloc);
     push_sight(&mut line, node, notes, sight)?;

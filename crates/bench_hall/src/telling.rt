@@ -9,7 +9,7 @@ use cb_state::{Excerpt, Heads, Inventory, Need, News, Part, Piece};
 use cb_tx::Tx;
 use std::alloc::Global;
 
-/// Why something was refused, `-` where it wasn't.
+/// Appends a word and the fault, or `-` if there is none.
 fn push_refusal(line: &mut String, word: &str, refused: Option<Fault>) -> Result<(), Fault> {
     match refused {
         Some(fault) => write!(line, "{word} {fault}")?,
@@ -18,7 +18,7 @@ fn push_refusal(line: &mut String, word: &str, refused: Option<Fault>) -> Result
     Ok(())
 }
 
-/// An entry of inventory: its type and its hash.
+/// Appends an inventory entry: its type and its hash.
 fn push_entry(alloc: Global, line: &mut String, entry: &Inventory) -> Result<(), Fault> {
     let (kind, hash) = match entry {
         Inventory::Tx(txid) => (1, txid),
@@ -30,7 +30,7 @@ fn push_entry(alloc: Global, line: &mut String, entry: &Inventory) -> Result<(),
     push_hash(alloc, line, hash)
 }
 
-/// A hash, and a size in bytes.
+/// Appends a word, a hash, and a size in bytes.
 fn push_sized(
     alloc: Global,
     line: &mut String,
@@ -121,7 +121,7 @@ fn push_listed(alloc: Global, line: &mut String, list: &[Pair]) -> Result<(), Fa
     Ok(())
 }
 
-/// Pairs in a list: each short id, and its transaction's name.
+/// Appends pairs: each short id, and its transaction's txid.
 pub fn push_pairs(alloc: Global, line: &mut String, pairs: &Pairs) -> Result<(), Fault> {
     let list = pairs.list(alloc)?;
     push_listed(alloc, line, list.as_slice())
@@ -131,7 +131,7 @@ fn push_tx(alloc: Global, line: &mut String, tx: &Tx) -> Result<(), Fault> {
     push_sized(alloc, line, " tx", &tx.txid(alloc)?, tx.size())
 }
 
-/// The hash of the block, and each transaction with its size.
+/// Appends the hash of the block, and each transaction with its size.
 fn push_part(alloc: Global, line: &mut String, part: &Part) -> Result<(), Fault> {
     push_hashes(alloc, line, "part", &[part.hash()])?;
     for tx in part.txs().as_slice() {
@@ -169,13 +169,13 @@ fn push_words(alloc: Global, line: &mut String, answer: &Answer) -> Result<(), F
     }
 }
 
-/// The line of an answer.
+/// Appends the line of an answer.
 pub fn push_answer(alloc: Global, lines: &mut String, answer: &Answer) -> Result<(), Fault> {
     push_words(alloc, lines, answer)?;
     push_word(lines, "\n")
 }
 
-/// The line of a reply.
+/// Appends the line of a reply.
 pub fn push_reply(alloc: Global, lines: &mut String, reply: &Reply) -> Result<(), Fault> {
     match reply {
         Reply::Answered(answer) => push_answer(alloc, lines, answer)?,
@@ -190,7 +190,8 @@ pub fn push_reply(alloc: Global, lines: &mut String, reply: &Reply) -> Result<()
     Ok(())
 }
 
-/// How much is answered: how many entries, or 1 where leave is given or something was taken.
+/// The size of an answer: how many entries it has, or 1 if the call may go on or something was
+/// accepted. Other answers count as 0.
 pub fn answer_size(answer: &Answer) -> usize {
     match answer {
         Answer::Go => 1,
