@@ -9,17 +9,18 @@ use cb_compact::{
 };
 use std::alloc::Global;
 
-/// A compact block as a message has it: the places of the transactions that are there whole are differences.
+/// A compact block as in a `cmpctblock` message (BIP 152): short ids, and the prefilled
+/// transactions, whose indexes are given as differences.
 #[derive(Drop)]
 pub struct Form {
     pub ids: Vec<u64>,
     pub differences: Vec<u64>,
-    // The numbers of the transactions that are whole.
+    // The numbers of the prefilled transactions in the player's list.
     whole: Vec<u64>,
 }
 
 impl Form {
-    /// A compact block of no transactions.
+    /// A compact block without transactions.
     pub fn empty(alloc: Global) -> Form {
         Form {
             ids: Vec::new(alloc),
@@ -28,7 +29,8 @@ impl Form {
         }
     }
 
-    /// Reads entries of differences, for the transactions that are whole: so many have a number.
+    /// Reads an entry for each prefilled transaction: a difference in eight bytes, and the number
+    /// of a transaction in four. Fails with `Fault::NoInput` if a number isn't below `count`.
     pub fn read_whole(&mut self, cursor: &mut Cursor, count: usize) -> Result<(), Fault> {
         self.differences.clear();
         self.whole.clear();
@@ -43,8 +45,8 @@ impl Form {
         Ok(())
     }
 
-    /// Makes this the compact form of a block, in which the transactions at the places of these differences are whole. These
-    /// are numbered by their places.
+    /// Makes this the compact form of a block. The transactions at these differential indexes are
+    /// prefilled, and their numbers are their indexes.
     pub fn take_block(
         &mut self,
         alloc: Global,
@@ -55,13 +57,15 @@ impl Form {
         let count = block.block().txs.as_slice().len() as u64;
         let places = undiffer(alloc, differences.as_slice(), count)?;
         self.differences = differences;
+        // No effect when it runs: it tells the prover what the type keeps.
         differences_lead_back();
         self.ids = compact(alloc, block, nonce, places.as_slice())?.ids;
         self.whole = places;
         Ok(())
     }
 
-    /// Looks for all transactions among the pairs. A block of no transactions is `Fault::Empty`.
+    /// Rebuilds the block: looks for its transactions among the pairs. Fails with `Fault::Empty` if
+    /// the compact block has no transactions, or a prefilled transaction has no number.
     pub fn rebuild(
         &self,
         alloc: Global,
@@ -71,6 +75,7 @@ impl Form {
     ) -> Result<Placed, Fault> {
         let total = self.ids.len() + self.differences.len();
         let places = undiffer(alloc, self.differences.as_slice(), total as u64)?;
+        // No effect when it runs: it tells the prover what the type keeps.
         differences_lead_back();
         let prefilled = prefilled_at(alloc, places.as_slice(), self.whole.as_slice(), txs)?;
         if total == 0 || self.ids.len() + prefilled.len() != total {
@@ -81,7 +86,7 @@ impl Form {
     }
 }
 
-/// The transactions of these numbers at these places.
+/// The transactions with these numbers, prefilled at these indexes.
 fn prefilled_at(
     alloc: Global,
     places: &[u64],

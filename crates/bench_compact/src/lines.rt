@@ -2,10 +2,10 @@ use bench_records::push_word;
 use cb_base::Fault;
 use cb_compact::{Filled, Placed};
 
-/// A line has so many numbers at the most.
+/// How many numbers a line has at most.
 const MOST: usize = 16;
 
-/// A number more, in one that stands for all numbers so far and their order.
+/// Mixes one more number into a sum. The sum depends on all numbers so far and on their order.
 pub fn mixed(sum: u64, number: u64) -> u64 {
     sum.wrapping_mul(31).wrapping_add(number)
 }
@@ -23,7 +23,8 @@ fn push_number(lines: &mut String, number: u64) -> Result<(), Fault> {
     Ok(())
 }
 
-/// The line of some numbers behind a word: all of them where they are few, else how many they are and what stands for all.
+/// Appends a line with a word and all numbers. If there are more than 16, the line has their count
+/// and a sum instead.
 pub fn push_numbers(lines: &mut String, word: &str, numbers: &[u64]) -> Result<(), Fault> {
     push_word(lines, word)?;
     if numbers.len() > MOST {
@@ -38,7 +39,7 @@ pub fn push_numbers(lines: &mut String, word: &str, numbers: &[u64]) -> Result<(
     push_word(lines, "\n")
 }
 
-/// The line of a block all of whose transactions are there.
+/// Appends the line of a block that has all its transactions: `sound` or `wrong`.
 pub fn push_filled(lines: &mut String, filled: &Filled) -> Result<(), Fault> {
     match filled {
         Filled::Sound(_) => push_word(lines, "sound\n"),
@@ -46,7 +47,8 @@ pub fn push_filled(lines: &mut String, filled: &Filled) -> Result<(), Fault> {
     }
 }
 
-/// The line of what came of a compact block: `sound`, `wrong`, `repeat`, or the places that are missing.
+/// Appends the outcome of a compact block: `sound`, `wrong`, `repeat`, or the indexes that are
+/// missing.
 pub fn push_placed(lines: &mut String, placed: &Placed) -> Result<(), Fault> {
     match placed {
         Placed::Whole(filled) => push_filled(lines, filled),
@@ -55,7 +57,7 @@ pub fn push_placed(lines: &mut String, placed: &Placed) -> Result<(), Fault> {
     }
 }
 
-/// The line of a fault. Want of memory is no line.
+/// Appends the line of a fault. `Fault::Memory` has no line: it is returned as an error.
 pub fn push_fault(lines: &mut String, fault: Fault) -> Result<(), Fault> {
     if fault == Fault::Memory {
         return Err(fault);

@@ -1,5 +1,6 @@
-//! Rebuilds blocks from compact ones, as records on standard input say, and tells what came of each. Its time and memory are what
-//! bench/compact.py measures, and what it tells is compared there with a plain reader in Python; the node has no part in it.
+//! Rebuilds blocks from compact blocks (BIP 152) as records on standard input say, and prints the
+//! outcome of each. bench/compact.py measures time and memory, and compares the output with that of
+//! a plain reader in Python. The node doesn't use this program.
 #![tactic(auto)]
 
 mod form;
@@ -13,13 +14,13 @@ use std::alloc::Global;
 use std::io::{Read, writer};
 use std::process::ExitCode;
 
-/// Does what all records say, and gives what came of it.
+/// Plays all records. Returns the lines to print.
 fn play<R: Read + Drop>(alloc: Global, reader: R) -> Result<String, Stop> {
     let mut player = Player::new(alloc)?;
     play_all(alloc, reader, &mut player)
 }
 
-/// What is printed, and the exit status: 0, 4 of want of memory, else 3.
+/// Prints the lines, or what ended the run. Exit status: 0, 4 if memory ran out, else 3.
 fn main(rt: HostRuntime) -> ExitCode {
     let told = play(rt.alloc(), rt.reader());
     ExitCode::from(end(&mut writer(&rt), told, "F2 Truncated"))

@@ -8,34 +8,43 @@ use cb_compact::{Filled, NamedTx, Pair, Placed, key, short_id, undiffer};
 use cb_tx::Tx;
 use std::alloc::Global;
 
-/// A compact block, what it is rebuilt from, and what was told so far.
+/// A compact block, what it is rebuilt from, and the lines so far.
 #[derive(Drop)]
 pub struct Player {
     alloc: Global,
     block: SoundBlock,
     nonce: u64,
-    // What pairs and compact blocks are made of: the block's transactions, and then others.
+    // The transactions that pairs and compact blocks name by number: the block's, and then others.
     txs: Vec<NamedTx>,
     form: Form,
     pairs: Vec<Pair>,
-    // What came of the compact block last.
+    // The outcome of the last rebuilding.
     placed: Option<Placed>,
     lines: String,
 }
 
 impl Play for Player {
-    /// Does what a record says. Numbers are of eight bytes, entries of a number and a transaction's number in four bytes, and
-    /// how often something is done stands in four bytes. What is remembered:
+    /// Plays a record. A number has eight bytes. An entry is a number and a transaction's number in
+    /// four bytes. A count has four bytes. These records are remembered:
     ///
-    /// - `b` a block, whose transactions are numbered from 0 on; `x` a transaction, which gets the next number; `n` a nonce;
-    /// - `i` the short ids of a compact block, which has the block's header; `f` entries of differences, for the transactions
-    ///   that are whole in it;
-    /// - `q` entries of ids, for pairs; `a` makes pairs of all transactions, the last first.
+    /// - `b`: a block, whose transactions are numbered from 0; `x`: a transaction, which gets the
+    ///   next number; `n`: a nonce;
+    /// - `i`: the short ids of a compact block, which has the block's header; `f`: entries with the
+    ///   differences and numbers of its prefilled transactions;
+    /// - `q`: entries with short ids, which make pairs; `a`: makes pairs of all transactions, the
+    ///   last first.
     ///
-    /// What is done, and told in a line: `c` makes the compact form of the block, in which the places of these differences are
-    /// whole; `p` looks for its transactions among the pairs, so many times; `r` only copies the pairs as often; `l` hands in
-    /// the transactions of these entries for the places that are missing; `s` tells the short ids of all transactions, so many
-    /// times; `u` the indexes below a total of these differences; `j` reads and judges a block, so many times.
+    /// These records print a line:
+    ///
+    /// - `c`: makes the compact form of the block, prefilled at these differential indexes;
+    /// - `p`: rebuilds the block from the pairs, so many times; `r`: only copies the pairs, so many
+    ///   times;
+    /// - `l`: fills in the transactions of these entries at the missing indexes;
+    /// - `s`: computes the short ids of all transactions, so many times;
+    /// - `u`: the indexes that these differences stand for, below a total;
+    /// - `j`: reads and checks a block, so many times.
+    ///
+    /// Any other kind fails with `Fault::NotEnabled`.
     fn play_record(&mut self, kind: u8, payload: &[u8]) -> Result<(), Fault> {
         let mut cursor = Cursor::new(payload);
         match kind {
@@ -64,7 +73,7 @@ impl Play for Player {
 }
 
 impl Player {
-    /// A player of the network's first block. The only error is `Fault::Memory`.
+    /// A player whose block is the network's genesis block. Fails only with `Fault::Memory`.
     pub fn new(alloc: Global) -> Result<Player, Fault> {
         let block = genesis(alloc)?;
         let mut txs = Vec::new(alloc);
@@ -113,7 +122,7 @@ impl Player {
         read_pairs(self.txs.as_slice(), cursor, &mut self.pairs)
     }
 
-    /// Pairs of all transactions under their short ids, the last first.
+    /// Makes pairs of all transactions with their short ids, the last first.
     fn pair_all(&mut self) -> Result<(), Fault> {
         let key = key(&self.block.block().header, self.nonce);
         self.pairs.clear();
@@ -144,7 +153,7 @@ impl Player {
         push_numbers(&mut self.lines, "short ids", &[sum])
     }
 
-    /// The short ids of all transactions, mixed.
+    /// A sum of the short ids of all transactions.
     fn mixed_ids(&self) -> u64 {
         let key = key(&self.block.block().header, self.nonce);
         let mut sum = 0;
@@ -163,7 +172,7 @@ impl Player {
         }
     }
 
-    /// Looks for the transactions, and keeps what came of it.
+    /// Rebuilds the block, and keeps the outcome.
     fn place_once(&mut self) -> Result<(), Fault> {
         let header = self.block.block().header;
         let (txs, pairs) = (self.txs.as_slice(), self.pairs.as_slice());
@@ -216,7 +225,8 @@ impl Player {
     }
 }
 
-/// The block with these transactions at the places that were missing.
+/// Fills these transactions in at the missing indexes. Fails with `Fault::NotEnabled` if nothing is
+/// missing.
 fn filled(placed: Option<Placed>, txs: Vec<Shared<Tx>>) -> Result<Filled, Fault> {
     match placed {
         Some(Placed::Missing(_, partial)) => partial.fill(txs),
@@ -224,7 +234,7 @@ fn filled(placed: Option<Placed>, txs: Vec<Shared<Tx>>) -> Result<Filled, Fault>
     }
 }
 
-/// Reads and judges a block, so many times.
+/// Reads and checks a block, so many times.
 fn judge_often(alloc: Global, text: &[u8], count: u32) -> Result<(), Fault> {
     for _ in 0..count {
         drop(read_sound(alloc, &mut Cursor::new(text))?);
