@@ -1,8 +1,8 @@
--- What settings may be.
+-- The ranges of settings.
 use Rattle.std.specs.Prelude.{◌≤◌}
 use Rattle.bench_crew.specs.declared.settings.Settings.{Settings}
 
--- those of a crew that can be made and served
+-- settings of a crew that can be made and served
 pub record IsWithin (settings : Settings) : Type 0 where
   pub peers : (1 ≤ settings.peers) × (settings.peers ≤ 64)
   pub handlers : (1 ≤ settings.handlers) × (settings.handlers ≤ 16)

@@ -7,7 +7,7 @@ use Rattle.cb_crew.specs.declared.work.Given.{Given}
 use Rattle.cb_crew.specs.declared.work.Given.TheVariants as given
 use Rattle.bench_crew.specs.declared.tally.Tally.{Tally}
 
--- of no items
+-- the tally of no items
 abbrev pub no_tally : Tally
 no_tally = record { count = 0; order = 0; digest = replicate 32 0 }
 
@@ -16,7 +16,7 @@ abbrev pub hashed : ℕ → ℕ → List ℕ → List ℕ
 hashed zero item digest = digest
 hashed (suc rounds) item digest = sha256 (hashed rounds item digest ++ to_le_bytes w64 item)
 
--- with one item more
+-- the tally with one more item
 abbrev pub added : ℕ → Tally → ℕ → Tally
 added rounds tally item = record {
   count = (tally.count + 1) % 2 ^ 64;
@@ -29,11 +29,11 @@ pub record Kept : Type 0 where
   pub tally : Tally
   pub ended : Bool
 
--- after it was given this too
+-- what a work keeps after it was given this too
 abbrev pub told : ℕ → Kept → Given ℕ → Kept
 told rounds kept (given.Item item) = record { tally = added rounds kept.tally item; ended = kept.ended }
 told rounds kept given.End = record { tally = kept.tally; ended = true }
 
--- after it was given all these, and nothing before
+-- what a work keeps after it was given all these, and nothing before
 abbrev pub kept_of : ℕ → List (Given ℕ) → Kept
 kept_of rounds items = fold (told rounds) (record { tally = no_tally; ended = false }) items

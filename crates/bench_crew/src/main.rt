@@ -1,5 +1,6 @@
-//! A crew in threads, as a service uses it: readers in threads put numbers into their peers' inboxes, handlers in threads give
-//! them to works that hash, and in the end the crew finishes and what was served is printed.
+//! A crew in threads, as a service uses it. Readers queue numbers in their peers' inboxes, and
+//! handlers give them to works that hash them. At the end the crew finishes, and what was served is
+//! printed. Each line of the input is a run.
 #![tactic(auto)]
 
 ghost use Rattle.cb_crew.specs.Crew.{AreHandlersOf, AreOpeningSeats};
@@ -25,7 +26,8 @@ use std::sync::Wait;
 use std::thread::Threads;
 use std::time::{Clock, Instant};
 
-/// The works of the later connections of each peer, which its reader opens one after another.
+/// The works of each peer's later connections. The peer's reader opens these connections one after
+/// another.
 fn later_works(alloc: Global, settings: &Settings) -> Result<Vec<Vec<Fresh<HashWork>>>, Fault> {
     let mut all = Vec::with_capacity(alloc, usize::from(settings.peers))?;
     for peer in 0..settings.peers {
@@ -34,7 +36,7 @@ fn later_works(alloc: Global, settings: &Settings) -> Result<Vec<Vec<Fresh<HashW
     Ok(all)
 }
 
-/// All items through a crew.
+/// Serves all items by a crew. Returns what was served in each connection.
 fn run_crew<R: Threads + Wait + Clock + Sync>(
     rt: &R,
     alloc: Global,
@@ -83,7 +85,7 @@ fn serve_crew<R: Threads + Wait + Clock + Sync>(
     serve_peers(rt, alloc, &crew, signals, orders, staff)
 }
 
-/// What each work of each peer keeps, the first connection's first.
+/// What each work of each peer keeps, in the order of peers and connections.
 fn tallies_of(alloc: Global, desks: &[Desk<HashWork>]) -> Result<Vec<Served>, Fault> {
     let mut all = Vec::new(alloc);
     for desk in desks {
@@ -103,7 +105,7 @@ fn served_by(desk: &Desk<HashWork>, work: &HashWork) -> Served {
     }
 }
 
-/// Adds what was served of each peer to the output: its connections, the items, and whether each list was right.
+/// Appends a line for each peer. Returns whether all lists were right.
 fn report(settings: &Settings, all: &[Served], out: &mut String) -> Result<bool, Fault> {
     let mut right = true;
     for peer in 0..settings.peers {
@@ -112,7 +114,8 @@ fn report(settings: &Settings, all: &[Served], out: &mut String) -> Result<bool,
     Ok(right)
 }
 
-/// The same of one peer.
+/// Appends the line of one peer: its connections, its items, and whether each list was right.
+/// Returns whether it was.
 fn report_peer(
     settings: &Settings,
     peer: u16,
@@ -138,7 +141,7 @@ fn report_peer(
     Ok(right)
 }
 
-/// What each connection's items made, as a line's settings have it.
+/// Serves all items in the way that the settings say.
 fn run<R: Threads + Wait + Clock + Sync>(
     rt: &R,
     alloc: Global,
@@ -153,8 +156,8 @@ fn run<R: Threads + Wait + Clock + Sync>(
     }
 }
 
-/// Does what a line tells, and adds what is printed to the output. The result is how long the items took, in microseconds, and
-/// whether each list was right. `None` where the line can't be read.
+/// Does the run of a line, and appends what is printed. Returns how many microseconds it took, and
+/// whether each list was right. Returns `None` if the line can't be read.
 fn do_line<R: Threads + Wait + Clock + Sync>(
     rt: &R,
     alloc: Global,
@@ -176,8 +179,9 @@ fn do_line<R: Threads + Wait + Clock + Sync>(
     Ok(Some((took, right)))
 }
 
-/// The exit status: 0, 2 where a list was wrong, 3 where a line can't be read or the input fails, 4 where memory or threads
-/// ran out. How long each line took goes to standard error, in microseconds.
+/// Exit status: 0; 2 if a list was wrong; 3 if a line can't be read or the input fails; 4 if memory
+/// ran out or a thread couldn't be started. How many microseconds each line took goes to standard
+/// error.
 fn main(rt: HostRuntime) -> ExitCode {
     let alloc = rt.alloc();
     let mut text = String::new(alloc);

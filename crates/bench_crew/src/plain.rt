@@ -9,23 +9,23 @@ use std::sync::{Condvar, Mutex, Wait};
 use std::thread;
 use std::thread::Threads;
 
-/// An item, and the place of its connection among all connections of all peers.
+/// An item, and the index of its connection among all connections of all peers.
 #[derive(Clone, Copy)]
 struct Parcel {
     place: usize,
     item: u64,
 }
 
-/// One queue for all peers, with what is kept of each connection's items.
+/// One queue for all peers, and what is kept of each connection's items.
 #[derive(Drop)]
 struct Bench {
     queue: VecDeque<Parcel>,
     served: Vec<Served>,
-    /// How many readers have more to queue.
+    /// How many readers still have items to queue.
     readers: u16,
 }
 
-/// The bench under its lock.
+/// The bench under its lock. This isn't the node's hall.
 #[derive(Drop)]
 struct Hall {
     bench: Mutex<Bench>,
@@ -33,7 +33,7 @@ struct Hall {
     room: Condvar,
 }
 
-/// What is kept of each connection of each peer, before its first item.
+/// What is kept of each connection of each peer before its first item.
 fn none_served(alloc: Global, settings: &Settings) -> Result<Vec<Served>, Fault> {
     let mut all = Vec::new(alloc);
     for peer in 0..settings.peers {
@@ -54,7 +54,7 @@ fn add(all: &mut Vec<Served>, parcel: Parcel, rounds: u32) {
     }
 }
 
-/// What is kept of a connection's items, in one loop.
+/// What is kept of a connection's items, computed in one loop.
 pub fn tally_of(settings: &Settings, peer: u16, connection: u16) -> Tally {
     let mut tally = Tally::new();
     for place in 0..settings.items {
@@ -63,7 +63,7 @@ pub fn tally_of(settings: &Settings, peer: u16, connection: u16) -> Tally {
     tally
 }
 
-/// All items in one loop on one thread.
+/// Serves all items in one loop on one thread.
 pub fn run_loop(alloc: Global, settings: &Settings) -> Result<Vec<Served>, Fault> {
     let mut all = Vec::new(alloc);
     for peer in 0..settings.peers {
@@ -77,7 +77,8 @@ pub fn run_loop(alloc: Global, settings: &Settings) -> Result<Vec<Served>, Fault
     Ok(all)
 }
 
-/// All items through one queue under one lock. Each is hashed under the lock, since that is what keeps a peer's order here.
+/// Serves all items through one queue under one lock. Each item is hashed under the lock: that
+/// keeps the order of each peer's items here.
 pub fn run_mutex<R: Threads + Wait + Sync>(
     rt: &R,
     alloc: Global,
@@ -112,7 +113,7 @@ pub fn run_mutex<R: Threads + Wait + Sync>(
 }
 
 impl Hall {
-    /// What a handler's thread does.
+    /// What a handler's thread does: takes items until the queue is empty and all readers are done.
     fn handle<R: Wait>(&self, rt: &R, rounds: u32) {
         for _ in rt.forever() {
             let mut bench = self.arrived.wait_while(rt, self.bench.lock(rt), |bench| {
@@ -126,7 +127,7 @@ impl Hall {
         }
     }
 
-    /// What a reader's thread does. A full queue makes it wait.
+    /// What a reader's thread does: queues all items of its peer. It waits while the queue is full.
     fn read<R: Wait>(&self, rt: &R, settings: &Settings, peer: u16, most: usize) {
         for connection in 0..settings.connections {
             let place = settings.place(peer, connection);

@@ -3,41 +3,42 @@ ghost use Rattle.bench_crew.specs.Settings.{IsWithin};
 
 use std::str::SplitWhitespace;
 
-/// How the items of all peers come to their works.
+/// How the items of all peers are served.
 #[derive(Clone, Copy)]
 pub enum Mode {
-    /// Through a crew: readers and handlers in threads.
+    /// By a crew: readers and handlers are threads.
     Crew,
-    /// Through one queue for all peers under one lock: readers and handlers in threads, and a work is called under the lock.
+    /// Through one queue for all peers under one lock: readers and handlers are threads, and items
+    /// are hashed under the lock.
     Mutex,
     /// In one loop on one thread.
     Loop,
 }
 
-/// What a line of the input tells.
+/// The settings of a run, from a line of the input.
 #[derive(Clone, Copy)]
 pub struct Settings {
     pub mode: Mode,
-    /// How many peers, 1 to 64.
+    /// How many peers there are, 1 to 64.
     pub peers: u16,
-    /// How many handlers, 1 to 16.
+    /// How many handlers there are, 1 to 16.
     pub handlers: u16,
     /// How many marks an inbox holds, 1 to 1,024.
     pub capacity: usize,
-    /// How many items in each connection.
+    /// How many items each connection has.
     pub items: u32,
     /// How many connections each peer has, 1 to 256.
     pub connections: u16,
     /// How many times each item is hashed.
     pub rounds: u32,
-    /// How many marks a turn takes at the most, 1 to 64.
+    /// How many marks a turn takes at most, 1 to 64.
     pub budget: u32,
-    /// For how many milliseconds each reader waits before it queues its first item.
+    /// How many milliseconds each reader waits before it queues its first item.
     pub pause: u32,
 }
 
 impl Settings {
-    /// The place of a peer's connection among all connections of all peers.
+    /// The index of a peer's connection among all connections of all peers.
     pub fn place(&self, peer: u16, connection: u16) -> usize {
         usize::from(peer)
             .saturating_mul(usize::from(self.connections))
@@ -45,15 +46,17 @@ impl Settings {
     }
 }
 
-/// The numbers of a line where it leaves the last two out: of peers, handlers, places of an inbox, items, connections, rounds,
-/// the budget and the pause.
+/// The numbers of a line: peers, handlers, capacity of an inbox, items, connections, rounds, budget
+/// and pause. The last two have these values if the line leaves them out.
 const NUMBERS: [u32; 8] = [0, 0, 0, 0, 0, 0, 64, 0];
 
 /// How many numbers a line has at least.
 const FEWEST_NUMBERS: usize = 6;
 
-/// The settings of a line: `MODE PEERS HANDLERS CAPACITY ITEMS CONNECTIONS ROUNDS [BUDGET [PAUSE]]`, with `crew`, `mutex` or
-/// `loop` for the mode, a budget of 64 and no pause where these are left out. Words are parted by spaces.
+/// Reads the settings of a line: `MODE PEERS HANDLERS CAPACITY ITEMS CONNECTIONS ROUNDS [BUDGET
+/// [PAUSE]]`. The mode is `crew`, `mutex` or `loop`. The budget is 64 and the pause 0 if left out.
+/// Words are separated by white space. Returns `None` if the line isn't of this form or a number is
+/// out of range.
 pub fn read_settings(line: &str) -> Option<Settings>
     ensures { IfSome result (λ settings. IsWithin settings) }
 {
@@ -62,7 +65,7 @@ pub fn read_settings(line: &str) -> Option<Settings>
     settings_of(mode, read_numbers(words)?)
 }
 
-/// The mode of this name.
+/// The mode with this name.
 fn mode_of(name: &str) -> Option<Mode> {
     match name {
         "crew" => Some(Mode::Crew),
@@ -72,7 +75,7 @@ fn mode_of(name: &str) -> Option<Mode> {
     }
 }
 
-/// The numbers that these words are.
+/// The numbers that these words are, with the default values for those left out.
 fn read_numbers(words: SplitWhitespace) -> Option<[u32; 8]> {
     let mut numbers = NUMBERS;
     let mut count = 0usize;
@@ -87,7 +90,7 @@ fn read_numbers(words: SplitWhitespace) -> Option<[u32; 8]> {
     Some(numbers)
 }
 
-/// The settings of these numbers, if each is within its bounds.
+/// The settings with these numbers, if each is in its range.
 fn settings_of(mode: Mode, numbers: [u32; 8]) -> Option<Settings>
     ensures { IfSome result (λ settings. IsWithin settings) }
 {
@@ -123,7 +126,7 @@ fn settings_of(mode: Mode, numbers: [u32; 8]) -> Option<Settings>
     })
 }
 
-/// Whether a number lies between two others, or is one of them.
+/// Whether a number is between two others, both included.
 fn is_between(number: u32, least: u32, most: u32) -> bool
     ensures { result ≡ true → (least ≤ number) × (number ≤ most) }
 {

@@ -5,17 +5,19 @@ ghost use Rattle.bench_crew.specs.Tally.{added, hashed, no_tally};
 
 use cb_base::sha;
 
-/// By what the running number is multiplied before the next item comes to it.
+/// What the running number is multiplied by before the next item is added.
 const FACTOR: u64 = 6_364_136_223_846_793_005;
 
-/// What is kept of the items that a work was given: how many they were, and two values that tell their order.
+/// What a work keeps of its items: how many there were, and two values that depend on their order.
 #[derive(Clone, Copy, PartialEq, Eq)]
 pub struct Tally {
-    /// How many items were given, modulo 2^64.
+    /// The number of items, modulo 2^64.
     pub count: u64,
-    /// The running number: for each item the number before, times a large factor, and then the item, modulo 2^64.
+    /// The running number. Each item makes it the number before, times a large factor, plus the
+    /// item, modulo 2^64.
     pub order: u64,
-    /// The running hash: for each item so many times the SHA-256 of the hash before and the item.
+    /// The running hash. Each item makes it the SHA-256 of the hash before and the item, so many
+    /// rounds.
     pub digest: [u8; 32],
 }
 
@@ -27,7 +29,7 @@ pub struct Served {
 }
 
 impl Tally {
-    /// Of no items.
+    /// The tally of no items.
     pub fn new() -> Tally
         ensures { result ≡ no_tally }
     {
@@ -38,7 +40,7 @@ impl Tally {
         }
     }
 
-    /// With one item more, which is hashed so many times.
+    /// The tally with one more item, which is hashed so many rounds.
     pub fn with(self, item: u64, rounds: u32) -> Tally
         ensures { result ≡ added rounds self item }
     {
@@ -61,7 +63,7 @@ fn hash_often(digest: [u8; 32], item: u64, rounds: u32) -> [u8; 32]
     digest
 }
 
-/// Puts in a hash's place the SHA-256 of it and an item behind it.
+/// Replaces a hash by the SHA-256 of the hash followed by the item.
 fn hash_once(digest: &mut [u8; 32], item: u64)
     ensures { digest.new ≡ sha256 (digest.old ++ to_le_bytes w64 item) }
 {

@@ -9,7 +9,7 @@ use cb_crew::{Fresh, Given, Work};
 use std::alloc::Global;
 use std::sync::Wait;
 
-/// A work that hashes its items, and keeps how many they were and a running hash of them.
+/// A work that hashes its items, and keeps a tally of them.
 #[derive(Drop)]
 pub struct HashWork {
     peer: u16,
@@ -19,7 +19,7 @@ pub struct HashWork {
 }
 
 impl HashWork {
-    /// A work that may begin a connection of this peer, and hashes each item so many times.
+    /// A fresh work for a connection of this peer. It hashes each item so many rounds.
     fn fresh(peer: u16, rounds: u32) -> Fresh<HashWork>
         ensures { (result.peer ≡ peer) × (result.rounds ≡ rounds) }
     {
@@ -31,7 +31,7 @@ impl HashWork {
         })
     }
 
-    /// The works of a peer's connections behind the first.
+    /// The works of a peer's connections after the first.
     pub fn later(
         alloc: Global,
         peer: u16,
@@ -45,7 +45,7 @@ impl HashWork {
         Ok(works)
     }
 
-    /// The works of so many peers' first connections, in the peers' order.
+    /// The works of the first connections of so many peers, in their order.
     pub fn first(alloc: Global, count: u16, rounds: u32) -> Result<Vec<HashWork>, Fault>
         ensures { IfOk result
             (λ works. (length works.items ≡ count)
@@ -58,7 +58,7 @@ impl HashWork {
         Ok(works)
     }
 
-    /// What it keeps of its items.
+    /// The tally of the work's items.
     pub fn tally(&self) -> Tally
         ensures { result ≡ self.now.tally }
     {
@@ -71,7 +71,7 @@ impl Work for HashWork {
 
     ghost given = { was_given };
 
-    // A tick does nothing to it, and it doesn't count them.
+    // A tick does nothing, and the work doesn't count ticks.
     ghost ticked = { λ work at. Unit {0} };
 
     ghost primed = { λ work. ⊤ };
