@@ -1,4 +1,5 @@
--- What a transaction, a block and headers do to what peers share, and what is answered (Bitcoin's protocol).
+-- What a transaction, a block and headers do to the shared state, and what the answer is (Bitcoin's
+-- protocol).
 use Rattle.std.specs.Prelude.{◌≡◌, Bool, true, false, List, [], ◌∷◌, drop, filter, map, reverse, Option, None, Some, Result, Ok, Err}
 use Rattle.std.specs.List.{flat_map}
 use Rattle.cb_base.specs.declared.fault.Fault.{Fault}
@@ -23,39 +24,43 @@ use Rattle.cb_state.specs.declared.accepting.Taken.{Taken}
 use Rattle.cb_state.specs.Announcers.{with_announcer}
 use Rattle.cb_state.specs.State.{NodeState, IsUnspent}
 
--- a locator is told with a refusal for want of a parent
+-- The chain's block locator is part of the answer if the parent isn't known.
 abbrev pub locator_for : Option Fault → List Hash256 → List Hash256
 locator_for (Some NoParent) locator = locator
 locator_for other locator = []
 
--- A transaction comes behind the pool's others, or is refused.
+-- A transaction is appended to the mempool, or is refused and changes nothing. `u` is the tip's
+-- UTXO set.
 abbrev pub TakesTxOver : Unspent → NodeState → Tx → Option Fault → NodeState → Type 0
 TakesTxOver u old tx None new = Applies u (txs_of old.pool.list) tx × (new ≡ record old { pool = with_last old.pool tx })
 TakesTxOver u old tx (Some fault) new = Refuses u (txs_of old.pool.list) tx fault × (new ≡ old)
 
+-- The same over the UTXO set of the tip.
 abbrev pub TakesTx : NodeState → Tx → Option Fault → NodeState → Type 0
 TakesTx old tx refused new = (u : Unspent) × IsUnspent old.tree u × TakesTxOver u old tx refused new
 
 -- ---- a block
 
+-- The transactions of a block; none without a block.
 abbrev pub txs_under : Option Block → List Tx
 txs_under None = []
 txs_under (Some block) = block.txs
 
--- the transactions other than coinbases of these blocks, in order
+-- The transactions of these blocks, without coinbases, in order.
 abbrev pub txs_in : Tree → List Hash256 → List Tx
 txs_in tree hashes = flat_map (λ hash. drop 1 (txs_under (block_of tree hash))) hashes
 
--- Blocks that were put off are told from the tip down: the transactions of the lowest one come first.
+-- The transactions of disconnected blocks. `off` lists the blocks from the tip down; here the
+-- lowest block's come first.
 abbrev pub txs_put_off : Tree → List Hash256 → List Tx
 txs_put_off tree off = txs_in tree (reverse off)
 
--- those of the blocks above the place where the active chain left a branch
+-- The transactions of the active chain's blocks above its fork point with the parent's branch.
 abbrev pub txs_above : Tree → Hash256 → List Tx
 txs_above tree parent = txs_in tree (map block_hash (headers_above tree parent))
 
--- A plan for a block on this parent that becomes the tip: what stands above the parent's branch comes first, and there is
--- room for that and the pool.
+-- A plan for the case that a block on this parent becomes the tip. The transactions above the fork
+-- point come first, and there is room for them and for the mempool.
 pub record IsPlanOn (state : NodeState) (parent : Hash256) (plan : Plan) : Type 0 where
   pub first : plan.first ≡ txs_above state.tree parent
   pub room : HasRoom plan state.pool.list
@@ -64,26 +69,30 @@ abbrev pub has_some : List Hash256 → Bool
 has_some [] = false
 has_some (hash ∷ hashes) = true
 
--- the block became the tip
+-- Whether the block became the tip.
 abbrev pub became_tip : Result Change Fault → Bool
 became_tip (Ok change) = has_some change.on
 became_tip (Err fault) = false
 
--- Behind a new tip the pool is folded anew, behind what was put off; else it stays.
+-- If the block became the tip, the mempool is rebuilt on the new UTXO set, with the transactions of
+-- disconnected blocks first. Otherwise the mempool stays.
 pub data Follows (old : NodeState) (answer : Result Change Fault) (new : NodeState) : Type 0 where
   stays : became_tip answer ≡ false → new.pool ≡ old.pool → Follows old answer new
   folds : (change : Change) → answer ≡ Ok change → became_tip answer ≡ true → (u : Unspent) → IsUnspent new.tree u
       → Refolds u (txs_put_off old.tree change.off) old.pool new.pool → Follows old answer new
 
+-- Why the block was refused, if it was.
 abbrev pub refused_for : Result Change Fault → Option Fault
 refused_for (Ok change) = None
 refused_for (Err fault) = Some fault
 
--- The connection that gave the new tip, where one is named that knows compact blocks, is the last one that is asked for them.
+-- If the block became the tip and a connection is named, that connection becomes the last
+-- announcer.
 abbrev pub announcers_after : List Connection → Bool → Option Connection → List Connection
 announcers_after announcers true (Some connection) = with_announcer announcers connection
 announcers_after announcers became other = announcers
 
+-- A block is given to the state, with the connection to be rewarded for a new tip, if there is one.
 pub record TakesBlock (old : NodeState) (block : Block) (from : Option Connection) (taken : Taken) (new : NodeState) : Type 0 where
   pub answer : Result Change Fault
   pub chain : AcceptsBlock old.tree block answer new.tree
@@ -94,7 +103,9 @@ pub record TakesBlock (old : NodeState) (block : Block) (from : Option Connectio
 
 -- ---- headers
 
--- The chain takes them in turn, and nothing else changes. Of those that are kept or known it is told which blocks are lacking.
+-- The chain takes the headers in order, and nothing else changes. `met` are the hashes of the
+-- headers that were accepted or already known. `lack` are those of them whose blocks are neither
+-- kept nor marked bad.
 pub record TakesHeads (old : NodeState) (headers : List Header) (heads : Heads) (new : NodeState) : Type 0 where
   pub met : List Hash256
   pub chain : TakesHeaders old.tree headers heads.refused met new.tree

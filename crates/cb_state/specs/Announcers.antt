@@ -1,4 +1,5 @@
--- Who is asked to announce new blocks as compact ones (BIP 152: at most three peers), by the blocks that they gave.
+-- Announcers: the connections that are asked to announce new blocks as compact blocks (BIP 152: at
+-- most three peers), chosen by the new tips that they gave.
 use Rattle.std.specs.Prelude.{ℕ, ◌-◌, Bool, ◌&&◌, ◌||◌, false, not, nat_eq, List, [], ◌∷◌, ◌++◌, length, drop, filter}
 use Rattle.cb_state.specs.declared.connection.Connection.{Connection}
 
@@ -12,14 +13,14 @@ is_among (other ∷ others) connection = same_connection other connection || is_
 abbrev pub without : List Connection → Connection → List Connection
 without announcers connection = filter (λ other. not (same_connection other connection)) announcers
 
--- the last three
+-- The last three.
 abbrev pub last_three : List Connection → List Connection
 last_three connections = drop (length connections - 3) connections
 
--- It stands last, be it new or not, and of four the first leaves.
+-- The connection is moved or added to the end. If there are then four, the first is dropped.
 abbrev pub with_announcer : List Connection → Connection → List Connection
 with_announcer announcers connection = last_three (without announcers connection ++ connection ∷ [])
 
--- all connections of a peer leave
+-- All connections of a peer are removed.
 abbrev pub without_peer : List Connection → ℕ → List Connection
 without_peer announcers peer = filter (λ other. not (nat_eq other.peer peer)) announcers

@@ -1,4 +1,4 @@
--- The block that a node makes of the transactions that wait, for the regression test network (Bitcoin's protocol).
+-- The block that a node mines from its mempool, on regtest (Bitcoin's protocol).
 use Rattle.std.specs.Prelude.{◌≡◌, ℕ, ◌+◌, ◌<◌, ◌≤◌, pos, List, [], ◌∷◌, ◌++◌, length, replicate, take}
 use Rattle.std.specs.Int.{w32, to_le_bytes}
 use Rattle.cb_base.specs.declared.fault.Fault.{Fault}
@@ -21,13 +21,13 @@ use Rattle.cb_state.specs.State.{NodeState}
 
 -- ---- the coinbase
 
--- It spends the output of no transaction. Its script is the block's height, its lowest byte first, and then the mark, by which
--- two blocks of one height differ.
+-- The coinbase's input spends no output. Its script is the block's height, lowest byte first, and
+-- then the mark. The mark makes two blocks of one height differ.
 abbrev pub coinbase_input : ℕ → ℕ → TxIn
 coinbase_input height mark =
     record { prev = record { txid = record { 0 = replicate 32 0 }; index = 4294967295 }; script = to_le_bytes w32 height ++ mark ∷ []; sequence = 4294967295 }
 
--- fifty coins, which anyone may spend: the script is OP_1
+-- 50 BTC that anyone may spend: the script is OP_1.
 abbrev pub subsidy : TxOut
 subsidy = record { value = pos 5000000000; script = 81 ∷ [] }
 
@@ -36,21 +36,22 @@ coinbase_of height mark = record { version = pos 1; inputs = coinbase_input heig
 
 -- ---- the transactions
 
--- A block of them has at most 1,000,000 bytes: its header has 80, and then come the transactions behind their count.
+-- A block of these transactions has at most 1,000,000 bytes: 80 of the header, then the count and
+-- the transactions.
 abbrev pub FitInBlock : List Tx → Type 0
 FitInBlock txs = 80 + length (list_text tx_text txs) ≤ 1000000
 
--- So many of those that wait fit behind the coinbase, and no more.
+-- `count` is the greatest number of the mempool's first transactions that fit after the coinbase.
 pub record IsMostFitting (coinbase : Tx) (waiting : List Tx) (count : ℕ) : Type 0 where
   pub within : count ≤ length waiting
   pub fit : FitInBlock (coinbase ∷ take count waiting)
   pub most : (more : ℕ) → count < more → more ≤ length waiting → ¬ FitInBlock (coinbase ∷ take more waiting)
 
--- the height of a block on the tip
+-- The height of a block whose parent is the tip.
 abbrev pub next_height : Tree → ℕ
 next_height tree = height_in tree (best tree) + 1
 
--- the coinbase, and the longest beginning of those that wait that fits behind it
+-- The coinbase, and after it as many of the mempool's first transactions as fit.
 abbrev pub AreMined : NodeState → ℕ → List Tx → Type 0
 AreMined state mark txs =
     let coinbase = coinbase_of (next_height state.tree) mark in
@@ -59,7 +60,8 @@ AreMined state mark txs =
 
 -- ---- the header
 
--- It stands on the tip, over the transactions. Its time is that of the network's first block and its height in seconds.
+-- The header's parent is the tip, and its Merkle root is that of the transactions. Its time is that
+-- of the genesis block plus its height in seconds.
 pub record IsHeaderOver (tree : Tree) (txs : List Tx) (header : Header) : Type 0 where
   pub version : header.version ≡ pos 1
   pub prev : header.prev ≡ best tree
@@ -70,12 +72,12 @@ pub record IsHeaderOver (tree : Tree) (txs : List Tx) (header : Header) : Type 0
 abbrev pub with_nonce : Header → ℕ → Header
 with_nonce header nonce = record header { nonce = nonce }
 
--- It meets its target, and with no smaller nonce it would.
+-- The header meets its target, and would not with any smaller nonce.
 pub record HasLeastNonce (header : Header) : Type 0 where
   pub work : HasWork header
   pub least : (nonce : ℕ) → nonce < header.nonce → ¬ HasWork (with_nonce header nonce)
 
--- it meets its target with no nonce of 32 bits
+-- The header doesn't meet its target with any nonce of 32 bits.
 abbrev pub HasNoNonce : Header → Type 0
 HasNoNonce header = (nonce : ℕ) → nonce < 4294967296 → ¬ HasWork (with_nonce header nonce)
 
@@ -86,7 +88,8 @@ pub record IsMined (state : NodeState) (mark : ℕ) (block : Block) : Type 0 whe
   pub header : IsHeaderOver state.tree block.txs block.header
   pub nonce : HasLeastNonce block.header
 
--- Why there is none: two neighbours in the tree of its transactions are equal (CVE-2012-2459), or no nonce meets the target.
+-- Why no block can be mined: two neighbours in the Merkle tree are equal (CVE-2012-2459), or no
+-- nonce meets the target.
 abbrev pub CannotMine : NodeState → ℕ → Fault → Type 0
 CannotMine state mark Mutated = (txs : List Tx) × AreMined state mark txs × IsMutated (names (texts txs))
 CannotMine state mark BadWork = (txs : List Tx) × (header : Header) × AreMined state mark txs × IsHeaderOver state.tree txs header × HasNoNonce header

@@ -1,4 +1,5 @@
--- What a peer is told of what it doesn't know yet: the way to the tip (BIP 130), the block (BIP 152), and new transactions.
+-- News: what changed since a peer last asked. These are the headers up to the tip (BIP 130), the
+-- block (BIP 152), and new transactions.
 use Rattle.std.specs.Prelude.{◌≡◌, ◌-◌, ℕ, Bool, ◌&&◌, nat_eq, nat_lt, if◌then◌else◌, List, [], length, drop, Option, None, Some}
 use Rattle.cb_base.specs.declared.hash.Hash256.{Hash256}
 use Rattle.cb_block.specs.declared.header.Header.{Header}
@@ -11,16 +12,17 @@ use Rattle.cb_state.specs.declared.news.News.{News}
 use Rattle.cb_state.specs.Announcers.{is_among}
 use Rattle.cb_state.specs.State.{NodeState}
 
--- The headers from the branch of the tip that was told last up to the tip. Where none was told there are none.
+-- The headers of the active chain above its fork point with the tip told last, up to the tip. If no
+-- tip was told, there are none.
 abbrev pub way_from : Tree → Option Hash256 → List Header
 way_from tree None = []
 way_from tree (Some tip) = headers_above tree tip
 
--- more than eight headers are too many to be announced
+-- Whether there are more than eight headers, too many to be announced.
 abbrev pub is_long : List Header → Bool
 is_long headers = nat_lt 8 (length headers)
 
--- of a long way the last one alone
+-- The headers, or the last one alone if they are too many.
 abbrev pub announced : List Header → List Header
 announced headers = if is_long headers then drop (length headers - 1) headers else headers
 

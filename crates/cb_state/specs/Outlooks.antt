@@ -1,4 +1,4 @@
--- What is known of the pool before a block comes that may become the tip.
+-- What is known of the mempool before a block is taken that may become the tip.
 use Rattle.std.specs.Prelude.{◌≡◌, List, [], Ok, IsOk}
 use Rattle.cb_block.specs.declared.block.Block.{Block}
 use Rattle.cb_tx.specs.declared.tx.Tx.{Tx}
@@ -13,7 +13,8 @@ use Rattle.cb_state.specs.declared.accepting.Outlook.TheVariants.{Folds, Stays}
 use Rattle.cb_state.specs.Accepting.{IsPlanOn, txs_above}
 use Rattle.cb_state.specs.State.{IsUnspent, NodeState}
 
--- The block comes on the tip, so that nothing is put off for it, and what waits can be spent behind it too.
+-- The block's parent is the tip, so no block is disconnected. The mempool can still be spent in
+-- order after the block.
 pub record LeavesPool (state : NodeState) (block : Block) : Type 0 where
   pub on : block.header.prev ≡ best state.tree
   pub above : txs_above state.tree block.header.prev ≡ []
@@ -21,17 +22,17 @@ pub record LeavesPool (state : NodeState) (block : Block) : Type 0 where
   pub behind_tip : IsUnspent state.tree unspent
   pub wait : (after : Unspent) → spend unspent block.txs ≡ Ok after → IsOk (spend after (txs_of state.pool.list))
 
--- the pool stays, or is folded anew by a plan
+-- The mempool stays, or is rebuilt by a plan.
 abbrev pub IsOutlookOn : NodeState → Block → Outlook → Type 0
 IsOutlookOn state block Stays = LeavesPool state block
 IsOutlookOn state block (Folds plan) = IsPlanOn state block.header.prev plan
 
--- what comes first in the pool
+-- The transactions that come before the mempool's when it is rebuilt.
 abbrev pub first_of : Outlook → List Tx
 first_of Stays = []
 first_of (Folds plan) = plan.first
 
--- The pool stays where its list applies in turn; for a plan there is room.
+-- The mempool can stay if its list can be spent in order. A plan must have room for the list.
 abbrev pub IsReady : Unspent → List Pooled → Outlook → Type 0
 IsReady u list Stays = IsOk (spend u (txs_of list))
 IsReady u list (Folds plan) = HasRoom plan list

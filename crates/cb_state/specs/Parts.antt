@@ -4,15 +4,16 @@ use Rattle.cb_base.specs.declared.hash.Hash256.{Hash256}
 use Rattle.cb_tx.specs.declared.tx.Tx.{Tx}
 use Rattle.cb_tx.specs.Text.{list_text, tx_text}
 
--- the block's hash, and the transactions
+-- The block's hash, and some of its transactions.
 pub record BlockPart : Type 0 where
   pub hash : Hash256
   pub txs : List Tx
 
--- the transactions at these places, in order
+-- The transactions at these places, in order. A place outside the list is skipped.
 abbrev pub txs_at : List Tx → List ℕ → List Tx
 txs_at txs places = filter_map (λ place. slice_get txs place) places
 
--- A message can carry them: the hash, and the transactions behind their count, have at most 4,000,000 bytes.
+-- The transactions fit in a message: the hash, the count and the transactions have at most
+-- 4,000,000 bytes.
 abbrev pub IsCarried : List Tx → Type 0
 IsCarried txs = 32 + length (list_text tx_text txs) ≤ 4000000

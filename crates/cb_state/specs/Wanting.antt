@@ -1,4 +1,4 @@
--- Which entries of inventory are wanted (Bitcoin's protocol, `inv`).
+-- Which inventory entries are wanted (Bitcoin's protocol, `inv`).
 use Rattle.std.specs.Prelude.{◌≡◌, Bool, true, false, ◌&&◌, not, nat_eq, if◌then◌else◌, List, [], ◌∷◌, ◌++◌, filter, Option, None, Some}
 use Rattle.std.specs.List.{list_any}
 use Rattle.std.specs.Option.{option_map_or}
@@ -20,12 +20,13 @@ same_entry (CompactBlock a) (CompactBlock b) = same a b
 same_entry (Other kind a) (Other other b) = nat_eq kind other && same a b
 same_entry a b = false
 
--- each different entry once, where it stands first
+-- Each different entry once, at its first place.
 unfoldable pub once : List Inventory → List Inventory
 once [] = []
 once (entry ∷ entries) = entry ∷ filter (λ other. not (same_entry entry other)) (once entries)
 
--- a transaction that doesn't wait in the pool, and a block that is neither kept nor marked bad
+-- Wanted are transactions that aren't in the mempool, and blocks that are neither kept nor marked
+-- bad.
 abbrev pub is_wanted : NodeState → Inventory → Bool
 is_wanted state (Tx txid) = not (is_named_in (txs_of state.pool.list) txid)
 is_wanted state (Block hash) = is_lacking state.tree hash
@@ -41,17 +42,17 @@ is_block other = false
 abbrev pub blocks_of : List Inventory → List Inventory
 blocks_of entries = filter is_block entries
 
--- its header is known, and stands on the tip
+-- The header is known, and its parent is the tip.
 abbrev pub stands_on_tip : NodeState → Option Entry → Bool
 stands_on_tip state None = false
 stands_on_tip state (Some entry) = same entry.header.prev (best state.tree)
 
--- the hash of the block, where there is one alone
+-- The hash of the block, if the list is one block alone.
 abbrev pub only_block : List Inventory → Option Hash256
 only_block (Block hash ∷ []) = Some hash
 only_block other = None
 
--- it is the only one, and stands on the tip
+-- There is exactly one block, and its parent is the tip.
 abbrev pub is_near : NodeState → List Inventory → Bool
 is_near state blocks = option_map_or (λ hash. stands_on_tip state (entry_of state.tree hash)) (only_block blocks) false
 
@@ -65,15 +66,15 @@ pub record IsNeed (state : NodeState) (entries : List Inventory) (need : Need) :
 abbrev pub is_listed : List Inventory → Inventory → Bool
 is_listed listed entry = list_any (λ other. same_entry other entry) listed
 
--- it comes last, unless it is there
+-- The list with the entry appended, unless it is listed.
 abbrev pub with_entry : List Inventory → Inventory → List Inventory
 with_entry listed entry = if is_listed listed entry then listed else listed ++ entry ∷ []
 
--- the same, if it is wanted
+-- The same, if the entry is wanted.
 abbrev pub with_wanted : NodeState → List Inventory → Inventory → List Inventory
 with_wanted state listed entry = if is_wanted state entry then with_entry listed entry else listed
 
--- the hashes of the transactions and of the blocks that are listed
+-- The two predicates tell exactly the listed txids and the listed block hashes.
 pub record AreNoted (is_tx is_noted_block : Hash256 → Bool) (listed : List Inventory) : Type 0 where
   pub txs : (txid : Hash256) → is_tx txid ≡ is_listed listed (Tx txid)
   pub blocks : (hash : Hash256) → is_noted_block hash ≡ is_listed listed (Block hash)

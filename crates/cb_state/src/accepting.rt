@@ -22,27 +22,28 @@ use cb_pool::{Candidate, Pool, Refolding, stays_as_it_is, stays_behind_others};
 use cb_tx::Tx;
 use std::alloc::Global;
 
-/// What a block met.
+/// The outcome of a block.
 #[derive(Drop)]
 pub struct Taken {
-    /// Why it was refused, if it was.
+    /// Why the block was refused; `None` if it was accepted.
     pub refused: Option<Fault>,
-    /// The chain's locator, where the refusal is `Fault::NoParent`.
+    /// The chain's block locator if the refusal is `Fault::NoParent`, else empty.
     pub locator: Locator,
 }
 
-/// What headers met that were given in turn.
+/// The outcome of a list of headers.
 #[derive(Drop)]
 pub struct Heads {
-    /// Why one was refused, if one was.
+    /// Why the first refused header was refused; `None` if none was.
     pub refused: Option<Fault>,
-    /// The hashes of the headers before it whose blocks are lacking, in order.
+    /// The hashes of the headers before that one whose blocks are neither kept nor marked bad, in
+    /// order.
     pub lack: Hashes,
-    /// The chain's locator, where the refusal is `Fault::NoParent`.
+    /// The chain's block locator if the refusal is `Fault::NoParent`, else empty.
     pub locator: Locator,
 }
 
-/// The locator that is told with a refusal.
+/// The locator for `Fault::NoParent`, else an empty one.
 fn told_locator(alloc: Global, refused: Option<Fault>, locator: Locator) -> Locator
     ensures { result ≡ locator_for refused locator }
 {
@@ -52,7 +53,7 @@ fn told_locator(alloc: Global, refused: Option<Fault>, locator: Locator) -> Loca
     }
 }
 
-/// What is told of what was refused for a fault: the fault, but for want of memory, which is an error.
+/// Returns a refusal's fault as an answer. `Fault::Memory` alone stays an error.
 fn told(fault: Fault) -> Result<Option<Fault>, Fault>
     ensures ok { IfOk result (λ refused. (refused ≡ Some fault) × (fault ≢ Memory)) }
     ensures err { IfErr result (λ error. (error ≡ Memory) × (fault ≡ Memory)) }
@@ -63,7 +64,7 @@ fn told(fault: Fault) -> Result<Option<Fault>, Fault>
     Ok(Some(fault))
 }
 
-/// What is told of a block that was refused for a fault.
+/// The outcome of a refused block. Fails only with `Fault::Memory`, if that is the fault.
 fn refusal(alloc: Global, fault: Fault, locator: Locator) -> Result<Taken, Fault>
     ensures ok { IfOk result
         (λ taken. (taken.refused ≡ Some fault) × (taken.locator ≡ locator_for (Some fault) locator)
@@ -77,7 +78,8 @@ fn refusal(alloc: Global, fault: Fault, locator: Locator) -> Result<Taken, Fault
     })
 }
 
-/// Pushes a block's transactions other than its coinbase, where there is a block. The only error is `Fault::Memory`.
+/// Pushes the block's transactions except the coinbase; without a block, nothing. Fails only with
+/// `Fault::Memory`.
 fn push_candidates(first: &mut Vec<Candidate>, block: Option<&SoundBlock>) -> Result<(), Fault>
     requires rules { IfSome (option_copied block)
         (λ block. MeetsBlockRules block ⊎ (length block.txs ≤ 1)) }
@@ -103,16 +105,18 @@ fn lacking(chain: &Chain, hashes: Hashes) -> Hashes
     Hashes::new(list)
 }
 
-/// What becomes of the pool where a block becomes the tip.
+/// What happens to the mempool if a block becomes the tip. It is worked out before the chain
+/// changes.
 #[derive(Drop)]
 enum Outlook {
-    // It stays: the block comes on the tip, and spends and makes no output that the pool's transactions spend or make.
+    // The mempool stays as it is: the block's parent is the tip, and the block spends and creates
+    // no output that a mempool transaction spends or creates.
     Stays,
-    // It is folded anew by a plan.
+    // The mempool is rebuilt by a plan.
     Folds(Refolding),
 }
 
-/// The pool goes by an outlook, where there is one.
+/// Applies an outlook to the mempool, if there is one.
 fn follow(pool: &mut Pool, ledger: &Ledger, outlook: Option<Outlook>)
     requires ready { IfSome outlook (IsReady ledger.now.unspent pool.old.list) }
     ensures { MatchOption outlook (pool.new ≡ pool.old)
@@ -126,7 +130,7 @@ fn follow(pool: &mut Pool, ledger: &Ledger, outlook: Option<Outlook>)
     }
 }
 
-/// The connection that gave a new tip, if one is named, becomes the last announcer.
+/// Moves the connection that gave the new tip, if one is named, to the end of the announcers.
 fn thank(announcers: &mut Announcers, from: Option<Connection>)
     ensures { announcers.new ≡ announcers_after announcers.old true from }
 {
@@ -136,9 +140,10 @@ fn thank(announcers: &mut Announcers, from: Option<Connection>)
 }
 
 impl State {
-    /// A transaction comes into the pool, or is refused for the fault that is told.
+    /// Adds a transaction to the mempool. Returns `None` if it was added, or else why it was
+    /// refused (`Pool::insert` lists the reasons). A refused transaction changes nothing.
     ///
-    /// The only error is `Fault::Memory`, which changes nothing.
+    /// Fails only with `Fault::Memory`; the state is then unchanged.
     pub fn take_tx(&mut self, tx: Shared<Tx>) -> Result<Option<Fault>, Fault>
         ensures taken { IfOk result (λ refused. TakesTx self.old tx refused self.new) }
         ensures err { OnErr result (self.new ≡ self.old) }
@@ -150,10 +155,18 @@ impl State {
         Ok(None)
     }
 
-    /// A block comes. Where it becomes the tip, the pool is folded anew behind the transactions of the blocks that were put
-    /// off, and the connection that is named, if one is, becomes the last announcer.
+    /// Takes a block into the chain. Returns why it was refused, if it was, with a locator if its
+    /// parent isn't known.
     ///
-    /// The only error is `Fault::Memory`, which changes nothing.
+    /// `Chain::accept_block` lists the refusals. A refused block that breaks a rule, or can't be
+    /// connected, is marked bad in the header tree. The mempool and the announcers then stay as
+    /// they are.
+    ///
+    /// If the block becomes the tip, the mempool is rebuilt: the transactions of disconnected
+    /// blocks come first, then those that were in it, and each is kept if it still applies. The
+    /// connection that gave the block, if one is named, becomes the last announcer.
+    ///
+    /// Fails only with `Fault::Memory`; the state is then unchanged.
     pub fn take_block(
         &mut self,
         block: SoundBlock,
@@ -181,9 +194,12 @@ impl State {
         Ok(taken)
     }
 
-    /// Headers come, and are kept in turn. One that is known is passed over, and the first other refusal ends it.
+    /// Takes headers into the chain, in order. A header that is already known is skipped. The first
+    /// other refusal ends it (`Chain::accept_header` lists the reasons); the headers before it
+    /// stay.
     ///
-    /// The only error is `Fault::Memory`, which changes nothing: none of them is kept.
+    /// Fails only with `Fault::Memory`; the state is then unchanged and none of the headers is
+    /// kept.
     pub fn take_headers(&mut self, headers: &[Header]) -> Result<Heads, Fault>
         ensures taken { IfOk result (λ heads. TakesHeads self.old headers.now heads self.new) }
         ensures err { OnErr result (self.new ≡ self.old) }
@@ -198,8 +214,8 @@ impl State {
         })
     }
 
-    /// What becomes of the pool where a block becomes the tip. There is no outlook where that can't be, since the block's parent
-    /// isn't known, or stands below the tip. The only error is `Fault::Memory`.
+    /// The mempool's outlook for a block. It is `None` if the block can't become the tip, because
+    /// its parent isn't known or is below the tip. Fails only with `Fault::Memory`.
     fn outlook_on(&self, block: &SoundBlock) -> Result<Option<Outlook>, Fault>
         ensures outlook { IfOk result
             (λ outlook. MatchOption outlook (¬ MayLead self.now.tree block.now.header.prev)
@@ -224,8 +240,8 @@ impl State {
         Ok(Some(Outlook::Folds(self.pool.refolding(first)?)))
     }
 
-    /// The transactions other than coinbases of the blocks above the place where the active chain left a parent's branch, the
-    /// lowest block's first. The only error is `Fault::Memory`.
+    /// The transactions, without coinbases, of the active chain's blocks above its fork point with
+    /// the parent's branch, lowest block first. Fails only with `Fault::Memory`.
     fn put_off_for(&self, parent: &Hash256) -> Result<Vec<Candidate>, Fault>
         ensures first { IfOk result (λ first. first.items ≡ txs_above self.now.tree parent.now) }
         ensures memory { IsOkUnless result Memory }

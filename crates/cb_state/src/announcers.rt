@@ -7,11 +7,12 @@ use cb_base::Fault;
 use std::alloc::Global;
 use std::marker::Model;
 
-/// How many connections are asked to announce new blocks as compact ones (BIP 152).
+/// The most connections that are asked to announce new blocks as compact blocks (BIP 152: three).
 pub(crate) const MOST_ANNOUNCERS: usize = 3;
 
-/// The connections that are asked to announce new blocks as compact ones (BIP 152), the one that gave a new tip last stands
-/// last. There is room for one more than there may be. They are seen as their list.
+/// The announcers: the connections that are asked to announce new blocks as compact blocks
+/// (BIP 152, high-bandwidth mode). The one that gave the most recent new tip is last. There are at
+/// most three, with room for a fourth. Its model is the list.
 #[derive(Drop)]
 pub(crate) struct Announcers {
     list: Vec<Connection>,
@@ -29,7 +30,7 @@ impl Model for Announcers {
 }
 
 impl Announcers {
-    /// None of them. The only error is `Fault::Memory`.
+    /// No announcers. Fails only with `Fault::Memory`.
     pub(crate) fn new(alloc: Global) -> Result<Announcers, Fault>
         ensures none { IfOk result (λ announcers. announcers ≡ []) }
         ensures memory { IsOkUnless result Memory }
@@ -38,19 +39,21 @@ impl Announcers {
         Ok(Announcers { list })
     }
 
+    /// The announcers, in order.
     pub(crate) fn as_slice(&self) -> &[Connection]
         ensures { result.now ≡ self.now }
     {
         self.list.as_slice()
     }
 
+    /// Whether a connection is an announcer.
     pub(crate) fn contains(&self, connection: Connection) -> bool
         ensures { result ≡ is_among self.now connection }
     {
         self.list.iter().any(|other| *other == connection)
     }
 
-    /// The connection comes last, or goes there. Of four the first leaves.
+    /// Moves or adds a connection to the end. If there are then four, the first is dropped.
     pub(crate) fn put_last(&mut self, connection: Connection)
         ensures { self.new ≡ with_announcer self.old connection }
     {
@@ -61,14 +64,14 @@ impl Announcers {
         }
     }
 
-    /// All connections of a peer leave.
+    /// Removes all connections of a peer.
     pub(crate) fn leave(&mut self, peer: u16)
         ensures { self.new ≡ without_peer self.old peer }
     {
         self.list.retain(|other| other.peer != peer);
     }
 
-    /// The same announcers. The only error is `Fault::Memory`.
+    /// A copy. Fails only with `Fault::Memory`.
     pub(crate) fn copy(&self, alloc: Global) -> Result<Announcers, Fault>
         ensures same { IfOk result (λ copy. copy ≡ self.now) }
         ensures memory { IsOkUnless result Memory }

@@ -8,7 +8,8 @@ use cb_block::SoundBlock;
 use cb_chain::{Chain, kept_meet_rules};
 use std::marker::Model;
 
-/// A sound block that a message can carry: its text has at most 4,000,000 bytes (Bitcoin's protocol). It is seen as the block.
+/// A sound block that fits in a message: at most 4,000,000 bytes when serialised (Bitcoin's
+/// protocol). Its model is the block.
 #[derive(Drop)]
 pub struct BoundedBlock {
     block: SoundBlock,
@@ -27,7 +28,7 @@ impl Model for BoundedBlock {
 }
 
 impl BoundedBlock {
-    /// Takes a block that a message can carry.
+    /// Wraps a block that fits in a message.
     pub fn new(block: SoundBlock) -> BoundedBlock
         requires { length (block_text block) ≤ 4000000 }
         ensures { result ≡ block }
@@ -43,8 +44,8 @@ impl BoundedBlock {
         &self.block
     }
 
-    /// The same block once more, which is shared. It takes no memory: the only error is `Fault::Memory`, where a count of owners
-    /// is full.
+    /// Another handle to the same block. No memory is allocated. Fails only with `Fault::Memory`,
+    /// if the block's count of owners is full.
     pub fn copy(&self) -> Result<BoundedBlock, Fault>
         ensures same { IfOk result (λ copy. copy ≡ self.now) }
         ensures memory { IsOkUnless result Memory }
@@ -55,7 +56,8 @@ impl BoundedBlock {
     }
 }
 
-/// The block of this hash, where it is kept and isn't marked bad. It is shared and not copied. The only error is `Fault::Memory`.
+/// The block of this hash, if it is kept and not marked bad. The block is shared, not copied. Fails
+/// only with `Fault::Memory`.
 pub(crate) fn kept_block(chain: &Chain, hash: &Hash256) -> Result<Option<BoundedBlock>, Fault>
     ensures block { IfOk result (λ block. block ≡ block_of chain.now hash.now) }
     ensures memory { IsOkUnless result Memory }

@@ -1,6 +1,9 @@
-/// One connection of a peer: the first has generation 1, and each next one the next generation.
+/// One connection of a peer. A peer's first connection has generation 1, and each later one the
+/// next generation.
 #[derive(Clone, Copy, PartialEq, Eq)]
 pub struct Connection {
+    /// The peer's number.
     pub peer: u16,
+    /// The connection's generation.
     pub generation: u64,
 }

@@ -1,4 +1,4 @@
-//! What holds of every state, and of every call. Each law is the contract of a function that changes nothing.
+//! Laws of every state and every call. Each law is the contract of a function that does nothing.
 ghost use Rattle.std.specs.Prelude.{◌≡◌, List, Option};
 ghost use Rattle.cb_base.specs.declared.fault.Fault.{Fault};
 ghost use Rattle.cb_block.specs.declared.block.Block.{Block};
@@ -10,7 +10,8 @@ ghost use Rattle.cb_state.specs.declared.accepting.Taken.{Taken};
 ghost use Rattle.cb_state.specs.Accepting.{TakesBlock, TakesHeads, TakesTx};
 ghost use Rattle.cb_state.specs.State.{NodeState};
 
-/// To a transaction, a block or headers over a state there is one answer, and one state that they leave.
+/// The state before and the transaction, block or headers given determine the answer and the state
+/// after.
 pub fn one_answer()
     ensures tx { (old new other : NodeState) (tx : Tx) (refused again : Option Fault)
         → TakesTx old tx refused new → TakesTx old tx again other →

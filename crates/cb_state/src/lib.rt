@@ -1,4 +1,6 @@
-//! What the peers of a node share: the chain, the pool, and the announcers of new blocks. Each call changes all of it or nothing.
+//! The state that a node's peers share: the chain, the mempool (called the pool), and the
+//! announcers (the connections that are asked to announce new blocks as compact blocks, BIP 152). A
+//! call that fails leaves all of it unchanged.
 #![tactic(auto)]
 
 mod accepting;

@@ -7,7 +7,7 @@ use cb_base::Fault;
 use cb_chain::{Chain, has_history};
 use cb_payload::Locator;
 
-/// A chain's locator, which is short enough for a message. The only error is `Fault::Memory`.
+/// The chain's block locator. It fits in a message. Fails only with `Fault::Memory`.
 pub(crate) fn locator_of(chain: &Chain) -> Result<Locator, Fault>
     ensures exact { IfOk result (λ locator. locator ≡ locator_of chain.now) }
     ensures memory { IsOkUnless result Memory }
@@ -20,7 +20,8 @@ pub(crate) fn locator_of(chain: &Chain) -> Result<Locator, Fault>
 }
 
 impl State {
-    /// The chain's locator (Bitcoin's protocol, `getheaders`). The only error is `Fault::Memory`.
+    /// The chain's block locator (Bitcoin's protocol, `getheaders`). Fails only with
+    /// `Fault::Memory`.
     pub fn locator(&self) -> Result<Locator, Fault>
         ensures exact { IfOk result (λ locator. locator ≡ locator_of self.now.tree) }
         ensures memory { IsOkUnless result Memory }

@@ -11,10 +11,13 @@ use cb_compact::key;
 use cb_pool::{Pairs, ShortIds};
 
 impl State {
-    /// The transactions that wait whose short ids under the key of a header and a nonce are among these (BIP 152), as they are
-    /// now. No transaction is hashed, looked up or copied here, but by `Pairs::list`. Nothing is seen to change.
+    /// Returns the mempool's transactions, as they are now, whose short ids are among `ids`
+    /// (BIP 152). The short ids are keyed by `header` and `nonce`. `Pairs::list` hashes, looks up
+    /// and copies the transactions later; nothing of that is done here. The state seen from outside
+    /// doesn't change.
     ///
-    /// The only error is `Fault::Memory`. Memory is taken only for the first call since the pool changed.
+    /// Fails only with `Fault::Memory`. Memory is allocated only by the first call after the
+    /// mempool changed.
     pub fn match_ids(
         &mut self,
         header: &Header,

@@ -17,16 +17,16 @@ use cb_pool::{Candidate, Pool, each_stands_alone};
 use cb_tx::{Inputs, OutPoint, Outputs, Script, Tx, TxIn, TxOut, compact_size};
 use std::alloc::Global;
 
-/// How many bytes a block has at the most.
+/// The most bytes of a block.
 const MOST_BYTES: u64 = 1_000_000;
 
-/// How many bytes a header has.
+/// The bytes of a block header.
 const HEADER_BYTES: u64 = 80;
 
-/// The time of the regression test network's first block.
+/// The time of regtest's genesis block.
 const FIRST_TIME: u32 = 1_296_688_602;
 
-/// The height of a block on the tip.
+/// The height of a block whose parent is the tip.
 fn height_on(chain: &Chain) -> u32
     ensures height { result ≡ next_height chain.now }
     ensures low { result ≤ 1000000001 }
@@ -35,7 +35,7 @@ fn height_on(chain: &Chain) -> u32
     chain.tip_height() + 1
 }
 
-/// The coinbase of a block at a height.
+/// The coinbase of a mined block at a height. Fails only with `Fault::Memory`.
 fn coinbase_at(alloc: Global, height: u32, mark: u8) -> Result<Shared<Tx>, Fault>
     ensures same { IfOk result (λ tx. tx ≡ coinbase_of height mark) }
     ensures size { IfOk result (λ tx. length (tx_text tx) ≡ 66) }
@@ -67,7 +67,7 @@ fn coinbase_at(alloc: Global, height: u32, mark: u8) -> Result<Shared<Tx>, Fault
     Ok(Shared::new(alloc, tx)?)
 }
 
-/// The transaction at a place of a pool.
+/// The mempool's transaction at a place.
 fn waiting_at(pool: &Pool, place: usize) -> &Candidate
     requires { place < length pool.now.list }
     ensures { slice_get (txs_of pool.now.list) place ≡ Some result.now }
@@ -78,7 +78,7 @@ fn waiting_at(pool: &Pool, place: usize) -> &Candidate
     }
 }
 
-/// How many transactions of a pool fit in a block behind the coinbase.
+/// How many of the mempool's first transactions fit in a block after the coinbase.
 fn fitting(pool: &Pool, coinbase: &Tx) -> usize
     requires { length (tx_text coinbase.now) ≤ 1000 }
     ensures fitting { IsMostFitting coinbase.now (txs_of pool.now.list) result }
@@ -95,7 +95,8 @@ fn fitting(pool: &Pool, coinbase: &Tx) -> usize
     pool.len()
 }
 
-/// The coinbase and the first transactions of a pool, which are shared.
+/// The coinbase and the mempool's first `count` transactions, shared. Fails only with
+/// `Fault::Memory`.
 fn txs_behind(
     alloc: Global,
     coinbase: Shared<Tx>,
@@ -115,7 +116,8 @@ fn txs_behind(
     Ok(txs)
 }
 
-/// Their txids. Only the coinbase is hashed here.
+/// The txids of the coinbase and the mempool's first `count` transactions. Only the coinbase is
+/// hashed. Fails only with `Fault::Memory`.
 fn txids_behind(
     alloc: Global,
     coinbase: &Tx,
@@ -136,7 +138,8 @@ fn txids_behind(
     Ok(txids)
 }
 
-/// The header with the least nonce with which it meets its target: else `Fault::BadWork`.
+/// The header with the least nonce that meets its target. Fails with `Fault::BadWork` if there is
+/// none.
 fn with_work(header: Header) -> Result<Header, Fault>
     ensures ok { IfOk result
         (λ worked. (worked ≡ with_nonce header worked.nonce) × HasLeastNonce worked) }
@@ -154,7 +157,8 @@ fn with_work(header: Header) -> Result<Header, Fault>
     Err(Fault::BadWork)
 }
 
-/// The block of a header and its transactions, whose txids are known. Beside `Fault::Memory` there is only `Fault::Mutated`.
+/// The block of a header and transactions whose txids are known. Fails only with `Fault::Memory`
+/// and `Fault::Mutated`.
 fn sealed(
     alloc: Global,
     header: Header,
@@ -178,11 +182,14 @@ fn sealed(
 }
 
 impl State {
-    /// A block on the tip for the regression test network: a coinbase with a mark, and then the transactions that wait, from
-    /// the first one on, as many as fit. Its header has the least nonce with which it meets its target.
+    /// Mines a regtest block on the tip. It holds a coinbase with a mark, and then the mempool's
+    /// transactions from the first one on, as many as fit. Its header has the least nonce that
+    /// meets its target. The state doesn't change.
     ///
-    /// `Fault::BadWork` where there is no such nonce, `Fault::Mutated` where two neighbours in the tree of the transactions
-    /// are equal (CVE-2012-2459), and `Fault::Memory`.
+    /// Fails with:
+    /// - `Fault::BadWork` if no nonce meets the target;
+    /// - `Fault::Mutated` if two neighbours in the Merkle tree are equal (CVE-2012-2459);
+    /// - `Fault::Memory`.
     pub fn mine(&self, mark: u8) -> Result<SoundBlock, Fault>
         ensures mined { IfOk result (λ block. IsMined self.now mark block) }
         ensures err { IfErr result (λ fault. (fault ≡ Memory) ⊎ CannotMine self.now mark fault) }
@@ -205,13 +212,13 @@ impl State {
     }
 }
 
-/// There is one mined block: of a state and a mark no two differ.
+/// A state and a mark determine the mined block.
 pub fn one_mined_block()
     ensures { (state : NodeState) (mark : ℕ) (a b : Block) → IsMined state mark a →
         IsMined state mark b → a ≡ b }
 {}
 
-/// A mined block meets the rules that a block meets by itself.
+/// A mined block meets the rules that a block meets by itself, without its chain.
 pub fn mined_meets_rules(state: &State, mark: u8, block: &SoundBlock)
     requires { IsMined state.now mark block.now }
     ensures { MeetsBlockRules block.now }

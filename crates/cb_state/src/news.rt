@@ -14,35 +14,38 @@ use cb_block::Header;
 use cb_payload::Listed;
 use std::alloc::Global;
 
-/// How many headers are announced at once at the most.
+/// The most headers that are announced at once.
 pub const MOST_ANNOUNCED: usize = 8;
 
-/// Headers that are announced, at most eight.
+/// At most eight announced headers.
 pub type Announced = Listed<Header, MOST_ANNOUNCED>;
 
-/// The names of transactions that are announced, at most 50,000.
+/// The txids of at most 50,000 announced transactions.
 pub type Txids = Listed<Hash256, MOST_ENTRIES>;
 
-/// What a peer is told of what it doesn't know yet.
+/// The news for a peer: what changed since it last asked.
 #[derive(Drop)]
 pub struct News {
-    /// The tip.
+    /// The tip's hash.
     pub tip: Hash256,
-    /// The headers from the branch of the tip that was told last up to the tip; of more than eight the last one alone.
+    /// The headers of the active chain above its fork point with the tip told last, up to the tip.
+    /// If there are more than eight, the last one alone.
     pub path: Announced,
-    /// Whether there are more than eight.
+    /// Whether there were more than eight.
     pub long: bool,
-    /// The tip's block, where it was asked for and is the only new one.
+    /// The tip's block, if it was asked for and there is exactly one new header.
     pub block: Option<BoundedBlock>,
-    /// The transactions that came into the pool since the number that was told last.
+    /// The txids of the mempool's transactions from the given arrival number on.
     pub txids: Txids,
-    /// The number that the next transaction takes.
+    /// The arrival number that the mempool's next transaction gets.
     pub next: u64,
-    /// Whether the connection is one of those that are asked to announce blocks as compact ones.
+    /// Whether the connection is an announcer: one that is asked to announce new blocks as compact
+    /// blocks (BIP 152).
     pub high: bool,
 }
 
-/// Of more than eight headers the last one alone.
+/// The headers, or the last one alone if there are more than eight. Fails only with
+/// `Fault::Memory`.
 fn to_announce(alloc: Global, way: Vec<Header>) -> Result<Announced, Fault>
     ensures path { IfOk result (λ path. path ≡ announced way.items) }
     ensures few { length way.items ≤ 8 → IsOk result }
@@ -56,10 +59,11 @@ fn to_announce(alloc: Global, way: Vec<Header>) -> Result<Announced, Fault>
 }
 
 impl State {
-    /// What a connection is told that was told this tip, and of transactions below this number. The block is asked for by
-    /// `whole`.
+    /// Returns the news for a connection. `told` is the tip it was told last; without one, no
+    /// headers are new. `from` is the arrival number of the first transaction it wasn't told.
+    /// `whole` asks for the tip's block.
     ///
-    /// The only error is `Fault::Memory`, and only where there is something new.
+    /// Fails only with `Fault::Memory`, and only if there are new headers or transactions.
     pub fn news(
         &self,
         connection: Connection,
@@ -86,7 +90,8 @@ impl State {
         })
     }
 
-    /// The headers from the branch of the tip that was told last up to the tip.
+    /// The headers of the active chain above its fork point with the tip told last, up to the tip.
+    /// Fails only with `Fault::Memory`.
     fn way_from(&self, told: Option<Hash256>) -> Result<Vec<Header>, Fault>
         ensures way { IfOk result (λ way. way.items ≡ way_from self.now.tree told) }
         ensures none { way_from self.now.tree told ≡ [] → IsOk result }
@@ -98,7 +103,7 @@ impl State {
         }
     }
 
-    /// The tip's block, where it is asked for.
+    /// The tip's block, if it is asked for. Fails only with `Fault::Memory`.
     fn tip_block(&self, asked: bool) -> Result<Option<BoundedBlock>, Fault>
         ensures block { IfOk result
             (λ block. block
@@ -112,7 +117,8 @@ impl State {
         kept_block(&self.chain, &self.chain.tip())
     }
 
-    /// The names of the transactions from this number on. The pool has fewer than a message can carry.
+    /// The txids of the mempool's transactions from this arrival number on. They fit in a message.
+    /// Fails only with `Fault::Memory`.
     fn txids_since(&self, number: u64) -> Result<Txids, Fault>
         ensures txids { IfOk result (λ txids. txids ≡ since_of self.now.pool.list number) }
         ensures none { since_of self.now.pool.list number ≡ [] → IsOk result }

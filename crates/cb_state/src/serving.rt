@@ -13,30 +13,31 @@ use cb_base::{Fault, Hash256};
 use cb_payload::Listed;
 use cb_pool::Candidate;
 
-/// How far below the tip a block is served as a compact one at the most (own).
+/// The greatest depth below the tip at which a block is served as a compact block (this node's own
+/// choice).
 const MOST_COMPACT_DEPTH: u32 = 5;
 
-/// What is served of an entry, which a message can carry.
+/// What one inventory entry is answered with. It fits in a message.
 #[derive(Drop)]
 pub enum Piece {
-    /// A transaction of the pool.
+    /// A transaction of the mempool.
     Tx(Candidate),
-    /// A block.
+    /// A block, to be sent whole.
     Whole(BoundedBlock),
-    /// A block near the tip, to be sent as a compact one.
+    /// A block near the tip that was asked for as a compact block.
     Short(BoundedBlock),
-    /// What isn't there.
+    /// An entry that this node doesn't have.
     Lacking(Inventory),
 }
 
-/// What is served of entries, at most 50,000 pieces.
+/// At most 50,000 pieces.
 pub type Pieces = Listed<Piece, MOST_ENTRIES>;
 
 impl State {
-    /// What is served of entries, in order: one piece for each of a known type. Transactions and blocks are shared and not
-    /// copied.
+    /// Looks up inventory entries. Returns one piece for each entry of a known type, in order.
+    /// Transactions and blocks are shared, not copied.
     ///
-    /// The only error is `Fault::Memory`.
+    /// Fails only with `Fault::Memory`.
     pub fn serve(&self, entries: &Inventories) -> Result<Pieces, Fault>
         ensures pieces { IfOk result (λ pieces. pieces ≡ pieces_of self.now entries.now) }
         ensures memory { IsOkUnless result Memory }
@@ -51,7 +52,7 @@ impl State {
         Ok(Listed::from_few(list))
     }
 
-    /// What is served of an entry.
+    /// The piece for one entry; `None` if its type is unknown. Fails only with `Fault::Memory`.
     fn piece(&self, entry: Inventory) -> Result<Option<Piece>, Fault>
         ensures piece { IfOk result (λ piece. piece ≡ piece_of self.now entry) }
         ensures memory { IsOkUnless result Memory }
@@ -64,7 +65,8 @@ impl State {
         }
     }
 
-    /// The transaction of this name, where it waits in the pool.
+    /// The piece for a txid: the mempool's transaction, if it is there. Fails only with
+    /// `Fault::Memory`.
     fn waiting(&self, txid: Hash256) -> Result<Piece, Fault>
         ensures piece { IfOk result
             (λ piece. piece
@@ -77,7 +79,8 @@ impl State {
         }
     }
 
-    /// The block of this hash, where it is kept and isn't marked bad.
+    /// The piece for a block: the whole block, if it is kept and not marked bad. Fails only with
+    /// `Fault::Memory`.
     fn whole(&self, hash: Hash256) -> Result<Piece, Fault>
         ensures piece { IfOk result
             (λ piece. piece ≡ whole_piece (entry.Block hash) (block_of self.now.tree hash)) }
@@ -89,7 +92,8 @@ impl State {
         }
     }
 
-    /// The same, to be sent as a compact one where it is near the tip.
+    /// The piece for a compact block: as `whole`, but `Piece::Short` if the block is near the tip.
+    /// Fails only with `Fault::Memory`.
     fn short(&self, hash: Hash256) -> Result<Piece, Fault>
         ensures piece { IfOk result (λ piece. piece
             ≡ short_piece (is_within 5 self.now.tree hash) (entry.CompactBlock hash)
@@ -103,7 +107,8 @@ impl State {
         }
     }
 
-    /// Whether it stands at most so far below the tip.
+    /// Whether the block is at most `depth` below the tip's height. An unknown block counts as
+    /// height 0.
     pub(crate) fn is_within(&self, hash: &Hash256, depth: u32) -> bool
         ensures { result ≡ is_within depth self.now.tree hash.now }
     {

@@ -16,11 +16,13 @@ use cb_tx::Tx;
 use std::alloc::Global;
 use std::marker::Model;
 
-/// How far below the tip transactions of a block are served alone at the most (own).
+/// The greatest depth below the tip at which single transactions of a block are served (this node's
+/// own choice).
 const MOST_PART_DEPTH: u32 = 10;
 
-/// Transactions of a block that a message can carry: the block's hash, and they behind their count, have at most 4,000,000 bytes
-/// (Bitcoin's protocol; BIP 152, `blocktxn`). It is seen as the hash and their list.
+/// Transactions of a block that fit in a message: the block's hash, the count and the transactions
+/// have at most 4,000,000 bytes (Bitcoin's protocol; BIP 152, `blocktxn`). Its model is the hash
+/// and the list.
 #[derive(Drop)]
 pub struct Part {
     hash: Hash256,
@@ -38,7 +40,7 @@ impl Model for Part {
 }
 
 impl Part {
-    /// Takes transactions that a message can carry, and the hash of their block.
+    /// Wraps the hash of a block and transactions of it that fit in a message.
     pub fn new(hash: Hash256, txs: Txs) -> Part
         requires { IsCarried txs }
         ensures { result ≡ record { hash = hash; txs = txs } }
@@ -53,7 +55,7 @@ impl Part {
         self.hash
     }
 
-    /// The transactions in order.
+    /// The transactions, in order.
     pub fn txs(&self) -> &Txs
         ensures same { result.now ≡ self.now.txs }
         ensures few { IsCarried self.now.txs }
@@ -61,7 +63,8 @@ impl Part {
         &self.txs
     }
 
-    /// The same once more. The transactions are shared: memory is taken for their list alone. The only error is `Fault::Memory`.
+    /// A copy. The transactions are shared; memory is allocated only for their list. Fails only
+    /// with `Fault::Memory`.
     pub fn copy(&self, alloc: Global) -> Result<Part, Fault>
         ensures same { IfOk result (λ copy. copy ≡ self.now) }
         ensures memory { IsOkUnless result Memory }
@@ -74,25 +77,29 @@ impl Part {
     }
 }
 
-/// What is served of places of a block (BIP 152, `getblocktxn`).
+/// The answer to a request for transactions of a block by their places (BIP 152, `getblocktxn`).
 #[derive(Drop)]
 pub enum Excerpt {
-    /// The block isn't there.
+    /// The block isn't kept, or is marked bad.
     Absent,
-    /// One of the places is none of the block's, for this reason.
+    /// A place isn't in the block. The fault is `Fault::BadIndex`.
     Refused(Fault),
-    /// Its transactions at these places.
+    /// The block's transactions at these places.
     Part(Part),
-    /// The whole block, which stands too far below the tip for that.
+    /// The whole block, because it is too far below the tip for single transactions.
     Whole(BoundedBlock),
 }
 
 impl State {
-    /// What is served of the places of a block with these differences (BIP 152, `getblocktxn`): its transactions at these places
-    /// where it stands at most ten below the tip, else the whole block. They are shared and not copied.
+    /// Returns what a request for places of a block is answered with (BIP 152, `getblocktxn`). The
+    /// places are given by their differences. If the block is at most ten below the tip, the answer
+    /// is its transactions at these places, else the whole block. Transactions and blocks are
+    /// shared, not copied.
     ///
-    /// Where a place reaches the number of its transactions, or passes what 64 bits hold, it is refused with `Fault::BadIndex`,
-    /// wherever it stands. The only error is `Fault::Memory`, and what is absent or refused takes none.
+    /// If a place isn't below the block's number of transactions, or overflows 64 bits, the answer
+    /// is `Excerpt::Refused` with `Fault::BadIndex`, however deep the block is.
+    ///
+    /// Fails only with `Fault::Memory`, and never if the answer is `Absent` or `Refused`.
     pub fn serve_places(&self, hash: &Hash256, differences: &[u64]) -> Result<Excerpt, Fault>
         ensures exact { IfOk result
             (λ excerpt. excerpt ≡ excerpt_of self.now hash.now differences.now) }
@@ -111,7 +118,8 @@ impl State {
     }
 }
 
-/// The transactions of a block at the places with these differences, or the whole block where it isn't near the tip.
+/// The transactions at these places of a block, or the whole block if it isn't near the tip. Fails
+/// only with `Fault::Memory`, and never if a place is refused.
 fn excerpt_at(
     alloc: Global,
     near: bool,
@@ -141,7 +149,7 @@ fn excerpt_at(
     Ok(Excerpt::Part(Part::new(hash, Txs::new(list))))
 }
 
-/// How many bytes a header has.
+/// The bytes of a block header.
 fn header_size(header: &Header) -> usize
     ensures text { result ≡ length (header_text header.now) }
     ensures size { result ≡ 80 }
@@ -149,7 +157,7 @@ fn header_size(header: &Header) -> usize
     header.text().as_slice().len()
 }
 
-/// The transaction at a place, if there is one.
+/// The transaction at a place, if there is one. Fails only with `Fault::Memory`.
 fn tx_at(txs: &[Shared<Tx>], place: u64) -> Result<Option<Shared<Tx>>, Fault>
     ensures same { IfOk result (λ tx. tx ≡ slice_get txs.now place) }
     ensures memory { IsOkUnless result Memory }
@@ -160,7 +168,8 @@ fn tx_at(txs: &[Shared<Tx>], place: u64) -> Result<Option<Shared<Tx>>, Fault>
     }
 }
 
-/// The transactions at these places, in order.
+/// The transactions at these places, in order. A place outside the list is skipped. Fails only with
+/// `Fault::Memory`.
 fn txs_at(alloc: Global, txs: &[Shared<Tx>], places: &[u64]) -> Result<Vec<Shared<Tx>>, Fault>
     ensures exact { IfOk result (λ list. list.items ≡ txs_at txs.now places.now) }
     ensures memory { IsOkUnless result Memory }
@@ -174,7 +183,7 @@ fn txs_at(alloc: Global, txs: &[Shared<Tx>], places: &[u64]) -> Result<Vec<Share
     Ok(list)
 }
 
-/// Further owners of the transactions, in order.
+/// Further handles to the transactions, in order. Fails only with `Fault::Memory`.
 fn copy_txs(alloc: Global, txs: &[Shared<Tx>]) -> Result<Vec<Shared<Tx>>, Fault>
     ensures same { IfOk result (λ list. list.items ≡ txs.now) }
     ensures memory { IsOkUnless result Memory }

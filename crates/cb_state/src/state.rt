@@ -11,7 +11,8 @@ use cb_pool::Pool;
 use std::alloc::Global;
 use std::marker::Model;
 
-/// The chain, the pool over what is unspent behind its tip, and the announcers. It is seen as these.
+/// The chain, the mempool (pool) over the UTXO set of its tip, and the announcers: the connections
+/// that are asked to announce new blocks as compact blocks. Its model is these three.
 #[derive(Drop)]
 pub struct State {
     pub(crate) alloc: Global,
@@ -31,7 +32,8 @@ impl Model for State {
 }
 
 impl State {
-    /// The chain of the network's first block, an empty pool, and no announcers. The only error is `Fault::Memory`.
+    /// A state with the genesis block alone, an empty mempool and no announcers. Fails only with
+    /// `Fault::Memory`.
     pub fn new(alloc: Global) -> Result<State, Fault>
         ensures opening { IfOk result (λ state. state ≡ opening) }
         ensures memory { IsOkUnless result Memory }
@@ -44,14 +46,14 @@ impl State {
         })
     }
 
-    /// The headers and blocks that are kept.
+    /// The header tree and the kept blocks.
     pub fn chain(&self) -> &Chain
         ensures { result.now ≡ self.now.tree }
     {
         &self.chain
     }
 
-    /// The transactions that wait for a block. They can be spent in turn behind the tip.
+    /// The mempool. Its transactions can be spent in order on the tip's UTXO set.
     pub fn pool(&self) -> &Pool
         ensures pool { result.now ≡ self.now.pool }
         ensures wait { WaitOn self.now.tree self.now.pool }
@@ -59,14 +61,15 @@ impl State {
         &self.pool
     }
 
-    /// The connections that are asked to announce blocks as compact ones, the one that gave a new tip last stands last.
+    /// The connections that are asked to announce new blocks as compact blocks. The one that gave
+    /// the most recent new tip is last.
     pub fn announcers(&self) -> &[Connection]
         ensures { result.now ≡ self.now.announcers }
     {
         self.announcers.as_slice()
     }
 
-    /// All connections of a peer leave the announcers.
+    /// Removes all connections of a peer from the announcers.
     pub fn leave(&mut self, peer: u16)
         ensures { self.new
             ≡ record self.old { announcers = without_peer self.old.announcers peer } }
@@ -74,7 +77,7 @@ impl State {
         self.announcers.leave(peer);
     }
 
-    /// A state that equals it, and shares its transactions and blocks. The only error is `Fault::Memory`.
+    /// An equal state that shares the transactions and blocks. Fails only with `Fault::Memory`.
     pub fn copy(&self) -> Result<State, Fault>
         ensures same { IfOk result (λ copy. copy ≡ self.now) }
         ensures memory { IsOkUnless result Memory }

@@ -15,18 +15,19 @@ use cb_payload::Locator;
 use std::alloc::Global;
 use std::collections::HashSet;
 
-/// Which entries of inventory are wanted.
+/// Which inventory entries are wanted.
 #[derive(Drop)]
 pub struct Need {
-    /// The wanted ones, each once, in order.
+    /// The wanted entries, each once, in order.
     pub entries: Inventories,
-    /// Whether one block alone is wanted, whose header is known and stands on the tip.
+    /// Whether exactly one block is wanted, and its header is known and its parent is the tip.
     pub near: bool,
-    /// The chain's locator, where a block is wanted.
+    /// The chain's block locator if a block is wanted, else empty.
     pub locator: Locator,
 }
 
-/// The wanted entries so far, each once, in order, and the hashes of the transactions and of the blocks among them.
+/// The wanted entries so far, each once, in order. The txids and block hashes among them are also
+/// kept as sets.
 #[derive(Drop)]
 struct Wanted {
     list: Vec<Inventory>,
@@ -35,7 +36,8 @@ struct Wanted {
 }
 
 impl Wanted {
-    /// A transaction that is wanted comes last, unless it is there. After an error it is of no use.
+    /// Appends a wanted transaction, unless it is listed. Fails only with `Fault::Memory`; the list
+    /// is then of no use.
     fn put_tx(&mut self, txid: Hash256) -> Result<(), Fault>
         requires { AreNoted (contains same self.old.txs)
             (contains same self.old.blocks) self.old.list.items }
@@ -52,7 +54,8 @@ impl Wanted {
         Ok(())
     }
 
-    /// A block that is wanted comes last, unless it is there. After an error it is of no use.
+    /// Appends a wanted block, unless it is listed. Fails only with `Fault::Memory`; the list is
+    /// then of no use.
     fn put_block(&mut self, hash: Hash256) -> Result<(), Fault>
         requires { AreNoted (contains same self.old.txs)
             (contains same self.old.blocks) self.old.list.items }
@@ -70,7 +73,7 @@ impl Wanted {
     }
 }
 
-/// The block among entries, where there is one alone.
+/// The hash of the only block among the entries; `None` if there is no block or several.
 fn only_block(entries: &[Inventory]) -> Option<Hash256>
     ensures { result ≡ only_block (blocks_of entries.now) }
 {
@@ -87,10 +90,11 @@ fn only_block(entries: &[Inventory]) -> Option<Hash256>
 }
 
 impl State {
-    /// Tells which entries are wanted: a transaction that doesn't wait in the pool, and a block that is neither kept nor marked
-    /// bad. Each different entry is told once, in order.
+    /// Returns which entries are wanted: transactions that aren't in the mempool, and blocks that
+    /// are neither kept nor marked bad. Entries of other types are never wanted. Each different
+    /// entry is returned once, in order.
     ///
-    /// The only error is `Fault::Memory`.
+    /// Fails only with `Fault::Memory`.
     pub fn want(&self, entries: &Inventories) -> Result<Need, Fault>
         ensures need { IfOk result (IsNeed self.now entries.now) }
         ensures memory { IsOkUnless result Memory }
@@ -105,7 +109,7 @@ impl State {
         })
     }
 
-    /// The entries that are wanted, each once, in order.
+    /// The wanted entries, each once, in order. Fails only with `Fault::Memory`.
     fn wanted(&self, entries: &[Inventory]) -> Result<Vec<Inventory>, Fault>
         ensures wanted { IfOk result (λ wanted. wanted.items ≡ wanted_of self.now entries.now) }
         ensures few { IfOk result (λ wanted. length wanted.items ≤ length entries.now) }
@@ -122,7 +126,7 @@ impl State {
         Ok(wanted.list)
     }
 
-    /// One more entry, which comes last if it is wanted and isn't there.
+    /// Appends an entry if it is wanted and isn't listed. Fails only with `Fault::Memory`.
     fn look_at(&self, wanted: &mut Wanted, entry: Inventory) -> Result<(), Fault>
         requires { AreNoted (contains same wanted.old.txs)
             (contains same wanted.old.blocks) wanted.old.list.items }
@@ -151,7 +155,8 @@ impl State {
         }
     }
 
-    /// Whether one block alone is among the entries, whose header is known and stands on the tip.
+    /// Whether exactly one block is among the entries, and its header is known and its parent is
+    /// the tip.
     fn is_near(&self, entries: &[Inventory]) -> bool
         ensures { result ≡ is_near self.now (blocks_of entries.now) }
     {
@@ -161,7 +166,7 @@ impl State {
         }
     }
 
-    /// Whether the header of this hash is known and stands on the tip.
+    /// Whether the header of this hash is known and its parent is the tip.
     fn stands_on_tip(&self, hash: &Hash256) -> bool
         ensures { result ≡ stands_on_tip self.now (entry_of self.now.tree hash.now) }
     {
@@ -171,7 +176,8 @@ impl State {
         }
     }
 
-    /// The chain's locator, where a block is among the entries.
+    /// The chain's block locator if a block is among the entries, else empty. Fails only with
+    /// `Fault::Memory`.
     fn block_locator(&self, entries: &[Inventory]) -> Result<Locator, Fault>
         ensures locator { IfOk result
             (λ locator. locator
@@ -185,7 +191,7 @@ impl State {
     }
 }
 
-/// Whether a block is among entries.
+/// Whether a block is among the entries.
 fn has_block(entries: &[Inventory]) -> bool
     ensures { result ≡ list_any is_block entries.now }
 {
