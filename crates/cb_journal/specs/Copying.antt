@@ -1,5 +1,5 @@
--- What is copied without fail (own): what holds no list, whose copy takes memory, and shares nothing, whose owners can be too
--- many.
+-- What can be copied without failing (this node's own choice). It holds no list, whose copy would
+-- need memory. It shares nothing, so no count of owners can overflow.
 use Rattle.std.specs.Prelude.{Bool, true, false}
 use Rattle.cb_journal.specs.declared.answer.Answer.{Answer}
 use Rattle.cb_journal.specs.declared.answer.Answer.TheVariants as answer

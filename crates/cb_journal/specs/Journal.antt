@@ -1,4 +1,5 @@
--- A journal of calls that goes on for ever in bounded room: what earlier calls led to, the calls since, and what all lead to.
+-- A journal: the log of the hall's calls, in bounded memory. It holds the state that earlier calls
+-- led to, the calls since, and the state that all of them lead to.
 use Rattle.std.specs.Prelude.{◌≡◌, ◌⊎◌, ℕ, ◌+◌, ◌≤◌, Bool, ◌||◌, nat_le, nat_lt, if◌then◌else◌, List, [], ◌∷◌, ◌++◌, length, min, Option}
 use Rattle.cb_journal.specs.declared.answer.Answer.{Answer}
 use Rattle.cb_journal.specs.declared.entry.Entry.{Entry}
@@ -10,7 +11,8 @@ pub record JournalState : Type 0 where
   pub entries : List Entry
   pub latest : ReplicaState
 
--- Some calls led to the base, and the entries lead on from there to the latest.
+-- Some calls led from the start to the base, and the entries lead from the base to the latest
+-- state.
 pub record IsPast (base : ReplicaState) (entries : List Entry) (latest : ReplicaState) : Type 0 where
   pub dropped : List Entry
   pub told : List Answer
@@ -18,19 +20,20 @@ pub record IsPast (base : ReplicaState) (entries : List Entry) (latest : Replica
   pub answers : List Answer
   pub since : Leads base entries answers latest
 
--- at most 1,000,000 entries, which count for at most 64,000,000 bytes, or one alone
+-- At most 1,000,000 entries. They count for at most 64,000,000 bytes, unless there is only one.
 abbrev pub IsBounded : List Entry → Type 0
 IsBounded entries = (length entries ≤ 1000000) × ((journal_weight entries ≤ 64000000) ⊎ (length entries ≤ 1))
 
--- no call yet
+-- A journal without calls.
 abbrev pub new_journal : JournalState
 new_journal = record { base = opening; entries = []; latest = opening }
 
--- with one more they would be too many or too long
+-- With one more entry there would be too many, or they would count for too many bytes.
 abbrev pub is_to_begin_anew : List Entry → Entry → Bool
 is_to_begin_anew entries entry = nat_le 1000000 (length entries) || nat_lt 64000000 (entry_weight entry + journal_weight entries)
 
--- One call more: it stands behind the others, or alone where they would be too many with it.
+-- One more call. Its entry is appended, or the journal starts over with it if the entries would be
+-- too many or too long.
 pub record Notes (old : JournalState) (entry : Entry) (told : Option Answer) (new : JournalState) : Type 0 where
   pub steps : Steps old.latest entry told new.latest
   pub base : new.base ≡ (if is_to_begin_anew old.entries entry then old.latest else old.base)
@@ -38,19 +41,20 @@ pub record Notes (old : JournalState) (entry : Entry) (told : Option Answer) (ne
 
 -- ---- how the code keeps it
 
--- the journal begins anew with a call
+-- The journal starts over with a call.
 pub record BeginsWith (old : JournalState) (entry : Entry) (told : Option Answer) (new : JournalState) : Type 0 where
   pub steps : Steps old.latest entry told new.latest
   pub base : new.base ≡ old.latest
   pub entries : new.entries ≡ entry ∷ []
 
--- an entry more, computed again
+-- One more entry is replayed.
 pub record Again (old : ReplicaState) (entry : Entry) (had : List Answer) (new : ReplicaState) (has : List Answer) : Type 0 where
   pub told : Option Answer
   pub steps : Steps old entry told new
   pub has_all : has ≡ had ++ heard entry told
 
--- The weight is theirs, as far as a u64 goes, and at most 2^62 entries led to the latest.
+-- The weight is that of the entries, capped at 2^64 - 1. At most 2^62 entries led to the latest
+-- state.
 pub record IsJournal (base : ReplicaState) (entries : List Entry) (weight : ℕ) (latest : ReplicaState) : Type 0 where
   pub weighed : weight ≡ min (journal_weight entries) 18446744073709551615
   pub bounded : IsBounded entries

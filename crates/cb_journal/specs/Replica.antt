@@ -1,5 +1,5 @@
--- The state that a journal of calls leads to, and what its questions are answered: a fold over its entries (state machine
--- replication).
+-- The state that a journal of calls leads to, and the answers to its questions: a fold over the
+-- entries (state machine replication).
 use Rattle.std.specs.Prelude.{◌≡◌, ℕ, ◌+◌, ◌<◌, List, [], ◌∷◌, ◌++◌, Option, None, Some}
 use Rattle.cb_state.specs.declared.connection.Connection.{Connection}
 use Rattle.cb_state.specs.Announcers.{without_peer}
@@ -11,65 +11,68 @@ use Rattle.cb_journal.specs.declared.entry.Entry.TheVariants.{Asked, Kick, Opene
 use Rattle.cb_journal.specs.Connections.{Slots, changed_at, counted, first_slots, is_kicked, kicked, latest_of, opened, put_in}
 use Rattle.cb_journal.specs.Replies.{Replies, Submits}
 
--- what the peers share, what is known of their connections, and how many entries there were
+-- The state that the peers share, what is known of their connections, and how many entries there
+-- were.
 pub record ReplicaState : Type 0 where
   pub node : NodeState
   pub connections : Slots
   pub entries : ℕ
 
--- nothing was asked yet
+-- The state before any entry.
 abbrev pub opening : ReplicaState
 opening = record { node = node.opening; connections = first_slots; entries = 0 }
 
--- what is opened is the next connection of one of 64 peers
+-- The connection is the next one of one of the 64 peers.
 abbrev pub IsNext : Slots → Connection → Type 0
 IsNext connections connection = (connection.peer < 64) × (connection.generation ≡ latest_of connections connection.peer + 1)
 
--- an entry that can come
+-- The entry can come next. Only the opening of a connection is restricted.
 abbrev pub IsFit : Slots → Entry → Type 0
 IsFit connections (Opened connection) = IsNext connections connection
 IsFit connections other = Unit {0}
 
--- what is known of connections behind it
+-- What is known of the connections after an entry.
 abbrev pub slots_after : Slots → Entry → Slots
 slots_after connections (Asked connection question) = put_in counted connection connections
 slots_after connections (Kick connection) = put_in kicked connection connections
 slots_after connections (Opened connection) = changed_at opened connection.peer connections
 slots_after connections (Submitted local) = connections
 
--- Each entry can come behind the ones before it.
+-- Each entry can come after the ones before it.
 abbrev pub AreFit : Slots → List Entry → Type 0
 AreFit connections [] = Unit {0}
 AreFit connections (entry ∷ entries) = IsFit connections entry × AreFit (slots_after connections entry) entries
 
 -- ---- one entry
 
--- What it does to what peers share, and what is answered.
+-- What an entry does to the shared state, and the answer.
 abbrev pub Tells : NodeState → Slots → Entry → Option Answer → NodeState → Type 0
 Tells old connections (Asked connection question) told new =
     (answer : Answer) × (told ≡ Some answer) × Replies (is_kicked connections connection) old connection question answer new
 Tells old connections (Kick connection) told new = (told ≡ None) × (new ≡ old)
--- a peer's earlier connections are no longer asked to announce blocks
+-- A peer's earlier connections are no longer asked to announce new blocks as compact blocks.
 Tells old connections (Opened connection) told new =
     (told ≡ None) × IsNext connections connection × (new ≡ record old { announcers = without_peer old.announcers connection.peer })
 Tells old connections (Submitted local) told new = (answer : Answer) × (told ≡ Some answer) × Submits old local answer new
 
--- and what it makes of what is known of connections
+-- What an entry does to the shared state and to the connections, and the answer.
 abbrev pub Does : NodeState → Slots → Entry → Option Answer → NodeState → Slots → Type 0
 Does old connections entry told new after = Tells old connections entry told new × (after ≡ slots_after connections entry)
 
+-- One entry is applied.
 pub record Steps (old : ReplicaState) (entry : Entry) (told : Option Answer) (new : ReplicaState) : Type 0 where
   pub does : Does old.node old.connections entry told new.node new.connections
   pub entries : new.entries ≡ old.entries + 1
 
 -- ---- a journal
 
--- the answer to a question, if it is one
+-- The answer, if the entry is a question.
 abbrev pub heard : Entry → Option Answer → List Answer
 heard (Asked connection question) (Some answer) = answer ∷ []
 heard entry other = []
 
--- From one state the entries lead to another in turn, and these are the answers to the questions among them, in order.
+-- The entries, applied in order, lead from one state to another. `answers` are the answers to the
+-- questions among them, in order.
 abbrev pub Leads : ReplicaState → List Entry → List Answer → ReplicaState → Type 0
 Leads old [] answers new = (answers ≡ []) × (new ≡ old)
 Leads old (entry ∷ entries) answers new =

@@ -1,4 +1,4 @@
--- What is answered to each question, and what it leaves (Bitcoin's protocol, BIP 130, BIP 152).
+-- The answer to each question, and the state it leaves (Bitcoin's protocol, BIP 130, BIP 152).
 use Rattle.std.specs.Prelude.{◌≡◌, Bool, true, false, if◌then◌else◌, Option, None, Some}
 use Rattle.cb_base.specs.declared.fault.Fault.{Fault}
 use Rattle.cb_chain.specs.Following.{headers_after}
@@ -26,7 +26,7 @@ use Rattle.cb_journal.specs.declared.question.Question.TheVariants as question
 use Rattle.cb_journal.specs.declared.question.Request.{Request}
 use Rattle.cb_journal.specs.declared.question.Request.TheVariants.{After, Items, Places}
 
--- A connection that knows compact blocks is thanked for a new tip.
+-- A connection that knows compact blocks becomes an announcer if its block becomes the tip.
 abbrev pub giver : Connection → Given → Option Connection
 giver connection given = if given.capable then Some connection else None
 
@@ -35,7 +35,7 @@ IsServed state (Items entries) told = told ≡ answer.Served (pieces_of state en
 IsServed state (After locator stop) told = told ≡ answer.Following (headers_after state.tree locator stop)
 IsServed state (Places hash differences) told = told ≡ answer.Excerpt (excerpt_of state hash differences)
 
--- a question of a connection that wasn't kicked
+-- A question of a connection that wasn't kicked.
 abbrev pub Answers : NodeState → Connection → Question → Answer → NodeState → Type 0
 Answers old connection question.Admit told new = (told ≡ answer.Go) × (new ≡ old)
 Answers old connection (question.Headers headers) told new = (heads : Heads) × (told ≡ answer.Heads heads) × TakesHeads old headers heads new
@@ -50,12 +50,12 @@ Answers old connection (question.News since) told new =
 Answers old connection (question.Match sought) told new =
     (told ≡ answer.Pairs (pairs_of (key_of sought.header sought.nonce) sought.ids (txs_of old.pool.list))) × (new ≡ old)
 
--- Each question of a kicked connection is answered so, and changes nothing.
+-- Each question of a kicked connection is answered with `Kicked` and changes nothing.
 abbrev pub Replies : Bool → NodeState → Connection → Question → Answer → NodeState → Type 0
 Replies true old connection question told new = (told ≡ answer.Kicked) × (new ≡ old)
 Replies false old connection question told new = Answers old connection question told new
 
--- what the node's own user hands in
+-- A transaction or block from the node's own user. No announcer changes.
 abbrev pub Submits : NodeState → Local → Answer → NodeState → Type 0
 Submits old (local.Tx tx) told new = (refused : Option Fault) × (told ≡ answer.TxTaken refused) × TakesTx old tx refused new
 Submits old (local.Block block) told new = (taken : Taken) × (told ≡ answer.Taken taken) × TakesBlock old block None taken new

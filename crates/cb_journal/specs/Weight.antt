@@ -1,4 +1,5 @@
--- For how many bytes the entries of a journal count (own), since a peer chooses the sizes of what it gives.
+-- The bytes that a journal's entries count for (this node's own measure). They bound the journal
+-- because peers choose the sizes of what they send.
 use Rattle.std.specs.Prelude.{ℕ, ◌+◌, ◌*◌, List, [], ◌∷◌, length}
 use Rattle.cb_tx.specs.Text.{tx_text}
 use Rattle.cb_block.specs.Text.{block_text}
@@ -11,13 +12,13 @@ use Rattle.cb_journal.specs.declared.question.Question.TheVariants.{Headers, Wan
 use Rattle.cb_journal.specs.declared.question.Request.{Request}
 use Rattle.cb_journal.specs.declared.question.Request.TheVariants.{Items, After, Places}
 
--- 40 for each entry of a list
+-- 40 bytes for each entry of a list.
 abbrev pub request_weight : Request → ℕ
 request_weight (Items entries) = 40 * length entries
 request_weight (After locator stop) = 40 * length locator
 request_weight (Places hash differences) = 40 * length differences
 
--- and the bytes of a transaction's or a block's text
+-- The bytes of a serialised transaction or block, or 40 for each entry of a list.
 abbrev pub question_weight : Question → ℕ
 question_weight (Headers headers) = 40 * length headers
 question_weight (Want entries) = 40 * length entries
@@ -31,13 +32,13 @@ abbrev pub local_weight : Local → ℕ
 local_weight (local.Tx tx) = length (tx_text tx)
 local_weight (local.Block block) = length (block_text block)
 
--- 64 for each entry of the journal, and its content
+-- 64 bytes for each entry of the journal, and its content.
 abbrev pub entry_weight : Entry → ℕ
 entry_weight (Asked connection question) = 64 + question_weight question
 entry_weight (Submitted local) = 64 + local_weight local
 entry_weight other = 64
 
--- of all of them
+-- All entries together.
 abbrev pub journal_weight : List Entry → ℕ
 journal_weight [] = 0
 journal_weight (entry ∷ entries) = entry_weight entry + journal_weight entries

@@ -3,32 +3,33 @@ use cb_payload::{HeaderList, Locator};
 use cb_pool::Pairs;
 use cb_state::{Excerpt, Heads, Need, News, Pieces, Taken};
 
-/// What a session is answered. A message can carry each of its lists, transactions and blocks, but for pairs: these are for
-/// the session itself.
+/// The hall's answer to a session's question. Each of its lists, transactions and blocks fits in a
+/// message. `Pairs` is the exception: it is for the session itself.
 #[derive(Drop)]
 pub enum Answer {
-    /// It may.
+    /// The next item or tick may be processed.
     Go,
-    /// The connection was kicked. This is the answer to each of its questions from then on.
+    /// The connection was kicked. Each of its questions gets this answer from then on.
     Kicked,
-    /// What headers met.
+    /// The outcome of the headers.
     Heads(Heads),
-    /// The chain's locator.
+    /// The chain's block locator.
     Locator(Locator),
-    /// What is wanted.
+    /// Which inventory entries are wanted.
     Need(Need),
-    /// Why a transaction was refused, if it was.
+    /// Why the transaction was refused; `None` if it came into the mempool.
     TxTaken(Option<Fault>),
-    /// What a block met.
+    /// The outcome of the block.
     Taken(Taken),
-    /// What is served of entries.
+    /// The transactions and blocks that were asked for, as far as they are there.
     Served(Pieces),
-    /// The headers behind a locator.
+    /// The headers of the best chain after a locator.
     Following(HeaderList),
-    /// What is new.
+    /// The news: what changed since it was last asked.
     News(News),
-    /// The transactions of the pool that may stand in a compact block. `Pairs::list` finds them, when nobody waits for the hall.
+    /// The mempool's transactions that may be in a compact block. `Pairs::list` finds them later,
+    /// when nobody waits for the hall.
     Pairs(Pairs),
-    /// What is served of places of a block.
+    /// The transactions at places of a block, or the block.
     Excerpt(Excerpt),
 }

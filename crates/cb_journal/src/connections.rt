@@ -7,19 +7,19 @@ use cb_state::Connection;
 use std::alloc::Global;
 use std::marker::Model;
 
-/// How many peers a node knows: 0 to 63.
+/// How many peers a node can have. They are numbered 0 to 63.
 pub const PEERS: u16 = 64;
 
 /// What is known of a connection.
 #[derive(Clone, Copy, PartialEq, Eq)]
 pub struct Connected {
-    /// How many of its questions stand in the journal.
+    /// How many questions it was granted.
     pub count: u64,
     /// Whether it was kicked.
     pub kicked: bool,
 }
 
-/// The connections of a peer, by their generations. They are seen as their list.
+/// One peer's connections, ordered by generation. Its model is the list.
 #[derive(Drop)]
 struct Slot {
     list: Vec<Connected>,
@@ -41,7 +41,7 @@ const FRESH: Connected = Connected {
 };
 
 impl Slot {
-    /// A peer's first connection.
+    /// A slot with a peer's first connection. Fails only with `Fault::Memory`.
     fn new(alloc: Global) -> Result<Slot, Fault>
         ensures first { IfOk result (λ slot. slot ≡ fresh ∷ []) }
         ensures memory { IsOkUnless result Memory }
@@ -51,7 +51,7 @@ impl Slot {
         Ok(Slot { list })
     }
 
-    /// The connection of a generation.
+    /// The connection of a generation, if there is one.
     fn get(&self, generation: u64) -> Option<Connected>
         ensures { result ≡ connected_at self.now generation }
     {
@@ -64,7 +64,7 @@ impl Slot {
         Some(self.list[(generation - 1) as usize])
     }
 
-    /// Another in place of the connection of a generation, if there is one.
+    /// Replaces the connection of a generation, if there is one.
     fn put(&mut self, generation: u64, connected: Connected)
         ensures { self.new ≡ in_slot (λ _. connected) generation self.old }
     {
@@ -77,7 +77,7 @@ impl Slot {
         self.list[(generation - 1) as usize] = connected;
     }
 
-    /// One connection more. The only error is `Fault::Memory`, which changes nothing.
+    /// Appends a connection. Fails only with `Fault::Memory`; the slot is then unchanged.
     fn open(&mut self) -> Result<(), Fault>
         ensures ok { OnOk result (self.new ≡ self.old ++ fresh ∷ []) }
         ensures err { OnErr result (self.new ≡ self.old) }
@@ -87,7 +87,7 @@ impl Slot {
         Ok(())
     }
 
-    /// The same connections. The only error is `Fault::Memory`.
+    /// A copy. Fails only with `Fault::Memory`.
     fn copy(&self, alloc: Global) -> Result<Slot, Fault>
         ensures same { IfOk result (λ copy. copy ≡ self.now) }
         ensures memory { IsOkUnless result Memory }
@@ -98,8 +98,8 @@ impl Slot {
     }
 }
 
-/// What is known of all connections of a node's peers. They are seen as a list for each peer, in which the first is of
-/// generation 1.
+/// What is known of all connections of all peers. Its model is one list for each of the 64 peers,
+/// with the connection of generation 1 first.
 #[derive(Drop)]
 pub struct Connections {
     slots: Vec<Slot>,
@@ -117,7 +117,7 @@ impl Model for Connections {
 }
 
 impl Connections {
-    /// The first connection of each peer. The only error is `Fault::Memory`.
+    /// The first connection of each peer. Fails only with `Fault::Memory`.
     pub fn new(alloc: Global) -> Result<Connections, Fault>
         ensures first { IfOk result (λ connections. connections ≡ replicate 64 (fresh ∷ [])) }
         ensures memory { IsOkUnless result Memory }
@@ -127,7 +127,7 @@ impl Connections {
         })
     }
 
-    /// What is known of a connection, if there is such a one.
+    /// What is known of a connection, if it exists.
     pub fn get(&self, connection: Connection) -> Option<Connected>
         ensures { result ≡ connected_of self.now connection }
     {
@@ -136,7 +136,7 @@ impl Connections {
             .get(connection.generation)
     }
 
-    /// Whether a connection was kicked.
+    /// Whether a connection was kicked; `false` if it doesn't exist.
     pub fn is_kicked(&self, connection: Connection) -> bool
         ensures { result ≡ is_kicked self.now connection }
     {
@@ -146,7 +146,7 @@ impl Connections {
         }
     }
 
-    /// The generation of a peer's latest connection, 0 where there is no such peer.
+    /// The generation of a peer's latest connection; 0 if there is no such peer.
     pub fn latest(&self, peer: u16) -> u64
         ensures { result ≡ latest_of self.now peer }
     {
@@ -156,7 +156,7 @@ impl Connections {
         }
     }
 
-    /// Something else is known of a connection, if there is such a one.
+    /// Replaces what is known of a connection, if it exists.
     fn put(&mut self, connection: Connection, connected: Connected)
         ensures { self.new ≡ put_in (λ _. connected) connection self.old }
     {
@@ -166,7 +166,7 @@ impl Connections {
         }
     }
 
-    /// One question more.
+    /// Counts one more question of a connection, if it exists.
     pub(crate) fn count(&mut self, connection: Connection)
         requires { IfSome (connected_of self.old connection)
             (λ connected. connected.count < 2 ^ 64 - 1) }
@@ -183,7 +183,7 @@ impl Connections {
         }
     }
 
-    /// It is kicked.
+    /// Marks a connection as kicked, if it exists.
     pub(crate) fn kick(&mut self, connection: Connection)
         ensures { self.new ≡ put_in kicked connection self.old }
     {
@@ -198,7 +198,7 @@ impl Connections {
         }
     }
 
-    /// A peer's next connection. The only error is `Fault::Memory`, which changes nothing.
+    /// Opens a peer's next connection. Fails only with `Fault::Memory`; nothing is then changed.
     pub(crate) fn open(&mut self, peer: u16) -> Result<(), Fault>
         requires { peer < 64 }
         ensures ok { OnOk result (self.new ≡ changed_at opened peer self.old) }
@@ -208,7 +208,7 @@ impl Connections {
         self.slots[peer as usize].open()
     }
 
-    /// The same connections. The only error is `Fault::Memory`.
+    /// A copy. Fails only with `Fault::Memory`.
     pub fn copy(&self, alloc: Global) -> Result<Connections, Fault>
         ensures same { IfOk result (λ copy. copy ≡ self.now) }
         ensures memory { IsOkUnless result Memory }
@@ -219,7 +219,7 @@ impl Connections {
     }
 }
 
-/// Each peer's first connection. The only error is `Fault::Memory`.
+/// The first connection of each peer. Fails only with `Fault::Memory`.
 fn first_slots(alloc: Global) -> Result<Vec<Slot>, Fault>
     ensures first { IfOk result (λ slots. slots.items ≡ replicate 64 (fresh ∷ [])) }
     ensures memory { IsOkUnless result Memory }
@@ -231,7 +231,7 @@ fn first_slots(alloc: Global) -> Result<Vec<Slot>, Fault>
     Ok(slots)
 }
 
-/// The same connections of each peer. The only error is `Fault::Memory`.
+/// A copy of all slots. Fails only with `Fault::Memory`.
 fn copy_slots(alloc: Global, slots: &[Slot]) -> Result<Vec<Slot>, Fault>
     ensures same { IfOk result (λ copies. copies.items ≡ slots.now) }
     ensures memory { IsOkUnless result Memory }

@@ -10,7 +10,7 @@ use cb_chain::Hashes;
 use cb_state::{BoundedBlock, Excerpt, Heads, Need, News, Piece, Pieces, Taken};
 use std::alloc::Global;
 
-/// The same hashes once more. The only error is `Fault::Memory`.
+/// A copy of the hashes. Fails only with `Fault::Memory`.
 fn copy_hashes(alloc: Global, hashes: &Hashes) -> Result<Hashes, Fault>
     ensures same { IfOk result (λ copy. copy ≡ hashes.now) }
     ensures memory { IsOkUnless result Memory }
@@ -18,7 +18,7 @@ fn copy_hashes(alloc: Global, hashes: &Hashes) -> Result<Hashes, Fault>
     Ok(Hashes::new(Vec::from_slice(alloc, hashes.as_slice())?))
 }
 
-/// The same block once more, where there is one. The only error is `Fault::Memory`.
+/// Another handle to the block, if there is one. Fails only with `Fault::Memory`.
 fn copy_block(block: Option<&BoundedBlock>) -> Result<Option<BoundedBlock>, Fault>
     ensures same { IfOk result (λ copy. copy ≡ option_copied block.entry) }
     ensures memory { IsOkUnless result Memory }
@@ -32,7 +32,7 @@ fn copy_block(block: Option<&BoundedBlock>) -> Result<Option<BoundedBlock>, Faul
 // ---- what is asked
 
 impl Given {
-    /// The same block once more, which is shared. The only error is `Fault::Memory`.
+    /// A copy that shares the block. Fails only with `Fault::Memory`.
     pub fn copy(&self) -> Result<Given, Fault>
         ensures same { IfOk result (λ copy. copy ≡ self.now) }
         ensures memory { IsOkUnless result Memory }
@@ -45,7 +45,7 @@ impl Given {
 }
 
 impl Request {
-    /// The same request once more. The only error is `Fault::Memory`.
+    /// A copy. Fails only with `Fault::Memory`.
     pub fn copy(&self, alloc: Global) -> Result<Request, Fault>
         ensures same { IfOk result (λ copy. copy ≡ self.now) }
         ensures memory { IsOkUnless result Memory }
@@ -61,9 +61,10 @@ impl Request {
 }
 
 impl Question {
-    /// The same question once more, which shares its transaction, its block or its short ids.
+    /// A copy. Transactions, blocks and short ids are shared.
     ///
-    /// The only error is `Fault::Memory`. A question for leave, for a locator or for news takes none.
+    /// Fails only with `Fault::Memory`. `Admit`, `Locator` and `News` need no memory and never
+    /// fail.
     pub fn copy(&self, alloc: Global) -> Result<Question, Fault>
         ensures same { IfOk result (λ copy. copy ≡ self.now) }
         ensures memory { IsOkUnless result Memory }
@@ -84,7 +85,7 @@ impl Question {
 }
 
 impl Local {
-    /// The same transaction or block once more, which is shared. The only error is `Fault::Memory`.
+    /// A copy that shares the transaction or block. Fails only with `Fault::Memory`.
     pub fn copy(&self) -> Result<Local, Fault>
         ensures same { IfOk result (λ copy. copy ≡ self.now) }
         ensures memory { IsOkUnless result Memory }
@@ -97,10 +98,10 @@ impl Local {
 }
 
 impl Entry {
-    /// The same call once more, which shares its transaction or block.
+    /// A copy. Transactions, blocks and short ids are shared.
     ///
-    /// The only error is `Fault::Memory`. A kick, the opening of a connection, and a question for leave, for a locator or for
-    /// news take none.
+    /// Fails only with `Fault::Memory`. `Kick`, `Opened` and the questions `Admit`, `Locator` and
+    /// `News` need no memory and never fail.
     pub fn copy(&self, alloc: Global) -> Result<Entry, Fault>
         ensures same { IfOk result (λ copy. copy ≡ self.now) }
         ensures memory { IsOkUnless result Memory }
@@ -117,7 +118,7 @@ impl Entry {
     }
 }
 
-/// The same calls once more, in order. The only error is `Fault::Memory`.
+/// A copy of the calls, in order. Fails only with `Fault::Memory`.
 pub(crate) fn copy_entries(alloc: Global, entries: &[Entry]) -> Result<Vec<Entry>, Fault>
     ensures same { IfOk result (λ copies. copies.items ≡ entries.now) }
     ensures memory { IsOkUnless result Memory }
@@ -131,7 +132,7 @@ pub(crate) fn copy_entries(alloc: Global, entries: &[Entry]) -> Result<Vec<Entry
 
 // ---- what is answered
 
-/// What headers met, once more. The only error is `Fault::Memory`.
+/// A copy of the outcome of headers. Fails only with `Fault::Memory`.
 fn copy_heads(alloc: Global, heads: &Heads) -> Result<Heads, Fault>
     ensures same { IfOk result (λ copy. copy ≡ heads.now) }
     ensures memory { IsOkUnless result Memory }
@@ -143,7 +144,7 @@ fn copy_heads(alloc: Global, heads: &Heads) -> Result<Heads, Fault>
     })
 }
 
-/// What a block met, once more. The only error is `Fault::Memory`.
+/// A copy of the outcome of a block. Fails only with `Fault::Memory`.
 fn copy_taken(alloc: Global, taken: &Taken) -> Result<Taken, Fault>
     ensures same { IfOk result (λ copy. copy ≡ taken.now) }
     ensures memory { IsOkUnless result Memory }
@@ -154,7 +155,7 @@ fn copy_taken(alloc: Global, taken: &Taken) -> Result<Taken, Fault>
     })
 }
 
-/// What is wanted, once more. The only error is `Fault::Memory`.
+/// A copy of the wanted entries. Fails only with `Fault::Memory`.
 fn copy_need(alloc: Global, need: &Need) -> Result<Need, Fault>
     ensures same { IfOk result (λ copy. copy ≡ need.now) }
     ensures memory { IsOkUnless result Memory }
@@ -166,7 +167,7 @@ fn copy_need(alloc: Global, need: &Need) -> Result<Need, Fault>
     })
 }
 
-/// What is new, once more, where its block is shared. The only error is `Fault::Memory`.
+/// A copy of the news that shares its block. Fails only with `Fault::Memory`.
 fn copy_news(alloc: Global, news: &News) -> Result<News, Fault>
     ensures same { IfOk result (λ copy. copy ≡ news.now) }
     ensures memory { IsOkUnless result Memory }
@@ -182,7 +183,7 @@ fn copy_news(alloc: Global, news: &News) -> Result<News, Fault>
     })
 }
 
-/// What is served of an entry, once more, where a transaction or block is shared. The only error is `Fault::Memory`.
+/// A copy of a piece that shares its transaction or block. Fails only with `Fault::Memory`.
 fn copy_piece(piece: &Piece) -> Result<Piece, Fault>
     ensures same { IfOk result (λ copy. copy ≡ piece.now) }
     ensures memory { IsOkUnless result Memory }
@@ -195,7 +196,7 @@ fn copy_piece(piece: &Piece) -> Result<Piece, Fault>
     }
 }
 
-/// The same pieces once more, in order. The only error is `Fault::Memory`.
+/// A copy of the pieces, in order. Fails only with `Fault::Memory`.
 fn copy_pieces(alloc: Global, pieces: &Pieces) -> Result<Pieces, Fault>
     ensures same { IfOk result (λ copy. copy ≡ pieces.now) }
     ensures memory { IsOkUnless result Memory }
@@ -208,7 +209,7 @@ fn copy_pieces(alloc: Global, pieces: &Pieces) -> Result<Pieces, Fault>
     Ok(Pieces::from_few(copies))
 }
 
-/// What is served of places of a block, once more, where transactions and a block are shared. The only error is `Fault::Memory`.
+/// A copy of an excerpt that shares its transactions or block. Fails only with `Fault::Memory`.
 fn copy_excerpt(alloc: Global, excerpt: &Excerpt) -> Result<Excerpt, Fault>
     ensures same { IfOk result (λ copy. copy ≡ excerpt.now) }
     ensures memory { IsOkUnless result Memory }
@@ -222,9 +223,9 @@ fn copy_excerpt(alloc: Global, excerpt: &Excerpt) -> Result<Excerpt, Fault>
 }
 
 impl Answer {
-    /// The same answer once more, which shares its transactions and blocks.
+    /// A copy. Transactions and blocks are shared.
     ///
-    /// The only error is `Fault::Memory`. Leave, what a kicked connection is told, and what a transaction met take none.
+    /// Fails only with `Fault::Memory`. `Go`, `Kicked` and `TxTaken` need no memory and never fail.
     pub fn copy(&self, alloc: Global) -> Result<Answer, Fault>
         ensures same { IfOk result (λ copy. copy ≡ self.now) }
         ensures memory { IsOkUnless result Memory }

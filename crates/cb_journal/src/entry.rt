@@ -7,10 +7,10 @@ use cb_block::SoundBlock;
 use cb_state::Connection;
 use cb_tx::Tx;
 
-/// For how many bytes each entry of a journal counts beside its content.
+/// The bytes that each entry of a journal counts for, beside its content.
 const WEIGHT: u64 = 64;
 
-/// What the node's own user hands in.
+/// A transaction or block from the node's own user.
 #[derive(Drop)]
 pub enum Local {
     /// A transaction.
@@ -20,7 +20,7 @@ pub enum Local {
 }
 
 impl Local {
-    /// For how many bytes it counts.
+    /// The bytes it counts for: those of its serialisation, capped at 2^64 - 1.
     fn weight(&self) -> u64
         ensures { result ≡ min (local_weight self.now) (2 ^ 64 - 1) }
     {
@@ -31,7 +31,7 @@ impl Local {
     }
 }
 
-/// A call that was granted, as a journal keeps it.
+/// One call that the hall granted, as the journal logs it.
 #[derive(Drop)]
 pub enum Entry {
     /// A connection asked a question.
@@ -40,12 +40,13 @@ pub enum Entry {
     Kick(Connection),
     /// A peer's next connection was opened.
     Opened(Connection),
-    /// The node's own user handed something in.
+    /// The node's own user submitted a transaction or block.
     Submitted(Local),
 }
 
 impl Entry {
-    /// For how many bytes it counts in a journal: 64 and its content; 18,446,744,073,709,551,615 where they are more.
+    /// The bytes that the entry counts for in a journal: 64 and those of its content, capped at
+    /// 2^64 - 1.
     pub fn weight(&self) -> u64
         ensures { result ≡ min (entry_weight self.now) (2 ^ 64 - 1) }
     {

@@ -11,23 +11,24 @@ use cb_base::Fault;
 use std::alloc::Global;
 use std::marker::Model;
 
-/// How many entries stand in a journal at the most.
+/// The most entries of a journal.
 pub const JOURNAL_ENTRIES: usize = 1_000_000;
 
-/// For how many bytes the entries of a journal count at the most, where there are several.
+/// The most bytes that a journal's entries count for, unless there is only one entry.
 pub const JOURNAL_WEIGHT: u64 = 64_000_000;
 
-/// The calls that a node granted, the state before them, which all earlier calls lead to, and the state after them. It is seen
-/// as these.
+/// A journal: the log of the hall's calls. It holds the calls that were granted, the state before
+/// them (the base) and the state after them (the latest). All earlier calls lead to the base. Its
+/// model is these three.
 ///
-/// Since a journal is bounded it begins anew from time to time: the state before its entries becomes the one after them, and
-/// they are gone.
+/// A journal is bounded, so it starts over from time to time: the latest state becomes the base,
+/// and the entries are dropped.
 #[derive(Drop)]
 pub struct Journal {
     alloc: Global,
     base: Replica,
     entries: Vec<Entry>,
-    // For how many bytes they count.
+    // The bytes that the entries count for.
     weight: u64,
     latest: Replica,
 }
@@ -43,7 +44,7 @@ impl Model for Journal {
 }
 
 impl Journal {
-    /// No call was granted yet. The only error is `Fault::Memory`.
+    /// A journal without calls. Fails only with `Fault::Memory`.
     pub fn new(alloc: Global) -> Result<Journal, Fault>
         ensures new { IfOk result (λ journal. journal ≡ new_journal) }
         ensures memory { IsOkUnless result Memory }
@@ -57,7 +58,7 @@ impl Journal {
         })
     }
 
-    /// The calls since the state before them, in order.
+    /// The calls since the base, in order.
     pub fn entries(&self) -> &[Entry]
         ensures entries { result.now ≡ self.now.entries }
         ensures past { IsPast self.now.base self.now.entries self.now.latest }
@@ -66,24 +67,27 @@ impl Journal {
         self.entries.as_slice()
     }
 
-    /// The state before them.
+    /// The state before the entries.
     pub fn base(&self) -> &Replica
         ensures { result.now ≡ self.now.base }
     {
         &self.base
     }
 
-    /// The state after them.
+    /// The state after the entries.
     pub fn latest(&self) -> &Replica
         ensures { result.now ≡ self.now.latest }
     {
         &self.latest
     }
 
-    /// One call more, which has to be one that can come. Where 1,000,000 entries stand, or would count for more than
-    /// 64,000,000 bytes with it, the journal begins anew with it.
+    /// Applies a call to the latest state and logs it. The call must be one that can come next: an
+    /// opened connection must be the next one of one of the 64 peers. Returns the answer, if the
+    /// call has one. If the journal has 1,000,000 entries, or they would count for more than
+    /// 64,000,000 bytes with the new one, it starts over and holds the new entry alone.
     ///
-    /// `Fault::JournalFull` where 2^62 calls were granted, and `Fault::Memory`: nothing has changed then.
+    /// Fails with `Fault::JournalFull` exactly if 2^62 calls were granted, and with
+    /// `Fault::Memory`. The journal is then unchanged.
     pub fn note(&mut self, entry: Entry) -> Result<Option<Answer>, Fault>
         requires { IsFit self.old.latest.connections entry }
         ensures ok { IfOk result (λ told. Notes self.old entry told self.new) }
@@ -108,7 +112,8 @@ impl Journal {
         Ok(told)
     }
 
-    /// The journal begins anew with a call. The only error is `Fault::Memory`, which changes nothing.
+    /// Starts the journal over with a call. Fails only with `Fault::Memory`; the journal is then
+    /// unchanged.
     fn begin_with(&mut self, entry: Entry) -> Result<Option<Answer>, Fault>
         requires fit { IsFit self.old.latest.connections entry }
         requires few { self.old.latest.entries < 2 ^ 62 }
@@ -126,7 +131,8 @@ impl Journal {
         Ok(told)
     }
 
-    /// The journal begins anew: no entry stands, and the state stays. The only error is `Fault::Memory`, which changes nothing.
+    /// Takes a checkpoint: the latest state becomes the base and all entries are dropped. Fails
+    /// only with `Fault::Memory`; the journal is then unchanged.
     pub fn checkpoint(&mut self) -> Result<(), Fault>
         ensures ok { OnOk result
             (self.new ≡ record { base = self.old.latest; entries = []; latest = self.old.latest }) }
@@ -139,10 +145,10 @@ impl Journal {
         Ok(())
     }
 
-    /// Computes all again from the state before the entries: an equal journal, whose state after the entries is what they lead
-    /// to from there, and the answers to their questions, in order.
+    /// Replays the entries from the base. Returns an equal journal whose latest state was computed
+    /// by the replay, and the answers to the questions among the entries, in order.
     ///
-    /// The only error is `Fault::Memory`.
+    /// Fails only with `Fault::Memory`.
     pub fn again(&self) -> Result<(Journal, Vec<Answer>), Fault>
         ensures same { IfOk result (λ made. made.0 ≡ self.now) }
         ensures answers { IfOk result
@@ -162,8 +168,8 @@ impl Journal {
         Ok((journal, answers))
     }
 
-    /// The state to which the entries lead from the one before them, and the answers to their questions, in order. The only
-    /// error is `Fault::Memory`.
+    /// The state that the entries lead to from the base, and the answers to their questions, in
+    /// order. Fails only with `Fault::Memory`.
     fn replayed(&self) -> Result<(Replica, Vec<Answer>), Fault>
         ensures same { IfOk result (λ made. made.0 ≡ self.now.latest) }
         ensures answers { IfOk result
@@ -179,7 +185,8 @@ impl Journal {
     }
 }
 
-/// One entry more, and the state before it. The only error is `Fault::Memory`, which changes nothing.
+/// Applies an entry. Returns a copy of the state before it, and the answer. Fails only with
+/// `Fault::Memory`; the replica is then unchanged.
 fn apply_to_one(replica: &mut Replica, entry: &Entry) -> Result<(Replica, Option<Answer>), Fault>
     requires fit { IsFit replica.old.connections entry.now }
     requires few { replica.old.entries < 2 ^ 62 }
@@ -193,7 +200,8 @@ fn apply_to_one(replica: &mut Replica, entry: &Entry) -> Result<(Replica, Option
     Ok((before, told))
 }
 
-/// One entry more, whose answer is pushed if it is a question. The only error is `Fault::Memory`.
+/// Applies an entry and pushes the answer if the entry is a question. Fails only with
+/// `Fault::Memory`.
 fn apply_again(replica: &mut Replica, entry: &Entry, answers: &mut Vec<Answer>) -> Result<(), Fault>
     requires fit { IsFit replica.old.connections entry.now }
     requires few { replica.old.entries < 2 ^ 62 }
@@ -205,7 +213,7 @@ fn apply_again(replica: &mut Replica, entry: &Entry, answers: &mut Vec<Answer>) 
     push_heard(answers, entry, told)
 }
 
-/// Pushes the answer to a question. The only error is `Fault::Memory`.
+/// Pushes the answer if the entry is a question. Fails only with `Fault::Memory`.
 fn push_heard(answers: &mut Vec<Answer>, entry: &Entry, told: Option<Answer>) -> Result<(), Fault>
     ensures pushed { OnOk result (answers.new.items ≡ answers.old.items ++ heard entry.now told) }
     ensures memory { IsOkUnless result Memory }

@@ -1,4 +1,6 @@
-//! What the peers of a node ask of it, what is answered, and the state that a journal of all calls leads to.
+//! The questions that sessions ask the hall, their answers, and the journal. The hall is the state
+//! that all peers share: what Bitcoin Core keeps in ChainstateManager and CTxMemPool. The journal
+//! is the log of the hall's calls. Its entries determine the state (state machine replication).
 #![tactic(auto)]
 
 mod answer;

@@ -8,10 +8,10 @@ use cb_pool::ShortIds;
 use cb_state::Inventories;
 use cb_tx::Tx;
 
-/// For how many bytes an entry of a list counts in a journal.
+/// The bytes that each entry of a list counts for in a journal.
 const ENTRY_WEIGHT: u64 = 40;
 
-/// A block that a peer gives.
+/// A block from a peer.
 #[derive(Drop)]
 pub struct Given {
     /// The block.
@@ -20,63 +20,65 @@ pub struct Given {
     pub capable: bool,
 }
 
-/// What the transactions of a compact block are looked for by (BIP 152).
+/// What is needed to look for the transactions of a compact block (BIP 152).
 #[derive(Drop)]
 pub struct Sought {
-    /// The block's header: it and the nonce make the key of the short ids.
+    /// The block's header. With the nonce it makes the key of the short ids.
     pub header: Header,
-    /// The nonce that the block's sender chose.
+    /// The nonce chosen by the compact block's sender.
     pub nonce: u64,
-    /// The short ids, which the answer shares.
+    /// The short ids. The answer shares them.
     pub ids: Shared<ShortIds>,
 }
 
-/// What a peer asks to be served.
+/// A peer's request for data.
 #[derive(Drop)]
 pub enum Request {
     /// Transactions and blocks (Bitcoin's protocol, `getdata`).
     Items(Inventories),
-    /// The headers of the best chain behind a locator, up to a stop (Bitcoin's protocol, `getheaders`).
+    /// The headers of the best chain after a block locator, up to a stop hash (Bitcoin's protocol,
+    /// `getheaders`).
     After(Locator, Hash256),
-    /// The transactions of a block at the places with these differences (BIP 152, `getblocktxn`).
+    /// The transactions of the block with this hash at the places with these differences (BIP 152,
+    /// `getblocktxn`).
     Places(Hash256, Differences),
 }
 
-/// What a peer was told before.
+/// What a peer was told before, and what it wants to be told.
 #[derive(Clone, Copy)]
 pub struct Told {
-    /// The tip, if one was told.
+    /// The tip that the peer was told last, if any.
     pub tip: Option<Hash256>,
-    /// The number of arrival of the first transaction that wasn't told.
+    /// The arrival number of the first mempool transaction that the peer wasn't told.
     pub from: u64,
     /// Whether the tip's block is asked for.
     pub whole: bool,
 }
 
-/// What a session asks of its node.
+/// What a session asks the hall.
 #[derive(Drop)]
 pub enum Question {
-    /// May the next item or tick be processed?
+    /// May the next item or tick (timer event) be processed?
     Admit,
-    /// The peer told headers: which blocks are lacking?
+    /// The peer sent headers: which of their blocks are lacking?
     Headers(HeaderList),
-    /// What is the chain's locator?
+    /// What is the chain's block locator?
     Locator,
-    /// The peer told of transactions and blocks: which are wanted?
+    /// The peer announced transactions and blocks: which are wanted?
     Want(Inventories),
-    /// The peer gave a transaction.
+    /// The peer sent a transaction.
     GiveTx(Shared<Tx>),
-    /// The peer gave a block.
+    /// The peer sent a block.
     GiveBlock(Given),
-    /// The peer asks to be served.
+    /// The peer requests data.
     Serve(Request),
-    /// What is new since the peer was told?
+    /// What is new since the peer was told last?
     News(Told),
-    /// The peer gave a compact block: which transactions of the pool may stand in it?
+    /// The peer sent a compact block: which transactions of the mempool may be in it?
     Match(Shared<Sought>),
 }
 
-/// For how many bytes a list of so many entries counts.
+/// The bytes that a list of this length counts for.
 fn list_weight(count: usize) -> u64
     ensures { result ≡ min (40 * count) (2 ^ 64 - 1) }
 {
@@ -84,8 +86,8 @@ fn list_weight(count: usize) -> u64
 }
 
 impl Question {
-    /// For how many bytes its content counts in a journal: those of a transaction's or a block's text, or 40 for each entry of
-    /// its list; 18,446,744,073,709,551,615 where they are more.
+    /// The bytes that the question's content counts for in a journal: those of a serialised
+    /// transaction or block, or 40 for each entry of a list, capped at 2^64 - 1.
     pub fn weight(&self) -> u64
         ensures { result ≡ min (question_weight self.now) (2 ^ 64 - 1) }
     {
@@ -102,7 +104,7 @@ impl Question {
 }
 
 impl Request {
-    /// For how many bytes its list counts.
+    /// The bytes that the request's list counts for.
     fn weight(&self) -> u64
         ensures { result ≡ min (request_weight self.now) (2 ^ 64 - 1) }
     {

@@ -14,11 +14,12 @@ use cb_state::{Connection, State};
 use std::alloc::Global;
 use std::marker::Model;
 
-/// How many calls a node grants at the most.
+/// The most calls that a node grants.
 pub const MOST_CALLS: u64 = 1 << 62;
 
-/// What the entries of a journal lead to: what the peers share, what is known of their connections, and how many entries
-/// there were. Equal journals lead to equal replicas. It is seen as these.
+/// The state that a journal's entries lead to: the state that the peers share, what is known of
+/// their connections, and how many entries there were. Equal journals lead to equal replicas (state
+/// machine replication). Its model is these three.
 #[derive(Drop)]
 pub struct Replica {
     alloc: Global,
@@ -40,7 +41,7 @@ impl Model for Replica {
 }
 
 impl Replica {
-    /// What no entry leads to. The only error is `Fault::Memory`.
+    /// The state before any entry. Fails only with `Fault::Memory`.
     pub fn new(alloc: Global) -> Result<Replica, Fault>
         ensures opening { IfOk result (λ replica. replica ≡ opening) }
         ensures memory { IsOkUnless result Memory }
@@ -53,7 +54,7 @@ impl Replica {
         })
     }
 
-    /// What the peers share.
+    /// The state that the peers share.
     pub fn state(&self) -> &State
         ensures { result.now ≡ self.now.node }
     {
@@ -68,7 +69,7 @@ impl Replica {
         &self.connections
     }
 
-    /// How many entries led to it.
+    /// How many entries led to this state.
     pub fn entries(&self) -> u64
         ensures same { result ≡ self.now.entries }
         ensures few { result ≤ 2 ^ 62 }
@@ -76,9 +77,9 @@ impl Replica {
         self.entries
     }
 
-    /// One entry more. Questions and what the node's own user hands in are answered.
+    /// Applies an entry. Returns the answer if it is a question or comes from the node's own user.
     ///
-    /// The only error is `Fault::Memory`, which changes nothing.
+    /// Fails only with `Fault::Memory`; the replica is then unchanged.
     pub fn apply(&mut self, entry: &Entry) -> Result<Option<Answer>, Fault>
         requires fit { IsFit self.old.connections entry.now }
         requires few { self.old.entries < 2 ^ 62 }
@@ -91,7 +92,7 @@ impl Replica {
         Ok(told)
     }
 
-    /// A replica that equals it, and shares its transactions and blocks. The only error is `Fault::Memory`.
+    /// An equal replica that shares the transactions and blocks. Fails only with `Fault::Memory`.
     pub fn copy(&self) -> Result<Replica, Fault>
         ensures same { IfOk result (λ copy. copy ≡ self.now) }
         ensures memory { IsOkUnless result Memory }
@@ -105,7 +106,8 @@ impl Replica {
     }
 }
 
-/// What an entry does. The only error is `Fault::Memory`, which changes nothing.
+/// Applies an entry to the state and the connections. Fails only with `Fault::Memory`; both are
+/// then unchanged.
 fn change(
     state: &mut State,
     connections: &mut Connections,
@@ -137,7 +139,7 @@ fn change(
     }
 }
 
-/// Answers a question, and counts it. The only error is `Fault::Memory`, which changes nothing.
+/// Answers a question and counts it. Fails only with `Fault::Memory`; nothing is then changed.
 fn ask(
     state: &mut State,
     connections: &mut Connections,

@@ -9,7 +9,7 @@ use cb_base::Fault;
 use cb_payload::HeaderList;
 use cb_state::{Connection, State};
 
-/// The connection that gave a block, where it knows compact blocks.
+/// The connection that gave a block, if it knows compact blocks.
 fn giver_of(connection: Connection, given: &Given) -> Option<Connection>
     ensures { result ≡ giver connection given.now }
 {
@@ -19,7 +19,7 @@ fn giver_of(connection: Connection, given: &Given) -> Option<Connection>
     None
 }
 
-/// What is served.
+/// The answer to a request for data. Fails only with `Fault::Memory`.
 fn served(state: &State, request: &Request) -> Result<Answer, Fault>
     ensures answers { IfOk result (λ answer. IsServed state.now request.now answer) }
     ensures memory { IsOkUnless result Memory }
@@ -37,7 +37,8 @@ fn served(state: &State, request: &Request) -> Result<Answer, Fault>
     }
 }
 
-/// Answers a connection's question. The only error is `Fault::Memory`, which changes nothing.
+/// Answers a question of a connection that wasn't kicked. Fails only with `Fault::Memory`; the
+/// state is then unchanged.
 pub(crate) fn reply(
     state: &mut State,
     connection: Connection,
@@ -74,7 +75,8 @@ pub(crate) fn reply(
     }
 }
 
-/// What comes of what the node's own user hands in. The only error is `Fault::Memory`, which changes nothing.
+/// Takes a transaction or block from the node's own user. Fails only with `Fault::Memory`; the
+/// state is then unchanged.
 pub(crate) fn submit(state: &mut State, local: &Local) -> Result<Answer, Fault>
     ensures answers { IfOk result (λ answer. Submits state.old local.now answer state.new) }
     ensures err { OnErr result (state.new ≡ state.old) }
