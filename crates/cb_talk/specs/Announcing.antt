@@ -1,4 +1,5 @@
--- How what is new is told (Bitcoin's peer-to-peer protocol, `inv`; BIP 130 for headers).
+-- How new blocks and transactions are announced (Bitcoin's peer-to-peer protocol, `inv`; BIP 130
+-- for headers).
 use Rattle.std.specs.Prelude.{Bool, List, [], ◌∷◌, map, if◌then◌else◌}
 use Rattle.cb_base.specs.declared.hash.Hash256.{Hash256}
 use Rattle.cb_block.specs.declared.header.Header.{Header}
@@ -8,19 +9,21 @@ use Rattle.cb_talk.specs.Inventory.{written}
 use Rattle.cb_wire.specs.declared.message.Message.{Message}
 use Rattle.cb_wire.specs.declared.message.Message.TheVariants.{Inv, Headers}
 
+-- The inventory entry of a transaction.
 abbrev pub tx_entry : Hash256 → InvEntry
 tx_entry txid = written (entry.Tx txid)
 
--- The way to a new tip, if there is one: by its headers to a peer that asked for them, where they aren't too many, and else by
--- the tip's hash.
+-- A new tip is announced by its headers if `headers` is true, else by the tip's hash. The caller
+-- sets `headers` for a peer that asked for headers, if they aren't too many.
 abbrev pub announced_by : Bool → Hash256 → List Header → Message
 announced_by headers tip path = if headers then Headers path else Inv (written (entry.Block tip) ∷ [])
 
+-- The announcement of a new tip. Without new headers there is none.
 abbrev pub announcing : Bool → Hash256 → List Header → List Message
 announcing headers tip [] = []
 announcing headers tip (first ∷ others) = announced_by headers tip (first ∷ others) ∷ []
 
--- transactions, if there are any
+-- The announcement of transactions. Without transactions there is none.
 abbrev pub telling : List Hash256 → List Message
 telling [] = []
 telling (first ∷ others) = Inv (map tx_entry (first ∷ others)) ∷ []

@@ -1,14 +1,16 @@
--- The messages of a handshake (Bitcoin's peer-to-peer protocol; BIP 130, sendheaders; BIP 152, sendcmpct).
+-- The messages of a handshake (Bitcoin's peer-to-peer protocol; BIP 130, `sendheaders`; BIP 152,
+-- `sendcmpct`).
 use Rattle.std.specs.Prelude.{ℕ, ℤ, pos, true, false, List, [], ◌∷◌, ◌++◌, codes, replicate, int_lt, if◌then◌else◌}
 use Rattle.cb_payload.specs.declared.version.NetAddress.{NetAddress}
 use Rattle.cb_wire.specs.declared.message.Message.{Message}
 use Rattle.cb_wire.specs.declared.message.Message.TheVariants.{Version, SendHeaders, SendCmpct}
 
--- no address is told
+-- The empty address: this node tells none.
 abbrev pub no_address : NetAddress
 no_address = record { services = 0; ip = replicate 16 0; port = 0 }
 
--- How this node introduces itself: version 70014, with its blocks to give (services 1), and wanting to be told of transactions.
+-- This node's `version` message: protocol version 70014, services 1 (NODE_NETWORK: it serves
+-- blocks), and relay set (it wants transaction announcements).
 abbrev pub our_version : ℕ → ℤ → ℤ → Message
 our_version nonce time height =
     Version (record {
@@ -23,8 +25,9 @@ our_version nonce time height =
       relay = true;
     })
 
--- What a peer is asked once the handshake is done: to tell of blocks by headers, which version 70012 knows, and by compact
--- blocks of version 1, not unasked, which 70014 knows.
+-- The messages that are sent once the handshake is done: `sendheaders` if the peer's version is at
+-- least 70012, and `sendcmpct` for compact blocks of version 1, only on request, if it is at least
+-- 70014.
 abbrev pub wishes : ℤ → List Message
 wishes version =
     (if int_lt version (pos 70012) then [] else SendHeaders ∷ [])

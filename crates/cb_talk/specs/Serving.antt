@@ -1,4 +1,4 @@
--- What is sent of pieces that were asked for (Bitcoin's peer-to-peer protocol, `getdata`, `notfound`).
+-- The messages that answer a `getdata` (Bitcoin's peer-to-peer protocol, `getdata`, `notfound`).
 use Rattle.std.specs.Prelude.{List, [], ◌∷◌, ◌++◌, filter_map, Option, Some, None}
 use Rattle.cb_payload.specs.declared.inventory.InvEntry.{InvEntry}
 use Rattle.cb_state.specs.declared.serving.Piece.{Piece}
@@ -7,7 +7,7 @@ use Rattle.cb_wire.specs.declared.message.Message.{Message}
 use Rattle.cb_wire.specs.declared.message.Message.TheVariants.{NotFound, Tx, Block}
 use Rattle.cb_talk.specs.Inventory.{written}
 
--- what is there is sent as it is; a block that was asked for as a compact one too
+-- What is there is sent. A block that was asked for as a compact block is sent whole too.
 abbrev pub served_as : Piece → Option Message
 served_as (piece.Tx tx) = Some (Tx tx)
 served_as (piece.Whole block) = Some (Block block)
@@ -22,6 +22,6 @@ abbrev pub not_found : List InvEntry → List Message
 not_found [] = []
 not_found (first ∷ others) = NotFound (first ∷ others) ∷ []
 
--- what is there, in order, and then one notfound of all that isn't (own)
+-- What is there, in order, and then one `notfound` with all that isn't (this node's own order).
 abbrev pub served : List Piece → List Message
 served pieces = filter_map served_as pieces ++ not_found (filter_map lacking_in pieces)

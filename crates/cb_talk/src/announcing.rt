@@ -9,9 +9,10 @@ use cb_state::{Announced, Inventory, Txids};
 use cb_wire::{BoundedMessage, Message};
 use std::alloc::Global;
 
-/// How a new tip is told, if there is a way to it: by the way's headers (BIP 130), or by the tip's hash (`inv`).
+/// Returns the message that announces a new tip. It holds the new headers (`headers`, BIP 130) if
+/// `by_headers`, or else the tip's hash (`inv`). Without new headers there is no message.
 ///
-/// The only error is `Fault::Memory`, and where nothing is told there is none.
+/// Fails only with `Fault::Memory`, and never if there is no message.
 pub fn announce_tip(
     alloc: Global,
     by_headers: bool,
@@ -37,9 +38,10 @@ pub fn announce_tip(
     Ok(Some(BoundedMessage::new(Message::Inv(Entries::from_few(entries)))))
 }
 
-/// How transactions are told, if there are any (`inv`).
+/// Returns the message that announces transactions (`inv`). Without transactions there is no
+/// message.
 ///
-/// The only error is `Fault::Memory`, and where there are none there is no error.
+/// Fails only with `Fault::Memory`, and never if there is no message.
 pub fn announce_txs(alloc: Global, txids: &Txids) -> Result<Option<BoundedMessage>, Fault>
     ensures message { IfOk result
         (λ made. MatchOption made (telling txids.now ≡ [])
@@ -54,7 +56,7 @@ pub fn announce_txs(alloc: Global, txids: &Txids) -> Result<Option<BoundedMessag
     Ok(Some(BoundedMessage::new(Message::Inv(Entries::from_few(entries)))))
 }
 
-/// The entries of transactions, in order. The only error is `Fault::Memory`.
+/// The inventory entries of transactions, in order. Fails only with `Fault::Memory`.
 fn tx_entries(alloc: Global, txids: &[Hash256]) -> Result<Vec<InvEntry>, Fault>
     ensures entries { IfOk result (λ entries. entries.items ≡ map tx_entry txids.now) }
     ensures memory { IsOkUnless result Memory }

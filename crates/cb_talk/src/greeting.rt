@@ -7,25 +7,25 @@ use cb_payload::{Agent, CompactRelay, NetAddress, Version};
 use cb_wire::{BoundedMessage, Message};
 use std::alloc::Global;
 
-/// The version of the protocol that this node speaks.
+/// The protocol version that this node speaks.
 const PROTOCOL_VERSION: i32 = 70_014;
 
-/// The first version that knows `sendheaders` (BIP 130), and the first that knows compact blocks (BIP 152).
+/// The first protocol versions that know `sendheaders` (BIP 130) and compact blocks (BIP 152).
 const SENDHEADERS_VERSION: i32 = 70_012;
 
 const COMPACT_VERSION: i32 = 70_014;
 
-/// No address is told.
+/// The empty address: this node tells none.
 const NO_ADDRESS: NetAddress = NetAddress {
     services: 0,
     ip: [0; 16],
     port: 0,
 };
 
-/// How this node introduces itself (Bitcoin's protocol, `version`): with a nonce by which it knows its own message, the time in
-/// seconds since the start of 1970, and the height of its best chain.
+/// Returns this node's `version` message (Bitcoin's protocol). `nonce` lets the node recognise its
+/// own message, `time` is in seconds since the start of 1970, and `height` is the best chain's.
 ///
-/// The only error is `Fault::Memory`.
+/// Fails only with `Fault::Memory`.
 pub fn our_version(
     alloc: Global,
     nonce: u64,
@@ -49,10 +49,13 @@ pub fn our_version(
     })))
 }
 
-/// What a peer of this version is asked once the handshake is done: to tell of blocks by headers (BIP 130), and by compact
-/// blocks of version 1, not unasked (BIP 152), as far as its version knows these.
+/// Returns the messages that are sent once the handshake is done, as far as the peer's protocol
+/// version knows them:
+/// - `sendheaders`, from version 70012 on: announce blocks by headers (BIP 130);
+/// - `sendcmpct`, from version 70014 on: send compact blocks of version 1, but only on request
+///   (BIP 152, low-bandwidth mode).
 ///
-/// The only error is `Fault::Memory`, and where nothing is asked there is none.
+/// Fails only with `Fault::Memory`, and never if there are no such messages.
 pub fn wishes(alloc: Global, version: i32) -> Result<Vec<BoundedMessage>, Fault>
     ensures messages { IfOk result (λ messages. messages.items ≡ wishes version) }
     ensures memory { IsOkUnless result Memory }

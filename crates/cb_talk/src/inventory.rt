@@ -6,7 +6,8 @@ use cb_payload::{Entries, HeadersRequest, InvEntry, Locator};
 use cb_state::Inventory;
 use cb_wire::{BoundedMessage, Message};
 
-/// An entry of inventory as it is written: 1 is a transaction, 2 a block, 4 a block as a compact one (BIP 152).
+/// An inventory entry as it is sent: type 1 is a transaction, 2 a block, 4 a compact block
+/// (BIP 152).
 pub fn written(entry: Inventory) -> InvEntry
     ensures { result ≡ written entry }
 {
@@ -19,7 +20,8 @@ pub fn written(entry: Inventory) -> InvEntry
     InvEntry { kind, hash }
 }
 
-/// An entry of inventory as it is read.
+/// A received inventory entry, by its type: 1, 2 and 4 as in `written`, and any other type as
+/// `Inventory::Other`.
 pub fn understood(entry: InvEntry) -> Inventory
     ensures { result ≡ understood entry }
 {
@@ -31,7 +33,7 @@ pub fn understood(entry: InvEntry) -> Inventory
     }
 }
 
-/// The message that asks for entries (`getdata`), if there are any.
+/// Returns the message that asks for entries (`getdata`). Without entries there is none.
 pub fn asking_for(entries: Entries) -> Option<BoundedMessage>
     ensures { MatchOption result (asking_for entries ≡ [])
         (λ message. asking_for entries ≡ message ∷ []) }
@@ -42,7 +44,8 @@ pub fn asking_for(entries: Entries) -> Option<BoundedMessage>
     Some(BoundedMessage::new(Message::GetData(entries)))
 }
 
-/// The message that asks for the headers behind a locator, as many as there are (`getheaders`).
+/// Returns the message that asks for the headers after a block locator, as many as the peer sends
+/// (`getheaders`; the stop hash is zero).
 pub fn asking_headers(locator: Locator) -> BoundedMessage
     ensures { result ≡ asking_headers locator }
 {

@@ -1,4 +1,5 @@
-//! The messages that a session makes of what it is told: how it introduces itself, what it asks for, serves and announces.
+//! The messages that a session sends: its handshake, its requests, its answers and its
+//! announcements.
 #![tactic(auto)]
 
 mod announcing;

@@ -11,10 +11,11 @@ use cb_state::{BoundedBlock, Piece, Pieces};
 use cb_wire::{BoundedMessage, Message};
 use std::alloc::Global;
 
-/// The messages that serve pieces: what is there, in order, as `tx` and `block`, and then one `notfound` of all that isn't
-/// (own). Transactions and blocks are shared.
+/// Returns the messages that answer a `getdata`: a `tx` or `block` for each piece that is there, in
+/// order, and then one `notfound` with all entries that aren't there, if any (this node's own
+/// order). Transactions and blocks are shared.
 ///
-/// The only error is `Fault::Memory`.
+/// Fails only with `Fault::Memory`.
 pub fn served(alloc: Global, pieces: &Pieces) -> Result<Vec<BoundedMessage>, Fault>
     ensures messages { IfOk result (λ messages. messages.items ≡ served pieces.now) }
     ensures memory { IsOkUnless result Memory }
@@ -27,7 +28,7 @@ pub fn served(alloc: Global, pieces: &Pieces) -> Result<Vec<BoundedMessage>, Fau
     Ok(messages)
 }
 
-/// The messages of what is there, in order.
+/// The messages of the pieces that are there, in order. Fails only with `Fault::Memory`.
 fn there(alloc: Global, pieces: &[Piece]) -> Result<Vec<BoundedMessage>, Fault>
     ensures messages { IfOk result (λ messages. messages.items ≡ filter_map served_as pieces.now) }
     ensures memory { IsOkUnless result Memory }
@@ -41,7 +42,7 @@ fn there(alloc: Global, pieces: &[Piece]) -> Result<Vec<BoundedMessage>, Fault>
     Ok(messages)
 }
 
-/// The message of a piece that is there.
+/// The message of a piece; `None` if it isn't there. Fails only with `Fault::Memory`.
 fn message_of(piece: &Piece) -> Result<Option<BoundedMessage>, Fault>
     ensures message { IfOk result (λ message. message ≡ served_as piece.now) }
     ensures memory { IsOkUnless result Memory }
@@ -53,7 +54,7 @@ fn message_of(piece: &Piece) -> Result<Option<BoundedMessage>, Fault>
     }
 }
 
-/// The message of a transaction.
+/// The message of a transaction. Fails only with `Fault::Memory`.
 fn tx_message(candidate: &Candidate) -> Result<BoundedMessage, Fault>
     ensures message { IfOk result (λ message. message ≡ Tx candidate.now) }
     ensures memory { IsOkUnless result Memory }
@@ -62,7 +63,7 @@ fn tx_message(candidate: &Candidate) -> Result<BoundedMessage, Fault>
     Ok(BoundedMessage::new(Message::Tx(shared)))
 }
 
-/// The message of a block.
+/// The message of a block. Fails only with `Fault::Memory`.
 fn block_message(block: &BoundedBlock) -> Result<BoundedMessage, Fault>
     ensures message { IfOk result (λ message. message ≡ Block block.now) }
     ensures memory { IsOkUnless result Memory }
@@ -71,7 +72,7 @@ fn block_message(block: &BoundedBlock) -> Result<BoundedMessage, Fault>
     Ok(BoundedMessage::new(Message::Block(shared)))
 }
 
-/// The entries of what isn't there, in order.
+/// The entries that aren't there, in order. Fails only with `Fault::Memory`.
 fn lacking(alloc: Global, pieces: &[Piece]) -> Result<Vec<InvEntry>, Fault>
     ensures entries { IfOk result (λ entries. entries.items ≡ filter_map lacking_in pieces.now) }
     ensures few { IfOk result (λ entries. length entries.items ≤ length pieces.now) }
