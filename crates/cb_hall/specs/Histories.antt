@@ -1,4 +1,4 @@
--- What a connection asked of a hall and was told.
+-- What a connection asked the hall, and the answers.
 use Rattle.std.specs.Prelude.{◌≡◌, ℕ, ◌+◌, true, List, ◌++◌, length, map}
 use Rattle.cb_base.specs.declared.fault.Fault.{Fault}
 use Rattle.cb_base.specs.declared.fault.Fault.TheVariants.{JournalFull}
@@ -12,29 +12,30 @@ use Rattle.cb_journal.specs.Replica.{Leads}
 use Rattle.cb_hall.specs.Badge.{BadgeState}
 use Rattle.cb_hall.specs.Hall.{HasHistory, IsFull}
 
--- a question, and what the hall told
+-- A question and the hall's answer.
 pub record Reply : Type 0 where
   pub question : Question
   pub answer : Answer
 
--- what the journal keeps of replies to a connection, and what was told
+-- The journal's entries for a connection's questions, and the answers to them.
 abbrev pub asked_by : Connection → List Reply → List Entry
 asked_by connection replies = map (λ reply. Asked connection reply.question) replies
 
 abbrev pub told_by : List Reply → List Answer
 told_by replies = map (λ reply. reply.answer) replies
 
--- the hall or the badge is full, and the badge is marked
+-- The hall or the badge is full, and the badge is marked.
 abbrev pub IsMarkedFull : JournalState → BadgeState → Type 0
 IsMarkedFull hall badge = (badge.full ≡ true) × IsFull hall badge
 
--- What a call that was refused leaves: a mark where all is full. For want of memory it leaves nothing to be seen.
+-- What a refused call leaves. With `JournalFull` the hall or the badge is full, and the badge is
+-- marked. Of any other fault nothing is stated here.
 abbrev pub IsRefused : JournalState → BadgeState → Fault → Type 0
 IsRefused hall badge JournalFull = IsMarkedFull hall badge
 IsRefused hall badge other = Unit {0}
 
--- From one hall and badge to another by calls of that badge: these questions were granted, in order, they are the last of all
--- calls, and each was answered by the state that the calls before it led to.
+-- A badge's calls lead from one hall and badge to another. These questions were granted, in order.
+-- They are the last of all calls. Each was answered from the state that the calls before it led to.
 pub record Asks (old new : JournalState) (had has : BadgeState) (replies : List Reply) : Type 0 where
   pub leads : Leads old.latest (asked_by had.connection replies) (told_by replies) new.latest
   pub history : (past : List Entry) (answers : List Answer) → HasHistory old past answers

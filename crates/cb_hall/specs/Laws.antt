@@ -1,4 +1,4 @@
--- What holds of all calls of a hall, in the words of who asks.
+-- Laws of all calls of a hall, as a connection sees them.
 use Rattle.std.specs.Prelude.{◌≡◌, ◌≢◌, ℕ, ◌+◌, Bool, true, false, List, [], ◌∷◌, ◌++◌, length, filter, Option, None, Some}
 use Rattle.cb_state.specs.declared.connection.Connection.{Connection}
 use Rattle.cb_state.specs.Announcers.{same_connection}
@@ -11,20 +11,20 @@ use Rattle.cb_journal.specs.declared.question.Question.{Question}
 use Rattle.cb_journal.specs.Connections.{connected_of, is_kicked}
 use Rattle.cb_journal.specs.Replica.{Leads, ReplicaState, Steps}
 
--- A question of this connection, wherever it stands among the calls, is answered so, and changes nothing that peers share; and
--- the connection stays kicked.
+-- The connection stays kicked. Each of its questions, anywhere among the calls, is answered with
+-- `Kicked` and leaves the state that peers share unchanged.
 pub record AreTurnedAway (old : ReplicaState) (calls : List Entry) (connection : Connection) (new : ReplicaState) : Type 0 where
   pub stays : is_kicked new.connections connection ≡ true
   pub told : (before after : List Entry) (question : Question) (answers : List Answer) (asked next : ReplicaState) (answer : Option Answer)
       → calls ≡ before ++ Asked connection question ∷ after → Leads old before answers asked → Steps asked (Asked connection question) answer next
       → (answer ≡ Some Kicked) × (next.node ≡ asked.node)
 
--- A question of this connection is never answered so.
+-- No question of this connection is answered with `Kicked`.
 abbrev pub IsLetIn : ReplicaState → Connection → Type 0
 IsLetIn asked connection = (question : Question) (answer : Option Answer) (next : ReplicaState)
     → Steps asked (Asked connection question) answer next → answer ≢ Some Kicked
 
--- one of the calls kicked this connection
+-- One of the calls kicked this connection.
 abbrev pub WasKicked : List Entry → Connection → Type 0
 WasKicked calls connection = (before after : List Entry) × (calls ≡ before ++ Kick connection ∷ after)
 
@@ -32,11 +32,12 @@ abbrev pub is_question_of : Connection → Entry → Bool
 is_question_of connection (Asked other question) = same_connection other connection
 is_question_of connection other = false
 
--- how many of the calls are questions of this connection
+-- How many of the calls are questions of this connection.
 abbrev pub questions_of : Connection → List Entry → ℕ
 questions_of connection calls = length (filter (is_question_of connection) calls)
 
--- a connection that was there is there, and has as many questions more as the calls have of it
+-- A connection that existed still exists, and its count grew by the number of its questions among
+-- the calls.
 abbrev pub CountsItsQuestions : ReplicaState → List Entry → Connection → ReplicaState → Type 0
 CountsItsQuestions old calls connection new =
     (had : Connected) → connected_of old.connections connection ≡ Some had

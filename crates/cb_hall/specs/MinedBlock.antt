@@ -1,4 +1,5 @@
--- What becomes of a mined block that is given to its node at once (Bitcoin's consensus, as far as this node knows it).
+-- What happens to a mined block that is submitted to its node at once (Bitcoin's consensus rules,
+-- as far as this node checks them).
 use Rattle.std.specs.Prelude.{◌≡◌, ◌≢◌, ◌⊎◌, ◌+◌, true, List, [], ◌∷◌, ◌++◌, Any, None, Some, Err}
 use Rattle.std.specs.FinMap as finite
 use Rattle.cb_base.specs.declared.fault.Fault.TheVariants.{BadParent, Known, Remade, TooMany}
@@ -17,14 +18,15 @@ use Rattle.cb_pool.specs.Rules.{txid_of}
 use Rattle.cb_state.specs.declared.accepting.Taken.{Taken}
 use Rattle.cb_state.specs.State.{IsUnspent, NodeState}
 
--- It is the tip and is kept, and the active chain is longer by its header alone.
+-- The block is kept and is the tip, and the active chain grew by its header alone.
 pub record IsNextTip (old : Tree) (block : Block) (new : Tree) : Type 0 where
   pub tip : best new ≡ block_hash block.header
   pub kept : block_of new (block_hash block.header) ≡ Some block
   pub chain : active new ≡ active old ++ block.header ∷ []
   pub height : height_in new (best new) ≡ height_in old (best old) + 1
 
--- Another header is known under the header's hash: two different strings have one double hash.
+-- Another header with the same hash is known: two different serialised headers have one double
+-- SHA-256 hash.
 pub record HasNamesake (tree : Tree) (header : Header) : Type 0 where
   pub entry : Entry
   pub known : entry_of tree (block_hash header) ≡ Some entry
@@ -34,21 +36,23 @@ pub record HasNamesake (tree : Tree) (header : Header) : Type 0 where
 abbrev pub first_output : Tx → OutPoint
 first_output tx = record { txid = txid_of tx; index = 0 }
 
--- The coinbase's output is unspent already, or a transaction behind it has its name, though it is no coinbase.
+-- The coinbase's first output is unspent already, or a later transaction, which is no coinbase, has
+-- the coinbase's txid.
 abbrev pub IsMadeAgain : Unspent → List Tx → Type 0
 IsMadeAgain u [] = ⊥
 IsMadeAgain u (coinbase ∷ others) =
     (finite.contains_key u (first_output coinbase) ≡ true) ⊎ Any (λ tx. (¬ IsCoinbase tx) × (txid_of tx ≡ txid_of coinbase)) others
 
--- Behind the tip it can't be spent, since an output that it makes is unspent already.
+-- The block can't be connected to the tip, because an output that it creates is unspent already.
 pub record MakesAgain (tree : Tree) (block : Block) : Type 0 where
   pub unspent : Unspent
   pub behind_tip : IsUnspent tree unspent
   pub fault : spend unspent block.txs ≡ Err Remade
   pub again : IsMadeAgain unspent block.txs
 
--- It is the next tip. Else it is refused, and for one of four reasons: its hash was marked bad before, the tip stands as high
--- as any may, another header has its hash, or it makes an output that is unspent already.
+-- The block becomes the tip, or it is refused for one of four reasons: its hash was marked bad
+-- before, the tip has the greatest height there may be, another header has its hash, or an output
+-- that it creates is unspent already.
 pub data FaresAsMined (old : NodeState) (block : Block) (taken : Taken) (new : NodeState) : Type 0 where
   is_next_tip : taken.refused ≡ None → IsNextTip old.tree block new.tree → FaresAsMined old block taken new
   was_marked : taken.refused ≡ Some BadParent → is_marked old.tree (block_hash block.header) ≡ true → FaresAsMined old block taken new

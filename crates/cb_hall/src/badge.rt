@@ -7,7 +7,8 @@ use cb_state::Connection;
 use std::alloc::Global;
 use std::marker::Model;
 
-/// The right of one connection to ask the hall. It counts the questions that were granted. It is seen as these.
+/// A badge: one connection's permit to ask the hall. It counts the questions that were granted. Its
+/// model is its three fields.
 #[derive(Drop)]
 pub struct Badge {
     connection: Connection,
@@ -38,7 +39,7 @@ impl Badge {
         }
     }
 
-    /// Whose badge it is.
+    /// The connection whose badge this is.
     pub fn connection(&self) -> Connection
         ensures { result ≡ self.now.connection }
     {
@@ -52,14 +53,14 @@ impl Badge {
         self.count
     }
 
-    /// Whether a question was refused because the hall or the badge had granted as many as there may be.
+    /// Whether a question was refused because the hall or the badge had already granted 2^62.
     pub fn full(&self) -> bool
         ensures { result ≡ self.now.full }
     {
         self.full
     }
 
-    /// One question more was granted.
+    /// Counts one more granted question.
     pub(crate) fn grant(&mut self)
         requires { self.old.count < 2 ^ 62 }
         ensures { self.new ≡ counted self.old }
@@ -67,7 +68,7 @@ impl Badge {
         self.count += 1;
     }
 
-    /// A question was refused as one too many.
+    /// Marks the badge: a question was refused as one too many.
     pub(crate) fn mark(&mut self)
         ensures { self.new ≡ marked self.old }
     {
@@ -75,7 +76,8 @@ impl Badge {
     }
 }
 
-/// The badges of the first connections of the peers 0, 1, .. The only error is `Fault::Memory`.
+/// The badges of the first connections of the peers 0, 1, and so on. Fails only with
+/// `Fault::Memory`.
 pub(crate) fn first_badges(alloc: Global, peers: u16) -> Result<Vec<Badge>, Fault>
     ensures badges { IfOk result (λ badges. AreBadges peers badges.items) }
     ensures memory { IsOkUnless result Memory }

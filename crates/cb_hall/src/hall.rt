@@ -19,13 +19,15 @@ use cb_state::{Connection, State};
 use std::alloc::Global;
 use std::marker::Model;
 
-/// What the peers of a node share: all calls that were granted, and the state that they lead to. It is seen as the journal: the
-/// state before its entries, these, and the state after them.
+/// The hall: what Bitcoin Core keeps in ChainstateManager and CTxMemPool, and the log of all calls
+/// that led there (the journal). Its model is the journal: the state before its entries, the
+/// entries, and the state after them.
 ///
-/// Peers are numbered from 0 to 63, and each has one connection after another, whose generations are counted from 1. Each call
-/// that is granted adds its one entry to the journal; one that is refused changes nothing. Where 1,000,000 entries stand, or
-/// would count for more than 64,000,000 bytes with the next, the journal begins anew with it, and at 2^62 calls no more are
-/// granted.
+/// Peers are numbered from 0 to 63. Each peer has one connection after another; their generations
+/// count from 1. Each granted call adds exactly one entry to the journal. A refused call leaves the
+/// hall unchanged. If the journal has 1,000,000 entries, or they would count for more than
+/// 64,000,000 bytes with the next one, the journal starts over and holds that entry alone. After
+/// 2^62 calls no more are granted.
 #[derive(Drop)]
 pub struct Hall {
     journal: Journal,
@@ -40,8 +42,8 @@ impl Model for Hall {
 }
 
 impl Hall {
-    /// A hall that nobody has asked anything, and the badges of the first connections of the peers 0, 1, .. The only error is
-    /// `Fault::Memory`.
+    /// Returns a hall without calls, and the badges of the first connections of the peers 0, 1, and
+    /// so on. Fails only with `Fault::Memory`.
     pub fn new(alloc: Global, peers: u16) -> Result<(Hall, Vec<Badge>), Fault>
         requires some { 1 ≤ peers }
         requires limit { peers ≤ 64 }
@@ -61,10 +63,13 @@ impl Hall {
         self.connections().latest(peer)
     }
 
-    /// A peer's next connection: its badge. The peer's earlier connections are no longer asked to announce blocks.
+    /// Opens a peer's next connection and returns its badge. The peer's earlier connections are no
+    /// longer asked to announce new blocks as compact blocks.
     ///
-    /// `Fault::NoMore` where the peer's latest connection has the last generation, then `Fault::JournalFull`, then
-    /// `Fault::Memory`: nothing has changed then.
+    /// Fails with the first of these that applies; the hall is then unchanged:
+    /// - `Fault::NoMore` if the peer's latest connection has generation 2^64 - 1;
+    /// - `Fault::JournalFull` if 2^62 calls were granted;
+    /// - `Fault::Memory`.
     pub fn open(&mut self, peer: u16) -> Result<Badge, Fault>
         requires { peer < 64 }
         ensures badge { IfOk result (λ badge. badge ≡ fresh_badge (next_connection self.old peer)) }
@@ -91,10 +96,13 @@ impl Hall {
         Ok(Badge::new(connection))
     }
 
-    /// Answers a question of a connection. The badge counts it.
+    /// Answers a question of the badge's connection. The badge counts it. A kicked connection's
+    /// answer is `Answer::Kicked`.
     ///
-    /// `Fault::JournalFull` comes exactly where the hall granted 2^62 calls or the badge counts 2^62 questions, and marks the
-    /// badge. `Fault::Memory` changes nothing.
+    /// Fails with:
+    /// - `Fault::JournalFull` exactly if the hall granted 2^62 calls or the badge counts 2^62
+    ///   questions; the badge is then marked, and the hall is unchanged;
+    /// - `Fault::Memory`; hall and badge are then unchanged.
     pub fn call(&mut self, badge: &mut Badge, question: Question) -> Result<Answer, Fault>
         ensures ok { IfOk result (Grants self.old self.new badge.old badge.new question) }
         ensures full { IsErrOf result JournalFull ↔ IsFull self.old badge.old }
@@ -115,9 +123,11 @@ impl Hall {
         Ok(answer)
     }
 
-    /// Kicks a peer's latest connection: each of its questions is answered `Kicked` from then on.
+    /// Kicks a peer's latest connection: each of its questions is answered with `Answer::Kicked`
+    /// from then on.
     ///
-    /// `Fault::JournalFull` where 2^62 calls were granted, and `Fault::Memory`: nothing has changed then.
+    /// Fails with `Fault::JournalFull` exactly if 2^62 calls were granted, and with
+    /// `Fault::Memory`. The hall is then unchanged.
     pub fn kick(&mut self, peer: u16) -> Result<(), Fault>
         requires { peer < 64 }
         ensures ok { OnOk result
@@ -132,9 +142,11 @@ impl Hall {
         Ok(())
     }
 
-    /// Takes what the node's own user hands in: the answer is `TxTaken` or `Taken`, and no announcer changes.
+    /// Takes a transaction or block from the node's own user. The answer is `Answer::TxTaken` or
+    /// `Answer::Taken`, and no announcer changes.
     ///
-    /// `Fault::JournalFull` where 2^62 calls were granted, and `Fault::Memory`: nothing has changed then.
+    /// Fails with `Fault::JournalFull` exactly if 2^62 calls were granted, and with
+    /// `Fault::Memory`. The hall is then unchanged.
     pub fn submit(&mut self, local: Local) -> Result<Answer, Fault>
         ensures ok { IfOk result (Submitted self.old local self.new) }
         ensures full { IsErrOf result JournalFull ↔ (2 ^ 62 ≤ self.old.latest.entries) }
@@ -147,10 +159,11 @@ impl Hall {
         }
     }
 
-    /// The calls since the journal began anew, in order.
+    /// The calls since the journal last started over, in order.
     pub fn journal(&self) -> &[Entry]
         ensures entries { result.now ≡ self.now.entries }
-        // They are the last of all calls since the beginning, which led to the state as it is.
+        // The entries are the last of all calls since the start, and all calls led to the current
+        // state.
         ensures past { (past : List Entry) × (answers : List Answer)
             × HasHistory self.now past answers }
         ensures bounded { IsBounded self.now.entries }
@@ -158,7 +171,8 @@ impl Hall {
         self.journal.entries()
     }
 
-    /// What was known of all connections before the journal's entries: how many questions of each stood in it before.
+    /// What was known of all connections before the journal's entries. The counts are those of the
+    /// questions granted before them.
     pub fn kept(&self) -> &Connections
         ensures { result.now ≡ self.now.base.connections }
     {
@@ -172,25 +186,28 @@ impl Hall {
         self.journal.latest().connections()
     }
 
-    /// The chain, the pool and the announcers.
+    /// The chain, the mempool and the announcers.
     pub(crate) fn state(&self) -> &State
         ensures { result.now ≡ self.now.latest.node }
     {
         self.journal.latest().state()
     }
 
-    /// What is seen of it at a glance.
+    /// A summary of the current state.
     pub fn look(&self) -> Look
         ensures { result ≡ look_of self.now.latest.node }
     {
         Look::at(self.state())
     }
 
-    /// A block on the tip for the regression test network: a coinbase with a mark, and then the transactions that wait, from
-    /// the first one on, as many as fit. Its header has the least nonce with which it meets its target. Nothing changes.
+    /// Mines a regtest block on the tip. It holds a coinbase with a mark, and then the mempool's
+    /// transactions from the first one on, as many as fit. Its header has the least nonce that
+    /// meets its target. The hall doesn't change.
     ///
-    /// `Fault::BadWork` where there is no such nonce, `Fault::Mutated` where two neighbours in the tree of the transactions
-    /// are equal (CVE-2012-2459), and `Fault::Memory`.
+    /// Fails with:
+    /// - `Fault::BadWork` if no nonce meets the target;
+    /// - `Fault::Mutated` if two neighbours in the Merkle tree are equal (CVE-2012-2459);
+    /// - `Fault::Memory`.
     pub fn mine(&self, mark: u8) -> Result<SoundBlock, Fault>
         ensures mined { IfOk result (λ block. IsMined self.now.latest.node mark block) }
         ensures err { IfErr result
@@ -199,7 +216,8 @@ impl Hall {
         self.state().mine(mark)
     }
 
-    /// The journal begins anew: the state stays, and no entry does. The only error is `Fault::Memory`, which changes nothing.
+    /// Takes a checkpoint: the current state is kept and the journal's entries are dropped. Fails
+    /// only with `Fault::Memory`; the hall is then unchanged.
     pub fn checkpoint(&mut self) -> Result<(), Fault>
         ensures ok { OnOk result
             (self.new ≡ record { base = self.old.latest; entries = []; latest = self.old.latest }) }
@@ -212,8 +230,8 @@ impl Hall {
         self.journal.checkpoint()
     }
 
-    /// Computes all again from the state before the journal's entries: an equal hall, and the answers to the questions among
-    /// the entries, in order. The only error is `Fault::Memory`.
+    /// Replays the journal from the state before its entries. Returns an equal hall, and the
+    /// answers to the questions among the entries, in order. Fails only with `Fault::Memory`.
     pub fn again(&self) -> Result<(Hall, Vec<Answer>), Fault>
         ensures same { IfOk result (λ made. made.0 ≡ self.now) }
         ensures answers { IfOk result
@@ -224,9 +242,10 @@ impl Hall {
         Ok((Hall { journal }, answers))
     }
 
-    /// The hall to which these calls lead, each of which has to be one that can come after those before it.
+    /// Returns the hall that these calls lead to. Each call must be one that can come after those
+    /// before it.
     ///
-    /// `Fault::JournalFull` where there are more than 2^62 of them, and `Fault::Memory`.
+    /// Fails with `Fault::JournalFull` if there are more than 2^62 calls, and with `Fault::Memory`.
     pub fn replay(alloc: Global, calls: &[Entry]) -> Result<Hall, Fault>
         requires { AreFit first_slots calls.now }
         ensures past { IfOk result
@@ -241,7 +260,7 @@ impl Hall {
     }
 }
 
-/// A copy of a call is one call more.
+/// Appends a copy of a call to the journal.
 fn play(alloc: Global, journal: &mut Journal, call: &Entry) -> Result<(), Fault>
     requires { IsFit journal.old.latest.connections call.now }
     ensures ok { OnOk result

@@ -1,4 +1,4 @@
-//! What holds of every hall. Each law is the contract of a function that changes nothing.
+//! Laws of every hall. Each law is the contract of a function that does nothing.
 ghost use Rattle.std.specs.Prelude.{◌≡◌, true, false, List, None};
 ghost use Rattle.cb_journal.specs.declared.answer.Answer.{Answer};
 ghost use Rattle.cb_journal.specs.declared.entry.Entry.{Entry};
@@ -19,7 +19,8 @@ use crate::mined::mined_fares;
 use cb_block::SoundBlock;
 use cb_journal::one_end;
 
-/// All calls of a hall, from the beginning, lead to its state, with the answers that were given; and to one state alone.
+/// All calls of a hall since the start lead to its state, with the answers that were given. The
+/// calls determine the state and the answers.
 pub fn one_hall()
     ensures leads { (hall : JournalState) (past : List Entry) (answers : List Answer) →
         HasHistory hall past answers → Leads opening past answers hall.latest }
@@ -30,8 +31,9 @@ pub fn one_hall()
     one_end();
 }
 
-/// A connection that was kicked stays so, and each of its questions is answered `Kicked` and changes nothing that peers share.
-/// No question of another is answered so, and a connection comes to stand as kicked only by an entry that names it.
+/// A kicked connection stays kicked. Each of its questions is answered with `Kicked` and leaves the
+/// state that peers share unchanged. No question of a connection that isn't kicked is answered with
+/// `Kicked`. A connection becomes kicked only by an entry that names it.
 pub fn who_was_kicked()
     ensures turned_away { (old new : ReplicaState) (calls : List Entry) (answers : List Answer) (connection : Connection)
         → Leads old calls answers new → is_kicked old.connections connection ≡ true →
@@ -43,16 +45,19 @@ pub fn who_was_kicked()
         is_kicked new.connections connection ≡ true → WasKicked calls connection }
 {}
 
-/// What is kept of a connection counts the questions of it that were granted.
+/// The count that is kept of a connection grows by one with each of its granted questions.
 pub fn each_question_is_counted()
     ensures { (old new : ReplicaState) (calls : List Entry) (answers : List Answer) (connection : Connection)
         → Leads old calls answers new → CountsItsQuestions old calls connection new }
 {}
 
-/// A mined block that is handed in at once is the next tip, and the active chain is longer by its header alone. It is refused
-/// only where its hash was marked bad before (`Fault::BadParent`), where the tip stands at height 1,000,000,000
-/// (`Fault::TooMany`), where another header has its hash (`Fault::Known`), and where an output that it makes is unspent already
-/// (`Fault::Remade`): the coinbase's, or that of a transaction with the coinbase's name.
+/// A mined block that is submitted at once becomes the tip, and the active chain grows by its
+/// header alone. It is refused only in these cases:
+/// - `Fault::BadParent`: its hash was marked bad before;
+/// - `Fault::TooMany`: the tip is at height 1,000,000,000;
+/// - `Fault::Known`: another header has its hash;
+/// - `Fault::Remade`: an output that it creates is unspent already. That is the coinbase's output,
+///   or one of a transaction with the coinbase's txid.
 pub fn mined_is_next_tip(hall: &Hall, mark: u8, block: &SoundBlock)
     requires { IsMined hall.now.latest.node mark block.now }
     ensures { (taken : Taken) (new : NodeState) →

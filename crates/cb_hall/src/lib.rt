@@ -1,4 +1,5 @@
-//! The state that the peers of a node share: what each of them asks is answered by a journal of all calls, under a badge.
+//! The hall: the state that a node's peers share. Each connection asks it under a badge (its
+//! permit), and each answer follows from the journal, the log of all calls.
 #![tactic(auto)]
 
 mod badge;

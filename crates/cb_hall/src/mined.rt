@@ -1,4 +1,4 @@
-//! What becomes of a mined block that is given to a state.
+//! The law of what happens to a mined block that is submitted at once.
 ghost use Rattle.std.specs.Prelude.{None};
 ghost use Rattle.cb_state.specs.declared.accepting.Taken.{Taken};
 ghost use Rattle.cb_state.specs.Accepting.{TakesBlock};
@@ -10,7 +10,7 @@ use cb_block::SoundBlock;
 use cb_chain::has_history;
 use cb_state::{State, mined_meets_rules};
 
-/// What becomes of a mined block that is given to its state at once, whoever gives it.
+/// What happens to a mined block that is submitted at once to the state it was mined on.
 pub(crate) fn mined_fares(state: &State, mark: u8, block: &SoundBlock)
     requires { IsMined state.now mark block.now }
     ensures { (taken : Taken) (new : NodeState) → TakesBlock state.now block.now None taken new →

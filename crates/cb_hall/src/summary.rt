@@ -4,19 +4,19 @@ ghost use Rattle.cb_hall.specs.Hall.{look_of};
 use cb_base::Hash256;
 use cb_state::State;
 
-/// What a node's owner sees of it at a glance.
+/// A summary of a node for its owner.
 #[derive(Clone, Copy, PartialEq, Eq)]
 pub struct Look {
-    /// The height of the best chain's tip; that of the network's first block is 0.
+    /// The height of the best chain's tip; the genesis block has height 0.
     pub height: u32,
     /// The hash of the best chain's tip.
     pub tip: Hash256,
-    /// How many transactions wait for a block.
+    /// How many transactions are in the mempool.
     pub pool: usize,
 }
 
 impl Look {
-    /// What is seen of a state.
+    /// The summary of a state.
     pub(crate) fn at(state: &State) -> Look
         ensures { result ≡ look_of state.now }
     {
