@@ -158,9 +158,8 @@ impl State {
     /// Takes a block into the chain. Returns why it was refused, if it was, with a locator if its
     /// parent isn't known.
     ///
-    /// `Chain::accept_block` lists the refusals. A refused block that breaks a rule, or can't be
-    /// connected, is marked bad in the header tree. The mempool and the announcers then stay as
-    /// they are.
+    /// `Chain::accept_block` lists the refusals, and which of them mark the block bad in the header
+    /// tree. No refusal changes the mempool or the announcers.
     ///
     /// If the block becomes the tip, the mempool is rebuilt: the transactions of disconnected
     /// blocks come first, then those that were in it, and each is kept if it still applies. The
