@@ -1,4 +1,4 @@
--- The double hash: SHA-256 twice (FIPS 180-4; Bitcoin's names of transactions and blocks).
+-- The double hash: SHA-256 twice (FIPS 180-4). Bitcoin uses it for txids and block hashes.
 use Rattle.std.specs.Prelude.{ℕ, List}
 use Rattle.sha2.specs.Sha256.{sha256}
 use Rattle.cb_base.specs.declared.hash.Hash256.{Hash256}

@@ -1,4 +1,4 @@
--- The faults: each has a number, a name and a printed form.
+-- The faults: the number, the name and the printed form of each.
 use Rattle.std.specs.Prelude.{ℕ, List, [], ◌++◌, codes}
 use Rattle.std.specs.Fmt.{decimal}
 use Rattle.cb_base.specs.declared.fault.Fault.{Fault}
@@ -6,7 +6,7 @@ use Rattle.cb_base.specs.declared.fault.Fault.TheVariants.{Memory, Truncated, No
 use Rattle.cb_base.specs.declared.fault.TxRule.{TxRule}
 use Rattle.cb_base.specs.declared.fault.TxRule.TheVariants.{NoInputs, NoOutputs, TooLong, BadValue, BadSum, RepeatedInput, BadCoinbaseScript, NullInput}
 
--- the rules of a transaction, in the order in which they are looked at
+-- the rules of a transaction, in the order in which they are checked
 abbrev pub rule_number : TxRule → ℕ
 rule_number NoInputs = 1
 rule_number NoOutputs = 2
@@ -77,7 +77,7 @@ fault_name NotEnabled = codes "NotEnabled"
 fault_name Full = codes "Full"
 fault_name NoMore = codes "NoMore"
 
--- what a fault of a transaction says beyond its name: a space and the rule's number
+-- what is printed after the name: for BadTx a space and the number of the rule
 abbrev pub fault_detail : Fault → List ℕ
 fault_detail (BadTx rule) = codes " " ++ decimal (rule_number rule)
 fault_detail other = []

@@ -4,9 +4,11 @@ ghost use Rattle.cb_base.specs.declared.fault.Fault.TheVariants.{Memory};
 
 use crate::fault::Fault;
 
-/// Writes a number at the end, as a CompactSize: in 1, 3, 5 or 9 bytes, as few as it needs.
+/// Appends a number to `out` as a CompactSize, Bitcoin's variable-length integer: 1, 3, 5 or 9
+/// bytes, as few as the number needs.
 ///
-/// The only error is `Fault::Memory`, which leaves the vector as it was. It comes only where the vector has no room.
+/// Fails only with `Fault::Memory`, and only if the free capacity of `out` is too small. `out` then
+/// has the bytes it had.
 #[tactic(auto, unfolding(crate::specs::CompactSize::compact_text))]
 pub fn put_compact(out: &mut Vec<u8>, number: u64) -> Result<(), Fault>
     ensures ok { OnOk result (out.new.items ≡ out.old.items ++ compact_text number) }
@@ -31,7 +33,9 @@ pub fn put_compact(out: &mut Vec<u8>, number: u64) -> Result<(), Fault>
     Ok(())
 }
 
-/// One number has one CompactSize, and none begins another.
+/// The encoding is unique and prefix-free. If the CompactSizes of two numbers, each followed by any
+/// bytes, are the same bytes, then the numbers are equal, and so are the bytes that follow. The
+/// function does nothing: its contract is a theorem.
 pub fn one_spelling()
     ensures { (m n : ℕ) (x y : List ℕ) → m < 2 ^ 64 → n < 2 ^ 64 →
         compact_text m ++ x ≡ compact_text n ++ y

@@ -4,7 +4,7 @@ ghost use Rattle.cb_base.specs.declared.fault.Fault.TheVariants.{Memory};
 use crate::fault::Fault;
 use std::alloc::Global;
 
-/// A vector of the same bytes. The only error is `Fault::Memory`, and none is taken for no bytes.
+/// Returns a vector of the same bytes. Fails only with `Fault::Memory`. An empty slice never fails.
 pub fn copy_bytes(alloc: Global, bytes: &[u8]) -> Result<Vec<u8>, Fault>
     ensures same { IfOk result (λ copy. copy.items ≡ bytes.now) }
     ensures memory { IsOkUnless result Memory }

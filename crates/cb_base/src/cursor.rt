@@ -7,9 +7,10 @@ ghost use Rattle.cb_base.specs.Reading.{Reads, ReadsBy, bytes_at, number_at, por
 use crate::fault::Fault;
 use std::marker::Model;
 
-/// Reads a slice from its front. It is seen as the bytes that are left.
+/// Reads a byte slice from its front. Contracts see the bytes that are left.
 ///
-/// Each read answers `Fault::Truncated` where too few bytes are left, and a refused read leaves the cursor as it was.
+/// A read fails with `Fault::Truncated` if too few bytes are left. A failed read leaves the cursor
+/// where it was.
 #[derive(Drop)]
 pub struct Cursor<'a> {
     rest: &'a [u8],
@@ -24,7 +25,7 @@ impl<'a> Model for Cursor<'a> {
 }
 
 impl<'a> Cursor<'a> {
-    /// At the slice's beginning.
+    /// A cursor at the beginning of the slice.
     pub fn new(bytes: &'a [u8]) -> Cursor<'a>
         ensures { result ≡ bytes.entry.now }
     {
@@ -38,7 +39,7 @@ impl<'a> Cursor<'a> {
         self.rest.len()
     }
 
-    /// The next n bytes.
+    /// Reads the next `n` bytes.
     pub fn take(&mut self, n: usize) -> Result<&'a [u8], Fault>
         ensures { ReadsBy (λ bytes. bytes.now) (bytes_at n self.old) self.old result self.new }
     {
@@ -51,7 +52,7 @@ impl<'a> Cursor<'a> {
         Ok(front)
     }
 
-    /// A byte.
+    /// Reads one byte.
     pub fn u8(&mut self) -> Result<u8, Fault>
         ensures { Reads (number_at w8 self.old) self.old result self.new }
     {
@@ -59,7 +60,7 @@ impl<'a> Cursor<'a> {
         Ok(bytes[0])
     }
 
-    /// Two bytes, the lowest first.
+    /// Reads a little-endian number of two bytes.
     pub fn u16(&mut self) -> Result<u16, Fault>
         ensures { Reads (number_at w16 self.old) self.old result self.new }
     {
@@ -67,7 +68,7 @@ impl<'a> Cursor<'a> {
         Ok(u16::from_le_bytes([bytes[0], bytes[1]]))
     }
 
-    /// Two bytes, the highest first, as the port of a network address.
+    /// Reads a big-endian number of two bytes, as the port of a network address is sent.
     pub fn u16_big(&mut self) -> Result<u16, Fault>
         ensures { Reads (port_at self.old) self.old result self.new }
     {
@@ -75,7 +76,7 @@ impl<'a> Cursor<'a> {
         Ok(u16::from_be_bytes([bytes[0], bytes[1]]))
     }
 
-    /// Four bytes, the lowest first.
+    /// Reads a little-endian number of four bytes.
     pub fn u32(&mut self) -> Result<u32, Fault>
         ensures { Reads (number_at w32 self.old) self.old result self.new }
     {
@@ -83,14 +84,14 @@ impl<'a> Cursor<'a> {
         Ok(u32::from_le_bytes([bytes[0], bytes[1], bytes[2], bytes[3]]))
     }
 
-    /// Four bytes in two's complement, the lowest first.
+    /// Reads a little-endian number of four bytes in two's complement.
     pub fn i32(&mut self) -> Result<i32, Fault>
         ensures { Reads (signed_at w32 self.old) self.old result self.new }
     {
         Ok(self.u32()?.cast_signed())
     }
 
-    /// Eight bytes, the lowest first.
+    /// Reads a little-endian number of eight bytes.
     pub fn u64(&mut self) -> Result<u64, Fault>
         ensures { Reads (number_at w64 self.old) self.old result self.new }
     {
@@ -100,19 +101,20 @@ impl<'a> Cursor<'a> {
         ]))
     }
 
-    /// Eight bytes in two's complement, the lowest first.
+    /// Reads a little-endian number of eight bytes in two's complement.
     pub fn i64(&mut self) -> Result<i64, Fault>
         ensures { Reads (signed_at w64 self.old) self.old result self.new }
     {
         Ok(self.u64()?.cast_signed())
     }
 
-    /// A CompactSize: 1, 3, 5 or 9 bytes. A spelling that is longer than its number needs is `Fault::NotShortest`.
+    /// Reads a CompactSize: 1, 3, 5 or 9 bytes. Fails with `Fault::NotShortest` if the number has a
+    /// shorter encoding, and with `Fault::Truncated` if bytes are missing.
     pub fn compact(&mut self) -> Result<u64, Fault>
         ensures exact { Reads (compact_at self.old) self.old result self.new }
-        // What is read is spelled so, in the shortest way.
+        // On success, the bytes began with the shortest encoding of the number.
         ensures found { IfOk result (λ number. self.old ≡ compact_text number ++ self.new) }
-        // What is spelled so is read, whatever follows it.
+        // The shortest encoding of any number below 2^64 is read, whatever bytes follow it.
         ensures only { (number : ℕ) (rest : List ℕ) → number < 2 ^ 64 →
             self.old ≡ compact_text number ++ rest
             → (result ≡ Ok number) × (self.new ≡ rest) }
@@ -124,7 +126,7 @@ impl<'a> Cursor<'a> {
         Ok(number)
     }
 
-    /// A CompactSize. After a fault the cursor may stand anywhere.
+    /// Reads a CompactSize. After an error the cursor may have advanced.
     #[tactic(auto, unfolding(crate::specs::CompactSize::compact_at, crate::specs::CompactSize::wide_at))]
     fn compact_or_fault(&mut self) -> Result<u64, Fault>
         ensures { Gives (compact_at self.old) result self.new }
@@ -145,7 +147,7 @@ impl<'a> Cursor<'a> {
     }
 }
 
-/// The CompactSize at the front, and the bytes after it.
+/// Decodes the CompactSize at the front. Returns it with the bytes after it.
 fn compact_of(bytes: &[u8]) -> Result<(u64, &[u8]), Fault>
     ensures exact { MatchResult result (λ read. compact_at bytes.now ≡ Ok (read.0, read.1.now))
         (λ fault. compact_at bytes.now ≡ Err fault) }

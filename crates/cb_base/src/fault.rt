@@ -4,24 +4,27 @@ use std::alloc::{AllocError, AllocFailed};
 use std::error::Error;
 use std::fmt;
 
-/// A rule of a transaction that stands by itself, in the order in which they are looked at.
+/// A rule that a transaction must meet by itself, without the UTXO set (Bitcoin Core's
+/// `CheckTransaction`). The rules are checked in this order.
 #[derive(Clone, Copy, Debug, PartialEq, Eq)]
 pub enum TxRule {
     /// It has no inputs.
     NoInputs,
     /// It has no outputs.
     NoOutputs,
-    /// Its text has more than 1,000,000 bytes.
+    /// Its serialisation has more than 1,000,000 bytes.
     TooLong,
-    /// A value is below 0 or above 2,100,000,000,000,000.
+    /// The value of an output is below 0 or above 2,100,000,000,000,000 satoshis (21 million
+    /// bitcoins).
     BadValue,
-    /// Its values add up to more than 2,100,000,000,000,000.
+    /// The values of its outputs add up to more than 2,100,000,000,000,000 satoshis.
     BadSum,
-    /// Two inputs spend one output.
+    /// Two inputs spend the same output.
     RepeatedInput,
-    /// The script of a coinbase has fewer than 2 bytes or more than 100.
+    /// The input script of a coinbase has fewer than 2 bytes or more than 100.
     BadCoinbaseScript,
-    /// A transaction that is no coinbase spends the output of no transaction.
+    /// A transaction that isn't a coinbase has an input with the null outpoint (txid zero, index
+    /// ffffffff).
     NullInput,
 }
 
@@ -45,64 +48,77 @@ impl TxRule {
     }
 }
 
-/// Why a call was refused. Each has a number and a name, and is printed as both: `F2 Truncated`.
+/// Why a call failed. Each fault has a number and a name, and prints as both: `F2 Truncated`.
+/// `BadTx` also prints the number of the rule: `F5 BadTx 3`.
 #[derive(Clone, Copy, Debug, PartialEq, Eq)]
 pub enum Fault {
-    /// An allocation failed, or a value has 2^63 owners.
+    /// An allocation failed, the size of one is too large to compute, or a shared value already has
+    /// 2^63 owners.
     Memory,
-    /// Bytes are missing, or the items of a count don't fit in what is left.
+    /// Bytes are missing, or the items that a count announces can't fit in the bytes that are left.
     Truncated,
-    /// A CompactSize has a shorter spelling.
+    /// A CompactSize isn't the shortest encoding of its number.
     NotShortest,
-    /// A count is above its limit, or a header or block would stand above height 1,000,000,000.
+    /// A count is above its limit, or a header or block would be above height 1,000,000,000.
     TooMany,
-    /// A transaction breaks a rule by itself.
+    /// A transaction breaks this rule, and none before it.
     BadTx(TxRule),
-    /// A block's Merkle root isn't its header's.
+    /// A block's transactions don't have the Merkle root of its header.
     BadRoot,
-    /// Two neighbours in the Merkle tree of a block are equal (CVE-2012-2459).
+    /// Two paired hashes in the Merkle tree of a block, received or mined, are equal
+    /// (CVE-2012-2459).
     Mutated,
-    /// A transaction of a block, or one for the pool, has 64 bytes, as a node of the Merkle tree has (CVE-2017-12842).
+    /// A transaction of a block, or one for the mempool, has 64 bytes. It could pass for an inner
+    /// node of the Merkle tree (CVE-2017-12842).
     Size64,
-    /// A block or a compact block has no transaction.
+    /// A block or a compact block has no transactions.
     Empty,
-    /// A block's first transaction is no coinbase, or a later one is; or a coinbase was given to the pool.
+    /// A block's first transaction isn't a coinbase, or a later one is. Or a coinbase was offered
+    /// to the mempool.
     BadCoinbase,
-    /// A header's bits aren't the network's, or its hash is above the target; or no nonce serves for a mined block.
+    /// A header's bits aren't the network's, or its hash is above the target. Or no nonce meets the
+    /// target for a block that is mined.
     BadWork,
-    /// An envelope of a stream doesn't begin with the network's magic.
+    /// A message header in a stream doesn't begin with the network's magic.
     BadMagic,
-    /// An envelope announces more than 4,000,000 bytes, or a block has more than 1,000,000.
+    /// A message header announces a payload of more than 4,000,000 bytes, or a block has more than
+    /// 1,000,000 bytes.
     Oversize,
     /// Bytes are left over after a payload, or after a block that is read alone.
     Trailing,
-    /// A flag is neither 0 nor 1, or the count behind a header isn't 0.
+    /// A flag is neither 0 nor 1, or the transaction count after a header of a `headers` message
+    /// isn't 0.
     BadBool,
-    /// A difference of indexes leads to or past the number of transactions, or past 64 bits (BIP 152).
+    /// An index that is sent as a difference (BIP 152) is at or above the number of transactions,
+    /// or above 64 bits.
     BadIndex,
-    /// Not as many transactions came as a block is missing (BIP 152, `blocktxn`).
+    /// A `blocktxn` doesn't have as many transactions as the block is missing (BIP 152).
     WrongCount,
-    /// The pool has the txid, a header is known, or a block is kept.
+    /// The mempool already has the txid, the header is already known, or the block is already
+    /// stored.
     Known,
     /// An input spends an output that isn't unspent.
     NoInput,
-    /// The pool has 10,000 transactions.
+    /// The mempool has 10,000 transactions.
     PoolFull,
-    /// Outputs are worth more than inputs.
+    /// A transaction's outputs are worth more than its inputs.
     Overspent,
-    /// An output to be made is unspent already.
+    /// A transaction creates an output that is already unspent.
     Remade,
-    /// A header's parent is unknown, or a block's parent isn't kept.
+    /// A header's parent is unknown, or a block's parent isn't stored.
     NoParent,
-    /// A header, a block or its parent is marked bad.
+    /// A header or block is marked invalid, or its parent is.
     BadParent,
-    /// A hall, its journal or a connection's badge has 2^62 calls.
+    /// The hall (the chain state and mempool that all peers share), its journal (the log of the
+    /// hall's calls) or a connection's badge (its permit to ask the hall) has counted 2^62 calls.
     JournalFull,
-    /// An act of the crew's core can't come now.
+    /// An act of the core of the crew (the scheduler of handler threads) is not possible in its
+    /// state.
     NotEnabled,
-    /// An inbox has no room.
+    /// An inbox (the queue between the reader thread and the handlers of a peer) has no room.
     Full,
-    /// A peer of a crew had 256 connections, or a peer of a hall is at its last generation.
+    /// A peer of a crew has had 256 connections, or a peer of a hall has had the connection with
+    /// the last number (generation 2^64 - 1).
     NoMore,
 }
 
@@ -145,7 +161,7 @@ impl Fault {
         }
     }
 
-    /// The fault's name, as it is printed behind the number.
+    /// The name, as it is printed after the number.
     pub fn name(&self) -> &'static str
         ensures { result.now ≡ fault_name self.now }
     {

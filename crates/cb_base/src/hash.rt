@@ -11,7 +11,7 @@ use sha2::{Digest, Sha256};
 use std::alloc::Global;
 use std::hash::{Hash, Hasher};
 
-/// A hash of 32 bytes, in the order in which they are sent: the name of a transaction or of a block.
+/// A hash of 32 bytes in wire order: a txid, a block hash or a node of a Merkle tree.
 #[derive(Clone, Copy, Debug, PartialEq, Eq, PartialOrd, Ord)]
 pub struct Hash256(pub [u8; 32]);
 
@@ -20,8 +20,9 @@ impl Hash for Hash256 {
 
     ghost respects_eq = { Prim.search (hashing, rules) };
 
-    /// Gives a table's hasher the 32 bytes in four pieces of eight. One of all would leave whoever picks the bytes to have the
-    /// hasher forget some of them: std's multiplies a piece's bytes with each other.
+    /// Feeds the 32 bytes to a hash table's hasher in four writes of 8 bytes. The hasher of std
+    /// multiplies the bytes of one write with each other. With a single write, somebody who chooses
+    /// the bytes could cancel some of them out.
     fn hash<H: Hasher>(&self, state: &mut H) {
         let (words, _) = self.0.as_slice().as_chunks::<8>();
         for word in words {
@@ -31,9 +32,9 @@ impl Hash for Hash256 {
 }
 
 impl Hash256 {
-    /// The hash as people write it: in lower-case hex, its bytes in reverse.
+    /// The hash as people write it: 64 digits of lower-case hex, the bytes in reverse order.
     ///
-    /// The only error is `Fault::Memory`.
+    /// Fails only with `Fault::Memory`.
     pub fn show(&self, alloc: Global) -> Result<String, Fault>
         ensures text { IfOk result (λ text. string_bytes text ≡ encode_lower (reverse self.now.0)) }
         ensures memory { IsOkUnless result Memory }
@@ -47,7 +48,7 @@ impl Hash256 {
     }
 }
 
-/// SHA-256 (FIPS 180-4).
+/// SHA-256 (FIPS 180-4) of the bytes.
 pub fn sha(bytes: &[u8]) -> [u8; 32]
     ensures { result ≡ sha256 bytes.now }
 {
@@ -56,7 +57,8 @@ pub fn sha(bytes: &[u8]) -> [u8; 32]
 
 ghost use Rattle.cb_base.specs.DoubleHash.{double_hash};
 
-/// SHA-256 of the SHA-256: the hash that names transactions and blocks, and that checks payloads.
+/// The double hash: SHA-256 of the SHA-256. It makes txids, block hashes, Merkle nodes and the
+/// checksums of payloads.
 pub fn dsha(bytes: &[u8]) -> Hash256
     ensures { result ≡ double_hash bytes.now }
 {

@@ -1,4 +1,5 @@
-//! What every other crate stands on: faults, hashes, and reading and writing of numbers.
+//! What all other crates build on: faults, hashes, shared values, and reading and writing of
+//! numbers.
 #![tactic(auto)]
 
 mod compact_size;

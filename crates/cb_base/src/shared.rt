@@ -5,7 +5,8 @@ use std::marker::Model;
 use std::ops::Deref;
 use std::sync::Arc;
 
-/// A value on the heap with several owners, which lives as long as its last owner. It is seen as the value itself.
+/// A value on the heap with several owners, over `Arc`. The value is dropped with its last owner.
+/// Contracts see the value itself.
 #[derive(Drop)]
 pub struct Shared<T> {
     owner: Arc<T, Global>,
@@ -20,7 +21,8 @@ impl<T> Model for Shared<T> {
 }
 
 impl<T> Shared<T> {
-    /// The value with one owner. Where memory lacks, the value comes back.
+    /// Moves the value to the heap, with one owner. If the allocation fails, the error gives the
+    /// value back.
     pub fn new(alloc: Global, value: T) -> Result<Shared<T>, AllocFailed<T>>
         ensures same { IfOk result (λ shared. shared ≡ value) }
         ensures back { IfErr result (λ failed. failed.value ≡ value) }
@@ -31,7 +33,7 @@ impl<T> Shared<T> {
         }
     }
 
-    /// The value, given out where this is its only owner; else this owner comes back.
+    /// Returns the value if this is its only owner. Otherwise the error gives this owner back.
     pub fn into_value(self) -> Result<T, Shared<T>>
         ensures value { IfOk result (λ value. value ≡ self) }
         ensures back { IfErr result (λ shared. shared ≡ self) }
@@ -46,9 +48,10 @@ impl<T> Shared<T> {
 impl<T: Drop> Clone for Shared<T> {
     ghost is_clone = { λ shared clone. clone ≡ shared };
 
-    /// One more owner of the same value, which takes no memory.
+    /// Returns one more owner of the same value. It allocates nothing.
     ///
-    /// It is refused only where the count of owners is full, at 2^63 of them; that is told as want of memory.
+    /// Fails only if the value already has 2^63 owners. The error is the one of a failed
+    /// allocation.
     fn clone(&self) -> Result<Shared<T>, AllocError>
         ensures { IfOk result (λ clone. clone ≡ self.now) }
     {

@@ -2,7 +2,7 @@ ghost use Rattle.std.specs.Prelude.{◌≡◌, ◌*◌, ◌/◌, ◌%◌, ◌<�
 ghost use Rattle.std.specs.Int.{w64, from_le_bytes};
 ghost use Rattle.cb_base.specs.SipHash.{last_word, sip_end, sip_round, sip_start, siphash_2_4, with_word};
 
-/// The four words that SipHash turns.
+/// The state of SipHash: four words of 64 bits.
 #[derive(Clone, Copy, Drop)]
 struct SipState {
     v0: u64,
@@ -12,6 +12,7 @@ struct SipState {
 }
 
 impl SipState {
+    /// The initial state under a key.
     fn new(k0: u64, k1: u64) -> SipState
         ensures { result ≡ sip_start k0 k1 }
     {
@@ -23,6 +24,7 @@ impl SipState {
         }
     }
 
+    /// One SipRound.
     fn round(&mut self)
         ensures { self.new ≡ sip_round self.old }
     {
@@ -38,7 +40,7 @@ impl SipState {
         self.v2 = self.v2.rotate_left(32);
     }
 
-    /// A word of the message, with two rounds.
+    /// Mixes in one word of the message, with two rounds.
     fn absorb(&mut self, word: u64)
         ensures { self.new ≡ with_word self.old word }
     {
@@ -48,7 +50,7 @@ impl SipState {
         self.v0 ^= word;
     }
 
-    /// Four rounds, and what the words give.
+    /// Runs the four last rounds and returns the hash.
     fn finish(mut self) -> u64
         ensures { result ≡ sip_end self }
     {
@@ -61,7 +63,8 @@ impl SipState {
     }
 }
 
-/// The bytes of a message's last word: those that fill no word, and at the top the message's length.
+/// The last word of a message as bytes: the bytes after its last whole word, zeros, and at the top
+/// the low byte of its length.
 fn last_bytes(rest: &[u8], length_byte: u8) -> [u8; 8]
     requires { length rest.now < 8 }
     ensures { result ≡ rest.now ++ replicate (7 - length rest.now) 0 ++ length_byte ∷ [] }
@@ -72,7 +75,8 @@ fn last_bytes(rest: &[u8], length_byte: u8) -> [u8; 8]
     bytes
 }
 
-/// SipHash-2-4 (Aumasson and Bernstein) of the bytes, under the key of the words `k0` and `k1`. It takes no memory.
+/// SipHash-2-4 (Aumasson and Bernstein, 2012) of the bytes, under the key of the two words `k0` and
+/// `k1`. It allocates nothing.
 pub fn sip24(k0: u64, k1: u64, bytes: &[u8]) -> u64
     ensures { result ≡ siphash_2_4 k0 k1 bytes.now }
 {
