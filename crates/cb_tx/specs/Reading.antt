@@ -1,4 +1,4 @@
--- Reading a transaction from the left, with the first fault that is met.
+-- Reading a transaction from the left, up to the first fault.
 use Rattle.std.specs.Prelude.{◌≡◌, ℕ, zero, suc, ◌*◌, ◌<◌, ◌⊎◌, List, [], ◌∷◌, length, nat_lt, if◌then◌else◌, Result, Ok, Err}
 use Rattle.std.specs.Int.{w32, w64}
 use Rattle.cb_base.specs.declared.fault.Fault.{Fault}
@@ -10,13 +10,14 @@ use Rattle.cb_tx.specs.declared.tx.TxIn.{TxIn}
 use Rattle.cb_tx.specs.declared.tx.TxOut.{TxOut}
 use Rattle.cb_tx.specs.declared.tx.Tx.{Tx}
 
--- A count of items that have at least so many bytes each. One that doesn't fit in what is left is refused at once.
+-- The count of items that have at least so many bytes each. A count whose items can't fit in the
+-- bytes left is refused.
 unfoldable pub count_at : ℕ → List ℕ → Read ℕ
 count_at least bytes = do
   n ← compact_at bytes
   if nat_lt (length n.1) (n.0 * least) then Err Truncated else Ok n
 
--- as many items, one after the other
+-- n items, one after the other
 unfoldable pub items_at : {A : Type 0} → (List ℕ → Read A) → ℕ → List ℕ → Read (List A)
 items_at item_at zero bytes = Ok ([], bytes)
 items_at item_at (suc n) bytes = do
@@ -24,13 +25,13 @@ items_at item_at (suc n) bytes = do
   others ← items_at item_at n first.1
   Ok (first.0 ∷ others.0, others.1)
 
--- items behind their count
+-- a list: its count, then its items
 unfoldable pub list_at : {A : Type 0} → ℕ → (List ℕ → Read A) → List ℕ → Read (List A)
 list_at least item_at bytes = do
   n ← count_at least bytes
   items_at item_at n.0 n.1
 
--- a script behind its length
+-- a script: its length, then its bytes
 unfoldable pub script_at : List ℕ → Read (List ℕ)
 script_at bytes = do
   n ← compact_at bytes
@@ -56,7 +57,7 @@ output_at bytes = do
   script ← script_at value.1
   Ok (record { value = value.0; script = script.0 }, script.1)
 
--- an input has 41 bytes or more, an output 9
+-- an input has at least 41 bytes, an output at least 9
 unfoldable pub tx_at : List ℕ → Read Tx
 tx_at bytes = do
   version ← signed_at w32 bytes
@@ -65,22 +66,23 @@ tx_at bytes = do
   lock_time ← number_at w32 outputs.1
   Ok (record { version = version.0; inputs = inputs.0; outputs = outputs.0; lock_time = lock_time.0 }, lock_time.1)
 
--- the version and the count of inputs
+-- the version, then the count of inputs
 unfoldable pub first_count_at : List ℕ → Read ℕ
 first_count_at bytes = do
   version ← signed_at w32 bytes
   count_at 41 version.1
 
--- there is a count that can be read, and it isn't 0: memory is taken for the items
+-- a count can be read, and it isn't 0: memory is allocated for the items
 abbrev pub CountsSome : ℕ → List ℕ → Type 0
 CountsSome least bytes = (n : ℕ × List ℕ) × (count_at least bytes ≡ Ok n) × (0 < n.0)
 
--- reading a transaction takes memory: it begins with inputs, or with no inputs and then outputs
+-- Reading a transaction allocates: it has inputs, or it has none and a count of outputs that counts
+-- some.
 abbrev pub TakesMemory : List ℕ → Type 0
 TakesMemory bytes = (n : ℕ × List ℕ) × (first_count_at bytes ≡ Ok n) × ((0 < n.0) ⊎ CountsSome 9 n.1)
 
--- A part of a reader that takes memory answered as the definition does, or memory ran out. After a fault it may have
--- any bytes.
+-- A step of a reader that allocates returned what the definition says, or memory ran out. After a
+-- fault, the bytes that are left (new) can be any.
 abbrev pub GivesInMemory : {A : Type 0} → Read A → Result A Fault → List ℕ → Type 0
 GivesInMemory read (Ok value) new = read ≡ Ok (value, new)
 GivesInMemory read (Err fault) new = (fault ≡ Memory) ⊎ (read ≡ Err fault)

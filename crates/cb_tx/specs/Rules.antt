@@ -1,4 +1,4 @@
--- The rules of a transaction that stand by themselves (Bitcoin's consensus, but for scripts), each as a fact.
+-- The rules that a transaction must meet by itself (Bitcoin's consensus, without scripts).
 use Rattle.std.specs.Prelude.{◌≡◌, ℕ, ◌<◌, ◌⊎◌, ℤ, pos, ◌+ℤ◌, ◌<ℤ◌, List, [], ◌∷◌, length, map, fold, replicate, Any, slice_get, Some}
 use Rattle.cb_base.specs.declared.fault.TxRule.{TxRule}
 use Rattle.cb_base.specs.declared.fault.TxRule.TheVariants.{NoInputs, NoOutputs, TooLong, BadValue, BadSum, RepeatedInput, BadCoinbaseScript, NullInput}
@@ -9,11 +9,11 @@ use Rattle.cb_tx.specs.declared.tx.TxOut.{TxOut}
 use Rattle.cb_tx.specs.declared.tx.Tx.{Tx}
 use Rattle.cb_tx.specs.Text.{tx_text}
 
--- the output of no transaction: a zero hash, and the index ffffffff
+-- the null outpoint: txid zero and index ffffffff
 abbrev pub IsNull : OutPoint → Type 0
 IsNull prev = (prev.txid.0 ≡ replicate 32 0) × (prev.index ≡ 4294967295)
 
--- one input alone, which spends the output of no transaction
+-- exactly one input, which has the null outpoint
 abbrev pub IsCoinbaseInputs : List TxIn → Type 0
 IsCoinbaseInputs [] = ⊥
 IsCoinbaseInputs (only ∷ []) = IsNull only.prev
@@ -22,15 +22,15 @@ IsCoinbaseInputs (first ∷ second ∷ others) = ⊥
 abbrev pub IsCoinbase : Tx → Type 0
 IsCoinbase t = IsCoinbaseInputs t.inputs
 
--- there is no money below 0, nor more than 21,000,000 coins of 100,000,000 each
+-- a value below 0, or above 21,000,000 bitcoins of 100,000,000 satoshis each
 abbrev pub IsOutsideMoney : ℤ → Type 0
 IsOutsideMoney value = (value <ℤ pos 0) ⊎ (pos 2100000000000000 <ℤ value)
 
--- the values of the outputs, added up
+-- the sum of the values of the outputs
 abbrev pub value_sum : List TxOut → ℤ
 value_sum outputs = fold (λ sum output. sum +ℤ output.value) (pos 0) outputs
 
--- two of the inputs, at different places, spend one output
+-- two inputs, at different indexes, spend the same output
 abbrev pub SpendsTwice : List TxIn → Type 0
 SpendsTwice inputs = (prev : OutPoint) × (i : ℕ) × (j : ℕ) × (i < j)
     × (slice_get (map (λ input. input.prev) inputs) i ≡ Some prev) × (slice_get (map (λ input. input.prev) inputs) j ≡ Some prev)
@@ -51,15 +51,15 @@ Breaks t RepeatedInput = SpendsTwice t.inputs
 Breaks t BadCoinbaseScript = IsCoinbase t × HasBadScript t.inputs
 Breaks t NullInput = (¬ IsCoinbase t) × Any (λ input. IsNull input.prev) t.inputs
 
--- the first rule that it breaks
+-- the rule is the first that the transaction breaks
 pub record IsLeastBroken (t : Tx) (rule : TxRule) : Type 0 where
   pub broken : Breaks t rule
   pub earlier : (other : TxRule) → rule_number other < rule_number rule → ¬ Breaks t other
 
--- it breaks none
+-- it breaks no rule
 abbrev pub MeetsRules : Tx → Type 0
 MeetsRules t = (rule : TxRule) → ¬ Breaks t rule
 
--- it breaks none of the first five
+-- it breaks none of the first five rules
 abbrev pub MeetsFirst : Tx → Type 0
 MeetsFirst t = (rule : TxRule) → rule_number rule < 6 → ¬ Breaks t rule

@@ -1,4 +1,5 @@
--- The spelling of a transaction (Bitcoin's protocol, without the marker, flag and witnesses of BIP 141).
+-- The serialisation of a transaction (Bitcoin's protocol, without the marker, flag and witnesses of
+-- BIP 141).
 use Rattle.std.specs.Prelude.{◌≡◌, ℕ, ◌<◌, ◌^◌, List, ◌++◌, length, All, FitsSigned}
 use Rattle.std.specs.List.{flat_map}
 use Rattle.std.specs.Int.{w32, w64, to_le_bytes, cast_unsigned}
@@ -7,11 +8,11 @@ use Rattle.cb_tx.specs.declared.tx.TxIn.{TxIn}
 use Rattle.cb_tx.specs.declared.tx.TxOut.{TxOut}
 use Rattle.cb_tx.specs.declared.tx.Tx.{Tx}
 
--- a script behind its length
+-- a script: its length, then its bytes
 unfoldable pub script_text : List ℕ → List ℕ
 script_text bytes = compact_text (length bytes) ++ bytes
 
--- an input: the output that it spends, the script, the sequence number
+-- an input: the output that it spends, the script and the sequence number
 unfoldable pub input_text : TxIn → List ℕ
 input_text i = i.prev.txid.0 ++ (to_le_bytes w32 i.prev.index ++ (script_text i.script ++ to_le_bytes w32 i.sequence))
 
@@ -19,7 +20,7 @@ input_text i = i.prev.txid.0 ++ (to_le_bytes w32 i.prev.index ++ (script_text i.
 unfoldable pub output_text : TxOut → List ℕ
 output_text o = to_le_bytes w64 (cast_unsigned w64 o.value) ++ script_text o.script
 
--- items behind their count
+-- a list: its count, then its items
 unfoldable pub list_text : {A : Type 0} → (A → List ℕ) → List A → List ℕ
 list_text text items = compact_text (length items) ++ flat_map text items
 
@@ -27,7 +28,7 @@ list_text text items = compact_text (length items) ++ flat_map text items
 unfoldable pub tx_text : Tx → List ℕ
 tx_text t = to_le_bytes w32 (cast_unsigned w32 t.version) ++ (list_text input_text t.inputs ++ (list_text output_text t.outputs ++ to_le_bytes w32 t.lock_time))
 
--- The values that a transaction of the program has: each number is one of its field, each hash has 32 bytes.
+-- What holds of every value in the program: each number fits its field, each hash has 32 bytes.
 pub record IsInput (i : TxIn) : Type 0 where
   pub txid : length i.prev.txid.0 ≡ 32
   pub index : i.prev.index < 2 ^ 32

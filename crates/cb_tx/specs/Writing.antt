@@ -1,4 +1,4 @@
--- What a writer that stopped halfway leaves.
+-- What a writer leaves if it fails halfway.
 use Rattle.std.specs.Prelude.{◌≡◌, ℕ, List, length, take}
 
 -- new begins with old

@@ -51,7 +51,8 @@ fn copy_outputs(alloc: Global, outputs: &[TxOut]) -> Result<Outputs, Fault>
 }
 
 impl Tx {
-    /// A transaction that equals it. The only error is `Fault::Memory`, and one with no inputs and no outputs takes none.
+    /// Returns an equal transaction. Fails only with `Fault::Memory`. A transaction with neither
+    /// inputs nor outputs never fails.
     pub fn copy(&self, alloc: Global) -> Result<Tx, Fault>
         ensures same { IfOk result (λ tx. tx ≡ self.now) }
         ensures memory { IsOkUnless result Memory }

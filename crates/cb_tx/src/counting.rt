@@ -4,10 +4,11 @@ ghost use Rattle.cb_tx.specs.Reading.{count_at};
 
 use cb_base::{Cursor, Fault};
 
-/// The count before a list of items that have at least `least` bytes each.
+/// Reads the CompactSize count in front of a list whose items have at least `least` bytes each.
 ///
-/// A count is `Fault::Truncated` at once where its items, at their least, don't fit in what is left: so that no memory
-/// is taken for it. After a fault the cursor may stand anywhere.
+/// Fails with `Fault::NotShortest` if the count has a shorter encoding. Fails with
+/// `Fault::Truncated` if bytes are missing, or if that many items can't fit in the bytes left. So
+/// no memory is allocated for such a count. After an error the cursor may have advanced.
 #[tactic(auto, unfolding(crate::specs::Reading::count_at))]
 pub fn read_count(cursor: &mut Cursor, least: u32) -> Result<usize, Fault>
     ensures { Gives (count_at least cursor.old) result cursor.new }

@@ -1,4 +1,7 @@
-//! Transactions: their bytes, their names, and the rules that stand by themselves.
+//! Transactions: their serialisation, their txids, and the rules that a transaction must meet by
+//! itself.
+//!
+//! The text of a transaction is its serialisation, without the witnesses of BIP 141.
 #![tactic(auto)]
 
 mod copying;

@@ -13,6 +13,7 @@ use crate::tx::{Inputs, OutPoint, Outputs, Tx, TxIn, TxOut};
 use cb_base::{Cursor, Fault, Hash256, copy_bytes};
 use std::alloc::Global;
 
+/// Reads a script: its length, then its bytes.
 #[tactic(auto, unfolding(crate::specs::Reading::script_at))]
 fn read_script(alloc: Global, cursor: &mut Cursor) -> Result<Script, Fault>
     ensures { GivesInMemory (script_at cursor.old) result cursor.new }
@@ -22,7 +23,8 @@ fn read_script(alloc: Global, cursor: &mut Cursor) -> Result<Script, Fault>
     Ok(Script::new(copy_bytes(alloc, bytes)?))
 }
 
-/// A hash: the next 32 bytes. After a fault the cursor may stand anywhere.
+/// Reads a hash: the next 32 bytes. Fails with `Fault::Truncated` if fewer are left. After an error
+/// the cursor may have advanced.
 #[tactic(auto, unfolding(crate::specs::Reading::hash_at))]
 pub fn read_hash(cursor: &mut Cursor) -> Result<Hash256, Fault>
     ensures { Gives (hash_at cursor.old) result cursor.new }
@@ -58,7 +60,7 @@ fn read_output(alloc: Global, cursor: &mut Cursor) -> Result<TxOut, Fault>
     Ok(TxOut { value, script })
 }
 
-/// So many inputs, one after the other.
+/// Reads `count` inputs.
 fn inputs_of(alloc: Global, cursor: &mut Cursor, count: usize) -> Result<Inputs, Fault>
     ensures exact { GivesInMemory (items_at input_at count cursor.old) result cursor.new }
     ensures unpaid { count ≡ 0 → IsOk result }
@@ -70,7 +72,7 @@ fn inputs_of(alloc: Global, cursor: &mut Cursor, count: usize) -> Result<Inputs,
     Ok(Inputs::new(inputs))
 }
 
-/// So many outputs, one after the other.
+/// Reads `count` outputs.
 fn outputs_of(alloc: Global, cursor: &mut Cursor, count: usize) -> Result<Outputs, Fault>
     ensures exact { GivesInMemory (items_at output_at count cursor.old) result cursor.new }
     ensures unpaid { count ≡ 0 → IsOk result }
@@ -82,6 +84,7 @@ fn outputs_of(alloc: Global, cursor: &mut Cursor, count: usize) -> Result<Output
     Ok(Outputs::new(outputs))
 }
 
+/// Reads the inputs: their count, then each. An input has at least 41 bytes.
 #[tactic(auto, unfolding(crate::specs::Reading::list_at))]
 fn read_inputs(alloc: Global, cursor: &mut Cursor) -> Result<Inputs, Fault>
     ensures exact { GivesInMemory (list_at 41 input_at cursor.old) result cursor.new }
@@ -92,6 +95,7 @@ fn read_inputs(alloc: Global, cursor: &mut Cursor) -> Result<Inputs, Fault>
     inputs_of(alloc, cursor, count)
 }
 
+/// Reads the outputs: their count, then each. An output has at least 9 bytes.
 #[tactic(auto, unfolding(crate::specs::Reading::list_at))]
 fn read_outputs(alloc: Global, cursor: &mut Cursor) -> Result<Outputs, Fault>
     ensures exact { GivesInMemory (list_at 9 output_at cursor.old) result cursor.new }
@@ -101,6 +105,7 @@ fn read_outputs(alloc: Global, cursor: &mut Cursor) -> Result<Outputs, Fault>
     outputs_of(alloc, cursor, count)
 }
 
+/// Reads a transaction. After an error the cursor may have advanced.
 #[tactic(auto, unfolding(crate::specs::Reading::tx_at, crate::specs::Reading::first_count_at))]
 fn tx_or_fault(alloc: Global, cursor: &mut Cursor) -> Result<Tx, Fault>
     ensures exact { GivesInMemory (tx_at cursor.old) result cursor.new }
@@ -119,7 +124,7 @@ fn tx_or_fault(alloc: Global, cursor: &mut Cursor) -> Result<Tx, Fault>
     })
 }
 
-/// The transaction at the front, and a cursor at the bytes after it.
+/// Decodes the transaction at the front. Returns it with a cursor at the bytes after it.
 fn tx_of(alloc: Global, bytes: &[u8]) -> Result<(Tx, Cursor<'_>), Fault>
     ensures exact { MatchResult result (λ read. tx_at bytes.now ≡ Ok (read.0, read.1))
         (λ fault. (fault ≡ Memory) ⊎ (tx_at bytes.now ≡ Err fault)) }
@@ -132,21 +137,26 @@ fn tx_of(alloc: Global, bytes: &[u8]) -> Result<(Tx, Cursor<'_>), Fault>
     Ok((tx, cursor))
 }
 
-/// Reads a transaction, as Bitcoin's protocol writes it (without the marker, flag and witnesses of BIP 141).
+/// Reads a transaction in Bitcoin's serialisation, without the marker, flag and witnesses of BIP
+/// 141.
 ///
-/// `Fault::Truncated` where bytes lack, `Fault::NotShortest` where a count or a length is spelled longer than it needs, by
-/// the first field from the left that can't be read. A count of inputs or outputs is `Fault::Truncated` at once where
-/// they don't fit in what is left, and no memory is taken for it. A refused read leaves the cursor as it was.
+/// Fails at the first field from the left that can't be read: with `Fault::Truncated` if bytes are
+/// missing, with `Fault::NotShortest` if a count or a length isn't in its shortest encoding. A
+/// count of inputs or outputs that can't fit in the bytes left fails with `Fault::Truncated` before
+/// memory is allocated for it. `Fault::Memory` is possible only after a count above 0. A failed
+/// read leaves the cursor where it was.
 pub fn read_tx<'a>(alloc: Global, cursor: &mut Cursor<'a>) -> Result<Tx, Fault>
     ensures exact { ReadsInMemory (tx_at cursor.old) cursor.old result cursor.new }
-    // What is read is spelled so.
+    // On success, the bytes began with the transaction's serialisation.
     ensures found { IfOk result (λ tx. IsTx tx × (cursor.old ≡ tx_text tx ++ cursor.new)) }
-    // What is spelled so is read, whatever follows it, unless memory runs out.
+    // The serialisation of any transaction is read, whatever bytes follow it, unless memory runs
+    // out.
     ensures only { (tx : Tx) (rest : List ℕ) → IsTx tx → cursor.old ≡ tx_text tx ++ rest
         → (result ≡ Err Memory) ⊎ ((result ≡ Ok tx) × (cursor.new ≡ rest)) }
-    // Up to the first count no memory is taken.
+    // Nothing is allocated before the count of inputs is read.
     ensures unpaid { (fault : Fault) → first_count_at cursor.old ≡ Err fault → result ≡ Err fault }
-    // Nor is any for a count of 0, or for a count of outputs that can't be read behind it.
+    // Nothing is allocated for a count of 0. If there are no inputs, nothing is allocated either
+    // for a count of outputs that can't be read.
     ensures paid { result ≡ Err Memory → TakesMemory cursor.old }
 {
     let left = cursor.left();

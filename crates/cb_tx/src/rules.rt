@@ -9,9 +9,10 @@ use cb_base::{Fault, Hash256, TxRule};
 use std::alloc::Global;
 use std::collections::HashSet;
 
-/// More hundred-millionths of a coin than this there will never be.
+/// The most money that can exist, in satoshis: 21 million bitcoins.
 const MAX_MONEY: i64 = 2_100_000_000_000_000;
 
+/// Whether this is the null outpoint: txid zero and index ffffffff.
 fn is_null(prev: &OutPoint) -> bool
     ensures { IsTrue result ↔ IsNull prev.now }
 {
@@ -19,7 +20,8 @@ fn is_null(prev: &OutPoint) -> bool
 }
 
 impl Tx {
-    /// Whether it has one input, and that spends the output of no transaction: a zero hash and index `ffffffff`.
+    /// Whether it is a coinbase: it has exactly one input, and that has the null outpoint (txid
+    /// zero, index ffffffff).
     pub fn is_coinbase(&self) -> bool
         ensures { IsTrue result ↔ IsCoinbase self.now }
     {
@@ -48,6 +50,7 @@ fn has_bad_sum(outputs: &[TxOut]) -> bool
     sum > i128::from(MAX_MONEY)
 }
 
+/// Whether two inputs spend the same output. Fewer than two inputs need no memory.
 fn spends_twice(alloc: Global, inputs: &[TxIn]) -> Result<bool, Fault>
     ensures ok { IfOk result (λ twice. IsTrue twice ↔ SpendsTwice inputs.now) }
     ensures memory { IsOkUnless result Memory }
@@ -65,6 +68,7 @@ fn spends_twice(alloc: Global, inputs: &[TxIn]) -> Result<bool, Fault>
     Ok(false)
 }
 
+/// Whether the script of the first input has fewer than 2 bytes or more than 100.
 fn has_bad_script(inputs: &[TxIn]) -> bool
     ensures { IsTrue result ↔ HasBadScript inputs.now }
 {
@@ -80,7 +84,7 @@ fn has_null(inputs: &[TxIn]) -> bool
     inputs.iter().any(|input| is_null(&input.prev))
 }
 
-/// The least of the first five rules that is broken.
+/// The first of the rules 1 to 5 that the transaction breaks.
 fn broken_size_or_value(tx: &Tx) -> Option<TxRule>
     ensures { MatchOption result (MeetsFirst tx.now)
         (λ rule. (rule_number rule < 6) × IsLeastBroken tx.now rule) }
@@ -100,7 +104,7 @@ fn broken_size_or_value(tx: &Tx) -> Option<TxRule>
     has_bad_sum(tx.outputs.as_slice()).then_some(TxRule::BadSum)
 }
 
-/// The least of the last two rules that is broken, where the others are met.
+/// The one of the rules 7 and 8 that the transaction breaks, if it meets all others.
 fn broken_coinbase(tx: &Tx) -> Option<TxRule>
     requires first { MeetsFirst tx.now }
     requires once { ¬ SpendsTwice tx.now.inputs }
@@ -113,18 +117,20 @@ fn broken_coinbase(tx: &Tx) -> Option<TxRule>
     has_null(inputs).then_some(TxRule::NullInput)
 }
 
-/// Whether the transaction meets the rules that stand by themselves: else `Fault::BadTx` with the first that it breaks.
+/// Checks the rules that a transaction must meet by itself (`TxRule`; Bitcoin Core's
+/// `CheckTransaction`).
 ///
-/// `Fault::Memory` only where the first five are met and there was no memory to look for one of two inputs or more that
-/// comes twice.
+/// Fails with `Fault::BadTx` and the first rule that is broken. Fails with `Fault::Memory` only if
+/// the first five rules are met, there are two inputs or more, and memory runs out for the set of
+/// outputs that they spend.
 pub fn check_tx(alloc: Global, tx: &Tx) -> Result<(), Fault>
     ensures exact { MatchResult result (λ _. MeetsRules tx.now)
         (λ fault. (fault ≡ Memory)
         ⊎ ((rule : TxRule) × (fault ≡ BadTx rule) × IsLeastBroken tx.now rule)) }
-    // The first five rules take no memory.
+    // The first five rules are checked without allocating.
     ensures unpaid { (rule : TxRule) → rule_number rule < 6 → IsLeastBroken tx.now rule →
         result ≡ Err (BadTx rule) }
-    // Nor does the sixth, where there is one input.
+    // So is the sixth, if there is only one input.
     ensures paid { result ≡ Err Memory → MeetsFirst tx.now × (2 ≤ length tx.now.inputs) }
 {
     if let Some(rule) = broken_size_or_value(tx) {

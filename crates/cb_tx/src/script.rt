@@ -5,7 +5,7 @@ use cb_base::{Fault, copy_bytes};
 use std::alloc::Global;
 use std::marker::Model;
 
-/// A script: bytes that nobody here runs. It is seen as their list.
+/// A script, as bytes. Nothing here runs it. Contracts see the list of its bytes.
 #[derive(Drop)]
 pub struct Script {
     bytes: Vec<u8>,
@@ -27,14 +27,14 @@ impl Script {
         Script { bytes }
     }
 
-    /// How many bytes it has.
+    /// Its length in bytes.
     pub fn len(&self) -> usize
         ensures { result ≡ length self.now }
     {
         self.bytes.len()
     }
 
-    /// Whether it has none.
+    /// Whether it has no bytes.
     pub fn is_empty(&self) -> bool
         ensures { result ≡ (length self.now == 0) }
     {
@@ -48,14 +48,15 @@ impl Script {
         self.bytes.as_slice()
     }
 
-    /// Its bytes, given out.
+    /// Its bytes, as the vector that it owned.
     pub fn into_vec(self) -> Vec<u8>
         ensures { result.items ≡ self }
     {
         self.bytes
     }
 
-    /// A script of the same bytes. The only error is `Fault::Memory`, and an empty script takes none.
+    /// Returns a script of the same bytes. Fails only with `Fault::Memory`. An empty script never
+    /// fails.
     pub fn copy(&self, alloc: Global) -> Result<Script, Fault>
         ensures same { IfOk result (λ script. script ≡ self.now) }
         ensures memory { IsOkUnless result Memory }

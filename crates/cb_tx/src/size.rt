@@ -5,7 +5,7 @@ ghost use Rattle.cb_tx.specs.Text.{input_text, list_text, output_text, script_te
 use crate::script::Script;
 use crate::tx::{Tx, TxIn, TxOut};
 
-/// How many bytes the CompactSize of a number has: 1, 3, 5 or 9.
+/// The length of the CompactSize of a number: 1, 3, 5 or 9 bytes.
 #[tactic(auto, unfolding(cb_base::specs::CompactSize::compact_text))]
 pub fn compact_size(number: u64) -> u64
     ensures { result ≡ length (compact_text number) }
@@ -66,7 +66,7 @@ fn outputs_size(outputs: &[TxOut]) -> u64
 }
 
 impl Tx {
-    /// How many bytes its text has, or 18,446,744,073,709,551,615 where they are more.
+    /// The length of its serialisation in bytes, or 2^64 - 1 if it is longer than that.
     #[tactic(auto, unfolding(crate::specs::Text::tx_text))]
     pub fn size(&self) -> u64
         ensures { result ≡ min (length (tx_text self.now)) (2 ^ 64 - 1) }

@@ -4,7 +4,7 @@ use crate::script::Script;
 use cb_base::Hash256;
 use std::marker::Model;
 
-/// An output of a transaction, by the transaction's txid and the output's place.
+/// An outpoint: the txid of a transaction and the index of one of its outputs.
 #[derive(Clone, Copy, Debug, PartialEq, Eq, PartialOrd, Ord, Hash)]
 pub struct OutPoint {
     pub txid: Hash256,
@@ -19,14 +19,14 @@ pub struct TxIn {
     pub sequence: u32,
 }
 
-/// An output: a value in hundred-millionths of a coin, and a script.
+/// An output: a value in satoshis and a script.
 #[derive(Drop)]
 pub struct TxOut {
     pub value: i64,
     pub script: Script,
 }
 
-/// The inputs of a transaction. They are seen as their list.
+/// The inputs of a transaction. Contracts see the list.
 #[derive(Drop)]
 pub struct Inputs {
     list: Vec<TxIn>,
@@ -56,7 +56,7 @@ impl Inputs {
         self.list.as_slice()
     }
 
-    /// Their list, given out.
+    /// The list, as the vector that this owned.
     pub fn into_vec(self) -> Vec<TxIn>
         ensures { result.items ≡ self }
     {
@@ -64,7 +64,7 @@ impl Inputs {
     }
 }
 
-/// The outputs of a transaction. They are seen as their list.
+/// The outputs of a transaction. Contracts see the list.
 #[derive(Drop)]
 pub struct Outputs {
     list: Vec<TxOut>,
@@ -94,7 +94,7 @@ impl Outputs {
         self.list.as_slice()
     }
 
-    /// Their list, given out.
+    /// The list, as the vector that this owned.
     pub fn into_vec(self) -> Vec<TxOut>
         ensures { result.items ≡ self }
     {
@@ -102,7 +102,7 @@ impl Outputs {
     }
 }
 
-/// A transaction.
+/// A transaction, without witnesses.
 #[derive(Drop)]
 pub struct Tx {
     pub version: i32,

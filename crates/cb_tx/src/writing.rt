@@ -116,24 +116,26 @@ fn put_tx(out: &mut Vec<u8>, tx: &Tx) -> Result<(), Fault>
     Ok(())
 }
 
-/// Writes the transaction's text at the end. The only error is `Fault::Memory`, which leaves the vector as it was.
+/// Appends the transaction's serialisation to `out`.
+///
+/// Fails only with `Fault::Memory`. `out` then has the bytes it had.
 pub fn write_tx(out: &mut Vec<u8>, tx: &Tx) -> Result<(), Fault>
     ensures ok { OnOk result (out.new.items ≡ out.old.items ++ tx_text tx.now) }
     ensures err { OnErr result (out.new.items ≡ out.old.items) }
     ensures memory { IsOkUnless result Memory }
-    // It comes only where the vector has no room for the text.
+    // It fails only if the free capacity is smaller than the serialisation.
     ensures full { OnErr result (vec_capacity out.old < vec_len out.old + length (tx_text tx.now)) }
     ensures capacity { vec_capacity out.old ≤ vec_capacity out.new }
-    // Each number is one of its field, and each hash has 32 bytes.
+    // On success, each number fits its field and each hash has 32 bytes.
     ensures fits { OnOk result (IsTx tx.now) }
 {
-    // With room for the whole text no growth behind this is refused.
+    // With room for the whole serialisation, no append after this can fail.
     out.reserve(tx.size() as usize)?;
     put_tx(out, tx)
 }
 
 impl Tx {
-    /// The double hash of its text, which is its name. The only error is `Fault::Memory`.
+    /// The txid: the double SHA-256 of the serialisation. Fails only with `Fault::Memory`.
     pub fn txid(&self, alloc: Global) -> Result<Hash256, Fault>
         ensures name { IfOk result (λ txid. txid ≡ double_hash (tx_text self.now)) }
         ensures memory { IsOkUnless result Memory }
@@ -144,13 +146,16 @@ impl Tx {
     }
 }
 
-/// One transaction has one text, and no text begins another.
+/// The serialisation is unique and prefix-free. If the serialisations of two transactions, each
+/// followed by any bytes, are the same bytes, then the transactions are equal, and so are the bytes
+/// that follow. The function does nothing: its contract is a theorem.
 pub fn one_text()
     ensures { (a b : Tx) (x y : List ℕ) → IsTx a → IsTx b → tx_text a ++ x ≡ tx_text b ++ y →
         (a ≡ b) × (x ≡ y) }
 {}
 
-/// A strict beginning of a transaction's text is too short to be read: `Fault::Truncated`.
+/// A strict prefix of a transaction's serialisation fails to read with `Fault::Truncated`. The
+/// function does nothing: its contract is a theorem.
 pub fn beginning_of_tx_is_truncated()
     ensures { (tx : Tx) (b c : List ℕ) → IsTx tx → tx_text tx ≡ b ++ c → c ≢ [] →
         tx_at b ≡ Err Truncated }
