@@ -59,7 +59,8 @@ pub enum Fault {
     Truncated,
     /// A CompactSize isn't the shortest encoding of its number.
     NotShortest,
-    /// A count is above its limit, or a header or block would be above height 1,000,000,000.
+    /// A count, or the length of a user agent, is above its limit. Or a header or block would be
+    /// above height 1,000,000,000.
     TooMany,
     /// A transaction breaks this rule, and none before it.
     BadTx(TxRule),
@@ -97,7 +98,8 @@ pub enum Fault {
     /// The mempool already has the txid, the header is already known, or the block is already
     /// stored.
     Known,
-    /// An input spends an output that isn't unspent.
+    /// An input spends an output that isn't unspent. Programs of the benchmarks also tell it of a
+    /// record that names an unknown transaction.
     NoInput,
     /// The mempool has 10,000 transactions.
     PoolFull,
@@ -113,7 +115,7 @@ pub enum Fault {
     /// hall's calls) or a connection's badge (its permit to ask the hall) has counted 2^62 calls.
     JournalFull,
     /// An act of the core of the crew (the scheduler of handler threads) is not possible in its
-    /// state.
+    /// state. Programs of the benchmarks also tell it of a record that they can't play.
     NotEnabled,
     /// An inbox (the queue between the reader thread and the handlers of a peer) has no room.
     Full,

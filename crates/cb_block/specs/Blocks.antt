@@ -1,4 +1,4 @@
--- What is said of blocks: when one is sound, and the rules that it meets by itself (Bitcoin's consensus).
+-- When a block is sound, and the rules that a block must meet by itself (Bitcoin's consensus).
 use Rattle.std.specs.Prelude.{◌≡◌, ◌≢◌, ℕ, ◌<◌, ◌≤◌, List, [], ◌∷◌, length, map, take, All, Any, slice_get, Some}
 use Rattle.cb_base.specs.declared.fault.Fault.{Fault}
 use Rattle.cb_base.specs.declared.fault.Fault.TheVariants.{Empty, Size64, Mutated, BadRoot, Oversize, BadCoinbase, BadTx}
@@ -11,15 +11,16 @@ use Rattle.cb_block.specs.MerkleTree.{IsRoot, IsMutated}
 use Rattle.cb_block.specs.Soundness.{names, IsSound}
 use Rattle.cb_block.specs.Text.{block_text}
 
--- the transactions' texts
+-- the serialisations of the transactions
 abbrev pub texts : List Tx → List (List ℕ)
 texts txs = map tx_text txs
 
--- the texts of the block's transactions are sound under the root in its header
+-- the transactions of the block are sound under the Merkle root in its header
 abbrev pub IsSoundBlock : Block → Type 0
 IsSoundBlock b = IsSound b.header.root (texts b.txs)
 
--- The first reason why a block isn't sound: no transaction, one of 64 bytes, a mutated tree, another root.
+-- The first reason why a block isn't sound: no transactions, one of 64 bytes, a mutated tree, or
+-- another root.
 abbrev pub IsUnsound : Block → Fault → Type 0
 IsUnsound b Empty = length b.txs ≡ 0
 IsUnsound b Size64 = Any (λ tx. length (tx_text tx) ≡ 64) b.txs
@@ -27,27 +28,27 @@ IsUnsound b Mutated = (0 < length b.txs) × All (λ tx. length (tx_text tx) ≢ 
 IsUnsound b BadRoot = (0 < length b.txs) × All (λ tx. length (tx_text tx) ≢ 64) b.txs × (¬ IsMutated (names (texts b.txs))) × (¬ IsRoot (names (texts b.txs)) b.header.root)
 IsUnsound b other = ⊥
 
--- the first transaction is a coinbase, and no other
+-- the first transaction is a coinbase, and no other is
 abbrev pub HasOneCoinbase : List Tx → Type 0
 HasOneCoinbase [] = ⊥
 HasOneCoinbase (first ∷ others) = IsCoinbase first × All (λ tx. ¬ IsCoinbase tx) others
 
--- the first transaction that breaks a rule, and the first rule that it breaks
+-- the rule is the first that the first bad transaction breaks
 abbrev pub BreaksFirst : List Tx → TxRule → Type 0
 BreaksFirst txs rule = (k : ℕ) × (tx : Tx) × (slice_get txs k ≡ Some tx) × IsLeastBroken tx rule × All MeetsRules (take k txs)
 
--- A transaction meets its rules as far as they are told without memory, and those before it meet all of theirs. It has two
--- inputs or more, which may spend one output.
+-- Checking the rules can allocate: some transaction has two inputs or more and meets the first five
+-- rules, and all transactions before it meet all of their rules.
 abbrev pub AsksMemory : List Tx → Type 0
 AsksMemory txs = (k : ℕ) × (tx : Tx) × (slice_get txs k ≡ Some tx) × (2 ≤ length tx.inputs) × MeetsFirst tx × All MeetsRules (take k txs)
 
--- it has at most 1,000,000 bytes, one coinbase in front, and transactions that meet their rules
+-- at most 1,000,000 bytes, one coinbase, which is first, and transactions that meet their rules
 pub record MeetsBlockRules (b : Block) : Type 0 where
   pub size : length (block_text b) ≤ 1000000
   pub coinbase : HasOneCoinbase b.txs
   pub txs : All MeetsRules b.txs
 
--- the first of these that it breaks
+-- the fault of the first of these rules that the block breaks
 abbrev pub IsRefused : Block → Fault → Type 0
 IsRefused b Oversize = 1000000 < length (block_text b)
 IsRefused b BadCoinbase = (length (block_text b) ≤ 1000000) × (¬ HasOneCoinbase b.txs)

@@ -1,4 +1,4 @@
--- The block that the chain of the regression test network begins with (Bitcoin's protocol).
+-- The genesis block of regtest (Bitcoin's protocol).
 use Rattle.std.specs.Prelude.{ℕ, pos, List, [], ◌∷◌, codes, replicate}
 use Rattle.cb_base.specs.DoubleHash.{double_hash}
 use Rattle.cb_tx.specs.declared.tx.TxIn.{TxIn}
@@ -8,11 +8,12 @@ use Rattle.cb_tx.specs.Text.{tx_text}
 use Rattle.cb_block.specs.declared.header.Header.{Header}
 use Rattle.cb_block.specs.declared.block.Block.{Block}
 
--- the bits of the main network's first block, the number 4, and a headline of the day
+-- input script: pushes the bits of the main network's genesis block, the number 4 and a newspaper
+-- headline
 unfoldable pub headline : List ℕ
 headline = 4 ∷ 255 ∷ 255 ∷ 0 ∷ 29 ∷ 1 ∷ 4 ∷ 69 ∷ codes "The Times 03/Jan/2009 Chancellor on brink of second bailout for banks"
 
--- a public key of 65 bytes, and the command that checks a signature by it
+-- output script: pushes a public key of 65 bytes, then OP_CHECKSIG
 unfoldable pub to_a_key : List ℕ
 to_a_key =
     65 ∷ 4 ∷ 103 ∷ 138 ∷ 253 ∷ 176 ∷ 254 ∷ 85 ∷ 72 ∷ 39 ∷ 25 ∷ 103 ∷ 241 ∷ 166 ∷ 113 ∷ 48 ∷ 183 ∷
@@ -29,7 +30,7 @@ genesis_output = record { value = pos 5000000000; script = to_a_key }
 abbrev pub genesis_tx : Tx
 genesis_tx = record { version = pos 1; inputs = genesis_input ∷ []; outputs = genesis_output ∷ []; lock_time = 0 }
 
--- its root is the one transaction's name
+-- its Merkle root is the txid of its only transaction
 abbrev pub genesis_header : Header
 genesis_header = record { version = pos 1; prev = record { 0 = replicate 32 0 }; root = double_hash (tx_text genesis_tx); time = 1296688602; bits = 545259519; nonce = 2 }
 

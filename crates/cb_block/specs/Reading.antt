@@ -1,4 +1,4 @@
--- Reading headers and blocks from the left, with the first fault that is met.
+-- Reading headers and blocks from the left, up to the first fault.
 use Rattle.std.specs.Prelude.{◌≡◌, ℕ, ◌<◌, List, Ok}
 use Rattle.std.specs.Int.{w32}
 use Rattle.cb_base.specs.Reading.{Read, ◌>>=◌, number_at, signed_at}
@@ -16,19 +16,19 @@ header_at bytes = do
   nonce ← number_at w32 bits.1
   Ok (record { version = version.0; prev = prev.0; root = root.0; time = time.0; bits = bits.0; nonce = nonce.0 }, nonce.1)
 
--- a transaction has 10 bytes or more
+-- a transaction has at least 10 bytes
 unfoldable pub block_at : List ℕ → Read Block
 block_at bytes = do
   header ← header_at bytes
   txs ← list_at 10 tx_at header.1
   Ok (record { header = header.0; txs = txs.0 }, txs.1)
 
--- the header and the count of transactions
+-- the header, then the count of transactions
 unfoldable pub first_count_at : List ℕ → Read ℕ
 first_count_at bytes = do
   header ← header_at bytes
   count_at 10 header.1
 
--- reading a block takes memory: it has transactions
+-- reading a block allocates: its count of transactions is above 0
 abbrev pub TakesMemory : List ℕ → Type 0
 TakesMemory bytes = (n : ℕ × List ℕ) × (first_count_at bytes ≡ Ok n) × (0 < n.0)

@@ -1,4 +1,4 @@
--- The spelling of headers and blocks (Bitcoin's protocol, without BIP 141's witnesses).
+-- The serialisation of headers and blocks (Bitcoin's protocol, without the witnesses of BIP 141).
 use Rattle.std.specs.Prelude.{◌≡◌, ℕ, ◌<◌, ◌^◌, List, ◌++◌, length, All, FitsSigned}
 use Rattle.std.specs.Int.{w32, to_le_bytes, cast_unsigned}
 use Rattle.cb_tx.specs.Text.{list_text, tx_text, IsTx}
@@ -9,11 +9,12 @@ use Rattle.cb_block.specs.declared.block.Block.{Block}
 unfoldable pub header_text : Header → List ℕ
 header_text h = to_le_bytes w32 (cast_unsigned w32 h.version) ++ (h.prev.0 ++ (h.root.0 ++ (to_le_bytes w32 h.time ++ (to_le_bytes w32 h.bits ++ to_le_bytes w32 h.nonce))))
 
--- a block: its header, and its transactions behind their count
+-- a block: its header, the count of its transactions, then each transaction
 unfoldable pub block_text : Block → List ℕ
 block_text b = header_text b.header ++ list_text tx_text b.txs
 
--- The values that a header and a block of the program have: each number is one of its field, each hash has 32 bytes.
+-- What holds of every header and block in the program: each number fits its field, each hash has 32
+-- bytes.
 pub record IsHeader (h : Header) : Type 0 where
   pub version : FitsSigned w32 h.version
   pub prev : length h.prev.0 ≡ 32

@@ -5,7 +5,7 @@ use cb_base::Shared;
 use cb_tx::Tx;
 use std::marker::Model;
 
-/// The transactions of a block, each of which may have other owners. They are seen as their list.
+/// The transactions of a block. Each of them may have other owners. Contracts see the list.
 #[derive(Drop)]
 pub struct Txs {
     list: Vec<Shared<Tx>>,
@@ -35,7 +35,7 @@ impl Txs {
         self.list.as_slice()
     }
 
-    /// Their list, given out.
+    /// The list, as the vector that this owned.
     pub fn into_vec(self) -> Vec<Shared<Tx>>
         ensures { result.items ≡ self }
     {
@@ -43,7 +43,8 @@ impl Txs {
     }
 }
 
-/// A header and transactions. Nothing says yet that they belong together.
+/// A header and transactions. Nothing says yet that the transactions are those of the header:
+/// `sound` checks that.
 #[derive(Drop)]
 pub struct Block {
     pub header: Header,

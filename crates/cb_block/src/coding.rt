@@ -15,7 +15,7 @@ use cb_base::{Cursor, Fault, Shared, put_compact};
 use cb_tx::{Tx, compact_size, read_count, read_tx, write_tx};
 use std::alloc::Global;
 
-/// So many transactions, one after the other.
+/// Reads `count` transactions.
 fn txs_of(alloc: Global, cursor: &mut Cursor, count: usize) -> Result<Txs, Fault>
     ensures exact { GivesInMemory (items_at tx_at count cursor.old) result cursor.new }
     ensures unpaid { count ≡ 0 → IsOk result }
@@ -27,6 +27,7 @@ fn txs_of(alloc: Global, cursor: &mut Cursor, count: usize) -> Result<Txs, Fault
     Ok(Txs::new(txs))
 }
 
+/// Reads the transactions: their count, then each. A transaction has at least 10 bytes.
 #[tactic(auto, unfolding(cb_tx::specs::Reading::list_at))]
 fn read_txs(alloc: Global, cursor: &mut Cursor) -> Result<Txs, Fault>
     ensures exact { GivesInMemory (list_at 10 tx_at cursor.old) result cursor.new }
@@ -37,6 +38,7 @@ fn read_txs(alloc: Global, cursor: &mut Cursor) -> Result<Txs, Fault>
     txs_of(alloc, cursor, count)
 }
 
+/// Reads a block. After an error the cursor may have advanced.
 #[tactic(auto, unfolding(crate::specs::Reading::block_at, crate::specs::Reading::first_count_at))]
 fn block_or_fault(alloc: Global, cursor: &mut Cursor) -> Result<Block, Fault>
     ensures exact { GivesInMemory (block_at cursor.old) result cursor.new }
@@ -48,7 +50,7 @@ fn block_or_fault(alloc: Global, cursor: &mut Cursor) -> Result<Block, Fault>
     Ok(Block { header, txs })
 }
 
-/// The block at the front, and a cursor at the bytes after it.
+/// Decodes the block at the front. Returns it with a cursor at the bytes after it.
 fn block_of(alloc: Global, bytes: &[u8]) -> Result<(Block, Cursor<'_>), Fault>
     ensures exact { MatchResult result (λ read. block_at bytes.now ≡ Ok (read.0, read.1))
         (λ fault. (fault ≡ Memory) ⊎ (block_at bytes.now ≡ Err fault)) }
@@ -61,23 +63,25 @@ fn block_of(alloc: Global, bytes: &[u8]) -> Result<(Block, Cursor<'_>), Fault>
     Ok((block, cursor))
 }
 
-/// Reads a block: its header, and its transactions behind their count.
+/// Reads a block: its header, the count of its transactions, and the transactions (without the
+/// witnesses of BIP 141).
 ///
-/// It is refused as `read_tx` refuses, by the first field from the left that can't be read. A count of transactions is
-/// `Fault::Truncated` at once where they don't fit in what is left, at 10 bytes each. A refused read leaves the cursor as
-/// it was.
+/// Fails as `read_tx` does, at the first field from the left that can't be read. A count of
+/// transactions that can't fit in the bytes left, at 10 bytes each, fails with `Fault::Truncated`
+/// before memory is allocated for it. `Fault::Memory` is possible only after a count above 0. A
+/// failed read leaves the cursor where it was.
 pub fn read_block<'a>(alloc: Global, cursor: &mut Cursor<'a>) -> Result<Block, Fault>
     ensures exact { ReadsInMemory (block_at cursor.old) cursor.old result cursor.new }
-    // What is read is spelled so.
+    // On success, the bytes began with the block's serialisation.
     ensures found { IfOk result
         (λ block. IsBlock block × (cursor.old ≡ block_text block ++ cursor.new)) }
-    // What is spelled so is read, whatever follows it, unless memory runs out.
+    // The serialisation of any block is read, whatever bytes follow it, unless memory runs out.
     ensures only { (block : Block) (rest : List ℕ) → IsBlock block →
         cursor.old ≡ block_text block ++ rest
         → (result ≡ Err Memory) ⊎ ((result ≡ Ok block) × (cursor.new ≡ rest)) }
-    // Up to the first count no memory is taken.
+    // Nothing is allocated before the count of transactions is read.
     ensures unpaid { (fault : Fault) → first_count_at cursor.old ≡ Err fault → result ≡ Err fault }
-    // Nor is any for a count of 0.
+    // Nothing is allocated for a count of 0.
     ensures paid { result ≡ Err Memory → TakesMemory cursor.old }
 {
     let left = cursor.left();
@@ -112,7 +116,7 @@ fn put_txs(out: &mut Vec<u8>, txs: &[Shared<Tx>]) -> Result<(), Fault>
     Ok(())
 }
 
-/// A header's 80 bytes. Each of its numbers is one of its field, and each hash has 32 bytes.
+/// The 80 bytes of a header. Its numbers fit their fields, and its hashes have 32 bytes.
 fn header_bytes(header: Header) -> [u8; 80]
     ensures text { result ≡ header_text header }
     ensures fits { IsHeader header }
@@ -134,19 +138,21 @@ fn put_block(out: &mut Vec<u8>, block: &Block) -> Result<(), Fault>
     put_txs(out, block.txs.as_slice())
 }
 
-/// Writes the block's text at the end. The only error is `Fault::Memory`, which leaves the vector as it was.
+/// Appends the block's serialisation to `out`.
+///
+/// Fails only with `Fault::Memory`. `out` then has the bytes it had.
 pub fn write_block(out: &mut Vec<u8>, block: &Block) -> Result<(), Fault>
     ensures ok { OnOk result (out.new.items ≡ out.old.items ++ block_text block.now) }
     ensures err { OnErr result (out.new.items ≡ out.old.items) }
     ensures memory { IsOkUnless result Memory }
-    // It comes only where the vector has no room for the text.
+    // It fails only if the free capacity is smaller than the serialisation.
     ensures full { OnErr result
         (vec_capacity out.old < vec_len out.old + length (block_text block.now)) }
     ensures capacity { vec_capacity out.old ≤ vec_capacity out.new }
-    // Each number is one of its field, and each hash has 32 bytes.
+    // On success, each number fits its field and each hash has 32 bytes.
     ensures fits { OnOk result (IsBlock block.now) }
 {
-    // With room for the whole text no growth behind this is refused.
+    // With room for the whole serialisation, no append after this can fail.
     out.reserve(block.size() as usize)?;
     put_block(out, block)
 }
@@ -163,7 +169,7 @@ fn txs_size(txs: &[Shared<Tx>]) -> u64
 }
 
 impl Block {
-    /// How many bytes its text has, or 18,446,744,073,709,551,615 where they are more.
+    /// The length of its serialisation in bytes, or 2^64 - 1 if it is longer than that.
     #[tactic(auto, unfolding(crate::specs::Text::block_text))]
     pub fn size(&self) -> u64
         ensures { result ≡ min (length (block_text self.now)) (2 ^ 64 - 1) }
@@ -172,9 +178,9 @@ impl Block {
         txs_size(self.txs.as_slice()).saturating_add(header)
     }
 
-    /// A block that equals it, of the same transactions: only their list takes memory.
+    /// Returns an equal block. It shares the transactions: only their list is allocated.
     ///
-    /// The only error is `Fault::Memory`, and one with no transactions takes none.
+    /// Fails only with `Fault::Memory`. A block without transactions never fails.
     pub fn copy(&self, alloc: Global) -> Result<Block, Fault>
         ensures same { IfOk result (λ block. block ≡ self.now) }
         ensures memory { IsOkUnless result Memory }

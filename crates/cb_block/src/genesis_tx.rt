@@ -6,15 +6,17 @@ use cb_base::{Fault, Hash256};
 use cb_tx::{Inputs, OutPoint, Outputs, Script, Tx, TxIn, TxOut};
 use std::alloc::Global;
 
-/// The bits of the main network's first block, the number 4, and a headline of the day.
+/// The input script of the genesis coinbase. It pushes the bits of the main network's genesis
+/// block, the number 4 and a newspaper headline.
 const HEADLINE: &[u8; 77] =
     b"\x04\xff\xff\x00\x1d\x01\x04\x45The Times 03/Jan/2009 Chancellor on brink of second bailout for banks";
 
-/// A public key of 65 bytes, and the command that checks a signature by it.
+/// The output script of the genesis coinbase: it pushes a public key of 65 bytes, then
+/// `OP_CHECKSIG`.
 const TO_A_KEY: &[u8; 67] =
     b"\x41\x04\x67\x8a\xfd\xb0\xfe\x55\x48\x27\x19\x67\xf1\xa6\x71\x30\xb7\x10\x5c\xd6\xa8\x28\xe0\x39\x09\xa6\x79\x62\xe0\xea\x1f\x61\xde\xb6\x49\xf6\xbc\x3f\x4c\xef\x38\xc4\xf3\x55\x04\xe5\x1e\xc1\x12\xde\x5c\x38\x4d\xf7\xba\x0b\x8d\x57\x8a\x4c\x70\x2b\x6b\xf1\x1d\x5f\xac";
 
-/// The one transaction of the first block.
+/// The coinbase of the genesis block. Fails only with `Fault::Memory`.
 #[tactic(auto, unfolding(crate::specs::Genesis::headline, crate::specs::Genesis::to_a_key))]
 pub(crate) fn first_tx(alloc: Global) -> Result<Tx, Fault>
     ensures same { IfOk result (λ tx. tx ≡ genesis_tx) }

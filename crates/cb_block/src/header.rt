@@ -11,26 +11,26 @@ ghost use Rattle.cb_block.specs.declared.header.Header.{Header};
 use cb_base::{Cursor, Fault, Hash256, dsha};
 use cb_tx::read_hash;
 
-/// The bits that every header of the network has.
+/// The bits of every header of the network: the target of regtest in compact form.
 pub const BITS: u32 = 0x207f_ffff;
 
-/// The header of a block. Its hash is the block's.
+/// A block header. Its hash is the block hash.
 #[derive(Clone, Copy, Debug, PartialEq, Eq)]
 pub struct Header {
     pub version: i32,
-    /// The hash of the block before.
+    /// The hash of the previous block.
     pub prev: Hash256,
-    /// The Merkle root of the transactions' txids.
+    /// The Merkle root over the txids of the block's transactions.
     pub root: Hash256,
-    /// Seconds since the start of 1970.
+    /// Unix time in seconds.
     pub time: u32,
-    /// The target, in its short form.
+    /// The target in compact form.
     pub bits: u32,
     pub nonce: u32,
 }
 
 impl Header {
-    /// Its 80 bytes.
+    /// Its serialisation of 80 bytes.
     #[tactic(auto, unfolding(crate::specs::Text::header_text))]
     pub fn text(&self) -> [u8; 80]
         ensures { result ≡ header_text self.now }
@@ -50,7 +50,7 @@ impl Header {
         text
     }
 
-    /// The double hash of its 80 bytes, which is the block's name.
+    /// The block hash: the double SHA-256 of the 80 bytes.
     pub fn hash(&self) -> Hash256
         ensures { result ≡ double_hash (header_text self.now) }
     {
@@ -58,6 +58,7 @@ impl Header {
     }
 }
 
+/// Reads a header. After an error the cursor may have advanced.
 #[tactic(auto, unfolding(crate::specs::Reading::header_at))]
 fn header_or_fault(cursor: &mut Cursor) -> Result<Header, Fault>
     ensures { Gives (header_at cursor.old) result cursor.new }
@@ -78,7 +79,7 @@ fn header_or_fault(cursor: &mut Cursor) -> Result<Header, Fault>
     })
 }
 
-/// The header at the front, and a cursor at the bytes after it.
+/// Decodes the header at the front. Returns it with a cursor at the bytes after it.
 fn header_of(bytes: &[u8]) -> Result<(Header, Cursor<'_>), Fault>
     ensures exact { MatchResult result (λ read. header_at bytes.now ≡ Ok (read.0, read.1))
         (λ fault. header_at bytes.now ≡ Err fault) }
@@ -89,13 +90,14 @@ fn header_of(bytes: &[u8]) -> Result<(Header, Cursor<'_>), Fault>
     Ok((header, cursor))
 }
 
-/// Reads a header: the next 80 bytes. `Fault::Truncated` where there are fewer; a refused read leaves the cursor as it was.
+/// Reads a header: the next 80 bytes. Fails with `Fault::Truncated` if fewer are left. The cursor
+/// then stays where it was.
 pub fn read_header<'a>(cursor: &mut Cursor<'a>) -> Result<Header, Fault>
     ensures exact { Reads (header_at cursor.old) cursor.old result cursor.new }
-    // What is read is spelled so.
+    // On success, the bytes began with the header's serialisation.
     ensures found { IfOk result
         (λ header. IsHeader header × (cursor.old ≡ header_text header ++ cursor.new)) }
-    // What is spelled so is read, whatever follows it.
+    // The serialisation of any header is read, whatever bytes follow it.
     ensures only { (header : Header) (rest : List ℕ) → IsHeader header →
         cursor.old ≡ header_text header ++ rest
         → (result ≡ Ok header) × (cursor.new ≡ rest) }
@@ -120,7 +122,8 @@ fn are_zero(bytes: &[u8]) -> bool
     bytes.iter().all(|byte| *byte == 0)
 }
 
-/// Whether the hash, as a number with its lowest byte first, is at most 7fffff followed by 29 zero bytes.
+/// Whether the hash, as a little-endian number, is at most the target of regtest: 7fffff followed
+/// by 29 zero bytes.
 fn meets_target(hash: &[u8]) -> bool
     requires { length hash.now ≡ 32 }
     ensures { IsTrue result ↔ (little_endian hash.now ≤ 8388607 * 256 ^ 29) }
@@ -133,7 +136,8 @@ fn meets_target(hash: &[u8]) -> bool
     high < 0x7f_ffff
 }
 
-/// The hash of a header that has the network's bits, where it meets their target: else `Fault::BadWork`.
+/// Checks the proof of work of a header and returns its hash. Fails with `Fault::BadWork` if the
+/// bits aren't those of regtest (`BITS`) or if the hash is above their target.
 pub fn hash_with_work(header: &Header) -> Result<Hash256, Fault>
     ensures { MatchResult result
         (λ hash. (hash ≡ double_hash (header_text header.now)) × HasWork header.now)
@@ -149,7 +153,8 @@ pub fn hash_with_work(header: &Header) -> Result<Hash256, Fault>
     Ok(hash)
 }
 
-/// Whether the header has the network's bits and a hash that meets their target: else `Fault::BadWork`.
+/// Checks the proof of work of a header. Fails with `Fault::BadWork` if the bits aren't those of
+/// regtest (`BITS`) or if the hash is above their target.
 pub fn check_header(header: &Header) -> Result<(), Fault>
     ensures { MatchResult result (λ _. HasWork header.now)
         (λ fault. (fault ≡ BadWork) × (¬ HasWork header.now)) }

@@ -1,4 +1,7 @@
-//! Headers, blocks and the trees over them, and blocks whose transactions are the only ones under their header.
+//! Block headers, blocks and Merkle trees. A sound block is one whose transactions are the only
+//! ones that fit its header.
+//!
+//! The text of a header or block is its serialisation.
 #![tactic(auto)]
 
 mod block;

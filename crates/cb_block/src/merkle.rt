@@ -7,7 +7,7 @@ use cb_base::{Fault, Hash256, sha};
 use sha2::{Digest, Sha256};
 use std::alloc::Global;
 
-/// The hash above two hashes.
+/// The parent of two hashes in a Merkle tree: the double SHA-256 of both, joined.
 fn hash_above(left: &Hash256, right: &Hash256) -> Hash256
     ensures { result ≡ double_hash (left.now.0 ++ right.now.0) }
 {
@@ -18,7 +18,8 @@ fn hash_above(left: &Hash256, right: &Hash256) -> Hash256
     Hash256(sha(once.as_slice()))
 }
 
-/// Puts the level above in the place of a level, and answers whether that had equal neighbours.
+/// Replaces a level of a Merkle tree by the level above it. Returns whether the two hashes of a
+/// pair were equal.
 fn raise(level: &mut Vec<Hash256>) -> bool
     ensures raised { level.new.items ≡ up level.old.items }
     ensures equal { IsTrue result ↔ HasEqualPair level.old.items }
@@ -42,8 +43,8 @@ fn raise(level: &mut Vec<Hash256>) -> bool
     equal
 }
 
-/// The root over the leaves, and whether the tree is mutated, in one pass. The leaves' vector is used up: each level takes
-/// the place of the one below it.
+/// Returns the Merkle root, and whether the tree is mutated, in one pass. Each level overwrites the
+/// one below it, so nothing is allocated.
 pub(crate) fn tree(leaves: Vec<Hash256>) -> (Hash256, bool)
     requires { 0 < vec_len leaves }
     ensures root { IsRoot leaves.items result.0 }
@@ -59,7 +60,8 @@ pub(crate) fn tree(leaves: Vec<Hash256>) -> (Hash256, bool)
     (level[0], mutated)
 }
 
-/// The Merkle root of hashes, of which there is one at least. The only error is `Fault::Memory`, and one hash takes none.
+/// The Merkle root of a list of at least one hash. Fails only with `Fault::Memory`. One hash never
+/// fails.
 pub fn root(alloc: Global, hashes: &[Hash256]) -> Result<Hash256, Fault>
     requires { 0 < length hashes.now }
     ensures root { IfOk result (λ root. IsRoot hashes.now root) }
@@ -73,8 +75,8 @@ pub fn root(alloc: Global, hashes: &[Hash256]) -> Result<Hash256, Fault>
     Ok(root)
 }
 
-/// Whether some level of the hashes' Merkle tree has two equal neighbours (CVE-2012-2459). The only error is
-/// `Fault::Memory`, which fewer than two hashes never meet.
+/// Whether some level of the Merkle tree has a pair of equal hashes (CVE-2012-2459). Fails only
+/// with `Fault::Memory`. Fewer than two hashes never fail.
 pub fn mutated(alloc: Global, hashes: &[Hash256]) -> Result<bool, Fault>
     ensures mutated { IfOk result (λ mutated. IsTrue mutated ↔ IsMutated hashes.now) }
     ensures memory { IsOkUnless result Memory }

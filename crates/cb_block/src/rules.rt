@@ -10,6 +10,7 @@ use cb_base::{Fault, Shared};
 use cb_tx::{Tx, check_tx};
 use std::alloc::Global;
 
+/// Whether the first transaction is a coinbase, and no other is.
 fn has_one_coinbase(txs: &[Shared<Tx>]) -> bool
     ensures { IsTrue result ↔ HasOneCoinbase txs.now }
 {
@@ -19,7 +20,8 @@ fn has_one_coinbase(txs: &[Shared<Tx>]) -> bool
     }
 }
 
-/// Whether each transaction meets its rules: else the first fault of the first that doesn't.
+/// Checks the rules of each transaction. Fails with the first fault of the first transaction that
+/// breaks one.
 fn check_txs(alloc: Global, txs: &[Shared<Tx>]) -> Result<(), Fault>
     ensures exact { MatchResult result (λ _. All MeetsRules txs.now)
         (λ fault. (fault ≡ Memory)
@@ -32,18 +34,20 @@ fn check_txs(alloc: Global, txs: &[Shared<Tx>]) -> Result<(), Fault>
     Ok(())
 }
 
-/// Whether the block meets the rules that a block meets by itself.
+/// Checks the rules that a block must meet by itself, without the UTXO set.
 ///
-/// Else the first that it breaks: `Fault::Oversize` above 1,000,000 bytes, `Fault::BadCoinbase` where the first transaction
-/// is no coinbase or another is one, and then the fault of the first transaction that `check_tx` refuses; that call may
-/// also answer `Fault::Memory`.
+/// Fails with the first that is broken: `Fault::Oversize` if the block has more than 1,000,000
+/// bytes, `Fault::BadCoinbase` if the first transaction isn't a coinbase or a later one is, then
+/// the fault of the first transaction that `check_tx` refuses. Only that call can fail with
+/// `Fault::Memory`.
 pub fn check_block(alloc: Global, block: &SoundBlock) -> Result<(), Fault>
     ensures exact { MatchResult result (λ _. MeetsBlockRules block.now)
         (λ fault. (fault ≡ Memory) ⊎ IsRefused block.now fault) }
-    // Size and coinbase are looked at without memory.
+    // Size and coinbase are checked without allocating.
     ensures unpaid { result ≡ Err Memory →
         (length (block_text block.now) ≤ 1000000) × HasOneCoinbase block.now.txs }
-    // A transaction takes memory where it has two inputs or more, and is looked at where those before it meet their rules.
+    // Only a transaction with two inputs or more allocates. It is checked only if all transactions
+    // before it meet their rules.
     ensures paid { result ≡ Err Memory → AsksMemory block.now.txs }
 {
     let block = block.block();

@@ -15,9 +15,11 @@ use cb_tx::{Tx, write_tx};
 use std::alloc::Global;
 use std::marker::Model;
 
-/// A block whose transactions are the only ones under its header, with their txids. It is seen as the block.
+/// A sound block, with its txids: its transactions are the only ones that fit its header, unless
+/// hashes collide. Contracts see the block.
 ///
-/// It isn't empty, none of its transactions has 64 bytes, its tree isn't mutated, and its header has the tree's root.
+/// It has transactions, none of them has 64 bytes (CVE-2017-12842), its Merkle tree isn't mutated
+/// (CVE-2012-2459), and its header has the root of the tree.
 #[derive(Drop)]
 pub struct SoundBlock {
     block: Shared<Block>,
@@ -47,7 +49,7 @@ impl SoundBlock {
         &self.block
     }
 
-    /// The block, given out.
+    /// The shared block. The txids are dropped.
     pub fn into_block(self) -> Shared<Block>
         ensures same { result ≡ self }
         ensures sound { IsSoundBlock self }
@@ -57,7 +59,8 @@ impl SoundBlock {
         block
     }
 
-    /// The txids of its transactions, in order. They were found once, and aren't found again.
+    /// The txids of its transactions, in order. They were computed once, when the block was
+    /// checked.
     pub fn txids(&self) -> &[Hash256]
         ensures { result.now ≡ names (texts self.now.txs) }
     {
@@ -66,8 +69,8 @@ impl SoundBlock {
 }
 
 impl SoundBlock {
-    /// The same sound block once more, which takes no memory. The only error is `Fault::Memory`, where a count of owners is
-    /// full.
+    /// Returns one more owner of the same sound block. It allocates nothing. Fails only with
+    /// `Fault::Memory`, if the block or its list of txids already has 2^63 owners.
     pub fn copy(&self) -> Result<SoundBlock, Fault>
         ensures same { IfOk result (λ copy. copy ≡ self.now) }
         ensures memory { IsOkUnless result Memory }
@@ -78,13 +81,14 @@ impl SoundBlock {
     }
 }
 
+/// Whether a transaction has 64 bytes.
 fn has_size_64(txs: &[Shared<Tx>]) -> bool
     ensures { IsTrue result ↔ Any (λ tx. length (tx_text tx) ≡ 64) txs.now }
 {
     txs.iter().any(|tx| tx.size() == 64)
 }
 
-/// The txids, each by one hashing of the transaction's text, which is written to one buffer.
+/// The txids. Each transaction is written to one reused buffer and hashed once.
 fn txids_of(alloc: Global, txs: &[Shared<Tx>]) -> Result<Vec<Hash256>, Fault>
     ensures names { IfOk result (λ txids. txids.items ≡ names (map tx_text txs.now)) }
     ensures fits { IfOk result (λ _. All IsTx txs.now) }
@@ -100,7 +104,8 @@ fn txids_of(alloc: Global, txs: &[Shared<Tx>]) -> Result<Vec<Hash256>, Fault>
     Ok(txids)
 }
 
-/// Whether the block has transactions, and none of 64 bytes. It takes no memory.
+/// Fails with `Fault::Empty` if the block has no transactions, else with `Fault::Size64` if one of
+/// them has 64 bytes. It allocates nothing.
 fn check_sizes(block: &Block) -> Result<(), Fault>
     ensures some { IfOk result (λ _. 0 < length block.now.txs) }
     ensures sizes { IfOk result (λ _. All (λ tx. length (tx_text tx) ≢ 64) block.now.txs) }
@@ -116,7 +121,7 @@ fn check_sizes(block: &Block) -> Result<(), Fault>
     Ok(())
 }
 
-/// The txids, where the tree over them isn't mutated and has the header's root.
+/// Returns the txids, shared, if their tree is not mutated and has the root of the header.
 fn tree_txids(
     alloc: Global,
     block: &Block,
@@ -139,7 +144,7 @@ fn tree_txids(
     Ok(Shared::new(alloc, txids)?)
 }
 
-/// The txids of a sound block: else the first reason why it isn't sound.
+/// Returns the txids if the block is sound. Fails with the first reason why it isn't.
 fn sound_txids(alloc: Global, block: &Block) -> Result<Shared<Vec<Hash256>>, Fault>
     ensures sound { IfOk result (λ _. IsSoundBlock block.now) }
     ensures names { IfOk result (λ txids. txids.items ≡ names (texts block.now.txs)) }
@@ -153,7 +158,7 @@ fn sound_txids(alloc: Global, block: &Block) -> Result<Shared<Vec<Hash256>>, Fau
     tree_txids(alloc, block, txids)
 }
 
-/// The same, where the txids are known.
+/// Like `sound_txids`, with the txids given.
 fn known_txids(
     alloc: Global,
     block: &Block,
@@ -170,22 +175,24 @@ fn known_txids(
     tree_txids(alloc, block, txids)
 }
 
-/// Tells whether the block is sound: it has transactions, none of them has 64 bytes (CVE-2017-12842), its tree isn't
-/// mutated (CVE-2012-2459), and its header has the tree's root.
+/// Checks that a block is sound: it has transactions, none of them has 64 bytes (CVE-2017-12842),
+/// its Merkle tree isn't mutated (CVE-2012-2459), and its header has the root of the tree.
 ///
-/// Else the block comes back with the first of `Fault::Empty`, `Fault::Size64`, `Fault::Mutated` and `Fault::BadRoot` that
-/// holds, or with `Fault::Memory` where there was no memory for the tree.
+/// An error gives the block back with the first of these faults that applies: `Fault::Empty`,
+/// `Fault::Size64`, `Fault::Mutated`, `Fault::BadRoot`. It is `Fault::Memory` instead if memory
+/// runs out for the txids or the tree.
 pub fn sound(alloc: Global, block: Shared<Block>) -> Result<SoundBlock, (Shared<Block>, Fault)>
     ensures ok { IfOk result (λ sound. (sound ≡ block) × IsSoundBlock block) }
     ensures err { IfErr result
         (λ back. (back.0 ≡ block) × ((back.1 ≡ Memory) ⊎ IsUnsound block back.1)) }
-    // The first two reasons are told without memory.
+    // Empty and Size64 are told without allocating.
     ensures unpaid { (IsUnsound block Empty ⊎ IsUnsound block Size64) →
         IsErrAnd result (λ back. back.1 ≢ Memory) }
-    // Each list of byte strings that is sound under this header, and apart from this block's, is this block's.
+    // Any list of byte strings that is sound under this header is this block's, unless hashes
+    // collide (AreApart).
     ensures only { IfOk result (λ sound. (others : List (List ℕ)) → IsSound sound.header.root others
         → AreApart (texts sound.txs) others → others ≡ texts sound.txs) }
-    // The same of transactions.
+    // The same for lists of transactions.
     ensures only_txs { IfOk result
         (λ sound. (txs : List Tx) → All IsTx txs → IsSound sound.header.root (texts txs)
         → AreApart (texts sound.txs) (texts txs) → txs ≡ sound.txs) }
@@ -196,7 +203,8 @@ pub fn sound(alloc: Global, block: Shared<Block>) -> Result<SoundBlock, (Shared<
     }
 }
 
-/// Tells whether the block of these txids is sound, as `sound` does: no transaction is hashed here.
+/// Checks that a block is sound, as `sound` does and with the same errors, given the txids of its
+/// transactions. It hashes no transaction.
 pub fn sound_by(
     alloc: Global,
     block: Shared<Block>,
@@ -208,7 +216,8 @@ pub fn sound_by(
         (λ back. (back.0 ≡ block) × ((back.1 ≡ Memory) ⊎ IsUnsound block back.1)) }
     ensures unpaid { (IsUnsound block Empty ⊎ IsUnsound block Size64) →
         IsErrAnd result (λ back. back.1 ≢ Memory) }
-    // Each list of byte strings that is sound under this header, and apart from this block's, is this block's.
+    // Any list of byte strings that is sound under this header is this block's, unless hashes
+    // collide (AreApart).
     ensures only { IfOk result (λ sound. (others : List (List ℕ)) → IsSound sound.header.root others
         → AreApart (texts sound.txs) others → others ≡ texts sound.txs) }
 {
@@ -222,8 +231,8 @@ pub fn sound_by(
     }
 }
 
-/// The block that the chain of the regression test network begins with. Its root is computed from its transaction. The
-/// only error is `Fault::Memory`.
+/// The genesis block of regtest. Its Merkle root is computed from its coinbase. Fails only with
+/// `Fault::Memory`.
 pub fn genesis(alloc: Global) -> Result<SoundBlock, Fault>
     ensures same { IfOk result (λ sound. sound ≡ genesis_block) }
     ensures memory { IsOkUnless result Memory }
