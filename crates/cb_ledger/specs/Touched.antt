@@ -1,4 +1,4 @@
--- Which outpoints transactions spend, and which they make.
+-- Which outpoints transactions spend and create.
 use Rattle.std.specs.Prelude.{◌≡◌, ◌<◌, ◌⊎◌, ◌≤ℤ◌, pos, true, false, List, [], ◌∷◌, length, Ok}
 use Rattle.std.specs.FinMap as map
 use Rattle.cb_base.specs.declared.hash.Hash256.{Hash256}
@@ -12,22 +12,22 @@ use Rattle.cb_tx.specs.Text.{tx_text}
 use Rattle.cb_ledger.specs.Spend.{is_coinbase, spend_tx}
 use Rattle.cb_ledger.specs.Unspent.{Unspent}
 
--- an input names it
+-- an input has this outpoint
 abbrev pub IsNamed : List TxIn → OutPoint → Type 0
 IsNamed [] point = ⊥
 IsNamed (input ∷ inputs) point = (input.prev ≡ point) ⊎ IsNamed inputs point
 
--- a transaction that is no coinbase has an input that names it
+-- a transaction that isn't a coinbase has an input with this outpoint
 abbrev pub IsSpent : List Tx → OutPoint → Type 0
 IsSpent [] point = ⊥
 IsSpent (tx ∷ txs) point = ((is_coinbase tx.inputs ≡ false) × IsNamed tx.inputs point) ⊎ IsSpent txs point
 
--- it is an output of a transaction
+-- the outpoint is that of an output of one of the transactions
 abbrev pub IsMade : List Tx → OutPoint → Type 0
 IsMade [] point = ⊥
 IsMade (tx ∷ txs) point = ((point.txid ≡ double_hash (tx_text tx)) × (point.index < length tx.outputs)) ⊎ IsMade txs point
 
--- the first input names an unspent output
+-- the output of the first input is unspent
 abbrev pub SpendsFirst : Unspent → List TxIn → Type 0
 SpendsFirst u [] = ⊥
 SpendsFirst u (input ∷ inputs) = map.contains_key u input.prev ≡ true
@@ -37,13 +37,15 @@ abbrev pub MakesFirst : Unspent → Hash256 → List TxOut → Type 0
 MakesFirst u txid [] = ⊥
 MakesFirst u txid (output ∷ outputs) = map.contains_key u (record { txid = txid; index = 0 }) ≡ false
 
--- A transaction spends or makes an outpoint before any fault of its own is met.
+-- The transaction spends or creates an output before it meets a fault: it spends with its first
+-- input, or it has nothing to spend (a coinbase, or no inputs and no value) and creates its first
+-- output.
 pub data TouchesOne (u : Unspent) (tx : Tx) : Type 0 where
   spends : is_coinbase tx.inputs ≡ false → SpendsFirst u tx.inputs → TouchesOne u tx
   mints : is_coinbase tx.inputs ≡ true → MakesFirst u (double_hash (tx_text tx)) tx.outputs → TouchesOne u tx
   makes : tx.inputs ≡ [] → value_sum tx.outputs ≤ℤ pos 0 → MakesFirst u (double_hash (tx_text tx)) tx.outputs → TouchesOne u tx
 
--- One of the transactions does, before any fault is met.
+-- One of the transactions does, before any fault.
 abbrev pub Touches : Unspent → List Tx → Type 0
 Touches u [] = ⊥
 Touches u (tx ∷ txs) = TouchesOne u tx ⊎ ((next : Unspent) × (spend_tx u tx ≡ Ok next) × Touches next txs)

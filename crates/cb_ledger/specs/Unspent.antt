@@ -1,4 +1,4 @@
--- The unspent outputs: a finite map from outpoints to values.
+-- The UTXO set: a finite map from outpoints to values in satoshis.
 use Rattle.std.specs.Prelude.{ℕ, ℤ, pos, ◌+ℤ◌, List, [], ◌∷◌, refl}
 use Rattle.std.specs.Coded.{Coded, code_by, coded×, coded_list, coded_ℕ, coded_ℤ}
 use Rattle.std.specs.Cmp.Lexicographic.{slice_cmp}
@@ -7,7 +7,7 @@ use Rattle.std.specs.Ordering.{nat_cmp, ordering_then}
 use Rattle.std.specs.declared.cmp.Ordering.{Ordering}
 use Rattle.cb_tx.specs.declared.tx.OutPoint.{OutPoint}
 
--- by the txid's bytes, and then by the output's place
+-- the order of outpoints: by the bytes of the txid, then by the index
 abbrev pub outpoint_cmp : OutPoint → OutPoint → Ordering
 outpoint_cmp a b = ordering_then (slice_cmp nat_cmp a.txid.0 b.txid.0) (nat_cmp a.index b.index)
 
@@ -23,16 +23,16 @@ Unspent = map.FinMap outpoint_cmp ℤ
 abbrev pub coded_unspent : Coded Unspent
 coded_unspent = map.code coded_outpoint coded_ℤ
 
--- the values, added up
+-- the sum of the values of a list of entries
 abbrev pub sum_of : List (OutPoint × ℤ) → ℤ
 sum_of [] = pos 0
 sum_of (e ∷ es) = e.1 +ℤ sum_of es
 
--- all values together
+-- the value of the whole UTXO set
 abbrev pub total : Unspent → ℤ
 total u = sum_of (map.entries u)
 
--- What contracts see of a ledger: the unspent outputs, and for how many more there is room.
+-- What contracts see of a ledger: the UTXO set, and for how many more outputs it has room.
 pub record Held : Type 0 where
   pub unspent : Unspent
   pub room : ℕ

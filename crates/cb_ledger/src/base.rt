@@ -11,8 +11,8 @@ use cb_tx::OutPoint;
 use std::alloc::Global;
 use std::marker::Model;
 
-/// What an overlay lies on: a ledger, and what is changed over it already. It is seen as the unspent outputs after these
-/// changes.
+/// What an overlay lies on: a ledger, and changes that were already made over it. Contracts see the
+/// unspent outputs after these changes.
 #[derive(Drop)]
 pub(crate) struct Base<'a> {
     ledger: &'a Ledger,
@@ -39,7 +39,7 @@ impl<'a> Base<'a> {
         Base { ledger, changes }
     }
 
-    /// The value of an unspent output.
+    /// The value of an unspent output in satoshis. None if it isn't unspent.
     pub(crate) fn value(&self, point: &OutPoint) -> Option<i64>
         ensures { result ≡ map.get self.now point.now }
     {
@@ -49,7 +49,7 @@ impl<'a> Base<'a> {
         }
     }
 
-    /// What the outpoints of changes have here.
+    /// What the outpoints of these changes have here: the undo record of the changes.
     pub(crate) fn values(&self, alloc: Global, changes: &Undo) -> Result<Undo, Fault>
         ensures same { IfOk result (λ values. values ≡ values_of self.now changes.now) }
         ensures none { changes.now ≡ [] → IsOk result }

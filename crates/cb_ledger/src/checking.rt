@@ -17,7 +17,7 @@ use cb_block::SoundBlock;
 use cb_tx::{OutPoint, Tx, TxIn, TxOut};
 use std::alloc::Global;
 
-/// The values of outputs, added up, in hundred-millionths of a coin.
+/// The sum of the values of outputs, in satoshis.
 pub fn sum_of(outputs: &[TxOut]) -> i128
     ensures { result ≡ value_sum outputs.now }
 {
@@ -28,7 +28,7 @@ pub fn sum_of(outputs: &[TxOut]) -> i128
     sum
 }
 
-/// Spends the inputs in order, and adds up what they are worth.
+/// Spends the inputs in order. Returns the sum of their values.
 fn spend_inputs(base: &Base<'_>, draft: &mut Overlay, inputs: &[TxIn]) -> Result<i128, Fault>
     ensures told { Tells (inputs_spent (changed base.now draft.old) inputs.now)
         (λ sum. (sum, changed base.now draft.new)) result }
@@ -48,7 +48,7 @@ fn spend_inputs(base: &Base<'_>, draft: &mut Overlay, inputs: &[TxIn]) -> Result
     Ok(sum)
 }
 
-/// Makes the outputs in order.
+/// Creates the outputs in order.
 fn make_outputs(
     base: &Base<'_>,
     draft: &mut Overlay,
@@ -73,7 +73,7 @@ fn make_outputs(
     Ok(())
 }
 
-/// Spends a transaction's inputs and makes its outputs.
+/// Spends a transaction's inputs, unless it is a coinbase, and creates its outputs.
 fn spend_tx(base: &Base<'_>, draft: &mut Overlay, txid: Hash256, tx: &Tx) -> Result<(), Fault>
     requires name { txid ≡ double_hash (tx_text tx.now) }
     requires few { length tx.now.outputs < 2 ^ 32 }
@@ -93,7 +93,8 @@ fn spend_tx(base: &Base<'_>, draft: &mut Overlay, txid: Hash256, tx: &Tx) -> Res
     make_outputs(base, draft, txid, outputs)
 }
 
-/// The transactions in order, over the base: what they change, or the first fault.
+/// Applies the transactions in order: notes in the draft what they change over the base. Fails with
+/// the first fault.
 fn spend_txs(
     base: &Base<'_>,
     draft: &mut Overlay,
@@ -113,7 +114,7 @@ fn spend_txs(
     Ok(())
 }
 
-/// What a block changes over the base, which stays as it is, or its first fault.
+/// What a block changes over the base, or its first fault. The base stays as it is.
 pub(crate) fn changes_over(
     alloc: Global,
     base: &Base<'_>,

@@ -13,7 +13,7 @@ use crate::undo::{CoinChange, Undo};
 use cb_base::Fault;
 use cb_block::SoundBlock;
 
-/// Gives each outpoint what stands at it, and puts in its place what it had.
+/// Sets each outpoint to the value in its change, and puts its old value in the change.
 fn exchange_all(ledger: &mut Ledger, changes: &mut [CoinChange])
     requires once { StandOnce changes.old }
     requires room { length changes.old ≤ ledger.old.room }
@@ -29,7 +29,7 @@ fn exchange_all(ledger: &mut Ledger, changes: &mut [CoinChange])
     }
 }
 
-/// What a block changes over the ledger, which stays as it is, or its first fault.
+/// What a block changes over the ledger, or its first fault. The ledger stays as it is.
 fn changes_of(ledger: &Ledger, block: &SoundBlock) -> Result<Undo, Fault>
     requires { All (λ tx. length tx.outputs < 2 ^ 32) block.now.txs }
     ensures told { Tells (spend ledger.now.unspent block.now.txs)
@@ -41,7 +41,8 @@ fn changes_of(ledger: &Ledger, block: &SoundBlock) -> Result<Undo, Fault>
     changes_over(ledger.alloc, &Base::new(ledger, &none), block)
 }
 
-/// Room for the changes, for taking them back, and for so many more.
+/// How many outputs to reserve room for: the changes, their undoing, and `more`. Fails with
+/// `Fault::Memory` if that is above `usize`.
 fn places_for(changes: usize, more: usize) -> Result<usize, Fault>
     ensures places { IfOk result (λ places. places ≡ changes + changes + more) }
     ensures none { changes ≡ 0 → IsOk result }
@@ -57,8 +58,9 @@ fn places_for(changes: usize, more: usize) -> Result<usize, Fault>
 }
 
 impl Ledger {
-    /// Gives each outpoint of an undo record what stands there, and leaves what it had before: so that another exchange
-    /// takes this one back. There must be room for each of them.
+    /// Sets each outpoint of an undo record to its value there, and leaves in the record what it
+    /// had before. A second exchange with the record reverts the first. The ledger must have room
+    /// for as many outputs as the record has outpoints (`reserve`). It never fails.
     pub fn exchange(&mut self, undo: &mut Undo)
         requires { length undo.old ≤ self.old.room }
         ensures after { self.new.unspent ≡ changed self.old.unspent undo.old }
@@ -69,7 +71,10 @@ impl Ledger {
         exchange_all(self, undo.changes.as_mut_slice());
     }
 
-    /// Connects a block, as `connect` does, and keeps room for taking it back and for so many places more.
+    /// Connects a block, as `connect` does, and reserves more room: for disconnecting the block,
+    /// and for `places` outputs beyond that.
+    ///
+    /// The errors are those of `connect`, and the UTXO set is then unchanged.
     pub fn connect_with_room(&mut self, block: &SoundBlock, places: usize) -> Result<Undo, Fault>
         requires { All (λ tx. length tx.outputs < 2 ^ 32) block.now.txs }
         ensures exact { Tells (spend self.old.unspent block.now.txs)
@@ -89,12 +94,16 @@ impl Ledger {
         Ok(undo)
     }
 
-    /// Connects a block: its transactions in order. Each output of the block must have a place below 2^32.
+    /// Connects a block: applies its transactions to the UTXO set, in order. Returns the undo
+    /// record for `disconnect`. Each transaction must have fewer than 2^32 outputs; one that meets
+    /// its rules has.
     ///
-    /// A coinbase spends nothing. Any other transaction spends its inputs: `Fault::NoInput` at the first whose output isn't
-    /// unspent, where outputs of earlier transactions of the block count, and an output that an earlier input spent doesn't;
-    /// `Fault::Overspent` where its outputs are worth more than its inputs. Then `Fault::Remade` where one of its outputs is
-    /// unspent already. The first of these is told, or `Fault::Memory`, and then nothing has changed.
+    /// A coinbase only creates its outputs. Any other transaction first spends its inputs. The
+    /// first fault that is met is returned: `Fault::NoInput` if an input's output isn't unspent (an
+    /// output of an earlier transaction of the block is; one that an earlier input spent isn't),
+    /// `Fault::Overspent` if the outputs of a transaction are worth more than its inputs,
+    /// `Fault::Remade` if an output that it creates is already unspent. Or it fails with
+    /// `Fault::Memory`. After an error the UTXO set is unchanged.
     pub fn connect(&mut self, block: &SoundBlock) -> Result<Undo, Fault>
         requires { All (λ tx. length tx.outputs < 2 ^ 32) block.now.txs }
         ensures exact { Tells (spend self.old.unspent block.now.txs)
@@ -102,24 +111,26 @@ impl Ledger {
         ensures err { OnErr result (self.new.unspent ≡ self.old.unspent) }
         ensures undo { IfOk result
             (λ undo. LeadsBack undo block.now.txs self.old.unspent self.new.unspent) }
-        // There is room for taking the block back.
+        // There is room for disconnecting the block.
         ensures kept { IfOk result (λ undo. length undo ≤ self.new.room) }
-        // No memory is taken before an outpoint is spent or made.
+        // Nothing is allocated before the block spends or creates an output.
         ensures unpaid { result ≡ Err Memory → Touches self.old.unspent block.now.txs }
     {
         self.connect_with_room(block, 0)
     }
 
-    /// Takes a block back, of which this is the undo record. What was unspent before the block is unspent again.
+    /// Disconnects a block, given its undo record. The UTXO set is again what it was before the
+    /// block.
     ///
-    /// The only error is `Fault::Memory`, with the undo record: then nothing has changed.
+    /// Fails only with `Fault::Memory`. The error gives the undo record back, and the UTXO set is
+    /// unchanged.
     pub fn disconnect(&mut self, block: &SoundBlock, undo: Undo) -> Result<(), (Undo, Fault)>
         ensures ok { OnOk result
             ((before : Unspent) → LeadsBack undo block.now.txs before self.old.unspent →
             self.new.unspent ≡ before) }
         ensures err { IfErr result
             (λ back. (back.0 ≡ undo) × (back.1 ≡ Memory) × (self.new.unspent ≡ self.old.unspent)) }
-        // Where there is room for it, it succeeds.
+        // It succeeds if there is room for the outpoints of the record.
         ensures enough { length undo ≤ self.old.room → IsOk result }
     {
         let mut undo = undo;

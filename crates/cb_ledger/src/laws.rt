@@ -1,3 +1,5 @@
+// All functions of this file but the last do nothing: their contracts are theorems.
+
 ghost use Rattle.std.specs.Prelude.{◌≡◌, ◌≢◌, ◌<◌, ◌^◌, ◌⊎◌, ◌↔◌, ◌++◌, ◌+ℤ◌, ◌≤ℤ◌, length, List, All, IsOk, IsTrue, MatchResult, Ok, Err, None};
 ghost use Rattle.std.specs.FinMap as map;
 ghost use Rattle.cb_base.specs.declared.fault.Fault.TheVariants.{Memory};
@@ -12,27 +14,27 @@ use crate::ledger::Ledger;
 use cb_base::Fault;
 use cb_block::SoundBlock;
 
-/// The definition's test for coinbases is what `Tx::is_coinbase` tells.
+/// What the definition takes for a coinbase is what `Tx::is_coinbase` tells.
 pub fn coinbases()
     ensures { (tx : Tx) → IsTrue (is_coinbase tx.inputs) ↔ IsCoinbase tx }
 {}
 
-/// Transactions behind others are spent over what those leave: so the blocks of a chain may be taken one by one, or as one
-/// list.
+/// Two lists of transactions can be applied one after the other, or as one joined list, with the
+/// same result. So the blocks of a chain can be connected one by one.
 pub fn one_after_the_other()
     ensures { (before between : Unspent) (txs others : List Tx) → spend before txs ≡ Ok between
         → spend before (txs ++ others) ≡ spend between others }
 {}
 
-/// No value is made but by coinbases: what is unspent after transactions is worth at most what was unspent before, and
-/// what the coinbases among them make.
+/// Only coinbases create value. After transactions, the UTXO set is worth at most what it was worth
+/// before plus what the coinbases among them create.
 pub fn no_value_made()
     ensures { (before after : Unspent) (txs : List Tx) → spend before txs ≡ Ok after
         → total after ≤ℤ (total before +ℤ coinbase_value txs) }
 {}
 
-/// What transactions leave at an outpoint that none of them makes: where none spends it, it is as before; where one does,
-/// it was unspent before, and no longer is.
+/// What applied transactions do to an outpoint that none of them creates. If none spends it, it is
+/// as before. If one spends it, it was unspent before, and no longer is.
 pub fn spent_once()
     ensures kept { (before after : Unspent) (txs : List Tx) (point : OutPoint) →
         spend before txs ≡ Ok after
@@ -43,14 +45,14 @@ pub fn spent_once()
         (map.get before point ≢ None) × (map.get after point ≡ None) }
 {}
 
-/// A transaction that meets its rules has fewer than 2^32 outputs, as `connect` wants it.
+/// A transaction that meets its rules has fewer than 2^32 outputs, as `connect` requires.
 pub fn few_outputs()
     ensures { (txs : List Tx) → All MeetsRules txs → All (λ tx. length tx.outputs < 2 ^ 32) txs }
 {}
 
-/// Connects a block and takes it back at once: what is unspent is as before, whatever is told.
-///
-/// It tells what `connect` would. The two need nothing of one another but their contracts.
+/// Connects a block and disconnects it at once. The UTXO set is then as before, whether this
+/// succeeds or fails. It succeeds or fails as `connect` would. This is proved from the contracts of
+/// the two calls alone.
 pub fn there_and_back(ledger: &mut Ledger, block: &SoundBlock) -> Result<(), Fault>
     requires { All (λ tx. length tx.outputs < 2 ^ 32) block.now.txs }
     ensures told { MatchResult result

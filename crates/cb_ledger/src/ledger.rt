@@ -9,7 +9,8 @@ use std::alloc::Global;
 use std::collections::HashMap;
 use std::marker::Model;
 
-/// The unspent outputs. It is seen as the finite map from outpoints to values, and the room that is reserved in it.
+/// The UTXO set. Contracts see a finite map from outpoints to values in satoshis, and the room that
+/// is reserved: for how many more outputs it can take without allocating.
 #[derive(Drop)]
 pub struct Ledger {
     pub(crate) alloc: Global,
@@ -29,7 +30,7 @@ impl Model for Ledger {
 }
 
 impl Ledger {
-    /// A ledger in which nothing is unspent.
+    /// An empty ledger: nothing is unspent.
     pub fn new(alloc: Global) -> Ledger
         ensures { result.unspent ≡ map.empty }
     {
@@ -39,7 +40,7 @@ impl Ledger {
         }
     }
 
-    /// The value of an unspent output, in hundred-millionths of a coin.
+    /// The value of an unspent output in satoshis. None if it isn't unspent.
     pub fn value(&self, point: &OutPoint) -> Option<i64>
         ensures { result ≡ map.get self.now.unspent point.now }
     {
@@ -53,7 +54,8 @@ impl Ledger {
         self.outputs.contains_key(point)
     }
 
-    /// Room for so many more unspent outputs. The only error is `Fault::Memory`.
+    /// Reserves room for `places` more unspent outputs. Fails only with `Fault::Memory`, and never
+    /// if there is that much room already. The UTXO set is unchanged in any case.
     pub fn reserve(&mut self, places: usize) -> Result<(), Fault>
         ensures same { self.new.unspent ≡ self.old.unspent }
         ensures ok { OnOk result (places ≤ self.new.room) }
@@ -65,7 +67,8 @@ impl Ledger {
         Ok(())
     }
 
-    /// Gives an outpoint a value or none, and answers what it had.
+    /// Sets an outpoint to a value, or removes it. Returns what it had. There must be room for one
+    /// output.
     pub(crate) fn set(&mut self, point: OutPoint, value: Option<i64>) -> Option<i64>
         requires { 0 < self.old.room }
         ensures before { result ≡ map.get self.old.unspent point }
@@ -81,7 +84,7 @@ impl Ledger {
         }
     }
 
-    /// A ledger that equals it. The only error is `Fault::Memory`, and only where something is unspent.
+    /// Returns an equal ledger. Fails only with `Fault::Memory`. An empty ledger never fails.
     pub fn copy(&self) -> Result<Ledger, Fault>
         ensures same { IfOk result (λ copy. copy.unspent ≡ self.now.unspent) }
         ensures none { self.now.unspent ≡ map.empty → IsOk result }

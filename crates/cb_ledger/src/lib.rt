@@ -1,4 +1,5 @@
-//! The ledger: which outputs are unspent, and how blocks change that and are taken back.
+//! The ledger is the UTXO set. Blocks are connected to it and disconnected from it. An overlay
+//! keeps changes apart from a ledger that stays as it is.
 #![tactic(auto)]
 
 mod base;

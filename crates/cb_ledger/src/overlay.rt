@@ -18,8 +18,9 @@ use std::alloc::Global;
 use std::collections::HashMap;
 use std::marker::Model;
 
-/// What blocks change over a ledger that stays as it is: each outpoint that they touch, with what it has after them. It is
-/// seen as the list of these changes.
+/// What blocks change over a ledger that stays as it is (compare Bitcoin Core's `CCoinsViewCache`).
+/// It has each outpoint that the blocks touch, with its value after them, or none if it is spent.
+/// Contracts see the list of these changes.
 #[derive(Drop)]
 pub struct Overlay {
     touched: HashMap<OutPoint, Option<i64>>,
@@ -35,7 +36,8 @@ impl Model for Overlay {
     ghost view = { λ overlay. changes_of overlay.touched.entries };
 }
 
-/// Puts changes over those that are there. There must be room for each of them.
+/// Adds later changes on top: at an outpoint that both have, theirs wins. There must be room for
+/// each of them.
 fn put_over(touched: &mut HashMap<OutPoint, Option<i64>>, changes: &[CoinChange])
     requires { length changes.now ≤ spare touched.old }
     ensures { (u : Unspent) →
@@ -51,7 +53,8 @@ fn put_over(touched: &mut HashMap<OutPoint, Option<i64>>, changes: &[CoinChange]
     }
 }
 
-/// Puts changes under those that are there. There must be room for each of them.
+/// Adds earlier changes below: at an outpoint that both have, the one that is there already wins.
+/// There must be room for each of them.
 fn put_under(touched: &mut HashMap<OutPoint, Option<i64>>, changes: &[CoinChange])
     requires { length changes.now ≤ spare touched.old }
     ensures { (u : Unspent) →
@@ -67,7 +70,7 @@ fn put_under(touched: &mut HashMap<OutPoint, Option<i64>>, changes: &[CoinChange
 }
 
 impl Overlay {
-    /// One that changes nothing.
+    /// An overlay that changes nothing.
     pub fn new(alloc: Global) -> Overlay
         ensures { result ≡ [] }
     {
@@ -76,7 +79,8 @@ impl Overlay {
         }
     }
 
-    /// What the outpoint has after the changes, if they touch it.
+    /// What the outpoint has after the changes: a value, or none if it is spent. None at the
+    /// outside if the changes don't touch it.
     pub(crate) fn change(&self, point: &OutPoint) -> Option<Option<i64>>
         ensures { (u : Unspent) →
             map.get (changed u self.now) point.now ≡ unwrap_or result (map.get u point.now) }
@@ -87,7 +91,7 @@ impl Overlay {
         self.touched.get(point).copied()
     }
 
-    /// What the outpoint has after the changes, over a base.
+    /// The value of the outpoint after the changes, over a base. None if it isn't unspent.
     pub(crate) fn value(&self, base: &Base<'_>, point: &OutPoint) -> Option<i64>
         ensures { result ≡ map.get (changed base.now self.now) point.now }
     {
@@ -97,7 +101,7 @@ impl Overlay {
         }
     }
 
-    /// One change more.
+    /// Adds a change.
     pub(crate) fn note(&mut self, point: OutPoint, value: Option<i64>) -> Result<(), Fault>
         ensures ok { OnOk result
             ((u : Unspent) → changed u self.new ≡ set_at (changed u self.old) point value) }
@@ -107,8 +111,11 @@ impl Overlay {
         Ok(())
     }
 
-    /// Connects a block over the ledger and what this has changed so far, as `Ledger::connect` does over a ledger alone: the
-    /// ledger stays as it is. The undo record is what `take_back` takes.
+    /// Connects a block over the ledger and the changes so far, as `Ledger::connect` does over a
+    /// ledger alone and with the same errors. The ledger stays as it is. After an error the changes
+    /// have the same effect as before.
+    ///
+    /// Returns the undo record for `take_back`.
     pub fn connect(&mut self, ledger: &Ledger, block: &SoundBlock) -> Result<Undo, Fault>
         requires { All (λ tx. length tx.outputs < 2 ^ 32) block.now.txs }
         ensures exact { Tells (spend (changed ledger.now.unspent self.old) block.now.txs)
@@ -117,7 +124,7 @@ impl Overlay {
         ensures undo { IfOk result
             (λ undo. LeadsBack undo block.now.txs (changed ledger.now.unspent self.old)
             (changed ledger.now.unspent self.new)) }
-        // No memory is taken before an outpoint is spent or made.
+        // Nothing is allocated before the block spends or creates an output.
         ensures unpaid { result ≡ Err Memory →
             Touches (changed ledger.now.unspent self.old) block.now.txs }
     {
@@ -128,9 +135,11 @@ impl Overlay {
         Ok(undo)
     }
 
-    /// Puts these changes over its own: takes a block back, of which this is the undo record.
+    /// Disconnects a block, given its undo record: puts the changes of the record on top of its
+    /// own.
     ///
-    /// The only error is `Fault::Memory`, and only where the record has any: then nothing has changed.
+    /// Fails only with `Fault::Memory`, and never for an empty record. The effect is then as
+    /// before.
     pub fn take_back(&mut self, undo: &Undo) -> Result<(), Fault>
         ensures ok { OnOk result
             ((u : Unspent) → changed u self.new ≡ changed (changed u self.old) undo.now) }
@@ -144,9 +153,11 @@ impl Overlay {
         Ok(())
     }
 
-    /// Puts these changes under its own: the ledger below has changed, and they lead from what it is now to what it was.
+    /// Adapts to a ledger that has changed: puts the changes of `undo`, which lead from the new
+    /// ledger back to the old one, below its own.
     ///
-    /// The only error is `Fault::Memory`, and only where the record has any: then nothing has changed.
+    /// Fails only with `Fault::Memory`, and never for an empty record. The effect is then as
+    /// before.
     pub fn rest_on(&mut self, undo: &Undo) -> Result<(), Fault>
         ensures ok { OnOk result
             ((u : Unspent) → changed u self.new ≡ changed (changed u undo.now) self.old) }
@@ -160,7 +171,8 @@ impl Overlay {
         Ok(())
     }
 
-    /// The changes as a record for `Ledger::exchange`. The only error is `Fault::Memory`, and only where there are any.
+    /// The changes, as a record for `Ledger::exchange`. Fails only with `Fault::Memory`, and never
+    /// if there are no changes.
     pub fn into_undo(self, alloc: Global) -> Result<Undo, Fault>
         ensures same { IfOk result (λ undo. undo ≡ self) }
         ensures none { self ≡ [] → IsOk result }

@@ -6,14 +6,15 @@ use cb_tx::OutPoint;
 use std::alloc::Global;
 use std::marker::Model;
 
-/// What an outpoint has: the value of an unspent output in hundred-millionths of a coin, or none.
+/// An outpoint and what it has: the value of an unspent output in satoshis, or none.
 #[derive(Clone, Copy, Debug, PartialEq, Eq)]
 pub struct CoinChange {
     pub point: OutPoint,
     pub value: Option<i64>,
 }
 
-/// What a block's outpoints had before the block. It is seen as the list of them, each of which stands once.
+/// The undo record of a block: what the outpoints that the block touches had before it. Contracts
+/// see the list of these changes. No outpoint occurs twice in it.
 #[derive(Drop)]
 pub struct Undo {
     pub(crate) changes: Vec<CoinChange>,
@@ -33,21 +34,21 @@ impl Model for Undo {
 }
 
 impl Undo {
-    /// How many outpoints it has: as many places are enough for taking its block back.
+    /// How many outpoints it has. Room for as many outputs is enough to disconnect its block.
     pub fn len(&self) -> usize
         ensures { result ≡ length self.now }
     {
         self.changes.len()
     }
 
-    /// Whether it has none.
+    /// Whether it has no outpoints.
     pub fn is_empty(&self) -> bool
         ensures { result ≡ (length self.now == 0) }
     {
         self.changes.is_empty()
     }
 
-    /// An undo record that equals it. The only error is `Fault::Memory`, and only where it has any.
+    /// Returns an equal undo record. Fails only with `Fault::Memory`. An empty record never fails.
     pub fn copy(&self, alloc: Global) -> Result<Undo, Fault>
         ensures same { IfOk result (λ copy. copy ≡ self.now) }
         ensures none { self.now ≡ [] → IsOk result }
