@@ -185,7 +185,7 @@ pub fn sound(alloc: Global, block: Shared<Block>) -> Result<SoundBlock, (Shared<
     ensures ok { IfOk result (λ sound. (sound ≡ block) × IsSoundBlock block) }
     ensures err { IfErr result
         (λ back. (back.0 ≡ block) × ((back.1 ≡ Memory) ⊎ IsUnsound block back.1)) }
-    // Empty and Size64 are told without allocating.
+    // `Fault::Empty` and `Fault::Size64` come before anything is allocated.
     ensures unpaid { (IsUnsound block Empty ⊎ IsUnsound block Size64) →
         IsErrAnd result (λ back. back.1 ≢ Memory) }
     // Any list of byte strings that is sound under this header is this block's, unless hashes

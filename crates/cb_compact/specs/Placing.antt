@@ -1,4 +1,4 @@
--- What comes of a compact block that is placed, and of one that is filled.
+-- The result of rebuilding a compact block, and of filling in what was missing.
 use Rattle.std.specs.Prelude.{◌≡◌, ℕ, ◌<◌, List, [], length}
 use Rattle.cb_tx.specs.declared.tx.Tx.{Tx}
 use Rattle.cb_block.specs.Blocks.{texts}
@@ -12,12 +12,13 @@ use Rattle.cb_compact.specs.declared.partial.Filled.TheVariants.{Sound, Wrong}
 use Rattle.cb_compact.specs.declared.partial.Placed.{Placed}
 use Rattle.cb_compact.specs.declared.partial.Placed.TheVariants.{Missing, Repeat, Whole}
 
--- The whole list is sound under the header, and that block is told; else that it is wrong.
+-- The block is sound under the header and is returned, or it is wrong.
 abbrev pub IsFilled : Header → List Tx → Filled → Type 0
 IsFilled header txs (Sound block) = (block ≡ record { header = header; txs = txs }) × IsSound header.root (texts txs)
 IsFilled header txs Wrong = ¬ IsSound header.root (texts txs)
 
--- A repeated id; what comes of the whole list; or exactly the places at which nothing stands, with all that stands.
+-- Two short ids are equal; or no place is missing, and the block was checked; or exactly the
+-- missing places are returned, with all slots.
 abbrev pub IsPlaced : Header → List ℕ → List Prefilled → List Pair → Placed → Type 0
 IsPlaced header ids prefilled pairs Repeat = ¬ AreDifferent ids
 IsPlaced header ids prefilled pairs (Whole whole) = AreDifferent ids × (missing 0 (slots ids prefilled pairs) ≡ []) × IsFilled header (filled (slots ids prefilled pairs) []) whole

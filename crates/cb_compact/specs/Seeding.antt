@@ -1,12 +1,12 @@
--- What a table of short ids hashes them under, so that a sender who picks ids can't know beforehand which of them will meet there:
--- a hasher that took in the SHA-256 (FIPS 180-4) of all of them.
+-- The seed under which a table hashes short ids: a hasher that was fed the SHA-256 (FIPS 180-4) of
+-- all ids. So a sender who chooses the ids can't know beforehand which of them will collide.
 use Rattle.std.specs.Prelude.{ℕ, List, flat_map}
 use Rattle.std.specs.Int.{w64, to_le_bytes}
 use Rattle.std.specs.Hash.FoldHasher.{initial, write}
 use Rattle.std.specs.declared.hash.FoldHasher.{FoldHasher}
 use Rattle.sha2.specs.Sha256.{sha256}
 
--- the ids one behind the other, each in eight bytes, the lowest first
+-- the ids one after the other, each as eight little-endian bytes
 abbrev pub seed_text : List ℕ → List ℕ
 seed_text ids = flat_map (to_le_bytes w64) ids
 

@@ -1,5 +1,5 @@
--- A block that is rebuilt from a compact one (BIP 152): what stands at each of its places, what is missing, and what comes of
--- the whole list. Pairs are transactions that may serve, each with its short id.
+-- A block that is rebuilt from its compact form (BIP 152): what stands at each place, what is
+-- missing, and the whole list. Pairs are candidates: transactions with their short ids.
 use Rattle.std.specs.Prelude.{◌≡◌, ℕ, ◌+◌, ◌-◌, ⊤, Bool, false, ◌==◌, List, [], ◌∷◌, ◌++◌, map, filter, take, drop, Option, Some, None}
 use Rattle.std.specs.List.{list_any}
 use Rattle.cb_tx.specs.declared.tx.Tx.{Tx}
@@ -7,11 +7,11 @@ use Rattle.cb_block.specs.declared.header.Header.{Header}
 use Rattle.cb_compact.specs.declared.form.Prefilled.{Prefilled}
 use Rattle.cb_compact.specs.declared.named_tx.Pair.{Pair}
 
--- whether an id is among some
+-- whether an id is in a list of ids
 abbrev pub is_among : ℕ → List ℕ → Bool
 is_among id ids = list_any (λ other. other == id) ids
 
--- no id stands twice
+-- no id occurs twice
 abbrev pub AreDifferent : List ℕ → Type 0
 AreDifferent [] = ⊤
 AreDifferent (id ∷ others) = (is_among id others ≡ false) × AreDifferent others
@@ -20,32 +20,34 @@ AreDifferent (id ∷ others) = (is_among id others ≡ false) × AreDifferent ot
 abbrev pub with_id : ℕ → List Pair → List Pair
 with_id id pairs = filter (λ pair. pair.id == id) pairs
 
--- the transaction of the one pair, where there is exactly one
+-- the transaction of the only pair, if there is exactly one
 abbrev pub only_tx : List Pair → Option Tx
 only_tx [] = None
 only_tx (pair ∷ []) = Some pair.tx
 only_tx (pair ∷ other ∷ others) = None
 
--- the transaction that an id stands for: that of the one pair that has it, if exactly one has
+-- the transaction for an id: that of the only pair with this id, if there is exactly one
 abbrev pub choice : List Pair → ℕ → Option Tx
 choice pairs id = only_tx (with_id id pairs)
 
--- The places from `first` on: whole transactions at theirs, which rise, and between them the others in order.
+-- The slots from place `first` on: the prefilled transactions at their rising places, and the
+-- others in order between them.
 abbrev pub laid_out : ℕ → List Prefilled → List (Option Tx) → List (Option Tx)
 laid_out first [] others = others
 laid_out first (given ∷ more) others = take (given.place - first) others ++ Some given.tx ∷ laid_out (given.place + 1) more (drop (given.place - first) others)
 
--- What stands at each place of the block: the transaction that is there whole, or that which the place's id stands for.
+-- The slots of the block: at each place the prefilled transaction, or the one for the id of the
+-- place, or none.
 abbrev pub slots : List ℕ → List Prefilled → List Pair → List (Option Tx)
 slots ids prefilled pairs = laid_out 0 prefilled (map (choice pairs) ids)
 
--- the places from `first` on at which nothing stands
+-- the places, from `first` on, whose slots are empty
 abbrev pub missing : ℕ → List (Option Tx) → List ℕ
 missing first [] = []
 missing first (None ∷ others) = first ∷ missing (first + 1) others
 missing first (Some tx ∷ others) = missing (first + 1) others
 
--- the list with the transactions, in order, at the places at which nothing stands
+-- all transactions: those of the slots, and the given ones in the empty slots, in order
 abbrev pub filled : List (Option Tx) → List Tx → List Tx
 filled [] txs = []
 filled (Some tx ∷ others) txs = tx ∷ filled others txs

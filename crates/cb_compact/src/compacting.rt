@@ -11,7 +11,7 @@ use cb_block::SoundBlock;
 use cb_tx::Tx;
 use std::alloc::Global;
 
-/// Whether the first place that wasn't passed is this one.
+/// Whether `place` is the next of the places: the first that was not passed yet.
 fn is_next(places: &[u64], passed: usize, place: u64) -> bool
     ensures { MatchBool result
         ((passed < length places.now) × (slice_index places.now passed ≡ place))
@@ -20,7 +20,7 @@ fn is_next(places: &[u64], passed: usize, place: u64) -> bool
     passed < places.len() && places[passed] == place
 }
 
-/// The short ids of the txids at all other places, in order.
+/// The short ids of the txids at all places but these, in order.
 fn ids_outside(
     alloc: Global,
     key: (u64, u64),
@@ -44,7 +44,7 @@ fn ids_outside(
     Ok(ids)
 }
 
-/// The transactions at these places, with them.
+/// The transactions at these places as prefilled transactions. They are shared, not copied.
 fn prefilled_at(alloc: Global, txs: &[Shared<Tx>], places: &[u64]) -> Result<Vec<Prefilled>, Fault>
     requires { Rise 0 (length txs.now) places.now }
     ensures places { IfOk result (λ prefilled. places_of prefilled.items ≡ places.now) }
@@ -61,8 +61,11 @@ fn prefilled_at(alloc: Global, txs: &[Shared<Tx>], places: &[u64]) -> Result<Vec
     Ok(prefilled)
 }
 
-/// The compact form of a block under a nonce, in which the transactions at these places are there whole. The only error is
-/// `Fault::Memory`.
+/// Returns the compact form of a block under a nonce (BIP 152). The transactions at `places` are
+/// prefilled; all others have short ids. The places must rise and be below the number of
+/// transactions. Which ones are prefilled is the caller's choice.
+///
+/// Fails only with `Fault::Memory`.
 pub fn compact(
     alloc: Global,
     block: &SoundBlock,

@@ -5,8 +5,10 @@ ghost use Rattle.cb_compact.specs.Differences.{Rise, differences, sums};
 use cb_base::Fault;
 use std::alloc::Global;
 
-/// The differences of indexes that rise: the first index itself, and of each next one the index less the one before, less 1
-/// (BIP 152). The only error is `Fault::Memory`, and no indexes take none.
+/// Returns rising indexes as differences (BIP 152): the first index itself, then each index less
+/// the one before it, less 1.
+///
+/// Fails only with `Fault::Memory`. An empty list never fails.
 pub fn differ(alloc: Global, indexes: &[u64]) -> Result<Vec<u64>, Fault>
     requires { Rise 0 (2 ^ 64) indexes.now }
     ensures exact { IfOk result (λ list. list.items ≡ differences 0 indexes.now) }
@@ -26,7 +28,8 @@ pub fn differ(alloc: Global, indexes: &[u64]) -> Result<Vec<u64>, Fault>
     Ok(list)
 }
 
-/// Whether each index is below the total. It takes no memory.
+/// Checks that each index is below the total, else fails with `Fault::BadIndex`. It allocates
+/// nothing.
 fn check_sums(differences: &[u64], total: u64) -> Result<(), Fault>
     ensures { MatchResult result (λ _. All (λ index. index < total) (sums 0 differences.now))
         (λ fault. (fault ≡ BadIndex) × Any (λ index. total ≤ index) (sums 0 differences.now)) }
@@ -41,10 +44,11 @@ fn check_sums(differences: &[u64], total: u64) -> Result<(), Fault>
     Ok(())
 }
 
-/// The indexes whose differences these are: they rise, and are below the total.
+/// Returns the indexes that these differences stand for (BIP 152). They rise, and each is below the
+/// total.
 ///
-/// `Fault::BadIndex` just where one of them would reach the total, or pass what 64 bits hold. Else `Fault::Memory` may come,
-/// where there is a difference.
+/// Fails with `Fault::BadIndex` exactly if an index is at or above the total, or above 64 bits.
+/// Otherwise it fails only with `Fault::Memory`. An empty list never fails.
 pub fn undiffer(alloc: Global, differences: &[u64], total: u64) -> Result<Vec<u64>, Fault>
     ensures found { IfOk result (λ indexes. (indexes.items ≡ sums 0 differences.now)
         × All (λ index. index < total) (sums 0 differences.now)) }

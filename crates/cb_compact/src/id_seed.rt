@@ -5,11 +5,12 @@ use sha2::{Digest, Sha256};
 use std::hash::{BuildHasher, FoldHasher, Hasher};
 use std::marker::Model;
 
-/// What a table of a compact block's ids hashes them under. It decides how long a look takes, and no answer. It is seen as a
-/// hasher that has taken the seed in.
+/// The seed under which a table hashes the short ids of a compact block. It decides how long a
+/// lookup takes, and no result. Contracts see a hasher that was fed the seed.
 ///
-/// Whoever sends a block picks its ids, and would make all of them meet in a table whose seed was known before. So the seed is
-/// the SHA-256 of all ids: it is another one as soon as one of them is.
+/// The sender of a block chooses its short ids. If it knew the seed beforehand, it could choose ids
+/// that all collide in the table. So the seed is the SHA-256 of all ids: another id makes another
+/// seed.
 #[derive(Clone, Copy)]
 pub struct IdSeed {
     hasher: FoldHasher,
@@ -27,7 +28,7 @@ impl Model for IdSeed {
 }
 
 impl IdSeed {
-    /// The seed for a table of these ids. It takes no memory.
+    /// The seed for a table of these ids. It allocates nothing.
     #[tactic(auto, unfolding(crate::specs::Seeding::seed_of))]
     pub fn of(ids: &[u64]) -> IdSeed
         ensures { result ≡ seed_of ids.now }

@@ -1,4 +1,5 @@
-//! Compact blocks (BIP 152, version 1): short ids, indexes as differences, and blocks rebuilt from what is there.
+//! Compact blocks (BIP 152, version 1): short ids, indexes as differences, and rebuilding a block
+//! from its compact form and the transactions that are at hand.
 #![tactic(auto)]
 
 mod compacting;

@@ -8,7 +8,8 @@ use cb_tx::{Tx, write_tx};
 use std::alloc::{AllocError, Global};
 use std::marker::Model;
 
-/// A shared transaction with its txid, which was found once. It is seen as the transaction.
+/// A shared transaction with its txid, so that it is hashed only once. Contracts see the
+/// transaction.
 #[derive(Drop)]
 pub struct NamedTx {
     txid: Hash256,
@@ -30,8 +31,10 @@ impl Model for NamedTx {
 }
 
 impl NamedTx {
-    /// A transaction, which is hashed here. The text that is hashed is written into one piece of memory, whatever its length.
-    /// The only error is `Fault::Memory`.
+    /// Computes the txid of a transaction. The buffer for the serialisation is one allocation,
+    /// whatever its length.
+    ///
+    /// Fails only with `Fault::Memory`.
     pub fn new(alloc: Global, tx: Shared<Tx>) -> Result<NamedTx, Fault>
         ensures same { IfOk result (λ named. named ≡ tx) }
         ensures memory { IsOkUnless result Memory }
@@ -40,7 +43,7 @@ impl NamedTx {
         Ok(NamedTx { txid, tx })
     }
 
-    /// A transaction whose txid is known. It isn't hashed, and no memory is taken.
+    /// A transaction with its known txid. Nothing is hashed or allocated.
     pub fn known(txid: Hash256, tx: Shared<Tx>) -> NamedTx
         requires { txid ≡ double_hash (tx_text tx) }
         ensures { result ≡ tx }
@@ -74,7 +77,8 @@ impl NamedTx {
 impl Clone for NamedTx {
     ghost is_clone = { λ named clone. clone ≡ named };
 
-    /// The same transaction once more, which takes no memory. It is refused only where a count of owners is full.
+    /// Returns one more owner of the same transaction. It allocates nothing. Fails only if the
+    /// transaction already has 2^63 owners.
     fn clone(&self) -> Result<NamedTx, AllocError>
         ensures { IfOk result (λ clone. clone ≡ self.now) }
     {
@@ -86,7 +90,7 @@ impl Clone for NamedTx {
     }
 }
 
-/// The txid. One piece of memory is taken for the text.
+/// The txid. The buffer for the serialisation is one allocation.
 fn txid_of(alloc: Global, tx: &Tx) -> Result<Hash256, Fault>
     ensures same { IfOk result (λ txid. txid ≡ double_hash (tx_text tx.now)) }
     ensures memory { IsOkUnless result Memory }
@@ -99,7 +103,7 @@ fn txid_of(alloc: Global, tx: &Tx) -> Result<Hash256, Fault>
     Ok(dsha(text.as_slice()))
 }
 
-/// A transaction that may stand in a compact block, with its short id under that block's key.
+/// A candidate for a compact block: a transaction with its short id under that block's key.
 #[derive(Drop)]
 pub struct Pair {
     pub id: u64,

@@ -14,26 +14,30 @@ use cb_tx::Tx;
 use std::alloc::Global;
 use std::marker::Model;
 
-/// What comes of a block all of whose transactions are there.
+/// The result of checking a rebuilt block, in which no transaction is missing.
 #[derive(Drop)]
 pub enum Filled {
-    /// The block, which is sound.
+    /// The block. It is sound.
     Sound(SoundBlock),
-    /// The list isn't sound under the header: a transaction was taken for another with its short id, or the sender was wrong.
+    /// The transactions aren't sound under the header. A candidate had the short id of another
+    /// transaction, or the sender sent a bad block.
     Wrong,
 }
 
-/// What comes of a compact block whose transactions are looked for.
+/// The result of rebuilding a compact block from the transactions that are at hand.
 #[derive(Drop)]
 pub enum Placed {
+    /// No transaction is missing. The block was checked.
     Whole(Filled),
-    /// The places at which no transaction stands, or several could, and what stands at the others.
+    /// The places that are missing: no candidate fits, or several do. The partial block has what is
+    /// there.
     Missing(Vec<u64>, Partial),
-    /// Two places have one short id.
+    /// Two short ids of the compact block are equal.
     Repeat,
 }
 
-/// A block of which some transactions are missing. It is seen as its header and what stands at its places.
+/// A block of which some transactions are missing. Contracts see its header and its slots: for each
+/// place a transaction or none.
 #[derive(Drop)]
 pub struct Partial {
     alloc: Global,
@@ -53,7 +57,7 @@ impl Model for Partial {
     ghost invariant = { λ partial. partial.lacking ≡ length (slotting.missing 0 partial.slots.items) };
 }
 
-/// The transactions of a block in order, and their txids.
+/// The transactions of a block, in order, and their txids.
 #[derive(Drop)]
 struct Listed {
     txs: Vec<Shared<Tx>>,
@@ -61,6 +65,7 @@ struct Listed {
 }
 
 impl Listed {
+    /// Adds a transaction and its txid.
     fn push(&mut self, named: NamedTx) -> Result<(), Fault>
         ensures txs { OnOk result (self.new.txs.items ≡ self.old.txs.items ++ named ∷ []) }
         ensures txids { OnOk result
@@ -74,7 +79,8 @@ impl Listed {
     }
 }
 
-/// The whole list, with these transactions at the places at which nothing stands. Those alone are hashed.
+/// All transactions: those of the slots, and the given ones in the empty slots, in order. Only the
+/// given ones are hashed.
 fn fill_in(
     alloc: Global,
     slots: Vec<Option<NamedTx>>,
@@ -103,7 +109,7 @@ fn fill_in(
     Ok(listed)
 }
 
-/// What comes of a list at which nothing is missing.
+/// Checks the block whose slots are all taken.
 pub(crate) fn whole(
     alloc: Global,
     header: Header,
@@ -117,7 +123,7 @@ pub(crate) fn whole(
     judge(alloc, header, listed)
 }
 
-/// What comes of the whole list under the header.
+/// Checks whether these transactions are sound under the header.
 fn judge(alloc: Global, header: Header, listed: Listed) -> Result<Filled, Fault>
     requires { listed.txids.items ≡ names (texts listed.txs.items) }
     ensures filled { IfOk result (IsFilled header listed.txs.items) }
@@ -156,9 +162,11 @@ impl Partial {
         }
     }
 
-    /// The block with these transactions, in order, at the places that are missing. Each of them is hashed once.
+    /// Puts these transactions, in order, at the missing places and checks the block. Each of them
+    /// is hashed once.
     ///
-    /// `Fault::WrongCount` just where they aren't as many as are missing. Else the only error is `Fault::Memory`.
+    /// Fails with `Fault::WrongCount` exactly if their number is not that of the missing places.
+    /// Otherwise it fails only with `Fault::Memory`. The partial block is used up in any case.
     pub fn fill(self, txs: Vec<Shared<Tx>>) -> Result<Filled, Fault>
         ensures filled { IfOk result (IsFilled self.header (filled self.slots txs.items)) }
         ensures counted { IfOk result (λ _. length txs.items ≡ length (missing 0 self.slots)) }

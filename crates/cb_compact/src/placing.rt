@@ -14,7 +14,8 @@ use cb_base::Fault;
 use cb_block::Header;
 use std::alloc::Global;
 
-/// Whether the first of the prefilled transactions that wasn't passed stands at this place.
+/// Whether the next of the prefilled transactions, the first that was not passed yet, belongs at
+/// this place.
 fn is_given(prefilled: &[Prefilled], passed: usize, place: u64) -> bool
     ensures { MatchBool result
         ((passed < length prefilled.now) × (slice_index (places_of prefilled.now) passed ≡ place))
@@ -23,7 +24,8 @@ fn is_given(prefilled: &[Prefilled], passed: usize, place: u64) -> bool
     passed < prefilled.len() && prefilled[passed].place == place
 }
 
-/// All places in order: the prefilled transactions at theirs, each hashed here, and between them what was found for each id.
+/// The slots of all places, in order: the prefilled transactions at their places, each hashed here,
+/// and between them what was found for each short id.
 fn lay_out(
     alloc: Global,
     prefilled: &[Prefilled],
@@ -52,7 +54,7 @@ fn lay_out(
     Ok(list)
 }
 
-/// The places at which nothing stands.
+/// The places whose slots are empty.
 fn missing_of(alloc: Global, list: &[Option<NamedTx>]) -> Result<Vec<u64>, Fault>
     ensures same { IfOk result (λ places. places.items ≡ missing 0 list.now) }
     ensures memory { IsOkUnless result Memory }
@@ -66,12 +68,15 @@ fn missing_of(alloc: Global, list: &[Option<NamedTx>]) -> Result<Vec<u64>, Fault
     Ok(places)
 }
 
-/// Finds the transactions of a compact block (BIP 152): `prefilled` stand at their places, and the ids, in order, are those of
-/// all other places. Each pair is looked up once.
+/// Rebuilds a block from its compact form (BIP 152). The prefilled transactions stand at their
+/// places; `ids` are the short ids of all other places, in order. `pairs` are the candidates for
+/// these. Each pair is looked up once. The places of the prefilled transactions must rise, and the
+/// block must have at least one transaction.
 ///
-/// `Placed::Repeat` where two ids are equal. A place whose id no pair has, or several have, is missing. Where none is, the whole
-/// list is judged: `Filled::Sound` just where it is sound under the header. The transactions of pairs are neither hashed nor
-/// copied. The only error is `Fault::Memory`.
+/// The result is `Placed::Repeat` if two short ids are equal. A place is missing if no pair has its
+/// id, or several have. If no place is missing, the block is checked: `Filled::Sound` exactly if it
+/// is sound under the header, else `Filled::Wrong`. The transactions of pairs are neither hashed
+/// nor copied. Fails only with `Fault::Memory`.
 pub fn place(
     alloc: Global,
     header: Header,

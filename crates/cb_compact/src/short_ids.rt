@@ -6,7 +6,7 @@ ghost use Rattle.cb_compact.specs.ShortIds.{key_of, short_id_of};
 use cb_base::{Hash256, sha, sip24};
 use cb_block::Header;
 
-/// What is hashed for the key.
+/// The bytes that are hashed for the key: the header's 80 and the nonce's 8.
 fn key_text(header: &Header, nonce: u64) -> [u8; 88]
     ensures { result ≡ header_text header.now ++ to_le_bytes w64 nonce }
 {
@@ -17,8 +17,8 @@ fn key_text(header: &Header, nonce: u64) -> [u8; 88]
     text
 }
 
-/// The key of short ids under a header and a nonce: the first two words of the SHA-256 of the header's 80 bytes and the
-/// nonce's 8 (BIP 152). It takes no memory.
+/// The SipHash key of the short ids (BIP 152): the first two little-endian words of the SHA-256 of
+/// the header's 80 bytes and the nonce's 8. It allocates nothing.
 pub fn key(header: &Header, nonce: u64) -> (u64, u64)
     ensures { result ≡ key_of header.now nonce }
 {
@@ -27,8 +27,8 @@ pub fn key(header: &Header, nonce: u64) -> (u64, u64)
     (u64::from_le_bytes(words[0]), u64::from_le_bytes(words[1]))
 }
 
-/// The short id of a txid under a key: the low six bytes of its SipHash-2-4 (BIP 152), so it is below 2^48. It takes no
-/// memory.
+/// The short id of a txid under a key: the low six bytes of its SipHash-2-4 (BIP 152, version 1).
+/// So it is below 2^48. It allocates nothing.
 pub fn short_id(key: (u64, u64), txid: &Hash256) -> u64
     ensures same { result ≡ short_id_of key txid.now }
     ensures low { result < 2 ^ 48 }

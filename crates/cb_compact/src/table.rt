@@ -12,7 +12,7 @@ use cb_base::Fault;
 use std::alloc::Global;
 use std::collections::HashMap;
 
-/// Which of the pairs have an id.
+/// The candidates that have a certain short id.
 #[derive(Drop)]
 pub enum Found {
     Nobody,
@@ -21,7 +21,7 @@ pub enum Found {
 }
 
 impl Found {
-    /// One more pair has it.
+    /// Notes one more candidate.
     fn add(&mut self, tx: NamedTx)
         ensures { self.new ≡ one_more self.old tx }
     {
@@ -31,7 +31,7 @@ impl Found {
         };
     }
 
-    /// The transaction, where exactly one pair has it.
+    /// The transaction, if there is exactly one candidate.
     pub(crate) fn into_tx(self) -> Option<NamedTx>
         ensures { result ≡ found_tx self }
     {
@@ -42,19 +42,20 @@ impl Found {
     }
 }
 
-/// The place of each of a compact block's ids among them, and what was found for each, in order. So each pair is looked up once.
+/// A table of the short ids of a compact block: the position of each in the list of ids, and what
+/// was found for each, in order. With it, each pair is looked up only once.
 #[derive(Drop)]
 pub(crate) struct Table {
     places: HashMap<u64, usize, IdSeed>,
     found: Vec<Found>,
 }
 
-/// The table of some ids, for which no pair was looked up yet: none where an id stands twice.
+/// The table of some short ids, with nothing found yet. None if an id occurs twice.
 pub(crate) fn table_of(alloc: Global, ids: &[u64]) -> Result<Option<Table>, Fault>
     ensures exact { IfOk result
         (λ table. MatchOption table (¬ AreDifferent ids.now)
         (λ table. AreDifferent ids.now × IsTable ids.now [] table)) }
-    // No answer tells what the ids are hashed under.
+    // The ids are hashed under the seed of all of them. No result shows it.
     ensures seed { IfOk result
         (λ table. MatchOption table ⊤ (λ table. hasher_of table.places ≡ seed_of ids.now)) }
     ensures memory { IsOkUnless result Memory }
@@ -71,7 +72,7 @@ pub(crate) fn table_of(alloc: Global, ids: &[u64]) -> Result<Option<Table>, Faul
 }
 
 impl Table {
-    /// One pair more.
+    /// Looks up one pair.
     fn add(&mut self, pair: Pair)
         ensures places { self.new.places.entries ≡ self.old.places.entries }
         ensures found { self.new.found.items
@@ -86,7 +87,7 @@ impl Table {
         }
     }
 
-    /// What the pairs have for each id, in order: each of them is looked up.
+    /// Looks up all pairs. Returns what was found for each short id, in order.
     pub(crate) fn found_among(self, pairs: Vec<Pair>) -> Vec<Found>
         ensures found { (ids : List ℕ) → AreDifferent ids → IsTable ids [] self →
             result.items ≡ all_found ids pairs.items }

@@ -60,7 +60,7 @@ fn places_for(changes: usize, more: usize) -> Result<usize, Fault>
 impl Ledger {
     /// Sets each outpoint of an undo record to its value there, and leaves in the record what it
     /// had before. A second exchange with the record reverts the first. The ledger must have room
-    /// for as many outputs as the record has outpoints (`reserve`). It never fails.
+    /// for as many outputs as the record has outpoints (`reserve`).
     pub fn exchange(&mut self, undo: &mut Undo)
         requires { length undo.old ≤ self.old.room }
         ensures after { self.new.unspent ≡ changed self.old.unspent undo.old }
