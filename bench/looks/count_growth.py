@@ -8,11 +8,15 @@ copy meets as many growths of as many bytes for the one as for the other, so tha
 
 import sys
 import tempfile
+from pathlib import Path
 
-from bench import block_of, built, hash_twice, some_name, transaction, usage
-from calls import Block, Tx
-from chain import GENESIS, copies, record
-from refuse_growth import Growths, build, run
+if not __package__:  # called as a file
+    sys.path.insert(0, str(Path(__file__).resolve().parents[2]))
+
+from bench.figures.chain import GENESIS, copies, record
+from bench.figures.commands import block_of, built, hash_twice, some_name, transaction, usage
+from bench.looks.chain_calls import Block, Tx
+from bench.looks.refuse_growth import Growths, build, run
 
 SMALL, LARGE = 60, 60_000
 # How many blocks the chain has, how many transactions the block has, and how many copies are made.

@@ -6,10 +6,10 @@ A message is its name and its fields: numbers, bytes, lists of entries (type, ha
 import struct
 from types import SimpleNamespace
 
-from bench import compact_size, hash_twice
-from calls import Block, Header
-from fuzz import Fault, after, after_tx, compact_at, count_at, envelope
-from plain_hall import AnyTx
+from bench.figures.commands import compact_size, hash_twice
+from bench.looks.chain_calls import Block, Header
+from bench.looks.fuzz import Fault, after, after_tx, compact_at, count_at, envelope
+from bench.models.plain_hall import AnyTx
 
 MOST_ENTRIES, MOST_HEADERS, MOST_LOCATOR, MOST_AGENT = 50_000, 2_000, 101, 256
 MOST_TXS = 16_666

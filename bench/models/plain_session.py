@@ -4,13 +4,18 @@ It was written apart from the program. Items come whole; each is processed to it
 """
 
 import struct
+import sys
 from dataclasses import dataclass, field
+from pathlib import Path
 
-import plain_wire as wire
-from bench import merkle_root
-from chain import GENESIS
-from fuzz import Fault, envelope
-from plain_hall import ANNOUNCED
+if not __package__:  # called as a file
+    sys.path.insert(0, str(Path(__file__).resolve().parents[2]))
+
+from bench.figures.chain import GENESIS
+from bench.figures.commands import merkle_root
+from bench.looks.fuzz import Fault, envelope
+from bench.models import plain_wire as wire
+from bench.models.plain_hall import ANNOUNCED
 
 MOST_FLIGHT, MOST_WANTED = 16, 2_000
 TX, BLOCK, COMPACT = 1, 2, 4
@@ -238,8 +243,8 @@ def good(name, data):
 
 def serve(reader, writer, session):
     """Serves a connection from its bytes, and returns why it ended."""
-    from fuzz import MAGIC
-    from bench import hash_twice
+    from bench.looks.fuzz import MAGIC
+    from bench.figures.commands import hash_twice
     writer.write(session.opening())
     stream = b""
     try:
@@ -266,7 +271,5 @@ def serve(reader, writer, session):
 
 
 if __name__ == "__main__":
-    import sys
-
-    from plain_hall import Shared
+    from bench.models.plain_hall import Shared
     print("closed", serve(sys.stdin.buffer, sys.stdout.buffer, PlainSession(Settings(), Shared())), file=sys.stderr)

@@ -2,7 +2,7 @@
 """Rebuilds generated compact blocks by the proved program, and compares what it tells with a plain reader in Python.
 
 Without words 2,000 compact blocks from seed 1, in some seconds. It needs the built program crates/bench_compact/out/bench_compact (as
-./build bench_compact leaves it) and python3. The plain reader (bench/plain_compact.py) was written apart from the program, from BIP 152
+./build bench_compact leaves it) and python3. The plain reader (bench/models/plain_compact.py) was written apart from the program, from BIP 152
 and the paper on SipHash; it looks through all pairs for each id. Worked cases come first, and then compact blocks of a few transactions
 with pairs in any order, doubled, tripled, of other ids and of other transactions, repeated ids, and transactions handed in for what is
 missing. With `--store` nothing is rebuilt: the worked cases and some compact blocks are written to crates/bench_compact/stdin, and what
@@ -15,10 +15,14 @@ import struct
 import subprocess
 import sys
 from collections import Counter
+from pathlib import Path
 
-from bench import ROOT, block_of, built, hash_twice, some_name, transaction, usage, write_stored_run
-from chain import record
-from plain_compact import differences, indexes, judged, key_of, missing, short_id, slots
+if not __package__:  # called as a file
+    sys.path.insert(0, str(Path(__file__).resolve().parents[2]))
+
+from bench.figures.chain import record
+from bench.figures.commands import ROOT, block_of, built, hash_twice, some_name, transaction, usage, write_stored_run
+from bench.models.plain_compact import differences, indexes, judged, key_of, missing, short_id, slots
 
 WORD = (1 << 64) - 1
 # The network's first block, which has one transaction.

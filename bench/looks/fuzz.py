@@ -13,8 +13,12 @@ import random
 import struct
 import subprocess
 import sys
+from pathlib import Path
 
-from bench import built, usage
+if not __package__:  # called as a file
+    sys.path.insert(0, str(Path(__file__).resolve().parents[2]))
+
+from bench.figures.commands import built, usage
 
 MAGIC = bytes.fromhex("fabfb5da")
 NAMES = {1: "Memory", 2: "Truncated", 3: "NotShortest", 4: "TooMany", 9: "Empty", 12: "BadMagic", 13: "Oversize", 14: "Trailing"}

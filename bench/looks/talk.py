@@ -4,20 +4,23 @@
 It needs the built program (crates/cbrelay/out/cbrelay, as ./build leaves it) and python3, and takes some seconds. The client
 makes its blocks for the regression test network by itself. It tells the node their headers, gives what the node asks for, asks
 for the headers from the first block on, and for the blocks of these, and compares. With --plain it talks to the plain session
-in Python (bench/plain_session.py) in place of the program.
+in Python (bench/models/plain_session.py) in place of the program.
 """
 
 import struct
 import subprocess
 import sys
-
-import plain_wire as wire
-from bench import built, hash_twice, usage
-from chain import GENESIS
-from fuzz import MAGIC, envelope
 from pathlib import Path
-from plain_hall import NULL_POINT, AnyTx, MinedBlock
-from plain_session import Settings
+
+if not __package__:  # called as a file
+    sys.path.insert(0, str(Path(__file__).resolve().parents[2]))
+
+from bench.figures.chain import GENESIS
+from bench.figures.commands import built, hash_twice, usage
+from bench.looks.fuzz import MAGIC, envelope
+from bench.models import plain_wire as wire
+from bench.models.plain_hall import NULL_POINT, AnyTx, MinedBlock
+from bench.models.plain_session import Settings
 
 BLOCKS, MARK = 100, 9
 # The client's own nonce.
@@ -121,8 +124,8 @@ def main():
     words = sys.argv[1:]
     if words not in ([], ["--plain"]):
         return usage(__doc__)
-    here = Path(__file__).resolve().parent
-    command = [sys.executable, here / "plain_session.py"] if words else [built(None, "cbrelay"), "serve"]
+    models = Path(__file__).resolve().parents[1] / "models"
+    command = [sys.executable, models / "plain_session.py"] if words else [built(None, "cbrelay"), "serve"]
     client, blocks = Client(command), mined(BLOCKS)
     try:
         client.shake_hands()

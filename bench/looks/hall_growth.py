@@ -12,14 +12,18 @@ whether anything changed: each run has to end as with ample memory, or with stat
 import struct
 import sys
 import tempfile
+from pathlib import Path
 
-from bench import built, usage
-from calls import Block, Tx
-from chain import GENESIS, record
-from hall_calls import Play, question_text, repeated
-from plain_compact import key_of, short_id
-from plain_hall import NULL_POINT, AnyTx, paying
-from refuse_growth import Growths, build, in_turn, run
+if not __package__:  # called as a file
+    sys.path.insert(0, str(Path(__file__).resolve().parents[2]))
+
+from bench.figures.chain import GENESIS, record
+from bench.figures.commands import built, usage
+from bench.looks.chain_calls import Block, Tx
+from bench.looks.hall_calls import Play, question_text, repeated
+from bench.looks.refuse_growth import Growths, build, in_turn, run
+from bench.models.plain_compact import key_of, short_id
+from bench.models.plain_hall import NULL_POINT, AnyTx, paying
 
 SMALL, LARGE, REPEATS = 200, 900_000, 10
 # How many transactions a pool has that is matched with, and how many short ids are looked for.

@@ -11,7 +11,11 @@ import subprocess
 import sys
 from pathlib import Path
 
-PROGRAM = Path(__file__).resolve().parent.parent / "crates/bench_crew/out/bench_crew"
+if not __package__:  # called as a file
+    sys.path.insert(0, str(Path(__file__).resolve().parents[2]))
+
+
+PROGRAM = Path(__file__).resolve().parents[2] / "crates/bench_crew/out/bench_crew"
 RUNS = 3
 PEERS, CAPACITY, HANDLERS = 64, 256, (1, 2, 4)
 # What an item costs, and how many of them each reader puts.

@@ -12,9 +12,13 @@ import struct
 import subprocess
 import sys
 import tempfile
+from pathlib import Path
 from typing import NamedTuple
 
-from bench import RUNS, adopt, built, compact_size, ended, hash_twice, in_turns, merkle_root, usage
+if not __package__:  # called as a file
+    sys.path.insert(0, str(Path(__file__).resolve().parents[2]))
+
+from bench.figures.commands import RUNS, adopt, built, compact_size, ended, hash_twice, in_turns, merkle_root, usage
 
 GENESIS = bytes.fromhex("06226e46111a0b59caaf126043eb5bbf28c34f3a5e332a1fc7b2b73cf188910f")
 TARGET = bytes(29) + bytes.fromhex("ffff7f")

@@ -14,9 +14,13 @@ import struct
 import subprocess
 import sys
 from collections import Counter
+from pathlib import Path
 
-from bench import built, compact_size, hash_twice, merkle_root, usage
-from chain import GENESIS, TARGET, record
+if not __package__:  # called as a file
+    sys.path.insert(0, str(Path(__file__).resolve().parents[2]))
+
+from bench.figures.chain import GENESIS, TARGET, record
+from bench.figures.commands import built, compact_size, hash_twice, merkle_root, usage
 
 # So many calls go to one chain; after so many of them all that came is compared.
 CALLS, SWEEP = 400, 50

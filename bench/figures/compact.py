@@ -14,12 +14,16 @@ import struct
 import subprocess
 import sys
 import tempfile
+from pathlib import Path
 
-from bench import HASHED, OPENSSL, RUNS, adopt, block_of, built, in_turns, some_name, transaction, usage, usual_block
-from chain import Play, record, seconds_of
-from count_growth import Sized
-from hall import Runs
-from refuse_growth import Growths, build, run
+if not __package__:  # called as a file
+    sys.path.insert(0, str(Path(__file__).resolve().parents[2]))
+
+from bench.figures.chain import Play, record, seconds_of
+from bench.figures.commands import HASHED, OPENSSL, RUNS, adopt, block_of, built, in_turns, some_name, transaction, usage, usual_block
+from bench.figures.hall import Runs
+from bench.looks.count_growth import Sized
+from bench.looks.refuse_growth import Growths, build, run
 
 # How many ids a compact block has at the most, and how many pairs there are: few, and many.
 IDS, FEW, MANY = 16_666, 10_000, 100_000

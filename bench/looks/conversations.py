@@ -2,7 +2,7 @@
 """Plays generated conversations through `cbrelay serve`, and compares what it sends with a plain session in Python.
 
 Without words 10,000 conversations from seed 1, in some minutes. It needs the built program (crates/cbrelay/out/cbrelay, as ./build
-leaves it) and python3. The plain session (bench/plain_session.py) was written apart from the program, from the rules in
+leaves it) and python3. The plain session (bench/models/plain_session.py) was written apart from the program, from the rules in
 docs/PROTOCOL.md. Most conversations shake hands, in all orders; then come headers, blocks and transactions of a few branches,
 faulty ones among them, what a peer asks, and payloads that can't be read.
 """
@@ -15,14 +15,18 @@ import subprocess
 import sys
 from collections import Counter
 from concurrent.futures import ThreadPoolExecutor
+from pathlib import Path
 
-import plain_wire as wire
-from bench import built, usage
-from calls import Block, Tx, header_text
-from chain import GENESIS
-from fuzz import envelope, random_bytes
-from plain_hall import Shared, paying
-from plain_session import PlainSession, Settings, serve
+if not __package__:  # called as a file
+    sys.path.insert(0, str(Path(__file__).resolve().parents[2]))
+
+from bench.figures.chain import GENESIS
+from bench.figures.commands import built, usage
+from bench.looks.chain_calls import Block, Tx, header_text
+from bench.looks.fuzz import envelope, random_bytes
+from bench.models import plain_wire as wire
+from bench.models.plain_hall import Shared, paying
+from bench.models.plain_session import PlainSession, Settings, serve
 
 CONVERSATIONS, LONGEST, BLOCKS = 10_000, 40, 24
 # What many conversations have to meet: how sessions end, and what the plain session sends.

@@ -12,14 +12,18 @@ import struct
 import subprocess
 import sys
 import tempfile
+from pathlib import Path
 
-from bench import HASHED, OPENSSL, RUNS, adopt, built, ended, in_turns, usage
-from calls import NOBODY, Block, Tx
-from chain import GENESIS, Play, record, seconds_of
-from chain import Runs as ChainRuns
-from hall_calls import question_text, repeated
-from hall_growth import asked, sized
-from plain_hall import paying
+if not __package__:  # called as a file
+    sys.path.insert(0, str(Path(__file__).resolve().parents[2]))
+
+from bench.figures.chain import GENESIS, Play, record, seconds_of
+from bench.figures.chain import Runs as ChainRuns
+from bench.figures.commands import HASHED, OPENSSL, RUNS, adopt, built, ended, in_turns, usage
+from bench.looks.chain_calls import NOBODY, Block, Tx
+from bench.looks.hall_calls import question_text, repeated
+from bench.looks.hall_growth import asked, sized
+from bench.models.plain_hall import paying
 
 # How long journals are, and how many transactions wait in the pool and stand in a block.
 LOW, HIGH = 1_000, 900_000

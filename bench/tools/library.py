@@ -1,5 +1,5 @@
 #!/usr/bin/python3
-"""Talks to a node that listens on a port of this machine, by a Bitcoin client library: bench/library.py PORT
+"""Talks to a node that listens on a port of this machine, by a Bitcoin client library: bench/tools/library.py PORT
 
 It needs Debian's package python3-bitcoinlib, which knows nothing of this project. The library shakes hands, sends a ping, tells of
 a block that it mines, is asked for headers, gives the block, and asks for it back. What it doesn't know (`sendheaders`, `sendcmpct`) it

@@ -12,12 +12,16 @@ import os
 import struct
 import sys
 import tempfile
+from pathlib import Path
 
-import plain_wire as wire
-from bench import HASHED, OPENSSL, adopt, built, ended, envelope, in_turns, pings, unknown, usage
-from chain import GENESIS
-from plain_hall import NULL_POINT, AnyTx, MinedBlock
-from plain_session import Settings
+if not __package__:  # called as a file
+    sys.path.insert(0, str(Path(__file__).resolve().parents[2]))
+
+from bench.figures.chain import GENESIS
+from bench.figures.commands import HASHED, OPENSSL, adopt, built, ended, envelope, in_turns, pings, unknown, usage
+from bench.models import plain_wire as wire
+from bench.models.plain_hall import NULL_POINT, AnyTx, MinedBlock
+from bench.models.plain_session import Settings
 
 HEADERS, A_MESSAGE = 100_000, 2_000
 # Blocks of so many transactions of 250 bytes, and how many of them go in; how often these are asked for.

@@ -19,9 +19,14 @@ import struct
 import subprocess
 import sys
 import tempfile
+from pathlib import Path
 from typing import NamedTuple
 
-ROOT = os.path.dirname(os.path.dirname(os.path.abspath(__file__)))
+if not __package__:  # called as a file
+    sys.path.insert(0, str(Path(__file__).resolve().parents[2]))
+
+
+ROOT = str(Path(__file__).resolve().parents[2])
 MAGIC = bytes.fromhex("fabfb5da")
 # How often what is compared takes turns: as often as these seconds allow, of the table and of all else, within these bounds.
 TABLE_SECONDS, SECONDS = 16, 3

@@ -12,14 +12,18 @@ import struct
 import subprocess
 import sys
 import tempfile
+from pathlib import Path
 from typing import NamedTuple
 
-from bench import block, pings, unknown, usage
-from calls import told_play
-from chain import careful_play, careful_turns, copying_play
-from compact_cases import rebuilding_play
+if not __package__:  # called as a file
+    sys.path.insert(0, str(Path(__file__).resolve().parents[2]))
 
-ROOT = os.path.dirname(os.path.dirname(os.path.abspath(__file__)))
+from bench.figures.chain import careful_play, careful_turns, copying_play
+from bench.figures.commands import block, pings, unknown, usage
+from bench.looks.chain_calls import told_play
+from bench.looks.compact_cases import rebuilding_play
+
+ROOT = str(Path(__file__).resolve().parents[2])
 
 COUNTER = r"""
 #include <stddef.h>

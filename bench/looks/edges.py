@@ -14,8 +14,12 @@ import subprocess
 import sys
 import tempfile
 import time
+from pathlib import Path
 
-from bench import built, envelope, usage
+if not __package__:  # called as a file
+    sys.path.insert(0, str(Path(__file__).resolve().parents[2]))
+
+from bench.figures.commands import built, envelope, usage
 
 SECONDS = 60
 VERACK = envelope(b"verack", b"")

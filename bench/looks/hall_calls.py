@@ -2,7 +2,7 @@
 """Plays generated calls into the proved hall, and compares what it answers with a plain hall in Python.
 
 Without words 2,000 calls from seed 1, in some seconds. It needs the built program crates/bench_hall/out/bench_hall (as
-./build bench_hall leaves it) and python3. The plain hall (bench/plain_hall.py) was written apart from the program, from the rules in
+./build bench_hall leaves it) and python3. The plain hall (bench/models/plain_hall.py) was written apart from the program, from the rules in
 docs/PROTOCOL.md. Worked rows come first, and then calls of all kinds: headers and blocks of branches that overtake each other,
 faulty ones, transactions, what peers ask, kicks and openings. With `--store` nothing is played: the examples and a few hundred calls
 are written to crates/bench_hall/stdin, and what the plain hall answers to crates/bench_hall/stdout.
@@ -13,12 +13,16 @@ import struct
 import subprocess
 import sys
 from collections import Counter
+from pathlib import Path
 
-from bench import built, usage, write_stored_run
-from calls import MOST_MONEY, NOBODY, Block, Drawing, Header, Tx, header_text
-from chain import GENESIS, record
-from plain_compact import differences, key_of, short_id
-from plain_hall import NULL_POINT, AnyTx, PlainHall, paying
+if not __package__:  # called as a file
+    sys.path.insert(0, str(Path(__file__).resolve().parents[2]))
+
+from bench.figures.chain import GENESIS, record
+from bench.figures.commands import built, usage, write_stored_run
+from bench.looks.chain_calls import MOST_MONEY, NOBODY, Block, Drawing, Header, Tx, header_text
+from bench.models.plain_compact import differences, key_of, short_id
+from bench.models.plain_hall import NULL_POINT, AnyTx, PlainHall, paying
 
 # So many calls go to one hall. So many are stored, from this seed, whose blocks aren't longer than this.
 CALLS, STORED, STORED_SEED, SHORT = 400, 300, 69, 1_500

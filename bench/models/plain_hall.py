@@ -9,10 +9,10 @@ import struct
 from collections import Counter
 from types import SimpleNamespace
 
-from bench import compact_size, hash_twice, merkle_root
-from calls import MOST_MONEY, Block, Header, Plain, Tx, connected, has_work, line
-from chain import GENESIS
-from plain_compact import indexes, key_of, short_id
+from bench.figures.commands import compact_size, hash_twice, merkle_root
+from bench.looks.chain_calls import MOST_MONEY, Block, Header, Plain, Tx, connected, has_work, line
+from bench.figures.chain import GENESIS
+from bench.models.plain_compact import indexes, key_of, short_id
 
 NULL_POINT = (bytes(32), 0xFFFF_FFFF)
 PEERS, GENESIS_SIZE, GENESIS_TIME = 64, 285, 1_296_688_602

@@ -1,5 +1,5 @@
 #!/usr/bin/env python3
-"""Runs a crew in threads again and again, and looks at every list: python3 bench/stress_crew.py [RUNS]
+"""Runs a crew in threads again and again, and looks at every list: python3 bench/tools/stress_crew.py [RUNS]
 
 It needs the built program crates/bench_crew/out/bench_crew, as ./build bench_crew leaves it there. Each run serves 64 peers by 16
 handlers, whose readers end and open again 20 times, 100,800 items in all, once for each capacity of the inboxes: 1, 2 and 1,024.
@@ -12,7 +12,11 @@ import sys
 import time
 from pathlib import Path
 
-PROGRAM = Path(__file__).resolve().parent.parent / "crates/bench_crew/out/bench_crew"
+if not __package__:  # called as a file
+    sys.path.insert(0, str(Path(__file__).resolve().parents[2]))
+
+
+PROGRAM = Path(__file__).resolve().parents[2] / "crates/bench_crew/out/bench_crew"
 RUNS = 50
 PEERS, HANDLERS, CAPACITIES = 64, 16, (1, 2, 1_024)
 # The first connection and 20 more, of so many items each.

@@ -1,0 +1,1 @@
+"""Scripts that measure time and memory. docs/BENCHMARKS.md has their figures."""
