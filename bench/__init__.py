@@ -1,1 +1,2 @@
-"""Python beside the node: figures measure, models answer as the rules say, looks compare, and tools are what they share."""
+"""Scripts and models beside the proved programs: figures measure, models answer as the rules say, looks compare the two, and tools are
+what these share. docs/TESTING.md has what is where."""

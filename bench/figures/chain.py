@@ -1,5 +1,6 @@
 #!/usr/bin/env python3
-"""Measures the chain: headers and blocks accepted per second at two heights, questions, reorganisations, and memory.
+"""Measures the chain: headers and blocks accepted per second at two heights, questions, reorganisations, and memory:
+python3 bench/figures/chain.py [PROGRAM] [--before PROGRAM]
 
 It needs the built program crates/bench_chain/out/bench_chain (as ./build bench_chain leaves it there) and python3, and takes
 some two minutes. With `--before` it tells what faults, side branches and blocks at the tip cost beside a program of before.
@@ -13,15 +14,18 @@ import subprocess
 import sys
 import tempfile
 from pathlib import Path
-from typing import NamedTuple
 
 if not __package__:  # called as a file
     sys.path.insert(0, str(Path(__file__).resolve().parents[2]))
 
-from bench.figures.commands import RUNS, adopt, built, compact_size, ended, hash_twice, in_turns, merkle_root, usage
+from bench.tools.branches import Made, Marks, branch, faulty_on
+from bench.tools.command_line import usage
+from bench.tools.network import GENESIS, header_text
+from bench.tools.programs import built
+from bench.tools.records import as_records, record
+from bench.tools.timed_plays import Play, Runs, behind, seconds_of
+from bench.tools.turns import RUNS, adopt, ended, in_turns
 
-GENESIS = bytes.fromhex("06226e46111a0b59caaf126043eb5bbf28c34f3a5e332a1fc7b2b73cf188910f")
-TARGET = bytes(29) + bytes.fromhex("ffff7f")
 LOW, HIGH = 100, 10_000
 # Each question, and how often it is asked.
 QUESTIONS = [("tip and tip_height", 100_000_000), ("height", 5_000_000), ("has", 5_000_000), ("block", 5_000_000), ("locator", 2_000_000)]
@@ -40,148 +44,12 @@ SMALL_TURNS = (500, 8_000)
 EXTENDED, BEHIND, EXTENDED_TURNS = 20_000, 500, 3 * RUNS
 
 
-def header(prev, root):
-    """A header with the work that the regression test network asks for."""
-    for nonce in range(1_000):
-        text = struct.pack("<i", 1) + prev + root + struct.pack("<III", 0, 0x207F_FFFF, nonce)
-        if hash_twice(text)[::-1] <= TARGET[::-1]:
-            return text
-    raise ValueError("no nonce")
-
-
-def coinbase(mark):
-    """A transaction that makes one output of 50, told from others by its mark."""
-    made = bytes(32) + b"\xff" * 4 + b"\x04" + struct.pack("<I", mark) + b"\xff" * 4
-    return struct.pack("<i", 1) + b"\x01" + made + b"\x01" + struct.pack("<q", 50) + b"\x01\x51" + bytes(4)
-
-
-def spending(txid, mark):
-    """A transaction that spends the first output of another."""
-    spent = txid + bytes(4) + b"\x04" + struct.pack("<I", mark) + b"\xff" * 4
-    return struct.pack("<i", 1) + b"\x01" + spent + b"\x01" + struct.pack("<q", 50) + b"\x01\x51" + bytes(4)
-
-
-class Made:
-    """A block that was made: its bytes, its hash, and the name of its coinbase."""
-
-    def __init__(self, prev, mark, spent=()):
-        first = coinbase(mark)
-        texts = [first] + [spending(txid, mark) for txid in spent]
-        names = [hash_twice(text) for text in texts]
-        self.header = header(prev, merkle_root(list(names)))
-        self.text = self.header + compact_size(len(texts)) + b"".join(texts)
-        self.name = hash_twice(self.header)
-        self.made = names[0]
-
-
-def record(kind, payload=b""):
-    return kind + struct.pack("<I", len(payload)) + payload
-
-
 def question(number, count):
     return record(b"q", struct.pack("<BI", number, count))
 
 
-def copies(original, count, block=b""):
-    """So many copies: of the chain for 0, of this block for 1, of a message that holds it for 2."""
-    return record(b"y", struct.pack("<BI", original, count) + block)
-
-
-class Marks:
-    """Numbers, each given once."""
-
-    def __init__(self):
-        self.next = 0
-
-    def take(self):
-        self.next += 1
-        return self.next
-
-
-def branch(marks, prev, count):
-    """Blocks one on another, each of a coinbase."""
-    blocks = []
-    for _ in range(count):
-        blocks.append(Made(prev, marks.take()))
-        prev = blocks[-1].name
-    return blocks
-
-
-def faulty_on(marks, prev):
-    """A block that can't be connected."""
-    return Made(prev, marks.take(), [hash_twice(b"unknown")])
-
-
-def as_records(blocks, kind=b"b"):
-    return b"".join(record(kind, block.text) for block in blocks)
-
-
-def careful_play():
-    """A block that extends the tip and spends, and a reorganisation of three blocks for two, each beside a copy."""
-    marks = Marks()
-    low = branch(marks, GENESIS, 2)
-    top = Made(low[-1].name, marks.take(), [low[0].made])
-    second = Made(top.name, marks.take())
-    other = branch(marks, low[-1].name, 2)
-    last = Made(other[-1].name, marks.take(), [low[1].made, other[0].made])
-    after = header(last.name, bytes(32))
-    return (as_records(low) + record(b"c") + as_records([top, second]) + as_records(other) + as_records([last])
-            + record(b"h", after))
-
-
-def careful_turns():
-    """Faulty blocks on a side branch's ends, the tip's extension between them, and turns to the branch and back, each beside a copy."""
-    marks = Marks()
-    main = branch(marks, GENESIS, 2)
-    side = branch(marks, GENESIS, 1)
-    side.append(Made(side[-1].name, marks.take(), [side[0].made]))
-    first = faulty_on(marks, side[-1].name)
-    main.append(Made(main[-1].name, marks.take(), [main[0].made]))
-    ends = [Made(side[-1].name, marks.take(), [side[1].made]), Made(side[-1].name, marks.take())]
-    tried = [faulty_on(marks, end.name) for end in ends]
-    turn = Made(ends[0].name, marks.take(), [ends[0].made])
-    back = branch(marks, main[-1].name, 1)
-    back.append(Made(back[-1].name, marks.take(), [main[2].made, back[0].made]))
-    again = branch(marks, turn.name, 2)
-    last = faulty_on(marks, again[0].name)
-    careful = [first, main[2], *ends, *tried, turn, *back, again[0], last, again[1]]
-    return as_records(main[:2] + side) + record(b"c") + as_records(careful)
-
-
-def copying_play():
-    """Copies of a chain of three blocks, of a block that spends, and of a message that holds it."""
-    marks = Marks()
-    blocks = branch(marks, GENESIS, 2)
-    blocks.append(Made(blocks[-1].name, marks.take(), [blocks[0].made]))
-    return as_records(blocks) + copies(0, 1) + b"".join(copies(original, 1, blocks[-1].text) for original in (1, 2))
-
-
-class Play(NamedTuple):
-    """Records, others whose time is taken off, and how many of each are refused."""
-
-    whole: bytes
-    ground: bytes
-    refused: int = 0
-    refused_below: int = 0
-
-
-def behind(ground, records, refused=0, refused_below=0):
-    """Records behind others whose time is taken off, and how many of each are refused."""
-    return Play(ground + records, ground, refused_below + refused, refused_below)
-
-
-class Runs:
-    """Runs of the program."""
-
-    def __init__(self, program, folder):
-        self.program = program
-        self.folder = folder
-
-    def write(self, name, data):
-        path = os.path.join(self.folder, name)
-        with open(path, "wb") as file:
-            file.write(data)
-        return path
+class ChainRuns(Runs):
+    """Runs of the program, which tells at its end how many blocks and headers it refused."""
 
     def once(self, path, refused):
         """The processor time of one run that refuses so many."""
@@ -195,24 +63,12 @@ class Runs:
             sys.exit(f"the program ended with status {process.returncode}, and told {told!r}")
         return used.ru_utime + used.ru_stime
 
-    def seconds(self, plays, turns=RUNS):
-        """What each play takes beyond its ground."""
-        return seconds_of([(self, play) for play in plays], turns)
-
     def memory(self, data):
         """The memory of a run at its greatest, in bytes."""
         path = self.write("whole", data)
         ended([self.program], path, 0)
         [cost] = in_turns(([self.program], path))
         return cost.memory
-
-
-def seconds_of(plays, turns=RUNS):
-    """What each play takes beyond its ground, by the program that is named with it."""
-    paths = [(runs.write(f"whole{i}", play.whole), runs.write(f"ground{i}", play.ground)) for i, (runs, play) in enumerate(plays)]
-    took = [[(runs.once(whole, play.refused), runs.once(ground, play.refused_below))
-             for (runs, play), (whole, ground) in zip(plays, paths)] for _ in range(turns)]
-    return [min(whole for whole, _ in times) - min(ground for _, ground in times) for times in zip(*took)]
 
 
 class Ground:
@@ -240,7 +96,7 @@ class AtBoth:
 
 def headers(ground):
     """Headers on the tip, each beside the others."""
-    return b"".join(record(b"h", header(ground.tip, struct.pack("<I", mark) + bytes(28))) for mark in range(HEADERS))
+    return b"".join(record(b"h", header_text(ground.tip, struct.pack("<I", mark) + bytes(28))) for mark in range(HEADERS))
 
 
 def accepting(runs, both):
@@ -275,7 +131,7 @@ def faults(count):
     main = branch(marks, GENESIS, LOW)
     faulty = [faulty_on(marks, main[-2].name) for _ in range(FAULTS)]
     triggers = as_records([Made(block.name, marks.take()) for block in faulty])
-    later = [record(b"h", header(main[-1].name, struct.pack("<I", mark) + bytes(28))) for mark in range(count)]
+    later = [record(b"h", header_text(main[-1].name, struct.pack("<I", mark) + bytes(28))) for mark in range(count)]
     return behind(as_records(main + faulty) + b"".join(later), triggers, FAULTS)
 
 
@@ -430,8 +286,8 @@ def main():
     before = [built(words.before, "bench_chain")] if words.before else []
     adopt()
     with tempfile.TemporaryDirectory() as folder:
-        runs = Runs(program, folder)
-        beside = Beside(runs, [Runs(other, folder) for other in before])
+        runs = ChainRuns(program, folder)
+        beside = Beside(runs, [ChainRuns(other, folder) for other in before])
         beside.tell_faults()
         beside.tell_turns()
         both = AtBoth(runs)

@@ -1,5 +1,6 @@
 #!/usr/bin/env python3
-"""Measures the time and the memory of the built programs, beside `openssl dgst -sha256` and beside programs of before.
+"""Measures the time and the memory of the built programs, beside `openssl dgst -sha256` and beside programs of before:
+python3 bench/figures/commands.py [PROGRAM] [SOUND] [--before FOLDER]
 
 It needs the program (crates/cbrelay/out/cbrelay, as ./build leaves it), the program that tells whether a block is sound
 (crates/bench_sound/out/bench_sound, likewise), openssl, python3 and Linux, and takes some five minutes. First it prints a table of
@@ -10,111 +11,27 @@ Times are of the processor; memory is what a run has at its greatest. Of both th
 off. What is compared takes turns, the more the shorter it is; the least time of all turns counts, and the memory in the middle.
 """
 
-import argparse
-import ctypes
-import hashlib
 import os
-import statistics
-import struct
-import subprocess
 import sys
 import tempfile
 from pathlib import Path
-from typing import NamedTuple
 
 if not __package__:  # called as a file
     sys.path.insert(0, str(Path(__file__).resolve().parents[2]))
 
+from bench.tools.blocks import bare_block, block, usual_block
+from bench.tools.command_line import usage
+from bench.tools.messages import envelope, pings, unknown
+from bench.tools.programs import built
+from bench.tools.turns import HASHED, OPENSSL, SECONDS, Cost, adopt, ended, in_turns
 
-ROOT = str(Path(__file__).resolve().parents[2])
-MAGIC = bytes.fromhex("fabfb5da")
-# How often what is compared takes turns: as often as these seconds allow, of the table and of all else, within these bounds.
-TABLE_SECONDS, SECONDS = 16, 3
-RUNS, MOST_RUNS = 5, 100
+# What the table compares takes turns as often as these seconds allow, if there are programs of before.
+TABLE_SECONDS = 16
 SERVED_PINGS = 100_000
 # The length of a stream's pieces where nothing else is said.
 PIECE = 65_536
-# How much openssl hashes when it is measured: it hashes any bytes of a length in the same time.
-HASHED = 600_000_000
-OPENSSL = ["openssl", "dgst", "-sha256"]
 # The width of the table's names.
 NAMES = 56
-# A process begins with the memory of the one that started it counted as its own. So a small program starts each run, and ends.
-STARTER = ["setsid", "--fork"]
-PR_SET_CHILD_SUBREAPER = 36
-
-
-def envelope(command, payload):
-    """A message as Bitcoin's protocol writes it."""
-    checksum = hashlib.sha256(hashlib.sha256(payload).digest()).digest()[:4]
-    return MAGIC + command.ljust(12, b"\0") + struct.pack("<I", len(payload)) + checksum + payload
-
-
-def pings(count):
-    return b"".join(envelope(b"ping", struct.pack("<Q", nonce)) for nonce in range(count))
-
-
-def unknown(count):
-    payload = hashlib.sha256(b"payload").digest() * 125_000
-    return envelope(b"filler", payload) * count
-
-
-def hash_twice(data):
-    return hashlib.sha256(hashlib.sha256(data).digest()).digest()
-
-
-def compact_size(number):
-    """A number as Bitcoin's protocol writes a count."""
-    if number < 0xFD:
-        return struct.pack("<B", number)
-    if number < 0x1_0000:
-        return b"\xfd" + struct.pack("<H", number)
-    return b"\xfe" + struct.pack("<I", number)
-
-
-def script(length):
-    return compact_size(length) + bytes(length)
-
-
-def some_name(number):
-    """A name for a transaction that isn't there."""
-    return hashlib.sha256(struct.pack("<Q", number)).digest()
-
-
-def transaction(spent, script_len, signed_len=0, outputs=1):
-    """A transaction that spends the first output of another, with outputs whose scripts have this length: 60 bytes where it is 0."""
-    made = (struct.pack("<q", 1) + script(script_len)) * outputs
-    return struct.pack("<i", 1) + b"\x01" + spent + bytes(4) + script(signed_len) + b"\xff" * 4 + compact_size(outputs) + made + bytes(4)
-
-
-def merkle_root(level):
-    while len(level) > 1:
-        if len(level) % 2 == 1:
-            level.append(level[-1])
-        level = [hash_twice(level[i] + level[i + 1]) for i in range(0, len(level), 2)]
-    return level[0]
-
-
-def block_of(texts):
-    """A block of these transactions, with its true root."""
-    root = merkle_root([hash_twice(text) for text in texts])
-    header = struct.pack("<i", 1) + bytes(32) + root + struct.pack("<III", 0, 0x207F_FFFF, 0)
-    return header + compact_size(len(texts)) + b"".join(texts)
-
-
-def block(count, script_len):
-    """A block of so many transactions with one input and one output."""
-    return block_of([transaction(some_name(number), script_len) for number in range(count)])
-
-
-def bare_block(count):
-    """A block of so many transactions of 10 bytes, which have no inputs and no outputs."""
-    return block_of([struct.pack("<i", 1) + bytes(6)] * count)
-
-
-def usual_block(count):
-    """A block of so many transactions of 250 bytes: an input with signatures, and two outputs that pay to a hash."""
-    return block_of([transaction(some_name(number), 25, 131, 2) for number in range(count)])
 
 
 def acts(count):
@@ -127,42 +44,6 @@ def as_lines(stream, piece):
     """The pieces of a stream in hex, one a line."""
     text = stream.hex().encode()
     return b"\n".join(text[i : i + 2 * piece] for i in range(0, len(text), 2 * piece)) + b"\n"
-
-
-class Cost(NamedTuple):
-    """What a run takes: seconds of the processor, and bytes of memory at its greatest."""
-
-    seconds: float
-    memory: int
-
-
-def adopt():
-    """From now on a process that another one started and left is this one's child."""
-    if ctypes.CDLL(None, use_errno=True).prctl(PR_SET_CHILD_SUBREAPER, 1, 0, 0, 0) != 0:
-        sys.exit(f"prctl: {os.strerror(ctypes.get_errno())}")
-
-
-def once(command, path):
-    """What one run with this file as standard input takes, and its exit status. `adopt` has to come before."""
-    with open(path, "rb") as source:
-        subprocess.run(STARTER + command, stdin=source, stdout=subprocess.DEVNULL, stderr=subprocess.DEVNULL, check=True)
-    _, ended, used = os.wait3(0)
-    return Cost(used.ru_utime + used.ru_stime, used.ru_maxrss * 1024), os.waitstatus_to_exitcode(ended)
-
-
-def ended(command, path, wanted):
-    """Ends this script where a run ends with another status than is wanted."""
-    status = once(command, path)[1]
-    if status != wanted:
-        sys.exit(f"{' '.join(command)} ended with status {status}, and not with {wanted}")
-
-
-def in_turns(*runs, seconds=SECONDS):
-    """What a run of each of these commands with their files takes: the least time, and the memory in the middle."""
-    took = [[once(*run)[0] for run in runs]]
-    turns = int(seconds / sum(cost.seconds for cost in took[0]))
-    took += [[once(*run)[0] for run in runs] for _ in range(1, min(max(RUNS, turns), MOST_RUNS))]
-    return [Cost(min(cost.seconds for cost in costs), statistics.median(cost.memory for cost in costs)) for costs in zip(*took)]
 
 
 def sha_instructions():
@@ -245,32 +126,6 @@ class Bench:
     def growth(self, name, word, first, second):
         one, two = self.compare(word, first, second)
         print(f"{name}: {one * 1000:.0f} ms, and {two * 1000:.0f} ms for twice as much: {two / one:.2f} times as long", flush=True)
-
-
-def usage(doc, **arguments):
-    """A reader of the command line: `--help` prints the script's own text. Each argument has its help."""
-    parser = argparse.ArgumentParser(description=doc, formatter_class=argparse.RawDescriptionHelpFormatter)
-    for name, text in arguments.items():
-        parser.add_argument(name, nargs="?", help=text)
-    return parser
-
-
-def built(path, crate, top=ROOT):
-    """The path of a program that was built: the one given, or where ./build leaves it below this folder."""
-    path = os.path.abspath(path or os.path.join(top, f"crates/{crate}/out/{crate}"))
-    if not os.access(path, os.X_OK):
-        sys.exit(f"{path} isn't built: ./build {crate}")
-    return path
-
-
-def write_stored_run(crate, records, lines):
-    """Writes what a program is run on by the gate, and what it has to print then."""
-    folder = os.path.join(ROOT, "crates", crate)
-    with open(os.path.join(folder, "stdin"), "wb") as file:
-        file.write(b"".join(records))
-    with open(os.path.join(folder, "stdout"), "w", encoding="ascii") as file:
-        file.write("\n".join(lines) + "\n")
-    print(f"{len(records)} records, {len(lines)} lines")
 
 
 def cases():

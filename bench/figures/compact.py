@@ -1,5 +1,6 @@
 #!/usr/bin/env python3
-"""Measures compact blocks: short ids, finding transactions among few and many pairs, blocks that are rebuilt, and growths of memory.
+"""Measures compact blocks: short ids, finding transactions among few and many pairs, blocks that are rebuilt, and growths of memory:
+python3 bench/figures/compact.py [PROGRAM]
 
 It needs the built program crates/bench_compact/out/bench_compact (as ./build bench_compact leaves it), openssl, a C compiler as `cc`, and
 python3, and takes some three minutes. Times are of the processor. What an order takes is the least time of some runs with it, less that of
@@ -19,11 +20,13 @@ from pathlib import Path
 if not __package__:  # called as a file
     sys.path.insert(0, str(Path(__file__).resolve().parents[2]))
 
-from bench.figures.chain import Play, record, seconds_of
-from bench.figures.commands import HASHED, OPENSSL, RUNS, adopt, block_of, built, in_turns, some_name, transaction, usage, usual_block
-from bench.figures.hall import Runs
-from bench.looks.count_growth import Sized
-from bench.looks.refuse_growth import Growths, build, run
+from bench.tools.blocks import Sized, block_of, some_name, transaction, usual_block
+from bench.tools.command_line import usage
+from bench.tools.growths import Growths, build, growths_of
+from bench.tools.programs import built
+from bench.tools.records import record
+from bench.tools.timed_plays import Play, Runs, seconds_of
+from bench.tools.turns import HASHED, OPENSSL, RUNS, adopt, in_turns
 
 # How many ids a compact block has at the most, and how many pairs there are: few, and many.
 IDS, FEW, MANY = 16_666, 10_000, 100_000
@@ -185,20 +188,12 @@ def twice_the_ids(runs, searched):
         twice(runs, f"{name}, each with a pair", half, [placing_all(picked[:count]) for count in half])
 
 
-def growths(program, library, data):
-    """The growths of a run that comes to its end."""
-    ran, met = run([program], data, library, 0)
-    if ran.returncode != 0:
-        sys.exit(f"the program ended with status {ran.returncode}, and told {ran.stdout!r}")
-    return met
-
-
 def of_place(program, library, size, lacking):
     """The growths that looking for transactions of this size meets, where so many lack. The first is there whole, and is small."""
     texts = [transaction(some_name(0), 0)] + [Sized(some_name(number), size).text for number in range(1, TRANSACTIONS)]
     pairs = [(number, number) for number in range(1, TRANSACTIONS - lacking)]
     ground = known(block_of(texts), list(range(1, TRANSACTIONS)), pairs) + record(b"f", pairs_of([(0, 0)]))
-    none, some = (growths(program, library, ground + record(b"p", times(1 + count)) + record(b"r", times(TIMES - count))) for count in (0, TIMES))
+    none, some = (growths_of(program, library, ground + record(b"p", times(1 + count)) + record(b"r", times(TIMES - count))) for count in (0, TIMES))
     return Growths(*((more - less) / TIMES for less, more in zip(none, some)))
 
 

@@ -1,5 +1,6 @@
 #!/usr/bin/env python3
-"""Measures a crew in threads: items per second by handlers, beside one loop and beside one queue under a lock, and what idling costs.
+"""Measures a crew in threads: items per second by handlers, beside one loop and beside one queue under a lock, and what idling costs:
+python3 bench/figures/crew.py
 
 It needs the built program crates/bench_crew/out/bench_crew, as ./build bench_crew leaves it there, and takes about a minute. The
 times are of the clock, as the program tells them of its own serving, each the least of some runs that take turns. They mean
@@ -14,8 +15,10 @@ from pathlib import Path
 if not __package__:  # called as a file
     sys.path.insert(0, str(Path(__file__).resolve().parents[2]))
 
+from bench.tools.command_line import usage
+from bench.tools.programs import built, path_of
 
-PROGRAM = Path(__file__).resolve().parents[2] / "crates/bench_crew/out/bench_crew"
+PROGRAM = path_of("bench_crew")
 RUNS = 3
 PEERS, CAPACITY, HANDLERS = 64, 256, (1, 2, 4)
 # What an item costs, and how many of them each reader puts.
@@ -92,6 +95,8 @@ def idle(handlers):
 
 
 def main():
+    usage(__doc__).parse_args()
+    built(PROGRAM, "bench_crew")
     print(f"{os.cpu_count()} processors, load {os.getloadavg()[0]:.2f} before the first run")
     rounds = rounds_of(DEAR_MICROSECONDS)
     compare("a work of no cost", FREE_ITEMS, 0)

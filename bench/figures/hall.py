@@ -1,5 +1,6 @@
 #!/usr/bin/env python3
-"""Measures the hall: questions at a short journal and at a long one, and the memory of long journals.
+"""Measures the hall: questions at a short journal and at a long one, and the memory of long journals:
+python3 bench/figures/hall.py [PROGRAM]
 
 It needs the built program crates/bench_hall/out/bench_hall (as ./build bench_hall leaves it) and python3, and takes some eight minutes.
 Times are of the processor. What a call takes is the least time of some runs with it, less that of as many that only read it; calls whose
@@ -7,9 +8,7 @@ times are compared take turns. How much `openssl dgst -sha256` hashes in that ti
 at its greatest, less that of a run of no input.
 """
 
-import os
 import struct
-import subprocess
 import sys
 import tempfile
 from pathlib import Path
@@ -17,13 +16,15 @@ from pathlib import Path
 if not __package__:  # called as a file
     sys.path.insert(0, str(Path(__file__).resolve().parents[2]))
 
-from bench.figures.chain import GENESIS, Play, record, seconds_of
-from bench.figures.chain import Runs as ChainRuns
-from bench.figures.commands import HASHED, OPENSSL, RUNS, adopt, built, ended, in_turns, usage
-from bench.looks.chain_calls import NOBODY, Block, Tx
-from bench.looks.hall_calls import question_text, repeated
-from bench.looks.hall_growth import asked, sized
-from bench.models.plain_hall import paying
+from bench.models.plain_block import Block, Tx, paying, sized
+from bench.tools.blocks import NOBODY
+from bench.tools.command_line import usage
+from bench.tools.hall_play import asked, question_text, repeated
+from bench.tools.network import GENESIS
+from bench.tools.programs import built
+from bench.tools.records import record
+from bench.tools.timed_plays import Play, Runs, seconds_of
+from bench.tools.turns import RUNS, adopt
 
 # How long journals are, and how many transactions wait in the pool and stand in a block.
 LOW, HIGH = 1_000, 900_000
@@ -35,34 +36,6 @@ CALLS = 1_000_000
 # How many transactions a small pool has, how many short ids are looked for in one, and how often: a match, and the list of its pairs.
 FEW_WAITING, IDS, MATCHES, LISTS = 1_000, 100, 10_000, 2_000
 TURNS, BLOCK_TURNS = 3 * RUNS, 8 * RUNS
-
-
-class Runs(ChainRuns):
-    """Runs of the program, and what openssl hashes in a second."""
-
-    def hashed_a_second(self):
-        empty, zeros = self.write("empty", b""), self.write("zeros", b"")
-        os.truncate(zeros, HASHED)
-        start, took = in_turns((OPENSSL, empty), (OPENSSL, zeros))
-        return HASHED / (took.seconds - start.seconds)
-
-    def once(self, path, _):
-        with open(path, "rb") as source:
-            process = subprocess.Popen([self.program], stdin=source, stdout=subprocess.DEVNULL)
-            _, status, used = os.wait4(process.pid, 0)
-        process.returncode = os.waitstatus_to_exitcode(status)
-        if process.returncode != 0:
-            sys.exit(f"the program ended with status {process.returncode}")
-        return used.ru_utime + used.ru_stime
-
-    def memory(self, data):
-        """The memory of a run at its greatest beyond that of no input, in bytes."""
-        whole, empty = self.write("whole", data), self.write("empty", b"")
-        ended([self.program], whole, 0)
-        one, other = in_turns(([self.program], whole), ([self.program], empty))
-        return one.memory - other.memory
-
-
 ADMIT = asked("admit")
 
 

@@ -1,5 +1,6 @@
 #!/usr/bin/env python3
-"""Measures `cbrelay serve` as a peer meets it: headers, blocks in and out, pings, and memory while a gigabyte goes through.
+"""Measures `cbrelay serve` as a peer meets it: headers, blocks in and out, pings, and memory while a gigabyte goes through:
+python3 bench/figures/serve.py [PROGRAM] [BEFORE]
 
 It needs the built program (crates/cbrelay/out/cbrelay, as ./build leaves it), openssl, python3 and Linux, some 3 GB of disk in the
 folder for temporary files, and takes some minutes. Times are of the processor, the least of some turns, behind a run of the same
@@ -17,11 +18,14 @@ from pathlib import Path
 if not __package__:  # called as a file
     sys.path.insert(0, str(Path(__file__).resolve().parents[2]))
 
-from bench.figures.chain import GENESIS
-from bench.figures.commands import HASHED, OPENSSL, adopt, built, ended, envelope, in_turns, pings, unknown, usage
 from bench.models import plain_wire as wire
-from bench.models.plain_hall import NULL_POINT, AnyTx, MinedBlock
+from bench.models.plain_block import NULL_POINT, AnyTx, MinedBlock
 from bench.models.plain_session import Settings
+from bench.tools.command_line import usage
+from bench.tools.messages import envelope, pings, unknown
+from bench.tools.network import GENESIS
+from bench.tools.programs import built
+from bench.tools.turns import HASHED, OPENSSL, adopt, ended, in_turns
 
 HEADERS, A_MESSAGE = 100_000, 2_000
 # Blocks of so many transactions of 250 bytes, and how many of them go in; how often these are asked for.

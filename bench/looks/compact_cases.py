@@ -1,5 +1,6 @@
 #!/usr/bin/env python3
-"""Rebuilds generated compact blocks by the proved program, and compares what it tells with a plain reader in Python.
+"""Rebuilds generated compact blocks by the proved program, and compares what it tells with a plain reader in Python:
+python3 bench/looks/compact_cases.py [COUNT] [SEED] [PROGRAM], or --store
 
 Without words 2,000 compact blocks from seed 1, in some seconds. It needs the built program crates/bench_compact/out/bench_compact (as
 ./build bench_compact leaves it) and python3. The plain reader (bench/models/plain_compact.py) was written apart from the program, from BIP 152
@@ -9,27 +10,20 @@ missing. With `--store` nothing is rebuilt: the worked cases and some compact bl
 the plain reader tells of them to crates/bench_compact/stdout.
 """
 
-import os
 import random
 import struct
-import subprocess
 import sys
-from collections import Counter
 from pathlib import Path
 
 if not __package__:  # called as a file
     sys.path.insert(0, str(Path(__file__).resolve().parents[2]))
 
-from bench.figures.chain import record
-from bench.figures.commands import ROOT, block_of, built, hash_twice, some_name, transaction, usage, write_stored_run
-from bench.models.plain_compact import differences, indexes, judged, key_of, missing, short_id, slots
+from bench.models.plain_compact import WORD, judged, missing
+from bench.tools.blocks import some_name, transaction
+from bench.tools.command_line import usage
+from bench.tools.compact_play import FIRST_BLOCK, CompactPlay, numbers_line, some_block
+from bench.tools.programs import built, write_stored_run
 
-WORD = (1 << 64) - 1
-# The network's first block, which has one transaction.
-with open(os.path.join(ROOT, "crates", "bench_sound", "stdin"), "rb") as FILE:
-    FIRST_BLOCK = FILE.read()
-# So many numbers are told one by one.
-FEW = 16
 # How many compact blocks are stored, from which seed, and how many places a block has at the most.
 STORED, STORED_SEED, MOST_PLACES = 60, 3, 16_666
 # What a run has to meet.
@@ -37,144 +31,9 @@ MET = {"sound", "wrong", "repeat", "missing", "filled: sound", "filled: wrong", 
        "a tripled pair", "a pair of another id", "a pair of another transaction", "a whole block", "all prefilled", "prefilled: F16"}
 
 
-# ---- transactions, and lines
-
-
 def bare(mark):
     """A transaction of 10 bytes, which has no inputs and no outputs."""
     return struct.pack("<i", 1) + bytes(2) + struct.pack("<I", mark)
-
-
-def numbers_line(word, numbers):
-    if len(numbers) <= FEW:
-        return " ".join([word, *map(str, numbers)])
-    total = 0
-    for number in numbers:
-        total = (total * 31 + number) & WORD
-    return f"{word} {len(numbers)} sum {total}"
-
-
-class Play:
-    """Records, the lines that are wanted of them, and what was met."""
-
-    def __init__(self):
-        self.records, self.wanted, self.met = [], [], Counter()
-        self.block(FIRST_BLOCK, [FIRST_BLOCK[81:]])
-
-    def put(self, kind, payload=b""):
-        self.records.append(record(kind, payload))
-
-    def order(self, kind, payload, line):
-        self.put(kind, payload)
-        self.wanted.append(line)
-        return line
-
-    def block(self, text, txs):
-        """A block, whose transactions are numbered."""
-        self.put(b"b", text)
-        self.header, self.txs, self.in_block = text[:80], list(txs), len(txs)
-        self.ids, self.whole, self.pairs, self.found, self.nonce = [], [], [], None, 0
-        self.use_nonce(0)
-        self.use_pairs([])
-
-    def of(self, txs):
-        self.block(block_of(txs), txs)
-
-    def more(self, text):
-        """A transaction that isn't the block's: its number."""
-        self.put(b"x", text)
-        self.txs.append(text)
-        return len(self.txs) - 1
-
-    def use_nonce(self, nonce):
-        self.put(b"n", struct.pack("<Q", nonce))
-        self.nonce = nonce
-
-    def use_ids(self, ids):
-        self.put(b"i", struct.pack(f"<{len(ids)}Q", *ids))
-        self.ids = ids
-
-    def use_whole(self, steps, numbers):
-        """Transactions that are there whole, behind their places as differences."""
-        self.put(b"f", b"".join(struct.pack("<QI", *entry) for entry in zip(steps, numbers)))
-        self.whole = list(zip(steps, (self.txs[number] for number in numbers)))
-
-    def use_pairs(self, pairs):
-        """Pairs of an id and a transaction's number."""
-        self.put(b"q", b"".join(struct.pack("<QI", *pair) for pair in pairs))
-        self.pairs = [(wanted, self.txs[number]) for wanted, number in pairs]
-
-    def pair_all(self):
-        """Pairs of all transactions under their short ids, the last first."""
-        self.put(b"a")
-        self.pairs = list(zip(self.names(), self.txs))[::-1]
-
-    def names(self):
-        """The short ids of all transactions."""
-        key = key_of(self.header, self.nonce)
-        return [short_id(key, hash_twice(text)) for text in self.txs]
-
-    def tell_short_ids(self):
-        total = 0
-        for number in self.names():
-            total = (total * 31 + number) & WORD
-        return self.order(b"s", struct.pack("<I", 1), numbers_line("short ids", [total]))
-
-    def compact(self, places):
-        """The compact form of the block, in which these places are whole."""
-        steps = differences(places)
-        ids = [name for place, name in enumerate(self.names()[: self.in_block]) if place not in set(places)]
-        self.ids, self.whole = ids, [(step, self.txs[place]) for step, place in zip(steps, places)]
-        return self.order(b"c", struct.pack(f"<{len(steps)}Q", *steps), numbers_line("ids", ids))
-
-    def undiffer(self, steps, total):
-        found = indexes(steps, total)
-        self.met["indexes: F16" if found is None else "indexes"] += 1
-        return self.order(b"u", struct.pack(f"<{len(steps) + 1}Q", total, *steps), "F16 BadIndex" if found is None else numbers_line("indexes", found))
-
-    def placed(self):
-        """What comes of the compact block: a line."""
-        places = indexes([step for step, _ in self.whole], len(self.ids) + len(self.whole))
-        if places is None:
-            return "F16 BadIndex"
-        self.found = None
-        if len(set(self.ids)) < len(self.ids):
-            return "repeat"
-        found = slots(self.ids, list(zip(places, (text for _, text in self.whole))), self.pairs)
-        if missing(found):
-            self.found = found
-            return numbers_line("missing", missing(found))
-        return judged(self.header, found)
-
-    def place(self, wanted=None):
-        line = self.order(b"p", struct.pack("<I", 1), wanted or self.placed())
-        self.met["prefilled: F16" if line.startswith("F16") else line.split()[0]] += 1
-        return line
-
-    def fill(self, numbers):
-        """Hands in transactions for the places that are missing."""
-        line = "F26 NotEnabled"
-        if self.found:
-            given, found = [self.txs[number] for number in numbers], self.found
-            line = "F17 WrongCount" if len(given) != len(missing(found)) else judged(self.header, filled(found, given))
-            self.met["filled: " + line.split()[0]] += 1
-        self.found = None
-        return self.order(b"l", b"".join(struct.pack("<QI", 0, number) for number in numbers), line)
-
-    def differences(self, program):
-        """Where the program tells something else."""
-        ran = subprocess.run([program], input=b"".join(self.records), capture_output=True, timeout=600)
-        told = ran.stdout.decode("ascii").splitlines()
-        if ran.returncode != 0:
-            return [f"the program ended with status {ran.returncode} and told {told[-1:]}"]
-        if len(told) != len(self.wanted):
-            return [f"{len(told)} lines in place of {len(self.wanted)}"]
-        return [f"line {place}: {line}, wanted {wanted}" for place, (line, wanted) in enumerate(zip(told, self.wanted)) if line != wanted]
-
-
-def filled(found, given):
-    rest = iter(given)
-    return [next(rest) if text is None else text for text in found]
 
 
 def expect(line, wanted):
@@ -203,14 +62,6 @@ def row_9_indexes_as_differences(play):
     expect(play.undiffer([0, WORD], 9), "F16 BadIndex")
     expect(play.undiffer([WORD], WORD), "F16 BadIndex")
     expect(play.undiffer([WORD - 1], WORD), f"indexes {WORD - 1}")
-
-
-def some_block(play, count, nonce, places):
-    """The compact form of a block of so many transactions in which these places are whole, and the ids of all of them."""
-    play.of([transaction(some_name(number), 0) for number in range(count)])
-    play.use_nonce(nonce)
-    play.compact(places)
-    return play.names()
 
 
 def row_10_repeated_ids(play):
@@ -358,23 +209,11 @@ class Drawing:
 
 def generated(seed, count, play=None):
     """So many compact blocks."""
-    play = play or Play()
+    play = play or CompactPlay()
     drawing = Drawing(play, seed)
     for _ in range(count):
         drawing.draw()
     return play
-
-
-def rebuilding_play():
-    """Records of a compact form, of a block of which two are missing, which are handed in, and of one of which none is."""
-    play = Play()
-    ids = some_block(play, 5, 7, [0])
-    play.use_pairs([(ids[number], number) for number in (4, 2)])
-    play.place()
-    play.fill([1, 3])
-    play.pair_all()
-    play.place()
-    return b"".join(play.records)
 
 
 def worked_cases(play):
@@ -391,7 +230,7 @@ def unmet(met):
 
 def store():
     """Writes the stored run of bench_compact, as the plain reader tells it."""
-    play = Play()
+    play = CompactPlay()
     worked_cases(play)
     generated(STORED_SEED, STORED, play)
     write_stored_run("bench_compact", play.records, play.wanted)
@@ -406,7 +245,7 @@ def main():
         store()
     count, seed = int(words.count or 2_000), int(words.seed or 1)
     program = built(words.program, "bench_compact")
-    play = Play()
+    play = CompactPlay()
     worked_cases(play)
     generated(seed, count, play)
     told = play.differences(program)

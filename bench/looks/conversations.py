@@ -1,5 +1,6 @@
 #!/usr/bin/env python3
-"""Plays generated conversations through `cbrelay serve`, and compares what it sends with a plain session in Python.
+"""Plays generated conversations through `cbrelay serve`, and compares what it sends with a plain session in Python:
+python3 bench/looks/conversations.py [COUNT] [SEED]
 
 Without words 10,000 conversations from seed 1, in some minutes. It needs the built program (crates/cbrelay/out/cbrelay, as ./build
 leaves it) and python3. The plain session (bench/models/plain_session.py) was written apart from the program, from the rules in
@@ -20,13 +21,15 @@ from pathlib import Path
 if not __package__:  # called as a file
     sys.path.insert(0, str(Path(__file__).resolve().parents[2]))
 
-from bench.figures.chain import GENESIS
-from bench.figures.commands import built, usage
-from bench.looks.chain_calls import Block, Tx, header_text
-from bench.looks.fuzz import envelope, random_bytes
 from bench.models import plain_wire as wire
-from bench.models.plain_hall import Shared, paying
+from bench.models.plain_block import Block, Tx, paying
+from bench.models.plain_hall import Shared
 from bench.models.plain_session import PlainSession, Settings, serve
+from bench.tools.command_line import usage
+from bench.tools.messages import envelope
+from bench.tools.network import GENESIS, header_text
+from bench.tools.programs import built
+from bench.tools.texts import random_bytes
 
 CONVERSATIONS, LONGEST, BLOCKS = 10_000, 40, 24
 # What many conversations have to meet: how sessions end, and what the plain session sends.

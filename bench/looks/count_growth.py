@@ -1,5 +1,6 @@
 #!/usr/bin/env python3
-"""Counts the growths of memory that a copy meets: of a chain, of a block, and of a message that holds a block.
+"""Counts the growths of memory that a copy meets: of a chain, of a block, and of a message that holds a block:
+python3 bench/looks/count_growth.py [PROGRAM]
 
 It needs the built program crates/bench_chain/out/bench_chain (as ./build bench_chain leaves it), a C compiler as `cc`, and
 python3, and takes some seconds. What is copied is made once of small transactions and once of large ones. The status is 0 where a
@@ -13,23 +14,17 @@ from pathlib import Path
 if not __package__:  # called as a file
     sys.path.insert(0, str(Path(__file__).resolve().parents[2]))
 
-from bench.figures.chain import GENESIS, copies, record
-from bench.figures.commands import block_of, built, hash_twice, some_name, transaction, usage
-from bench.looks.chain_calls import Block, Tx
-from bench.looks.refuse_growth import Growths, build, run
+from bench.models.plain_block import Block, Tx
+from bench.tools.blocks import Sized, block_of, some_name
+from bench.tools.command_line import usage
+from bench.tools.growths import Growths, build, run
+from bench.tools.network import GENESIS
+from bench.tools.programs import built
+from bench.tools.records import copies, record
 
 SMALL, LARGE = 60, 60_000
 # How many blocks the chain has, how many transactions the block has, and how many copies are made.
 BLOCKS, TRANSACTIONS, COPIES = 100, 10, 10
-
-
-class Sized:
-    """A transaction of this size that spends the first output of another: its text and its name."""
-
-    def __init__(self, spent, size):
-        self.text = transaction(spent, size - 60 if size < 300 else size - 62)
-        self.name = hash_twice(self.text)
-        assert len(self.text) == size
 
 
 def chain_of(size):

@@ -1,6 +1,6 @@
 #!/usr/bin/env python3
 """Runs the built program where no stored run can: reads and writes that fail, one byte at a time, lists of words and lines that each
-end a run, and long inputs.
+end a run, and long inputs: python3 bench/looks/edges.py
 
 It needs the built program (crates/cbrelay/out/cbrelay, as ./build leaves it), python3 and Linux, and takes some seconds. What has to
 come out was written from the rules in docs/PROTOCOL.md.
@@ -19,7 +19,9 @@ from pathlib import Path
 if not __package__:  # called as a file
     sys.path.insert(0, str(Path(__file__).resolve().parents[2]))
 
-from bench.figures.commands import built, envelope, usage
+from bench.tools.command_line import usage
+from bench.tools.messages import envelope
+from bench.tools.programs import built
 
 SECONDS = 60
 VERACK = envelope(b"verack", b"")
@@ -29,19 +31,15 @@ DECODED = VERACK.hex().encode() + b"\n" + VERACK[:20].hex().encode() + b"0000000
 PRINTED = b"verack\ndamaged\nunknown hello 5\nrest 0\n"
 SIMULATED = b"system 1 1 1\nput 0 7\n"
 REPORTED = b"peer 0 queued 7 taken -\nring 0\nhandler 0 -\n"
-
 # Words that are refused: one that is empty, and two commands as one word.
 REFUSED_WORDS = ("", "decode serve")
-
 # Lines of `decode` that aren't hex.
 NO_HEX = (b"xy", b"fab", b" fa", b"fa\rbf", b"fabf\r\r")
-
 # First lines of `sim` that can't be read: sizes out of their ranges, too few and too many, and words that aren't parted by one space.
 NO_SIZES = (
     "system 65 1 1", "system 0 1 1", "system 1 17 1", "system 1 0 1", "system 1 1 1025", "system 1 1 0", "system 1 1",
     "system 1 1 1 1", "system  1 1 1", "system 1 1 1 ", "system +1 1 1", "System 1 1 1", "put 0 1", "", "1 unreadable",
 )
-
 # Lines of acts that can't be read.
 NO_ACTS = (
     "put 65536 1", "put 0 18446744073709551616", "put  0 1", "put 0  1", "put 0 1 ", " put 0 1", "put 0\r 1", "put 0 1\r\r",

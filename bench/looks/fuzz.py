@@ -1,16 +1,15 @@
 #!/usr/bin/env python3
-"""Runs the built program on random and mutated byte strings, cut at random, and compares what it prints.
+"""Runs the built program on random and mutated byte strings, cut at random, and compares what it prints:
+python3 bench/looks/fuzz.py [COUNT] [SEED] [PROGRAM]
 
 Without words 10,000 strings from seed 1, in about a minute. It needs the program (crates/cbrelay/out/cbrelay, as ./build
 leaves it) and python3. Each string goes through `decode` and `serve`; what they print and their statuses have to be those of
-the short reader below, which was written apart from the program. First a word that isn't UTF-8 has to be refused.
+a plain reader (bench/models/plain_stream.py), which was written apart from the program. First a word that isn't UTF-8 has to be refused.
 """
 
 import concurrent.futures
-import hashlib
 import os
 import random
-import struct
 import subprocess
 import sys
 from pathlib import Path
@@ -18,221 +17,12 @@ from pathlib import Path
 if not __package__:  # called as a file
     sys.path.insert(0, str(Path(__file__).resolve().parents[2]))
 
-from bench.figures.commands import built, usage
-
-MAGIC = bytes.fromhex("fabfb5da")
-NAMES = {1: "Memory", 2: "Truncated", 3: "NotShortest", 4: "TooMany", 9: "Empty", 12: "BadMagic", 13: "Oversize", 14: "Trailing"}
-CARRIERS = ("tx", "block", "cmpctblock", "getblocktxn", "blocktxn")
-MOST_TXS = 16_666
-
-
-def envelope(command, payload):
-    checksum = hashlib.sha256(hashlib.sha256(payload).digest()).digest()[:4]
-    return MAGIC + command.ljust(12, b"\0")[:12] + struct.pack("<I", len(payload)) + checksum + payload
-
-
-# ---- the reader to compare with
-
-
-def items_of(stream):
-    """The items of a stream, what is left over, and the number of its fault."""
-    items = []
-    while True:
-        if len(stream) < 24:
-            return items, len(stream), None
-        if stream[:4] != MAGIC:
-            return items, 0, 12
-        length = struct.unpack("<I", stream[16:20])[0]
-        if length > 4_000_000:
-            return items, 0, 13
-        if len(stream) < 24 + length:
-            return items, len(stream), None
-        payload = stream[24 : 24 + length]
-        items.append(item_of(stream[4:16], stream[20:24], payload))
-        stream = stream[24 + length :]
-
-
-def item_of(field, checksum, payload):
-    name = field.rstrip(b"\0")
-    if hashlib.sha256(hashlib.sha256(payload).digest()).digest()[:4] != checksum:
-        return ("damaged",)
-    if not name or any(byte < 0x20 or byte > 0x7E for byte in name):
-        return ("damaged",)
-    name = name.decode("ascii")
-    if name == "verack":
-        return ("bad", name, 14) if payload else ("verack",)
-    if name in CARRIERS:
-        try:
-            return (name, *carried(name, payload))
-        except Fault as fault:
-            return ("bad", name, fault.number)
-    if name in ("ping", "pong"):
-        if len(payload) < 8:
-            return ("bad", name, 2)
-        if len(payload) > 8:
-            return ("bad", name, 14)
-        return (name, struct.unpack("<Q", payload)[0])
-    return ("unknown", name, len(payload))
-
-
-class Fault(Exception):
-    """A payload that can't be read: the number of its first fault from the left."""
-
-    def __init__(self, number):
-        super().__init__(number)
-        self.number = number
-
-
-def carried(name, payload):
-    """What is printed of a transaction, a block or a compact block (BIP 152), or of what is asked of one and given: a hash, and
-    numbers of bytes or of transactions."""
-    if name == "tx":
-        place = after_tx(payload, 0)
-        told = shown(payload), len(payload)
-    elif name == "block":
-        txs, place = after_txs(payload, after(payload, 0, 80))
-        told = shown(payload[:80]), txs
-    elif name == "cmpctblock":
-        ids, prefilled, place = after_forms(payload, after(payload, 0, 88))
-        told = shown(payload[:80]), "ids", ids, "prefilled", prefilled
-    elif name == "getblocktxn":
-        count, place = after_differences(payload, after(payload, 0, 32))
-        told = payload[:32][::-1].hex(), count
-    else:
-        txs, place = after_txs(payload, after(payload, 0, 32))
-        told = payload[:32][::-1].hex(), txs
-    if place < len(payload):
-        raise Fault(14)
-    return told
-
-
-def after_forms(data, place):
-    """How many short ids and prefilled transactions there are, and the place behind them."""
-    ids, place = count_at(data, place, 6)
-    prefilled, place = compact_at(data, after(data, place, 6 * ids))
-    if ids + prefilled == 0:
-        raise Fault(9)
-    if ids + prefilled > MOST_TXS:
-        raise Fault(4)
-    after(data, place, 11 * prefilled)
-    for _ in range(prefilled):
-        place = after_tx(data, compact_at(data, place)[1])
-    return ids, prefilled, place
-
-
-def after_differences(data, place):
-    """How many differences there are, and the place behind them."""
-    count, place = compact_at(data, place)
-    if count > MOST_TXS:
-        raise Fault(4)
-    after(data, place, count)
-    for _ in range(count):
-        _, place = compact_at(data, place)
-    return count, place
-
-
-def shown(text):
-    return hashlib.sha256(hashlib.sha256(text).digest()).digest()[::-1].hex()
-
-
-def after(data, place, size):
-    """The place behind so many bytes."""
-    if len(data) - place < size:
-        raise Fault(2)
-    return place + size
-
-
-def compact_at(data, place):
-    """A CompactSize, and the place behind it."""
-    end = after(data, place, 1)
-    first = data[place]
-    for mark, size, least in ((253, 2, 253), (254, 4, 0x10000), (255, 8, 0x100000000)):
-        if first == mark:
-            place, end = end, after(data, end, size)
-            value = int.from_bytes(data[place:end], "little")
-            if value < least:
-                raise Fault(3)
-            return value, end
-    return first, end
-
-
-def count_at(data, place, least):
-    """The count of items of at least so many bytes, and the place behind it."""
-    count, place = compact_at(data, place)
-    if count * least > len(data) - place:
-        raise Fault(2)
-    return count, place
-
-
-def after_script(data, place):
-    size, place = compact_at(data, place)
-    return after(data, place, size)
-
-
-def after_txs(data, place):
-    """How many transactions there are, and the place behind them."""
-    txs, place = count_at(data, place, 10)
-    for _ in range(txs):
-        place = after_tx(data, place)
-    return txs, place
-
-
-def after_tx(data, place):
-    """The place behind a transaction."""
-    inputs, place = count_at(data, after(data, place, 4), 41)
-    for _ in range(inputs):
-        place = after(data, after_script(data, after(data, place, 36)), 4)
-    outputs, place = count_at(data, place, 9)
-    for _ in range(outputs):
-        place = after_script(data, after(data, place, 8))
-    return after(data, place, 4)
-
-
-def line_of(item):
-    if item[0] == "bad":
-        return f"bad {item[1]} F{item[2]} {NAMES[item[2]]}\n"
-    return " ".join(str(part) for part in item) + "\n"
-
-
-def decoded(lines):
-    """What `decode` prints for lines, and its status."""
-    stream = b""
-    for number, line in enumerate(lines, 1):
-        try:
-            if any(byte not in b"0123456789abcdefABCDEF" for byte in line):
-                raise ValueError
-            stream += bytes.fromhex(line.decode("ascii"))
-        except ValueError:
-            items, _, fault = items_of(stream)
-            return printed(items, fault) + f"line {number} not hex\n", 3
-    items, rest, fault = items_of(stream)
-    return printed(items, fault) + f"rest {rest}\n", 0 if fault is None else 3
-
-
-def printed(items, fault):
-    text = "".join(line_of(item) for item in items)
-    return text if fault is None else text + f"broken F{fault} {NAMES[fault]}\n"
-
-
-def served(stream):
-    """What `serve` writes, what it says on standard error, and its status."""
-    items, _, fault = items_of(stream)
-    written = b""
-    for item in items:
-        if item[0] == "bad":
-            return written, "closed BadMessage\n", 3
-        if item[0] == "ping":
-            written += envelope(b"pong", struct.pack("<Q", item[1]))
-    if fault is not None:
-        return written, "closed BadStream\n", 3
-    return written, "closed Bye\n", 0
-
-
-# ---- the strings
-
-
-def random_bytes(rng, size):
-    return bytes(rng.randrange(256) for _ in range(size))
+from bench.models.plain_payload import MOST_TXS
+from bench.models.plain_stream import CARRIERS, decoded, served
+from bench.tools.command_line import usage
+from bench.tools.messages import envelope
+from bench.tools.programs import built
+from bench.tools.texts import random_bytes
 
 
 def spelled(rng, number):

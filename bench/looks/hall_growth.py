@@ -1,5 +1,6 @@
 #!/usr/bin/env python3
-"""Counts the growths of memory that a hall meets at a small block and at a large one, and refuses each growth in turn.
+"""Counts the growths of memory that a hall meets at a small block and at a large one, and refuses each growth in turn:
+python3 bench/looks/hall_growth.py [PROGRAM]
 
 It needs the built program crates/bench_hall/out/bench_hall (as ./build bench_hall leaves it), a C compiler as `cc`, and python3, and
 takes some seconds. A block of 200 bytes and one of 900,000, with as many transactions, are given, served and told as news: a call has
@@ -9,7 +10,6 @@ three blocks take the place of two under a pool of ten, and the pool is matched 
 whether anything changed: each run has to end as with ample memory, or with status 4. The status is 0 where all is so.
 """
 
-import struct
 import sys
 import tempfile
 from pathlib import Path
@@ -17,13 +17,14 @@ from pathlib import Path
 if not __package__:  # called as a file
     sys.path.insert(0, str(Path(__file__).resolve().parents[2]))
 
-from bench.figures.chain import GENESIS, record
-from bench.figures.commands import built, usage
-from bench.looks.chain_calls import Block, Tx
-from bench.looks.hall_calls import Play, question_text, repeated
-from bench.looks.refuse_growth import Growths, build, in_turn, run
+from bench.models.plain_block import Block, Tx, paying, sized
 from bench.models.plain_compact import key_of, short_id
-from bench.models.plain_hall import NULL_POINT, AnyTx, paying
+from bench.tools.command_line import usage
+from bench.tools.growths import Growths, build, growths_of, in_turn
+from bench.tools.hall_play import HallPlay, asked, repeated
+from bench.tools.network import GENESIS
+from bench.tools.programs import built
+from bench.tools.records import record
 
 SMALL, LARGE, REPEATS = 200, 900_000, 10
 # How many transactions a pool has that is matched with, and how many short ids are looked for.
@@ -32,34 +33,9 @@ ONE, THOUSAND, IDS = 1, 1_000, 100
 POOL, PUT_OFF = 10, 2
 
 
-def sized(prev, size):
-    """A block of a coinbase whose text has this size."""
-    def made(script):
-        return Block(prev, [AnyTx([(NULL_POINT, bytes(4))], [50], bytes(script))])
-
-    rest = size - len(made(0).text)
-    # The script's length takes one byte, or five.
-    block = made(rest if rest < 253 else rest - 4)
-    assert len(block.text) == size
-    return block
-
-
-def asked(*question):
-    kind, text = question_text(question)
-    return kind, struct.pack("<HQ", 0, 1) + text
-
-
-def growths(program, library, data):
-    """The growths of a run that comes to its end."""
-    ran, met = run([program], data, library, 0)
-    if ran.returncode != 0:
-        sys.exit(f"the program ended with status {ran.returncode}, and told {ran.stdout!r}")
-    return met
-
-
 def of_call(program, library, ground, call, repeats):
     """The growths that a call meets when it is made so many times: those of reading it are taken off."""
-    none, some = (growths(program, library, ground + repeated(count, *call)) for count in (0, repeats))
+    none, some = (growths_of(program, library, ground + repeated(count, *call)) for count in (0, repeats))
     return Growths(*((more - less) / repeats for less, more in zip(none, some)))
 
 
@@ -100,7 +76,7 @@ def matched(program, library):
 
 def reorganisation():
     """Three blocks take the place of two, whose transactions stand in front of a pool then, beside a look before and after the last."""
-    play = Play()
+    play = HallPlay()
     marks = iter(range(1, 1_000))
     coins, prev = [], GENESIS
 

@@ -1,5 +1,5 @@
 #!/usr/bin/env python3
-"""Refuses each growth of memory in turn, and looks at how the built programs end.
+"""Refuses each growth of memory in turn, and looks at how the built programs end: python3 bench/looks/refuse_growth.py
 
 It needs the programs (crates/NAME/out/NAME of cbrelay, bench_sound, bench_chain and bench_compact, as ./build --all leaves them), a C
 compiler as `cc`, and python3, and takes a few seconds. A small library that is loaded before the C library counts growths and makes the Nth
@@ -8,59 +8,88 @@ or wholly as with ample memory, where it could do without that growth.
 """
 
 import os
-import struct
-import subprocess
 import sys
 import tempfile
 from pathlib import Path
-from typing import NamedTuple
 
 if not __package__:  # called as a file
     sys.path.insert(0, str(Path(__file__).resolve().parents[2]))
 
-from bench.figures.chain import careful_play, careful_turns, copying_play
-from bench.figures.commands import block, pings, unknown, usage
-from bench.looks.chain_calls import told_play
-from bench.looks.compact_cases import rebuilding_play
-
-ROOT = str(Path(__file__).resolve().parents[2])
-
-COUNTER = r"""
-#include <stddef.h>
-#include <stdlib.h>
-#include <unistd.h>
-
-extern void *__libc_malloc(size_t);
-extern void *__libc_realloc(void *, size_t);
-
-static long made = 0;
-static long bytes = 0;
-static long refused = -1;
-
-static int is_refused(size_t size) {
-    if (refused < 0) {
-        const char *text = getenv("REFUSED_GROWTH");
-        refused = text ? atol(text) : 0;
-    }
-    made = made + 1;
-    bytes = bytes + (long)size;
-    return made == refused;
-}
-
-void *malloc(size_t size) { return is_refused(size) ? NULL : __libc_malloc(size); }
-
-void *realloc(void *old, size_t size) { return is_refused(size) ? NULL : __libc_realloc(old, size); }
-
-__attribute__((destructor)) static void tell(void) {
-    long told[] = {made, bytes};
-    (void)!write(9, told, sizeof told);
-}
-"""
+from bench.tools.blocks import block
+from bench.tools.branches import Made, Marks, branch, faulty_on
+from bench.tools.chain_play import ChainPlay
+from bench.tools.command_line import usage
+from bench.tools.compact_play import CompactPlay, some_block
+from bench.tools.growths import build, in_turn
+from bench.tools.messages import pings, unknown
+from bench.tools.network import GENESIS, header_text
+from bench.tools.programs import ROOT, built
+from bench.tools.records import as_records, copies, record
 
 
 def example(name):
+    """The input of an example."""
     with open(os.path.join(ROOT, "examples", name), "rb") as file:
         return file.read()
+
+
+def careful_play():
+    """A block that extends the tip and spends, and a reorganisation of three blocks for two, each beside a copy."""
+    marks = Marks()
+    low = branch(marks, GENESIS, 2)
+    top = Made(low[-1].name, marks.take(), [low[0].made])
+    second = Made(top.name, marks.take())
+    other = branch(marks, low[-1].name, 2)
+    last = Made(other[-1].name, marks.take(), [low[1].made, other[0].made])
+    return (as_records(low) + record(b"c") + as_records([top, second]) + as_records(other) + as_records([last])
+            + record(b"h", header_text(last.name, bytes(32))))
+
+
+def careful_turns():
+    """Faulty blocks on a side branch's ends, the tip's extension between them, and turns to the branch and back, each beside a copy."""
+    marks = Marks()
+    main = branch(marks, GENESIS, 2)
+    side = branch(marks, GENESIS, 1)
+    side.append(Made(side[-1].name, marks.take(), [side[0].made]))
+    first = faulty_on(marks, side[-1].name)
+    main.append(Made(main[-1].name, marks.take(), [main[0].made]))
+    ends = [Made(side[-1].name, marks.take(), [side[1].made]), Made(side[-1].name, marks.take())]
+    tried = [faulty_on(marks, end.name) for end in ends]
+    turn = Made(ends[0].name, marks.take(), [ends[0].made])
+    back = branch(marks, main[-1].name, 1)
+    back.append(Made(back[-1].name, marks.take(), [main[2].made, back[0].made]))
+    again = branch(marks, turn.name, 2)
+    last = faulty_on(marks, again[0].name)
+    careful = [first, main[2], *ends, *tried, turn, *back, again[0], last, again[1]]
+    return as_records(main[:2] + side) + record(b"c") + as_records(careful)
+
+
+def copying_play():
+    """Copies of a chain of three blocks, of a block that spends, and of a message that holds it."""
+    marks = Marks()
+    blocks = branch(marks, GENESIS, 2)
+    blocks.append(Made(blocks[-1].name, marks.take(), [blocks[0].made]))
+    return as_records(blocks) + copies(0, 1) + b"".join(copies(original, 1, blocks[-1].text) for original in (1, 2))
+
+
+def told_play(count):
+    """The records of the first calls, and of what is asked after them."""
+    play = ChainPlay(1)
+    for number in range(count):
+        play.turn(number)
+    return b"".join(play.records)
+
+
+def rebuilding_play():
+    """Records of a compact form, of a block of which two are missing, which are handed in, and of one of which none is."""
+    play = CompactPlay()
+    ids = some_block(play, 5, 7, [0])
+    play.use_pairs([(ids[number], number) for number in (4, 2)])
+    play.place()
+    play.fill([1, 3])
+    play.pair_all()
+    play.place()
+    return b"".join(play.records)
 
 
 # What is run: a name, the crate of the program, its words, and its standard input.
@@ -83,73 +112,10 @@ RUNS = [
 ]
 
 
-class Growths(NamedTuple):
-    """How many growths a run tried to make, and of how many bytes together."""
-
-    count: int
-    bytes: int
-
-
-def build(folder):
-    source = os.path.join(folder, "counter.c")
-    library = os.path.join(folder, "counter.so")
-    with open(source, "w") as file:
-        file.write(COUNTER)
-    subprocess.run(["cc", "-O1", "-shared", "-fPIC", "-o", library, source], check=True)
-    return library
-
-
-def run(command, data, library, place):
-    """One run in which this growth is refused, or none for 0: its status and output, and its growths."""
-    reading, writing = os.pipe()
-    os.dup2(writing, 9)
-    os.close(writing)
-    environment = dict(os.environ, LD_PRELOAD=library, REFUSED_GROWTH=str(place))
-    ran = subprocess.run(command, input=data, capture_output=True, env=environment, pass_fds=[9], timeout=60)
-    os.close(9)
-    told = os.read(reading, 16)
-    os.close(reading)
-    # A run that was killed tells nothing.
-    return ran, Growths(*struct.unpack("ll", told)) if told else Growths(place, 0)
-
-
-def is_refusal(ran, ample):
-    return ran.returncode == 4 and ample.stdout.startswith(ran.stdout)
-
-
-def is_same(ran, ample):
-    return (ran.returncode, ran.stdout, ran.stderr) == (ample.returncode, ample.stdout, ample.stderr)
-
-
-def in_turn(told, crate, words, data, library):
-    command = [os.path.join(ROOT, "crates", crate, "out", crate)] + words
-    ample = subprocess.run(command, input=data, capture_output=True)
-    refused, spared, failures = 0, 0, 0
-    place = 1
-    while True:
-        ran, growths = run(command, data, library, place)
-        if growths.count < place:
-            break
-        if is_refusal(ran, ample):
-            refused += 1
-        elif is_same(ran, ample):
-            spared += 1
-        else:
-            failures += 1
-            print(f"{told}: growth {place} refused: status {ran.returncode}, printed {ran.stdout!r}, {ran.stderr!r}")
-        place += 1
-    if not is_same(ran, ample):
-        failures += 1
-        print(f"{told}: another end with ample memory: status {ran.returncode}")
-    print(f"{told}: {place - 1} growths refused in turn: {refused} ended the run, {spared} were done without, {failures} failures")
-    return failures
-
-
 def main():
     usage(__doc__).parse_args()
     for crate in sorted({crate for _, crate, _, _ in RUNS}):
-        if not os.access(os.path.join(ROOT, "crates", crate, "out", crate), os.X_OK):
-            sys.exit(f"{crate} isn't built: ./build {crate}")
+        built(None, crate)
     with tempfile.TemporaryDirectory() as folder:
         library = build(folder)
         failures = sum(in_turn(*what, library) for what in RUNS)

@@ -1,12 +1,14 @@
 #!/usr/bin/env python3
-"""Plays a client over a pipe to `cbrelay serve`: a handshake, 100 blocks handed over and asked for back.
+"""Plays a client over a pipe to `cbrelay serve`: a handshake, 100 blocks handed over and asked for back:
+python3 bench/looks/talk.py [--plain]
 
 It needs the built program (crates/cbrelay/out/cbrelay, as ./build leaves it) and python3, and takes some seconds. The client
 makes its blocks for the regression test network by itself. It tells the node their headers, gives what the node asks for, asks
 for the headers from the first block on, and for the blocks of these, and compares. With --plain it talks to the plain session
-in Python (bench/models/plain_session.py) in place of the program.
+in Python (bench/models/plain_node.py) in place of the program.
 """
 
+import os
 import struct
 import subprocess
 import sys
@@ -15,16 +17,19 @@ from pathlib import Path
 if not __package__:  # called as a file
     sys.path.insert(0, str(Path(__file__).resolve().parents[2]))
 
-from bench.figures.chain import GENESIS
-from bench.figures.commands import built, hash_twice, usage
-from bench.looks.fuzz import MAGIC, envelope
 from bench.models import plain_wire as wire
-from bench.models.plain_hall import NULL_POINT, AnyTx, MinedBlock
+from bench.models.plain_block import NULL_POINT, AnyTx, MinedBlock
 from bench.models.plain_session import Settings
+from bench.tools.command_line import usage
+from bench.tools.messages import envelope
+from bench.tools.network import GENESIS, MAGIC
+from bench.tools.programs import ROOT, built
+from bench.tools.texts import hash_twice
 
 BLOCKS, MARK = 100, 9
 # The client's own nonce.
 NONCE = 0x5EED
+PLAIN_NODE = "bench/models/plain_node.py"
 
 
 class Unexpected(Exception):
@@ -121,11 +126,10 @@ def mined(count):
 
 
 def main():
-    words = sys.argv[1:]
-    if words not in ([], ["--plain"]):
-        return usage(__doc__)
-    models = Path(__file__).resolve().parents[1] / "models"
-    command = [sys.executable, models / "plain_session.py"] if words else [built(None, "cbrelay"), "serve"]
+    reader = usage(__doc__)
+    reader.add_argument("--plain", action="store_true", help="talk to the plain session")
+    words = reader.parse_args()
+    command = [sys.executable, os.path.join(ROOT, PLAIN_NODE)] if words.plain else [built(None, "cbrelay"), "serve"]
     client, blocks = Client(command), mined(BLOCKS)
     try:
         client.shake_hands()

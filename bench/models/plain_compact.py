@@ -6,7 +6,7 @@ It was written apart from the program. A block is rebuilt in the slow way: each 
 import hashlib
 import struct
 
-from bench.figures.commands import hash_twice, merkle_root
+from bench.tools.texts import hash_twice, merkle_root
 
 WORD = (1 << 64) - 1
 

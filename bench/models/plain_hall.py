@@ -9,13 +9,13 @@ import struct
 from collections import Counter
 from types import SimpleNamespace
 
-from bench.figures.commands import compact_size, hash_twice, merkle_root
-from bench.looks.chain_calls import MOST_MONEY, Block, Header, Plain, Tx, connected, has_work, line
-from bench.figures.chain import GENESIS
+from bench.models.plain_block import GENESIS_TIME, NULL_POINT, AnyTx, MinedBlock
+from bench.models.plain_chain import PlainChain, connected
 from bench.models.plain_compact import indexes, key_of, short_id
+from bench.tools.network import GENESIS
+from bench.tools.texts import compact_size, line, shown
 
-NULL_POINT = (bytes(32), 0xFFFF_FFFF)
-PEERS, GENESIS_SIZE, GENESIS_TIME = 64, 285, 1_296_688_602
+PEERS, GENESIS_SIZE = 64, 285
 # The first block's one transaction: its name, as it is shown, and its size.
 GENESIS_TX = ("4a5e1e4baab89f3a32518a88c31bc87f618f76673e2cc77ab2127b7afdeda33b", 204)
 POOL, ANNOUNCERS, ANNOUNCED, DEPTH, PART_DEPTH, BLOCK_BYTES = 10_000, 3, 8, 5, 10, 1_000_000
@@ -24,65 +24,7 @@ JOURNAL_ENTRIES, JOURNAL_WEIGHT, ENTRY_WEIGHT, LISTED_WEIGHT = 1_000_000, 64_000
 FOLDED = 16
 
 
-# ---- transactions and blocks
-
-
-class AnyTx(Tx):
-    """A transaction of any inputs, each a point and a script, and any values."""
-
-    def __init__(self, inputs, values, script=b"\x51"):
-        self.inputs, self.values = inputs, values
-        self.spent = [] if [point for point, _ in inputs] == [NULL_POINT] else [point for point, _ in inputs]
-        made = b"".join(struct.pack("<q", value) + compact_size(len(script)) + script for value in values)
-        spent = b"".join(point[0] + struct.pack("<I", point[1]) + compact_size(len(text)) + text + b"\xff" * 4 for point, text in inputs)
-        self.text = struct.pack("<i", 1) + compact_size(len(inputs)) + spent + compact_size(len(values)) + made + bytes(4)
-        self.name = hash_twice(self.text)
-
-    def is_coinbase(self):
-        return [point for point, _ in self.inputs] == [NULL_POINT]
-
-    def broken_rule(self):
-        points = [point for point, _ in self.inputs]
-        if not points:
-            return 1
-        if not self.values:
-            return 2
-        if len(self.text) > 1_000_000:
-            return 3
-        if any(not 0 <= value <= MOST_MONEY for value in self.values):
-            return 4
-        if sum(self.values) > MOST_MONEY:
-            return 5
-        if len(set(points)) < len(points):
-            return 6
-        if self.is_coinbase():
-            return None if 2 <= len(self.inputs[0][1]) <= 100 else 7
-        return 8 if NULL_POINT in points else None
-
-
-def paying(mark, spent, values):
-    """A transaction that spends these points."""
-    return AnyTx([(point, struct.pack("<I", mark)) for point in spent], values)
-
-
-class MinedBlock(Block):
-    """A block with the time of its height and the least nonce that serves."""
-
-    def __init__(self, prev, height, txs):
-        self.txs = txs
-        root, nonce, text = merkle_root([tx.name for tx in txs]), 0, b""
-        while not text or not has_work(text):
-            text = struct.pack("<i", 1) + prev + root + struct.pack("<III", GENESIS_TIME + height, 0x207F_FFFF, nonce)
-            nonce += 1
-        self.header = Header(text)
-        self.text = self.header.text + compact_size(len(txs)) + b"".join(tx.text for tx in txs)
-
-
 # ---- what peers share
-
-
-def shown(name):
-    return name[::-1].hex()
 
 
 def applied(unspent, tx):
@@ -96,7 +38,7 @@ class Shared:
     """The chain, the pool with its numbers of arrival, the announcers, and what is known of the connections."""
 
     def __init__(self):
-        self.chain = Plain()
+        self.chain = PlainChain()
         self.pool, self.next = [], 0
         self.announcers = []
         self.asked, self.kicked, self.generations = Counter(), set(), Counter({peer: 1 for peer in range(PEERS)})

@@ -4,18 +4,14 @@ It was written apart from the program. Items come whole; each is processed to it
 """
 
 import struct
-import sys
 from dataclasses import dataclass, field
-from pathlib import Path
 
-if not __package__:  # called as a file
-    sys.path.insert(0, str(Path(__file__).resolve().parents[2]))
-
-from bench.figures.chain import GENESIS
-from bench.figures.commands import merkle_root
-from bench.looks.fuzz import Fault, envelope
 from bench.models import plain_wire as wire
 from bench.models.plain_hall import ANNOUNCED
+from bench.models.plain_payload import Fault
+from bench.tools.messages import envelope
+from bench.tools.network import GENESIS, MAGIC
+from bench.tools.texts import hash_twice, merkle_root
 
 MOST_FLIGHT, MOST_WANTED = 16, 2_000
 TX, BLOCK, COMPACT = 1, 2, 4
@@ -243,8 +239,6 @@ def good(name, data):
 
 def serve(reader, writer, session):
     """Serves a connection from its bytes, and returns why it ended."""
-    from bench.looks.fuzz import MAGIC
-    from bench.figures.commands import hash_twice
     writer.write(session.opening())
     stream = b""
     try:
@@ -268,8 +262,3 @@ def serve(reader, writer, session):
                 writer.flush()
     except Closed as closed:
         return str(closed)
-
-
-if __name__ == "__main__":
-    from bench.models.plain_hall import Shared
-    print("closed", serve(sys.stdin.buffer, sys.stdout.buffer, PlainSession(Settings(), Shared())), file=sys.stderr)

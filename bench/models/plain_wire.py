@@ -6,13 +6,12 @@ A message is its name and its fields: numbers, bytes, lists of entries (type, ha
 import struct
 from types import SimpleNamespace
 
-from bench.figures.commands import compact_size, hash_twice
-from bench.looks.chain_calls import Block, Header
-from bench.looks.fuzz import Fault, after, after_tx, compact_at, count_at, envelope
-from bench.models.plain_hall import AnyTx
+from bench.models.plain_block import AnyTx, Block, Header
+from bench.models.plain_payload import MOST_TXS, Fault, after, after_tx, compact_at, count_at
+from bench.tools.messages import envelope
+from bench.tools.texts import compact_size, hash_twice
 
 MOST_ENTRIES, MOST_HEADERS, MOST_LOCATOR, MOST_AGENT = 50_000, 2_000, 101, 256
-MOST_TXS = 16_666
 NOBODY = bytes(26)
 LISTS = ("inv", "getdata", "notfound")
 EMPTY = ("verack", "sendheaders")

@@ -15,8 +15,10 @@ from pathlib import Path
 if not __package__:  # called as a file
     sys.path.insert(0, str(Path(__file__).resolve().parents[2]))
 
+from bench.tools.command_line import usage
+from bench.tools.programs import built, path_of
 
-PROGRAM = Path(__file__).resolve().parents[2] / "crates/bench_crew/out/bench_crew"
+PROGRAM = path_of("bench_crew")
 RUNS = 50
 PEERS, HANDLERS, CAPACITIES = 64, 16, (1, 2, 1_024)
 # The first connection and 20 more, of so many items each.
@@ -30,8 +32,10 @@ def wanted():
     return told * len(CAPACITIES)
 
 
-def main(words):
-    runs = int(words[0]) if words else RUNS
+def main():
+    words = usage(__doc__, runs="how many runs").parse_args()
+    built(PROGRAM, "bench_crew")
+    runs = int(words.runs or RUNS)
     lines = "".join(f"crew {PEERS} {HANDLERS} {capacity} {ITEMS} {CONNECTIONS} {ROUNDS}\n" for capacity in CAPACITIES)
     expected, began = wanted(), time.monotonic()
     for run in range(1, runs + 1):
@@ -50,4 +54,4 @@ def main(words):
 
 
 if __name__ == "__main__":
-    sys.exit(main(sys.argv[1:]))
+    sys.exit(main())

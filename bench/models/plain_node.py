@@ -1,0 +1,19 @@
+#!/usr/bin/env python3
+"""Serves one connection on standard input and output by the plain session, as `cbrelay serve` does: python3 bench/models/plain_node.py"""
+
+import sys
+from pathlib import Path
+
+if not __package__:  # called as a file
+    sys.path.insert(0, str(Path(__file__).resolve().parents[2]))
+
+from bench.models.plain_hall import Shared
+from bench.models.plain_session import PlainSession, Settings, serve
+
+
+def main():
+    print("closed", serve(sys.stdin.buffer, sys.stdout.buffer, PlainSession(Settings(), Shared())), file=sys.stderr)
+
+
+if __name__ == "__main__":
+    main()

@@ -1,0 +1,115 @@
+"""Growths of memory in a run: a library that is loaded before the C library counts them, and makes one of them fail."""
+
+import os
+import struct
+import subprocess
+import sys
+from typing import NamedTuple
+
+from bench.tools.programs import path_of
+
+COUNTER = r"""
+#include <stddef.h>
+#include <stdlib.h>
+#include <unistd.h>
+
+extern void *__libc_malloc(size_t);
+extern void *__libc_realloc(void *, size_t);
+
+static long made = 0;
+static long bytes = 0;
+static long refused = -1;
+
+static int is_refused(size_t size) {
+    if (refused < 0) {
+        const char *text = getenv("REFUSED_GROWTH");
+        refused = text ? atol(text) : 0;
+    }
+    made = made + 1;
+    bytes = bytes + (long)size;
+    return made == refused;
+}
+
+void *malloc(size_t size) { return is_refused(size) ? NULL : __libc_malloc(size); }
+
+void *realloc(void *old, size_t size) { return is_refused(size) ? NULL : __libc_realloc(old, size); }
+
+__attribute__((destructor)) static void tell(void) {
+    long told[] = {made, bytes};
+    (void)!write(9, told, sizeof told);
+}
+"""
+
+
+class Growths(NamedTuple):
+    """How many growths a run tried to make, and of how many bytes together."""
+
+    count: int
+    bytes: int
+
+
+def build(folder):
+    """Compiles the library into a folder."""
+    source = os.path.join(folder, "counter.c")
+    library = os.path.join(folder, "counter.so")
+    with open(source, "w") as file:
+        file.write(COUNTER)
+    subprocess.run(["cc", "-O1", "-shared", "-fPIC", "-o", library, source], check=True)
+    return library
+
+
+def run(command, data, library, place):
+    """One run in which this growth is refused, or none for 0: its status and output, and its growths."""
+    reading, writing = os.pipe()
+    os.dup2(writing, 9)
+    os.close(writing)
+    environment = dict(os.environ, LD_PRELOAD=library, REFUSED_GROWTH=str(place))
+    ran = subprocess.run(command, input=data, capture_output=True, env=environment, pass_fds=[9], timeout=60)
+    os.close(9)
+    told = os.read(reading, 16)
+    os.close(reading)
+    # A run that was killed tells nothing.
+    return ran, Growths(*struct.unpack("ll", told)) if told else Growths(place, 0)
+
+
+def growths_of(program, library, data):
+    """The growths of a run that comes to its end."""
+    ran, met = run([program], data, library, 0)
+    if ran.returncode != 0:
+        sys.exit(f"the program ended with status {ran.returncode}, and told {ran.stdout!r}")
+    return met
+
+
+def is_refusal(ran, ample):
+    """Whether a run ended with status 4 after a beginning of what it prints with ample memory."""
+    return ran.returncode == 4 and ample.stdout.startswith(ran.stdout)
+
+
+def is_same(ran, ample):
+    """Whether a run ended as with ample memory."""
+    return (ran.returncode, ran.stdout, ran.stderr) == (ample.returncode, ample.stdout, ample.stderr)
+
+
+def in_turn(told, crate, words, data, library):
+    """Refuses each growth of a run in turn, and returns how many runs ended otherwise than they should."""
+    command = [path_of(crate)] + words
+    ample = subprocess.run(command, input=data, capture_output=True)
+    refused, spared, failures = 0, 0, 0
+    place = 1
+    while True:
+        ran, growths = run(command, data, library, place)
+        if growths.count < place:
+            break
+        if is_refusal(ran, ample):
+            refused += 1
+        elif is_same(ran, ample):
+            spared += 1
+        else:
+            failures += 1
+            print(f"{told}: growth {place} refused: status {ran.returncode}, printed {ran.stdout!r}, {ran.stderr!r}")
+        place += 1
+    if not is_same(ran, ample):
+        failures += 1
+        print(f"{told}: another end with ample memory: status {ran.returncode}")
+    print(f"{told}: {place - 1} growths refused in turn: {refused} ended the run, {spared} were done without, {failures} failures")
+    return failures
