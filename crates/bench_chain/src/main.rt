@@ -1,6 +1,6 @@
 //! Plays headers and blocks from standard input into a chain, and prints its state at the end.
-//! bench/chain.py measures time and memory, bench/count_growth.py counts allocations, and
-//! bench/refuse_growth.py makes them fail. The node doesn't use this program.
+//! bench/figures/chain.py measures time and memory, bench/looks/count_growth.py counts allocations, and
+//! bench/looks/refuse_growth.py makes them fail. The node doesn't use this program.
 #![tactic(auto)]
 
 mod asking;

@@ -1,5 +1,5 @@
 //! Rebuilds blocks from compact blocks (BIP 152) as records on standard input say, and prints the
-//! outcome of each. bench/compact.py measures time and memory, and compares the output with that of
+//! outcome of each. bench/figures/compact.py measures time and memory, and compares the output with that of
 //! a plain reader in Python. The node doesn't use this program.
 #![tactic(auto)]
 

@@ -1,6 +1,6 @@
 //! Plays calls from standard input into a hall, and prints a line with the outcome of each.
-//! bench/hall_calls.py compares the lines with those of a plain hall, bench/hall.py measures time
-//! and memory, and bench/hall_growth.py counts allocations and makes them fail. The node doesn't
+//! bench/looks/hall_calls.py compares the lines with those of a plain hall, bench/figures/hall.py measures time
+//! and memory, and bench/looks/hall_growth.py counts allocations and makes them fail. The node doesn't
 //! use this program.
 #![tactic(auto)]
 

@@ -1,4 +1,4 @@
-//! Checks the block on standard input. bench/bench.py measures how long that takes. The node
+//! Checks the block on standard input. bench/figures/commands.py measures how long that takes. The node
 //! doesn't use this program.
 #![tactic(auto)]
 

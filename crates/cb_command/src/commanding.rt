@@ -190,7 +190,7 @@ fn command_line<'a>(alloc: Global) -> Result<Command<'a>, AllocError>
     let serve = Command::new(alloc, "serve").about("Answer a peer: its bytes in, ours out");
     let sim = Command::new(alloc, "sim").about("Run the crew's core, a line for each act");
     Command::new(alloc, "cbrelay")
-        .about("A compact block relay node")
+        .about("Answers one Bitcoin peer on standard input, and decodes messages (regtest)")
         .version(VERSION)
         .after_help(USE)
         .subcommand(decode)?
