@@ -19,6 +19,7 @@ use Rattle.cb_compact.specs.Placing.{IsFilled, IsPlaced}
 use Rattle.cb_compact.specs.ShortIds.{key_of, short_id_of}
 use Rattle.cb_compact.specs.Slots.{choice, filled, is_among, laid_out, missing, only_tx, slots, with_id}
 use Rattle.cb_compact.specs.declared.form.Compact.{Compact}
+use Rattle.cb_compact.specs.declared.form.Prefilled.{Prefilled}
 use Rattle.cb_compact.specs.declared.named_tx.Pair.{Pair}
 use Rattle.cb_compact.specs.declared.partial.Filled.{Filled}
 use Rattle.cb_compact.specs.declared.partial.Filled.TheVariants.{Sound, Wrong}
@@ -31,30 +32,36 @@ use Rattle.cb_compact.proofs.Seen.{AreAt, contains_cases, contains_first, contai
 abbrev pub chosen_for : Header → ℕ → List Pair → Tx → Option Tx
 chosen_for header nonce pairs tx = choice pairs (id_of header nonce tx)
 
--- The form's ids are those of the transactions at all other places.
-pub ids_are : (block : Block) (nonce : ℕ) (places : List ℕ) (form : Compact) → IsCompact block nonce places form → form.ids.items ≡ map (id_of block.header nonce) (left_out 0 places block.txs)
-ids_are block nonce places form compact =
+-- The ids of the names of the transactions at all other places are theirs.
+pub named_ids : (block : Block) (nonce : ℕ) (places : List ℕ) → map (short_id_of (key_of block.header nonce)) (left_out 0 places (names (texts block.txs))) ≡ map (id_of block.header nonce) (left_out 0 places block.txs)
+named_ids block nonce places =
     let key = key_of block.header nonce in
     let name : Tx → Hash256 = λ tx. double_hash (tx_text tx) in
-    compact.ids
-    ∙ ap (λ list. map (short_id_of key) (left_out 0 places list)) (map-map double_hash tx_text block.txs)
+    ap (λ list. map (short_id_of key) (left_out 0 places list)) (map-map double_hash tx_text block.txs)
     ∙ ap (map (short_id_of key)) (left_map name 0 places block.txs)
     ∙ map-map (short_id_of key) name (left_out 0 places block.txs)
+
+pub ids_are : (block : Block) (nonce : ℕ) (places : List ℕ) (form : Compact) → IsCompact block nonce places form → form.ids.items ≡ map (id_of block.header nonce) (left_out 0 places block.txs)
+ids_are block nonce places form compact = compact.ids ∙ named_ids block nonce places
+
+pub listed_seen : (block : Block) (nonce : ℕ) (places ids : List ℕ) (given : List Prefilled) (pairs : List Pair) → Rise 0 (length block.txs) places → ids ≡ map (id_of block.header nonce) (left_out 0 places block.txs)
+    → places_of given ≡ places → All (λ it. slice_get block.txs it.place ≡ Some it.tx) given → slots ids given pairs ≡ seen (chosen_for block.header nonce pairs) 0 places block.txs
+listed_seen block nonce places ids given pairs rises are places_are whole =
+    let txs = block.txs in
+    let known = chosen_for block.header nonce pairs in
+    let left = left_out 0 places txs in
+    let others : map (choice pairs) ids ≡ map known left = ap (map (choice pairs)) are ∙ map-map (choice pairs) (id_of block.header nonce) left in
+    let rise : Rise 0 (length txs) (places_of given) = subst (Rise 0 (length txs)) (sym places_are) rises in
+    let at : AreAt 0 txs given = All-weaker (λ it. slice_get txs it.place ≡ Some it.tx) (λ it. slice_get txs (it.place - 0) ≡ Some it.tx) (λ it there. let same : it.place - 0 ≡ it.place = omega arith in ap (slice_get txs) same ∙ there) given whole in
+    ap (laid_out 0 given) others
+    ∙ ap (λ list. laid_out 0 given (map known (left_out 0 list txs))) (sym places_are)
+    ∙ laid_seen known 0 (length txs) given txs (omega arith) rise at
+    ∙ ap (λ list. seen known 0 list txs) places_are
 
 pub form_seen : (block : Block) (nonce : ℕ) (places : List ℕ) (form : Compact) (pairs : List Pair) → Rise 0 (length block.txs) places → IsCompact block nonce places form
     → slots form.ids.items form.prefilled.items pairs ≡ seen (chosen_for block.header nonce pairs) 0 places block.txs
 form_seen block nonce places form pairs rises compact =
-    let txs = block.txs in
-    let known = chosen_for block.header nonce pairs in
-    let given = form.prefilled.items in
-    let left = left_out 0 places txs in
-    let others : map (choice pairs) form.ids.items ≡ map known left = ap (map (choice pairs)) (ids_are block nonce places form compact) ∙ map-map (choice pairs) (id_of block.header nonce) left in
-    let rise : Rise 0 (length txs) (places_of given) = subst (Rise 0 (length txs)) (sym compact.places_are) rises in
-    let at : AreAt 0 txs given = All-weaker (λ it. slice_get txs it.place ≡ Some it.tx) (λ it. slice_get txs (it.place - 0) ≡ Some it.tx) (λ it there. let same : it.place - 0 ≡ it.place = omega arith in ap (slice_get txs) same ∙ there) given compact.whole in
-    ap (laid_out 0 given) others
-    ∙ ap (λ list. laid_out 0 given (map known (left_out 0 list txs))) (sym compact.places_are)
-    ∙ laid_seen known 0 (length txs) given txs (omega arith) rise at
-    ∙ ap (λ list. seen known 0 list txs) compact.places_are
+    listed_seen block nonce places form.ids.items form.prefilled.items pairs rises (ids_are block nonce places form compact) compact.places_are compact.whole
 
 -- ---- what pairs choose
 
@@ -194,8 +201,6 @@ free_missing known Free first (suc k) places (tx ∷ txs) it all is outside free
       | inl some ↦ subst (λ slot. Contains (missing first (slot ∷ list)) (first + suc k)) (sym some.0) later
       | inr nothing ↦ subst (λ slot. Contains (missing first (slot ∷ list)) (first + suc k)) (sym nothing.0) (contains_later first (first + suc k) (missing (first + 1) list) later)
     ]
-
--- ---- the law
 
 -- ---- the law
 

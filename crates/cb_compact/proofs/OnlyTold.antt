@@ -16,7 +16,7 @@ use Rattle.cb_compact.specs.declared.partial.Placed.TheVariants.{Missing, Repeat
 use Rattle.cb_block.proofs.Only.{only_one}
 use Rattle.cb_block.proofs.Texts.{only_txs}
 
-one_if_apart : (block told : Block) (header : Header) (txs : List Tx) → IsSoundBlock block → header ≡ block.header → IsFilled header txs (Sound told) → AreOneIfApart block told
+pub one_if_apart : (block told : Block) (header : Header) (txs : List Tx) → IsSoundBlock block → header ≡ block.header → IsFilled header txs (Sound told) → AreOneIfApart block told
 one_if_apart block told header txs sound same (is, whole) apart =
     let header_is : told.header ≡ block.header = ap (λ it. it.header) is ∙ same in
     let list : told.txs ≡ txs = ap (λ it. it.txs) is in

@@ -144,6 +144,29 @@ fn judge(alloc: Global, header: Header, listed: Listed) -> Result<Filled, Fault>
     }
 }
 
+/// What stands at a place once more.
+fn copy_slot(slot: &Option<NamedTx>) -> Result<Option<NamedTx>, Fault>
+    ensures equal { IfOk result (λ copy. copy ≡ slot.now) }
+    ensures memory { IsOkUnless result Memory }
+{
+    match slot {
+        Some(named) => Ok(Some(named.clone()?)),
+        None => Ok(None),
+    }
+}
+
+/// What stands at all places once more. Only the list takes memory.
+fn copy_slots(alloc: Global, slots: &[Option<NamedTx>]) -> Result<Vec<Option<NamedTx>>, Fault>
+    ensures equal { IfOk result (λ copies. copies.items ≡ slots.now) }
+    ensures memory { IsOkUnless result Memory }
+{
+    let mut copies = Vec::with_capacity(alloc, slots.len())?;
+    for slot in slots {
+        copies.push(copy_slot(slot)?)?;
+    }
+    Ok(copies)
+}
+
 impl Partial {
     pub(crate) fn new(
         alloc: Global,
@@ -160,6 +183,34 @@ impl Partial {
             slots,
             lacking,
         }
+    }
+
+    /// The block's header.
+    pub fn header(&self) -> &Header
+        ensures { result.now ≡ self.now.header }
+    {
+        &self.header
+    }
+
+    /// How many of its transactions are missing.
+    pub fn lacking(&self) -> usize
+        ensures { result ≡ length (missing 0 self.now.slots) }
+    {
+        self.lacking
+    }
+
+    /// An equal one that shares the transactions: only its list is allocated. Fails only with
+    /// `Fault::Memory`.
+    pub fn copy(&self, alloc: Global) -> Result<Partial, Fault>
+        ensures equal { IfOk result (λ copy. copy ≡ self.now) }
+        ensures memory { IsOkUnless result Memory }
+    {
+        Ok(Partial {
+            alloc,
+            header: self.header,
+            slots: copy_slots(alloc, self.slots.as_slice())?,
+            lacking: self.lacking,
+        })
     }
 
     /// Puts these transactions, in order, at the missing places and checks the block. Each of them
