@@ -1,0 +1,5 @@
+mod Asked
+mod Counted
+mod Leading
+mod Sending
+mod Settling

@@ -1,0 +1,20 @@
+-- The compact form in which a block is sent (BIP 152): its first transaction is there whole, and of all others there are short ids.
+use Rattle.std.specs.Prelude.{ℕ, List, [], ◌∷◌, map}
+use Rattle.cb_tx.specs.declared.tx.Tx.{Tx}
+use Rattle.cb_block.specs.declared.block.Block.{Block}
+use Rattle.cb_compact.specs.Honest.{id_of}
+use Rattle.cb_payload.specs.declared.compact_block.HeaderAndShortIds.{HeaderAndShortIds}
+use Rattle.cb_payload.specs.declared.prefilled.PrefilledTransaction.{PrefilledTransaction}
+
+-- all but the first
+abbrev pub behind_first : {A : Type 0} → List A → List A
+behind_first [] = []
+behind_first (first ∷ others) = others
+
+-- the first, whose index is 0
+abbrev pub whole_first : List Tx → List PrefilledTransaction
+whole_first [] = []
+whole_first (first ∷ others) = record { difference = 0; tx = first } ∷ []
+
+unfoldable pub shortened_of : Block → ℕ → HeaderAndShortIds
+shortened_of block nonce = record { header = block.header; nonce = nonce; txs = record { ids = map (id_of block.header nonce) (behind_first block.txs); prefilled = whole_first block.txs } }

@@ -1,0 +1,29 @@
+ghost use Rattle.std.specs.Prelude.{◌≡◌, ◌⊎◌, MatchResult, Ok, Err};
+ghost use Rattle.cb_base.specs.declared.fault.Fault.{Fault};
+ghost use Rattle.cb_base.specs.declared.fault.Fault.TheVariants.{Memory};
+ghost use Rattle.cb_rebuild.specs.Completing.{completed_of};
+
+use cb_base::Fault;
+use cb_compact::{Filled, Partial};
+use cb_payload::BlockTransactions;
+use std::alloc::Global;
+
+/// The block with the transactions of a `blocktxn` (BIP 152), in order, at the places that lack one. Each of them is hashed once,
+/// and none is copied. The message's hash isn't looked at.
+///
+/// `Fault::WrongCount` just where they aren't as many as are missing; that takes no memory. Else the only error is
+/// `Fault::Memory`.
+#[tactic(auto, unfolding(crate::specs::Completing::completed_of))]
+pub fn complete(alloc: Global, partial: Partial, txs: &BlockTransactions) -> Result<Filled, Fault>
+    ensures exact { MatchResult result (λ filled. completed_of partial txs.now ≡ Ok filled)
+        (λ fault. (fault ≡ Memory) ⊎ (completed_of partial txs.now ≡ Err fault)) }
+    // A wrong count is told without memory.
+    ensures unpaid { (fault : Fault) → completed_of partial txs.now ≡ Err fault →
+        result ≡ Err fault }
+{
+    if txs.txs.as_slice().len() != partial.lacking() {
+        return Err(Fault::WrongCount);
+    }
+    let list = txs.copy(alloc)?.txs.into_vec();
+    partial.fill(list)
+}

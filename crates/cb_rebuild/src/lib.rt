@@ -1,0 +1,17 @@
+//! Blocks that are rebuilt from compact ones (BIP 152, version 1), and the compact form in which a block is sent.
+#![tactic(auto)]
+
+mod completing;
+mod laws;
+mod places;
+mod rebuilding;
+mod shortening;
+
+pub use completing::complete;
+pub use laws::{
+    a_block_has_few_txs, a_shortened_block_is_honest, an_honest_message_is_rebuilt,
+    rebuilding_is_placing, what_is_rebuilt_is_the_block, what_lacks_is_asked_for,
+};
+pub use places::check_places;
+pub use rebuilding::{Rebuilt, rebuild};
+pub use shortening::shortened;
