@@ -3,7 +3,7 @@ use Rattle.std.proofs.Common.{◌≡◌, ℕ, Bool, true, false, List, [], ◌++
 use Rattle.std.proofs.lemmas.List.{append-nil}
 use Rattle.std.specs.Io.KnownBytes.{Appends}
 use Rattle.cb_io.proofs.Known.{Appends-then}
-use Rattle.cb_peer.specs.declared.state.CloseReason.{CloseReason}
+use Rattle.cb_peer_state.specs.declared.state.CloseReason.{CloseReason}
 use Rattle.cb_run.specs.declared.ending.Status.{Status}
 use Rattle.cb_run.specs.declared.ending.Status.TheVariants.{BadInput}
 use Rattle.cb_run.specs.declared.ending.Halt.{Halt}

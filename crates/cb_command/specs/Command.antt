@@ -1,7 +1,7 @@
 -- The outcome of a run of the program: its exit status, and what standard error was told.
 use Rattle.std.specs.Prelude.{◌≡◌, ℕ, Bool, true, false, ◌⊎◌, List, [], ◌++◌, Option, Result, Ok, Err}
 use Rattle.std.specs.Io.KnownBytes.{Appends}
-use Rattle.cb_peer.specs.declared.state.CloseReason.{CloseReason}
+use Rattle.cb_peer_state.specs.declared.state.CloseReason.{CloseReason}
 use Rattle.cb_run.specs.declared.ending.Status.{Status}
 use Rattle.cb_run.specs.declared.ending.Status.TheVariants.{Usage, BadInput}
 use Rattle.cb_run.specs.declared.ending.Halt.{Halt}

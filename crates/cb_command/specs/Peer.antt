@@ -4,10 +4,10 @@ use Rattle.std.specs.Io.KnownBytes.{Appends}
 use Rattle.cb_journal.specs.Journal.{JournalState, new_journal}
 use Rattle.cb_hall.specs.Badge.{BadgeState, first_of, fresh_badge}
 use Rattle.cb_hall.specs.Histories.{Asks, IsRefused}
-use Rattle.cb_peer.specs.declared.state.State.TheVariants.{Closed}
-use Rattle.cb_peer.specs.declared.state.CloseReason.{CloseReason}
-use Rattle.cb_peer.specs.declared.state.CloseReason.TheVariants as reasons
-use Rattle.cb_peer.specs.State.{reason_name}
+use Rattle.cb_peer_state.specs.declared.state.State.TheVariants.{Closed}
+use Rattle.cb_peer_state.specs.declared.state.CloseReason.{CloseReason}
+use Rattle.cb_peer_state.specs.declared.state.CloseReason.TheVariants as reasons
+use Rattle.cb_peer_state.specs.State.{reason_name}
 use Rattle.cb_trace.specs.Trace.{TraceView}
 use Rattle.cb_session.specs.declared.reading.ReadEnd.{ReadEnd}
 use Rattle.cb_session.specs.Conversation.{Origin, origin_of, progress}

@@ -2,8 +2,8 @@
 
 ghost use Rattle.std.specs.Prelude.{◌≡◌, ◌⊎◌, ℕ, true, false, IsErrOf, List, [], ◌∷◌, codes, map, option_map, string_bytes, IfOk, IfErr, MatchResult};
 ghost use Rattle.std.specs.Io.KnownBytes.{Appends};
-ghost use Rattle.cb_peer.specs.declared.state.CloseReason.{CloseReason};
-ghost use Rattle.cb_peer.specs.declared.state.CloseReason.TheVariants as reasons;
+ghost use Rattle.cb_peer_state.specs.declared.state.CloseReason.{CloseReason};
+ghost use Rattle.cb_peer_state.specs.declared.state.CloseReason.TheVariants as reasons;
 ghost use Rattle.cb_run.specs.declared.ending.Halt.TheVariants.{Memory, WriteFailed};
 ghost use Rattle.cb_run.specs.declared.ending.Status.TheVariants.{Usage};
 ghost use Rattle.cb_command.specs.Command.{PrintsReport, EndsEarly, Halts, Refuses, TellsPeer, code_of};

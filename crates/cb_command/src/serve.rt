@@ -6,10 +6,10 @@ ghost use Rattle.std.specs.Prelude.{◌≡◌, ◌⊎◌, true, List, [], ◌∷
 ghost use Rattle.std.specs.Io.KnownBytes.{Appends};
 ghost use Rattle.cb_journal.specs.Journal.{new_journal};
 ghost use Rattle.cb_hall.specs.Badge.{BadgeState, first_of, fresh_badge};
-ghost use Rattle.cb_peer.specs.State.{is_closed};
-ghost use Rattle.cb_peer.specs.declared.state.CloseReason.{CloseReason};
-ghost use Rattle.cb_peer.specs.declared.state.CloseReason.TheVariants as reasons;
-ghost use Rattle.cb_peer.specs.declared.state.State.TheVariants.{Closed};
+ghost use Rattle.cb_peer_state.specs.State.{is_closed};
+ghost use Rattle.cb_peer_state.specs.declared.state.CloseReason.{CloseReason};
+ghost use Rattle.cb_peer_state.specs.declared.state.CloseReason.TheVariants as reasons;
+ghost use Rattle.cb_peer_state.specs.declared.state.State.TheVariants.{Closed};
 ghost use Rattle.cb_run.specs.declared.ending.Halt.TheVariants.{WriteFailed};
 ghost use Rattle.cb_command.specs.Peer.{WasServed, PeerEnds, closed_text, peer_end, reason_status};
 

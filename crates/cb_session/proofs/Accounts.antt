@@ -16,21 +16,22 @@ use Rattle.cb_journal.specs.declared.answer.Answer.{Answer}
 use Rattle.cb_journal.specs.declared.question.Question.{Question}
 use Rattle.cb_hall.specs.Badge.{BadgeState}
 use Rattle.cb_hall.specs.Histories.{Reply}
-use Rattle.cb_peer.specs.declared.settings.Settings.{Settings}
-use Rattle.cb_peer.specs.declared.event.Event.{Event}
-use Rattle.cb_peer.specs.declared.event.Event.TheVariants as events
+use Rattle.cb_peer_state.specs.declared.settings.Settings.{Settings}
+use Rattle.cb_peer_state.specs.declared.event.Event.{Event}
+use Rattle.cb_peer_state.specs.declared.event.Event.TheVariants as events
 use Rattle.cb_trace.specs.declared.trace.TraceEntry.{TraceEntry}
-use Rattle.cb_peer.specs.Ask.{fits, questions_left, standing_question}
-use Rattle.cb_peer.specs.Event.{Kind, begins, ends_at_once, is_hall_full, is_input, is_no_memory, is_tick, is_write_fault, kind_of, loses}
-use Rattle.cb_peer.specs.Session.{Stepped}
-use Rattle.cb_peer.specs.State.{SessionState, is_closed}
-use Rattle.cb_peer.proofs.Steps.{no_question, none_stands, some_left}
+use Rattle.cb_peer_state.specs.Questions.{fits, questions_left, pending_question}
+use Rattle.cb_peer_state.specs.Event.{Kind, begins, ends_at_once, is_hall_full, is_input, is_no_memory, is_tick, is_write_fault, kind_of, loses}
+use Rattle.cb_peer_state.specs.Session.{Stepped}
+use Rattle.cb_peer_state.specs.declared.session_state.SessionState.{SessionState}
+use Rattle.cb_peer_state.specs.State.{is_closed}
+use Rattle.cb_peer_laws.proofs.Steps.{no_question, none_pending, some_left}
 use Rattle.cb_trace.specs.Fold.{Account, EachOpen, account_of, account_step, entry_step, first_account, has_kind, inputs_of, replies, replies_to, sends, session_of}
-use Rattle.cb_trace.specs.Trace.{AsksWhatStands, Grows, IsAsBefore, IsOpen, Readied, TraceSteps, TraceView, next_step}
+use Rattle.cb_trace.specs.Trace.{AsksPending, Grows, IsAsBefore, IsOpen, Readied, TraceSteps, TraceView, next_step}
 use Rattle.cb_trace.proofs.Entries.{entry_ends, entry_fewer, entry_over}
 use Rattle.cb_trace.proofs.Folds.{EachPrompt_more, account_of_more}
 use Rattle.cb_trace.proofs.Traces.{next_is}
-use Rattle.cb_session.specs.Conversation.{Accounts, AnswerOf, Gave, IsLoss, Lacked, Origin, Progress, IsAnswered, IsWhatStands, MayAsk, Sent, Settled, Underway, left_of, open_question, progress}
+use Rattle.cb_session.specs.Conversation.{Accounts, AnswerOf, Gave, IsLoss, Lacked, Origin, Progress, IsAnswered, IsPending, MayAsk, Sent, Settled, Underway, left_of, open_question, progress}
 
 -- what the hall told, call by call
 pub record IsOracle {H : Type 0} (told : H → BadgeState → List Reply → H → BadgeState → Type 0) (refused : H → BadgeState → Fault → Type 0) : Type 0 where
@@ -188,9 +189,9 @@ open_told told refused from now inputs s going failed =
 pub record Changes {H : Type 0} (told : H → BadgeState → List Reply → H → BadgeState → Type 0) (refused : H → BadgeState → Fault → Type 0) (trace : TraceView) (failed : Bool) (hall hall' : H) (badge badge' : BadgeState) (event : Event) : Type 0 where
   pub failed_told : is_write_fault (kind_of event) ≡ true → failed ≡ true
   pub full_told : is_hall_full (kind_of event) ≡ true → refused hall' badge' JournalFull
-  pub told_next : told hall badge (replies_to (standing_question trace.session) event) hall' badge'
+  pub told_next : told hall badge (replies_to (pending_question trace.session) event) hall' badge'
   pub no_tick : is_tick (kind_of event) ≡ false
-  pub free : begins (kind_of event) ≡ true → trace.session.standing ≡ None
+  pub free : begins (kind_of event) ≡ true → trace.session.pending ≡ None
 
 -- the trace grew by an entry
 pub accounts_grow : {H : Type 0} (told : H → BadgeState → List Reply → H → BadgeState → Type 0) (refused : H → BadgeState → Fault → Type 0) (oracle : IsOracle told refused) (from : Origin H) (trace trace' : TraceView) (hall hall' : H) (badge badge' : BadgeState)
@@ -207,8 +208,8 @@ accounts_grow told refused oracle from trace trace' hall hall' badge badge' held
     let sent : List Message = (next_step trace entry).messages in
     let sends_more : sends s (h ++ entry ∷ []) ≡ sends s h ++ sent = ap (λ (x : Account). x.sent) more ∙ ap (λ (m : Stepped). sends s h ++ m.messages) (sym step_is) in
     let session_is : trace.session ≡ session_of s h = a.stands.session ∙ ap (λ (x : Settings). session_of x h) a.settings in
-    let replies_more : replies s (h ++ entry ∷ []) ≡ replies s h ++ replies_to (standing_question trace.session) entry.event =
-    ap (λ (x : Account). x.replies) more ∙ ap (λ (x : SessionState). replies s h ++ replies_to (standing_question x) entry.event) (sym session_is) in
+    let replies_more : replies s (h ++ entry ∷ []) ≡ replies s h ++ replies_to (pending_question trace.session) entry.event =
+    ap (λ (x : Account). x.replies) more ∙ ap (λ (x : SessionState). replies s h ++ replies_to (pending_question x) entry.event) (sym session_is) in
     record {
       settings = g.settings ∙ a.settings;
       history = h ++ entry ∷ [];
@@ -222,14 +223,14 @@ accounts_grow told refused oracle from trace trace' hall hall' badge badge' held
         count = a.wrote.count;
       };
       inputs_are = inputs_more h entry ∙ ap (λ (x : List Event). x ++ inputs_in entry.event) a.inputs_are;
-      prompt = EachPrompt_more s h entry a.prompt (λ b. ap (λ (x : SessionState). x.standing) (sym session_is) ∙ c.free b);
+      prompt = EachPrompt_more s h entry a.prompt (λ b. ap (λ (x : SessionState). x.pending) (sym session_is) ∙ c.free b);
       replies_are =
           subst (λ (rs : List Reply). told from.hall from.badge rs hall' badge') (sym replies_more)
-          (oracle.next from.hall hall hall' from.badge badge badge' (replies s h) (replies_to (standing_question trace.session) entry.event) a.replies_are c.told_next);
+          (oracle.next from.hall hall hall' from.badge badge badge' (replies s h) (replies_to (pending_question trace.session) entry.event) a.replies_are c.told_next);
       write_fault = λ x. elim (or_true _ _ (sym (has_more is_write_fault h entry) ∙ x)) [ inl y ↦ a.write_fault y | inr y ↦ c.failed_told y ];
       hall_full =
           λ x. elim (or_true _ _ (sym (has_more is_hall_full h entry) ∙ x)) [
-            | inl y ↦ oracle.stays hall hall' badge badge' (replies_to (standing_question trace.session) entry.event) c.told_next (a.hall_full y)
+            | inl y ↦ oracle.stays hall hall' badge badge' (replies_to (pending_question trace.session) entry.event) c.told_next (a.hall_full y)
             | inr y ↦ c.full_told y
           ];
       no_memory =
@@ -289,15 +290,15 @@ loss_plain events.NoMemory e = (refl, refl, refl, refl)
 loss_plain events.HallFull e = absurd cc
 loss_plain events.WriteFault e = (refl, refl, refl, refl)
 
-loss_replies : (standing : Option Question) (event : Event) → loses (kind_of event) ≡ true → replies_to standing event ≡ []
-loss_replies standing (events.Said item) e = absurd cc
-loss_replies standing (events.Broken fault) e = absurd cc
-loss_replies standing events.Tick e = absurd cc
-loss_replies standing (events.Told answer) e = absurd cc
-loss_replies standing events.ReaderEnd e = absurd cc
+loss_replies : (pending : Option Question) (event : Event) → loses (kind_of event) ≡ true → replies_to pending event ≡ []
+loss_replies pending (events.Said item) e = absurd cc
+loss_replies pending (events.Broken fault) e = absurd cc
+loss_replies pending events.Tick e = absurd cc
+loss_replies pending (events.Told answer) e = absurd cc
+loss_replies pending events.ReaderEnd e = absurd cc
 loss_replies None events.NoMemory e = refl
 loss_replies (Some question) events.NoMemory e = refl
-loss_replies standing events.HallFull e = absurd cc
+loss_replies pending events.HallFull e = absurd cc
 loss_replies None events.WriteFault e = refl
 loss_replies (Some question) events.WriteFault e = refl
 
@@ -316,7 +317,7 @@ accounts_lost told refused oracle from trace mid trace' hall badge held failed w
     record {
       failed_told = write;
       full_told = λ e. not_both (is_hall_full (kind_of entry.event)) plain.3 e;
-      told_next = subst (λ (rs : List Reply). told hall badge rs hall badge) (sym (loss_replies (standing_question mid.session) entry.event l.loses_messages)) (oracle.none hall badge);
+      told_next = subst (λ (rs : List Reply). told hall badge rs hall badge) (sym (loss_replies (pending_question mid.session) entry.event l.loses_messages)) (oracle.none hall badge);
       no_tick = plain.1;
       free = λ e. not_both (begins (kind_of entry.event)) plain.2 e;
     } in
@@ -347,21 +348,21 @@ ran_closed trace trace' (inr l) = l.closed
 
 -- ---- asking
 
-reply_is : (standing : Option Question) (question : Question) (answer : Answer) → standing ≡ Some question → replies_to standing (events.Told answer) ≡ record { question = question; answer = answer } ∷ []
-reply_is standing question answer e = ap (λ o. replies_to o (events.Told answer)) e
+reply_is : (pending : Option Question) (question : Question) (answer : Answer) → pending ≡ Some question → replies_to pending (events.Told answer) ≡ record { question = question; answer = answer } ∷ []
+reply_is pending question answer e = ap (λ o. replies_to o (events.Told answer)) e
 
-no_reply : (standing : Option Question) → (replies_to standing events.HallFull ≡ []) × (replies_to standing events.NoMemory ≡ [])
+no_reply : (pending : Option Question) → (replies_to pending events.HallFull ≡ []) × (replies_to pending events.NoMemory ≡ [])
 no_reply None = (refl, refl)
 no_reply (Some question) = (refl, refl)
 
 -- what the hall made of a question, as a change of the account
 pub answer_changes : {H : Type 0} (told : H → BadgeState → List Reply → H → BadgeState → Type 0) (refused : H → BadgeState → Fault → Type 0) (trace : TraceView) (failed : Bool) (hall hall' : H) (badge badge' : BadgeState) (question : Question) (event : Event)
-    → standing_question trace.session ≡ Some question → AnswerOf told refused hall badge hall' badge' question event → Changes told refused trace failed hall hall' badge badge' event
+    → pending_question trace.session ≡ Some question → AnswerOf told refused hall badge hall' badge' question event → Changes told refused trace failed hall hall' badge badge' event
 answer_changes told refused trace failed hall hall' badge badge' question (events.Told answer) stands a =
     record {
       failed_told = λ e. absurd cc;
       full_told = λ e. absurd cc;
-      told_next = subst (λ (rs : List Reply). told hall badge rs hall' badge') (sym (reply_is (standing_question trace.session) question answer stands)) a.0;
+      told_next = subst (λ (rs : List Reply). told hall badge rs hall' badge') (sym (reply_is (pending_question trace.session) question answer stands)) a.0;
       no_tick = refl;
       free = λ e. absurd cc;
     }
@@ -369,7 +370,7 @@ answer_changes told refused trace failed hall hall' badge badge' question events
     record {
       failed_told = λ e. absurd cc;
       full_told = λ e. a.1;
-      told_next = subst (λ (rs : List Reply). told hall badge rs hall' badge') (sym (no_reply (standing_question trace.session)).0) a.0;
+      told_next = subst (λ (rs : List Reply). told hall badge rs hall' badge') (sym (no_reply (pending_question trace.session)).0) a.0;
       no_tick = refl;
       free = λ e. absurd cc;
     }
@@ -377,7 +378,7 @@ answer_changes told refused trace failed hall hall' badge badge' question events
     record {
       failed_told = λ e. absurd cc;
       full_told = λ e. absurd cc;
-      told_next = subst (λ (rs : List Reply). told hall badge rs hall' badge') (sym (no_reply (standing_question trace.session)).1) a.0;
+      told_next = subst (λ (rs : List Reply). told hall badge rs hall' badge') (sym (no_reply (pending_question trace.session)).1) a.0;
       no_tick = refl;
       free = λ e. absurd cc;
     }
@@ -413,11 +414,11 @@ answer_lacked told refused hall hall' badge badge' question events.WriteFault a 
 -- the session was told what the hall made of its question
 pub accounts_asked : {H : Type 0} (told : H → BadgeState → List Reply → H → BadgeState → Type 0) (refused : H → BadgeState → Fault → Type 0) (oracle : IsOracle told refused) (from : Origin H) (trace mid trace' : TraceView) (hall hall' : H) (badge badge' : BadgeState)
     (held : Option (List ℕ)) (failed : Bool) (written : ℕ) (inputs : List Event) (question : Question) (event : Event) (sent : List Message) (asked : Option Question)
-    → IsOpen trace → IsAsBefore trace mid → standing_question trace.session ≡ Some question → AnswerOf told refused hall badge hall' badge' question event → TraceSteps mid trace' event sent asked
+    → IsOpen trace → IsAsBefore trace mid → pending_question trace.session ≡ Some question → AnswerOf told refused hall badge hall' badge' question event → TraceSteps mid trace' event sent asked
     → Accounts told refused from (progress trace hall badge held failed written) inputs [] false false → Underway told refused from (progress trace' hall' badge' held failed written) inputs (texts sent) false
 accounts_asked told refused oracle from trace mid trace' hall hall' badge badge' held failed written inputs question event sent asked going r stands answer t a =
     let b = accounts_rest told refused from trace mid hall badge held failed written inputs [] false going r a in
-    let stands' : standing_question mid.session ≡ Some question = ap standing_question r.session ∙ stands in
+    let stands' : pending_question mid.session ≡ Some question = ap pending_question r.session ∙ stands in
     let grown = accounts_grow told refused oracle from mid trace' hall hall' badge badge' held failed written inputs [] false false (record { event = event; starved = t.starved }) (rest_open trace mid r going) b t.grows
     (answer_changes told refused mid failed hall hall' badge badge' question event stands' answer) (λ e. inl (inr (inl (answer_lacked told refused hall hall' badge badge' question event answer e)))) in
     record {
@@ -430,25 +431,25 @@ accounts_asked told refused oracle from trace mid trace' hall hall' badge badge'
 
 -- ---- what is left to be answered
 
--- the question that stands in an open session
-pub question_open : (trace : TraceView) (question : Question) → open_question trace ≡ Some question → (is_closed trace.session.state ≡ false) × (standing_question trace.session ≡ Some question)
+-- the question that is open in a session that goes on
+pub question_open : (trace : TraceView) (question : Question) → open_question trace ≡ Some question → (is_closed trace.session.state ≡ false) × (pending_question trace.session ≡ Some question)
 question_open trace question e =
-    let by_state : (b : Bool) → is_closed trace.session.state ≡ b → cond b None (standing_question trace.session) ≡ Some question → (is_closed trace.session.state ≡ false) × (standing_question trace.session ≡ Some question) =
+    let by_state : (b : Bool) → is_closed trace.session.state ≡ b → cond b None (pending_question trace.session) ≡ Some question → (is_closed trace.session.state ≡ false) × (pending_question trace.session ≡ Some question) =
     elim [ true ↦ λ s x. absurd (let z : None ≡ Some question = x in cc) | false ↦ λ s x. (s, x) ] in
     by_state (is_closed trace.session.state) refl e
 
-pub open_question_is : (trace : TraceView) (question : Question) → is_closed trace.session.state ≡ false → standing_question trace.session ≡ Some question → open_question trace ≡ Some question
-open_question_is trace question going stands = ap (λ b. cond b None (standing_question trace.session)) going ∙ stands
+pub open_question_is : (trace : TraceView) (question : Question) → is_closed trace.session.state ≡ false → pending_question trace.session ≡ Some question → open_question trace ≡ Some question
+open_question_is trace question going stands = ap (λ b. cond b None (pending_question trace.session)) going ∙ stands
 
--- where nothing is to be asked, nothing stands
-pub all_answered : (trace : TraceView) (next : Option Question) → IsWhatStands trace next → next ≡ None → IsAnswered trace
-all_answered trace next what none going = none_stands trace.session (sym (what going) ∙ none)
+-- where nothing is to be asked, nothing is pending
+pub all_answered : (trace : TraceView) (next : Option Question) → IsPending trace next → next ≡ None → IsAnswered trace
+all_answered trace next what none going = none_pending trace.session (sym (what going) ∙ none)
 
-left_open : (trace : TraceView) → is_closed trace.session.state ≡ false → left_of trace ≡ questions_left trace.session.standing
-left_open trace e = ap (λ b. cond b 0 (questions_left trace.session.standing)) e
+left_open : (trace : TraceView) → is_closed trace.session.state ≡ false → left_of trace ≡ questions_left trace.session.pending
+left_open trace e = ap (λ b. cond b 0 (questions_left trace.session.pending)) e
 
 left_closed : (trace : TraceView) → is_closed trace.session.state ≡ true → left_of trace ≡ 0
-left_closed trace e = ap (λ b. cond b 0 (questions_left trace.session.standing)) e
+left_closed trace e = ap (λ b. cond b 0 (questions_left trace.session.pending)) e
 
 -- a session that is over waits for nothing
 pub left_over : (trace trace' : TraceView) (question : Question) → open_question trace ≡ Some question → is_closed trace'.session.state ≡ true → left_of trace' < left_of trace
@@ -460,10 +461,10 @@ left_over trace trace' question stands closed =
     omega (arith, zero, same, some)
 
 -- an answer that fits leaves fewer
-left_told : (mid trace' : TraceView) (question : Question) (answer : Answer) (starved : Bool) → is_closed mid.session.state ≡ false → standing_question mid.session ≡ Some question
-    → fits question answer ≡ true → Grows mid trace' (record { event = events.Told answer; starved = starved }) → is_closed trace'.session.state ≡ false → questions_left trace'.session.standing < questions_left mid.session.standing
+left_told : (mid trace' : TraceView) (question : Question) (answer : Answer) (starved : Bool) → is_closed mid.session.state ≡ false → pending_question mid.session ≡ Some question
+    → fits question answer ≡ true → Grows mid trace' (record { event = events.Told answer; starved = starved }) → is_closed trace'.session.state ≡ false → questions_left trace'.session.pending < questions_left mid.session.pending
 left_told mid trace' question answer starved going stands fit g after =
-    subst (λ (s : SessionState). questions_left s.standing < questions_left mid.session.standing) (sym g.session)
+    subst (λ (s : SessionState). questions_left s.pending < questions_left mid.session.pending) (sym g.session)
     (entry_fewer mid.total.entries mid.session question answer starved going stands fit (ap (λ (s : SessionState). is_closed s.state) (sym g.session) ∙ after))
 
 -- what the hall made of the question leaves fewer
@@ -475,10 +476,10 @@ left_asked told refused hall hall' badge badge' trace mid trace' question (event
     elim [
       | true ↦ λ s. left_over trace trace' question stands s
       | false ↦ λ s.
-          let fewer = left_told mid trace' question answer starved (rest_open trace mid r q.0) (ap standing_question r.session ∙ q.1) a.1 g s in
+          let fewer = left_told mid trace' question answer starved (rest_open trace mid r q.0) (ap pending_question r.session ∙ q.1) a.1 g s in
           let after = left_open trace' s in
           let before = left_open trace q.0 in
-          let same = ap (λ (x : SessionState). questions_left x.standing) r.session in
+          let same = ap (λ (x : SessionState). questions_left x.pending) r.session in
           omega (arith, fewer, after, before, same)
     ] in
     by_state (is_closed trace'.session.state) refl
@@ -492,31 +493,31 @@ left_asked told refused hall hall' badge badge' trace mid trace' question events
 left_asked told refused hall hall' badge badge' trace mid trace' question events.ReaderEnd starved stands r a g = absurd a
 left_asked told refused hall hall' badge badge' trace mid trace' question events.WriteFault starved stands r a g = absurd a
 
--- after an answer that left fewer, what is asked is what stands
-pub asks_next : (trace mid trace' : TraceView) (question : Question) (asked : Option Question) → open_question trace ≡ Some question → IsAsBefore trace mid → AsksWhatStands mid.session trace'.session asked → left_of trace' < left_of trace → IsWhatStands trace' asked
+-- after an answer that left fewer, what is asked is what is open
+pub asks_next : (trace mid trace' : TraceView) (question : Question) (asked : Option Question) → open_question trace ≡ Some question → IsAsBefore trace mid → AsksPending mid.session trace'.session asked → left_of trace' < left_of trace → IsPending trace' asked
 asks_next trace mid trace' question asked stands r (inl is) fewer going = is
 asks_next trace mid trace' question asked stands r (inr same) fewer going =
     let e : trace'.session ≡ trace.session = same.1 ∙ r.session in
-    absurd (omega (arith, fewer, left_open trace' going, left_open trace (question_open trace question stands).0, ap (λ (s : SessionState). questions_left s.standing) e))
+    absurd (omega (arith, fewer, left_open trace' going, left_open trace (question_open trace question stands).0, ap (λ (s : SessionState). questions_left s.pending) e))
 
--- what an input makes a session ask stands, where nothing stood before it
-pub asks_first : (mid trace' : TraceView) (asked : Option Question) → mid.session.standing ≡ None → AsksWhatStands mid.session trace'.session asked → IsWhatStands trace' asked
+-- what an input makes a session ask is open, where nothing was before it
+pub asks_first : (mid trace' : TraceView) (asked : Option Question) → mid.session.pending ≡ None → AsksPending mid.session trace'.session asked → IsPending trace' asked
 asks_first mid trace' asked free (inl is) going = is
-asks_first mid trace' asked free (inr same) going = same.0 ∙ sym (no_question trace'.session (ap (λ (s : SessionState). s.standing) same.1 ∙ free))
+asks_first mid trace' asked free (inr same) going = same.0 ∙ sym (no_question trace'.session (ap (λ (s : SessionState). s.pending) same.1 ∙ free))
 
 -- whatever is asked may be asked on
-pub may_ask : (before after : SessionState) (trace : TraceView) (asked : Option Question) → AsksWhatStands before after asked → (is_closed trace.session.state ≡ false → trace.session ≡ after) → MayAsk trace asked
-may_ask before after trace asked (inl is) kept question some going = ap standing_question (kept going) ∙ sym is ∙ some
+pub may_ask : (before after : SessionState) (trace : TraceView) (asked : Option Question) → AsksPending before after asked → (is_closed trace.session.state ≡ false → trace.session ≡ after) → MayAsk trace asked
+may_ask before after trace asked (inl is) kept question some going = ap pending_question (kept going) ∙ sym is ∙ some
 may_ask before after trace asked (inr same) kept question some going = absurd (let clash : None ≡ Some question = sym same.0 ∙ some in cc)
 
-pub may_ask_on : (trace : TraceView) (asked : Option Question) → IsWhatStands trace asked → MayAsk trace asked
+pub may_ask_on : (trace : TraceView) (asked : Option Question) → IsPending trace asked → MayAsk trace asked
 may_ask_on trace asked is question some going = sym (is going) ∙ some
 
--- what stands goes on to where the trace is as it was, if it goes on
-pub stands_on : (trace trace' : TraceView) (asked : Option Question) → (is_closed trace'.session.state ≡ false → trace' ≡ trace) → IsWhatStands trace asked → IsWhatStands trace' asked
-stands_on trace trace' asked kept is going =
+-- what is open goes on to where the trace is as it was, if it goes on
+pub pending_on : (trace trace' : TraceView) (asked : Option Question) → (is_closed trace'.session.state ≡ false → trace' ≡ trace) → IsPending trace asked → IsPending trace' asked
+pending_on trace trace' asked kept is going =
     let same : trace' ≡ trace = kept going in
-    is (ap (λ (t : TraceView). is_closed t.session.state) (sym same) ∙ going) ∙ ap (λ (t : TraceView). standing_question t.session) (sym same)
+    is (ap (λ (t : TraceView). is_closed t.session.state) (sym same) ∙ going) ∙ ap (λ (t : TraceView). pending_question t.session) (sym same)
 
 -- a step that ends the session has nothing to send
 pub silent_step : (trace trace' : TraceView) (event : Event) (sent : List Message) (asked : Option Question) → IsOpen trace → TraceSteps trace trace' event sent asked → is_closed trace'.session.state ≡ true → sent ≡ []
@@ -618,7 +619,7 @@ record IsPlain (event : Event) : Type 0 where
   no_write : is_write_fault (kind_of event) ≡ false
   no_hall : is_hall_full (kind_of event) ≡ false
   no_shortage : is_no_memory (kind_of event) ≡ false
-  replies_none : (standing : Option Question) → replies_to standing event ≡ []
+  replies_none : (pending : Option Question) → replies_to pending event ≡ []
 
 input_plain : (event : Event) → is_input (kind_of event) ≡ true → IsPlain event
 input_plain (events.Said item) e = record { no_tick = refl; no_write = refl; no_hall = refl; no_shortage = refl; replies_none = elim [ None ↦ refl | Some q ↦ refl ] }
@@ -639,12 +640,12 @@ accounts_input told refused oracle from trace mid trace' hall badge held failed 
     let p = input_plain event input in
     let a = open_whole told refused from (progress trace hall badge held failed written) inputs s.sent going in
     let b = accounts_rest told refused from trace mid hall badge held failed written inputs [] false going r a in
-    let free : mid.session.standing ≡ None = ap (λ (x : SessionState). x.standing) r.session ∙ s.answered going in
+    let free : mid.session.pending ≡ None = ap (λ (x : SessionState). x.pending) r.session ∙ s.answered going in
     let changes : Changes told refused mid failed hall hall badge badge event =
     record {
       failed_told = λ h. not_both (is_write_fault (kind_of event)) p.no_write h;
       full_told = λ h. not_both (is_hall_full (kind_of event)) p.no_hall h;
-      told_next = subst (λ (rs : List Reply). told hall badge rs hall badge) (sym (p.replies_none (standing_question mid.session))) (oracle.none hall badge);
+      told_next = subst (λ (rs : List Reply). told hall badge rs hall badge) (sym (p.replies_none (pending_question mid.session))) (oracle.none hall badge);
       no_tick = p.no_tick;
       free = λ h. free;
     } in

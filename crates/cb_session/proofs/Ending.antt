@@ -8,13 +8,14 @@ use Rattle.cb_wire.proofs.Streams.{front_at-nil}
 use Rattle.cb_io.proofs.Known.{Appends-nothing, Consumes-nothing, Keeps-same}
 use Rattle.cb_hall.specs.Badge.{BadgeState}
 use Rattle.cb_hall.specs.Histories.{Reply}
-use Rattle.cb_peer.specs.declared.settings.Settings.{Settings}
-use Rattle.cb_peer.specs.declared.event.Event.{Event}
-use Rattle.cb_peer.specs.declared.event.Event.TheVariants as events
-use Rattle.cb_peer.specs.Session.{openings}
-use Rattle.cb_peer.specs.State.{SessionState, is_closed}
+use Rattle.cb_peer_state.specs.declared.settings.Settings.{Settings}
+use Rattle.cb_peer_state.specs.declared.event.Event.{Event}
+use Rattle.cb_peer_state.specs.declared.event.Event.TheVariants as events
+use Rattle.cb_peer_state.specs.Session.{openings}
+use Rattle.cb_peer_state.specs.declared.session_state.SessionState.{SessionState}
+use Rattle.cb_peer_state.specs.State.{is_closed}
 use Rattle.cb_trace.specs.Fold.{account_of, session_of}
-use Rattle.cb_trace.specs.Prompt.{NoneStands}
+use Rattle.cb_trace.specs.Prompt.{NonePending}
 use Rattle.cb_trace.specs.Trace.{StandsFor, TraceView}
 use Rattle.cb_session.specs.declared.reading.ReadEnd.{ReadEnd}
 use Rattle.cb_session.specs.declared.reading.ReadEnd.TheVariants as ends
@@ -31,11 +32,11 @@ marked ends.Fault other = refl
 marked ends.Turns other = refl
 marked ends.Stopped other = absurd (other refl)
 
--- no question stands after the history
-none_stands : {H : Type 0} (told : H → BadgeState → List Reply → H → BadgeState → Type 0) (refused : H → BadgeState → Fault → Type 0) (from : Origin H) (now : Progress H) (inputs : List Event) (unkept : Bool) (s : Settled told refused from now inputs unkept) → NoneStands from.settings s.sent.accounts.history
-none_stands told refused from now inputs unkept s going =
+-- no question is open after the history
+none_pending : {H : Type 0} (told : H → BadgeState → List Reply → H → BadgeState → Type 0) (refused : H → BadgeState → Fault → Type 0) (from : Origin H) (now : Progress H) (inputs : List Event) (unkept : Bool) (s : Settled told refused from now inputs unkept) → NonePending from.settings s.sent.accounts.history
+none_pending told refused from now inputs unkept s going =
     let same : now.trace.session ≡ session_of from.settings s.sent.accounts.history = s.sent.accounts.stands.session ∙ ap (λ (x : Settings). session_of x s.sent.accounts.history) s.sent.accounts.settings in
-    ap (λ (x : SessionState). x.standing) (sym same) ∙ s.answered (ap (λ (x : SessionState). is_closed x.state) same ∙ going)
+    ap (λ (x : SessionState). x.pending) (sym same) ∙ s.answered (ap (λ (x : SessionState). is_closed x.state) same ∙ going)
 
 -- the session was over before reading ended
 pub serves_stopped : {H : Type 0} (told : H → BadgeState → List Reply → H → BadgeState → Type 0) (refused : H → BadgeState → Fault → Type 0) (from : Origin H) (input remaining : Option (List ℕ)) (failed : Bool) (now : Progress H) (end : ReadEnd) → end ≡ ends.Stopped → is_closed now.trace.session.state ≡ true
@@ -55,7 +56,7 @@ serves_stopped told refused from input remaining failed now end stopped closed h
       settled = p.settled;
       short = p.short;
       in_order = subst (λ (e : ReadEnd). IsInOrder (queue p.items p.fault e) from.settings p.settled.sent.accounts.history) (sym stopped) o.0;
-      prompt = record { each = p.settled.sent.accounts.prompt; done = none_stands told refused from now p.inputs p.unkept p.settled };
+      prompt = record { each = p.settled.sent.accounts.prompt; done = none_pending told refused from now p.inputs p.unkept p.settled };
       cause = h.cause;
       stopped = λ _. o.1;
       closed = closed;
@@ -82,7 +83,7 @@ serves_ended told refused from input remaining failed before now end other going
       settled = g.settled;
       short = λ h. absurd (let clash : false ≡ true = h in cc);
       in_order = in_order_ended told refused from now p.inputs p.items p.fault end (marked end other) all g;
-      prompt = record { each = g.settled.sent.accounts.prompt; done = none_stands told refused from now g.given false g.settled };
+      prompt = record { each = g.settled.sent.accounts.prompt; done = none_pending told refused from now g.given false g.settled };
       cause = h.cause;
       stopped = λ is. absurd (other is);
       closed = closed;
@@ -129,10 +130,10 @@ underway_first told refused oracle settings trace hall badge held failed message
       };
     }
 
--- nothing stands in a trace with no entries
+-- nothing is pending in a trace with no entries
 pub first_free : (old new : TraceView) → StandsFor old [] → (is_closed new.session.state ≡ false → new ≡ old) → IsAnswered new
 unfolding account_of
-first_free old new stands kept going = ap (λ (t : TraceView). t.session.standing) (kept going) ∙ ap (λ (s : SessionState). s.standing) stands.session
+first_free old new stands kept going = ap (λ (t : TraceView). t.session.pending) (kept going) ∙ ap (λ (s : SessionState). s.pending) stands.session
 
 -- and it goes on
 pub first_open : (trace : TraceView) → StandsFor trace [] → is_closed trace.session.state ≡ false

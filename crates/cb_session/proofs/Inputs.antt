@@ -16,15 +16,15 @@ use Rattle.cb_wire.proofs.Streams.{Stream-grows, reading_of}
 use Rattle.cb_io.proofs.Known.{Consumes-nothing, Consumes-then}
 use Rattle.cb_hall.specs.Badge.{BadgeState}
 use Rattle.cb_hall.specs.Histories.{Reply}
-use Rattle.cb_peer.specs.declared.settings.Settings.{Settings}
-use Rattle.cb_peer.specs.declared.event.Event.{Event}
-use Rattle.cb_peer.specs.declared.event.Event.TheVariants as events
-use Rattle.cb_peer.specs.declared.state.State.{State}
-use Rattle.cb_peer.specs.declared.state.State.TheVariants.{Start, Closed}
-use Rattle.cb_peer.specs.declared.state.CloseReason.TheVariants.{Bye}
+use Rattle.cb_peer_state.specs.declared.settings.Settings.{Settings}
+use Rattle.cb_peer_state.specs.declared.event.Event.{Event}
+use Rattle.cb_peer_state.specs.declared.event.Event.TheVariants as events
+use Rattle.cb_peer_state.specs.declared.state.State.{State}
+use Rattle.cb_peer_state.specs.declared.state.State.TheVariants.{Start, Closed}
+use Rattle.cb_peer_state.specs.declared.state.CloseReason.TheVariants.{Bye}
 use Rattle.cb_trace.specs.declared.trace.TraceEntry.{TraceEntry}
-use Rattle.cb_peer.specs.Event.{is_input, is_reader_end, kind_of}
-use Rattle.cb_peer.specs.State.{is_closed}
+use Rattle.cb_peer_state.specs.Event.{is_input, is_reader_end, kind_of}
+use Rattle.cb_peer_state.specs.State.{is_closed}
 use Rattle.cb_trace.specs.Fold.{Account, EachOpen, account_of, account_step, first_account, inputs_of, session_of}
 use Rattle.cb_trace.proofs.Entries.{entry_bye}
 use Rattle.cb_session.specs.declared.reading.ReadEnd.{ReadEnd}

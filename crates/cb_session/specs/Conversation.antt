@@ -8,13 +8,13 @@ use Rattle.cb_io.specs.Writing.{Wrote}
 use Rattle.cb_hall.specs.Badge.{BadgeState}
 use Rattle.cb_hall.specs.Histories.{Reply}
 use Rattle.cb_journal.specs.declared.question.Question.{Question}
-use Rattle.cb_peer.specs.declared.settings.Settings.{Settings}
-use Rattle.cb_peer.specs.declared.event.Event.{Event}
-use Rattle.cb_peer.specs.declared.event.Event.TheVariants as events
+use Rattle.cb_peer_state.specs.declared.settings.Settings.{Settings}
+use Rattle.cb_peer_state.specs.declared.event.Event.{Event}
+use Rattle.cb_peer_state.specs.declared.event.Event.TheVariants as events
 use Rattle.cb_trace.specs.declared.trace.TraceEntry.{TraceEntry}
-use Rattle.cb_peer.specs.Ask.{fits, questions_left, standing_question}
-use Rattle.cb_peer.specs.Event.{ends_at_once, is_hall_full, is_no_memory, is_tick, is_write_fault, kind_of, loses}
-use Rattle.cb_peer.specs.State.{is_closed}
+use Rattle.cb_peer_state.specs.Questions.{fits, questions_left, pending_question}
+use Rattle.cb_peer_state.specs.Event.{ends_at_once, is_hall_full, is_no_memory, is_tick, is_write_fault, kind_of, loses}
+use Rattle.cb_peer_state.specs.State.{is_closed}
 use Rattle.cb_trace.specs.Fold.{first_account, has_kind, inputs_of, replies, sends}
 use Rattle.cb_trace.specs.Prompt.{EachPrompt}
 use Rattle.cb_trace.specs.Trace.{LacksBase, StandsFor, TraceView}
@@ -97,7 +97,7 @@ pub record Sent {H : Type 0} (told : H → BadgeState → List Reply → H → B
 
 -- No question is open, unless the session is over.
 abbrev pub IsAnswered : TraceView → Type 0
-IsAnswered trace = is_closed trace.session.state ≡ false → trace.session.standing ≡ None
+IsAnswered trace = is_closed trace.session.state ≡ false → trace.session.pending ≡ None
 
 -- The account with no message still to be written and no question open.
 pub record Settled {H : Type 0} (told : H → BadgeState → List Reply → H → BadgeState → Type 0) (refused : H → BadgeState → Fault → Type 0) (from : Origin H) (now : Progress H) (inputs : List Event) (unkept : Bool) : Type 0 where
@@ -125,19 +125,19 @@ WritesOn trace failed = is_closed trace.session.state ≡ false → failed ≡ f
 
 -- The number of answers needed until no question is open.
 abbrev pub left_of : TraceView → ℕ
-left_of trace = if is_closed trace.session.state then 0 else questions_left trace.session.standing
+left_of trace = if is_closed trace.session.state then 0 else questions_left trace.session.pending
 
 -- The open question, while the session isn't over.
 abbrev pub open_question : TraceView → Option Question
-open_question trace = if is_closed trace.session.state then None else standing_question trace.session
+open_question trace = if is_closed trace.session.state then None else pending_question trace.session
 
 -- While the session isn't over, this is the open question, or there is none to ask.
 abbrev pub MayAsk : TraceView → Option Question → Type 0
-MayAsk trace next = (question : Question) → next ≡ Some question → is_closed trace.session.state ≡ false → standing_question trace.session ≡ Some question
+MayAsk trace next = (question : Question) → next ≡ Some question → is_closed trace.session.state ≡ false → pending_question trace.session ≡ Some question
 
 -- While the session isn't over, this is its open question, or it has none.
-abbrev pub IsWhatStands : TraceView → Option Question → Type 0
-IsWhatStands trace next = is_closed trace.session.state ≡ false → next ≡ standing_question trace.session
+abbrev pub IsPending : TraceView → Option Question → Type 0
+IsPending trace next = is_closed trace.session.state ≡ false → next ≡ pending_question trace.session
 
 -- An event that ends the session at once and may leave messages unwritten: no memory, or a failed
 -- write.

@@ -7,14 +7,14 @@ use Rattle.cb_wire.specs.declared.item.Item.{Item}
 use Rattle.cb_wire.specs.Stream.{Assembled, Stream}
 use Rattle.cb_hall.specs.Badge.{BadgeState}
 use Rattle.cb_hall.specs.Histories.{Reply}
-use Rattle.cb_peer.specs.declared.settings.Settings.{Settings}
-use Rattle.cb_peer.specs.declared.state.State.TheVariants.{Closed}
-use Rattle.cb_peer.specs.declared.state.CloseReason.TheVariants.{Bye}
-use Rattle.cb_peer.specs.declared.event.Event.{Event}
-use Rattle.cb_peer.specs.declared.event.Event.TheVariants as events
+use Rattle.cb_peer_state.specs.declared.settings.Settings.{Settings}
+use Rattle.cb_peer_state.specs.declared.state.State.TheVariants.{Closed}
+use Rattle.cb_peer_state.specs.declared.state.CloseReason.TheVariants.{Bye}
+use Rattle.cb_peer_state.specs.declared.event.Event.{Event}
+use Rattle.cb_peer_state.specs.declared.event.Event.TheVariants as events
 use Rattle.cb_trace.specs.declared.trace.TraceEntry.{TraceEntry}
-use Rattle.cb_peer.specs.Event.{is_reader_end}
-use Rattle.cb_peer.specs.State.{is_closed}
+use Rattle.cb_peer_state.specs.Event.{is_reader_end}
+use Rattle.cb_peer_state.specs.State.{is_closed}
 use Rattle.cb_trace.specs.Fold.{EachOpen, first_account, inputs_of, session_of}
 use Rattle.cb_trace.specs.Prompt.{IsPrompt}
 use Rattle.cb_session.specs.declared.reading.ReadEnd.{ReadEnd}

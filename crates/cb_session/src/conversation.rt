@@ -4,12 +4,12 @@ ghost use Rattle.std.specs.Prelude.{◌≡◌, ◌≢◌, ◌⊎◌, ◌<◌, �
 ghost use Rattle.cb_wire.specs.Stream.{texts};
 ghost use Rattle.cb_wire.specs.declared.item.Item.{Item};
 ghost use Rattle.cb_io.specs.Writing.{IsOfSink};
-ghost use Rattle.cb_peer.specs.declared.event.Event.{Event};
-ghost use Rattle.cb_peer.specs.declared.event.Event.TheVariants as events;
-ghost use Rattle.cb_peer.specs.Event.{ends_at_once, is_input, is_no_memory, is_write_fault, kind_of, loses};
-ghost use Rattle.cb_peer.specs.State.{is_closed};
+ghost use Rattle.cb_peer_state.specs.declared.event.Event.{Event};
+ghost use Rattle.cb_peer_state.specs.declared.event.Event.TheVariants as events;
+ghost use Rattle.cb_peer_state.specs.Event.{ends_at_once, is_input, is_no_memory, is_write_fault, kind_of, loses};
+ghost use Rattle.cb_peer_state.specs.State.{is_closed};
 ghost use Rattle.cb_trace.specs.Trace.{IsOpen};
-ghost use Rattle.cb_session.specs.Conversation.{Accounts, AnswerOf, Gave, GaveItem, IsLoss, IsWhatStands, MayAsk, Origin, Sent, Settled, Underway, WritesOn, left_of, open_question, progress};
+ghost use Rattle.cb_session.specs.Conversation.{Accounts, AnswerOf, Gave, GaveItem, IsLoss, IsPending, MayAsk, Origin, Sent, Settled, Underway, WritesOn, left_of, open_question, progress};
 
 use cb_base::{Fault, Shared};
 use cb_hall::Badge;
@@ -151,7 +151,7 @@ impl<'a, W: Sink, H: Oracle> Conversation<'a, W, H> {
         ensures stays { is_closed self.old.trace.now.session.state ≡ true →
             is_closed self.new.trace.now.session.state ≡ true }
         ensures settled { (from : Origin _) (inputs : List Event) →
-            IsWhatStands self.old.trace.now question →
+            IsPending self.old.trace.now question →
             Sent H.told H.refused from
             (progress self.old.trace.now self.old.hall.now self.old.badge.now
             (W.contents self.old.writer.now)
@@ -187,7 +187,7 @@ impl<'a, W: Sink, H: Oracle> Conversation<'a, W, H> {
             (List ℕ)) (failed : Bool) (written : ℕ) →
             Accounts H.told H.refused from (progress self.old.trace.now self.old.hall.now self.old.badge.now held failed written) inputs [] false false →
             Underway H.told H.refused from (progress self.new.trace.now self.new.hall.now self.new.badge.now held failed written) inputs (texts result.0.items) false }
-        ensures asks { IsWhatStands self.new.trace.now result.1 }
+        ensures asks { IsPending self.new.trace.now result.1 }
         ensures fewer { left_of self.new.trace.now < left_of self.old.trace.now }
         ensures silent { is_closed self.new.trace.now.session.state ≡ true → result.0.items ≡ [] }
     {

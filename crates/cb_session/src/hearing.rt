@@ -2,8 +2,8 @@
 ghost use Rattle.std.specs.Prelude.{◌≡◌, ◌++◌, false, List, ℕ};
 ghost use Rattle.cb_wire.specs.declared.item.Item.{Item};
 ghost use Rattle.cb_wire.specs.Stream.{Stream};
-ghost use Rattle.cb_peer.specs.declared.event.Event.{Event};
-ghost use Rattle.cb_peer.specs.State.{is_closed};
+ghost use Rattle.cb_peer_state.specs.declared.event.Event.{Event};
+ghost use Rattle.cb_peer_state.specs.State.{is_closed};
 ghost use Rattle.cb_trace.specs.Trace.{IsOpen};
 ghost use Rattle.cb_session.specs.Conversation.{Origin, Settled, WritesOn, progress};
 ghost use Rattle.cb_session.specs.Serving.{Pieced, Took, said};

@@ -11,7 +11,7 @@ mod serving;
 pub use cb_hall::{Badge, Hall};
 pub use cb_io::{In, Out, Sink, SinkFailure, Source, WriteEnd, WriteFault, write_out};
 pub use cb_journal::{Answer, Entry, Question};
-pub use cb_peer::{Ask, CloseReason, Event, Session, Settings, Standing, State};
+pub use cb_peer::{CloseReason, Event, Pending, Session, Settings, Stage, State, Subject};
 pub use cb_trace::{Counts, Oracle, Trace, TraceEntry};
 pub use conversation::Conversation;
 pub use reading::{ReadEnd, Reading};

@@ -1,6 +1,6 @@
 //! Reads a peer's stream to its end, or to the end of the session.
 ghost use Rattle.std.specs.Prelude.{◌≡◌, ◌≢◌, ◌≤◌, ◌↔◌, true, false, IsTrue, List, [], ℕ, Option, None, length};
-ghost use Rattle.cb_peer.specs.State.{is_closed};
+ghost use Rattle.cb_peer_state.specs.State.{is_closed};
 ghost use Rattle.cb_session.specs.Conversation.{Origin, WritesOn, progress};
 ghost use Rattle.cb_session.specs.Serving.{Heard, HeardBy};
 

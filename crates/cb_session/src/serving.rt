@@ -1,7 +1,7 @@
 ghost use Rattle.std.specs.Prelude.{◌≡◌, ◌≢◌, ◌≤◌, true, false, Bool, List, [], ℕ, Option, None, IfOk, IsOkUnless, OnErr, length};
 ghost use Rattle.cb_base.specs.declared.fault.Fault.TheVariants.{Memory};
 ghost use Rattle.cb_hall.specs.Histories.{Asks, IsRefused};
-ghost use Rattle.cb_peer.specs.State.{is_closed};
+ghost use Rattle.cb_peer_state.specs.State.{is_closed};
 ghost use Rattle.cb_session.specs.Conversation.{Origin, Settled, WritesOn, origin_of, progress};
 ghost use Rattle.cb_session.specs.Serving.{Heard, Serves};
 

@@ -3,21 +3,22 @@ use Rattle.std.proofs.Common.{◌≡◌, ℕ, ◌+◌, ◌≢◌, ◌<◌, Bool,
 use Rattle.std.specs.Prelude.{◌^◌}
 use Rattle.cb_journal.specs.declared.answer.Answer.{Answer}
 use Rattle.cb_journal.specs.declared.question.Question.{Question}
-use Rattle.cb_peer.specs.declared.event.Event.{Event}
-use Rattle.cb_peer.specs.declared.event.Event.TheVariants as events
-use Rattle.cb_peer.specs.declared.state.State.TheVariants.{Closed}
-use Rattle.cb_peer.specs.declared.state.CloseReason.{CloseReason}
-use Rattle.cb_peer.specs.declared.state.CloseReason.TheVariants as reasons
-use Rattle.cb_peer.specs.Ask.{fits, questions_left, standing_question}
-use Rattle.cb_peer.specs.Event.{ends_at_once, is_reader_end}
-use Rattle.cb_peer.specs.Session.{Stepped, closes, open_step, stays, step_of}
-use Rattle.cb_peer.specs.State.{SessionState, is_closed}
-use Rattle.cb_peer.proofs.Steps.{AsksIt, IsOver, closes_over, open_asks, open_bye, open_ends, open_fewer, open_over, open_settings}
+use Rattle.cb_peer_state.specs.declared.event.Event.{Event}
+use Rattle.cb_peer_state.specs.declared.event.Event.TheVariants as events
+use Rattle.cb_peer_state.specs.declared.state.State.TheVariants.{Closed}
+use Rattle.cb_peer_state.specs.declared.state.CloseReason.{CloseReason}
+use Rattle.cb_peer_state.specs.declared.state.CloseReason.TheVariants as reasons
+use Rattle.cb_peer_state.specs.Questions.{fits, questions_left, pending_question}
+use Rattle.cb_peer_state.specs.Event.{ends_at_once, is_reader_end}
+use Rattle.cb_peer_state.specs.Session.{Stepped, closes, open_step, stays, step_of}
+use Rattle.cb_peer_state.specs.declared.session_state.SessionState.{SessionState}
+use Rattle.cb_peer_state.specs.State.{is_closed}
+use Rattle.cb_peer_laws.proofs.Steps.{AsksIt, IsOver, closes_over, open_asks, open_bye, open_ends, open_fewer, open_over, open_settings}
 use Rattle.cb_trace.specs.declared.trace.TraceEntry.{TraceEntry}
 use Rattle.cb_trace.specs.Fold.{entry_step}
 use Rattle.cb_trace.proofs.Folds.{entry_cases}
 
--- one that ends the session is silent, and leaves nothing to stand
+-- one that ends the session is silent, and leaves nothing pending
 pub entry_over : (count : ℕ) (s : SessionState) (entry : TraceEntry) → is_closed s.state ≡ false → is_closed (entry_step count s entry).session.state ≡ true → IsOver (entry_step count s entry)
 entry_over count s entry going =
     entry_cases (λ made. is_closed made.session.state ≡ true → IsOver made) count s entry going (λ _ _. closes_over s reasons.TraceFull) (λ _ _ _. closes_over s reasons.Memory) (λ _ _. open_over s entry.event going)
@@ -40,16 +41,16 @@ fed_is before s event going other =
     entry_cases (λ made. made ≡ step_of s event) before s (record { event = event; starved = false }) going
     (λ full. absurd (other full)) (λ _ starved. absurd (let e : false ≡ true = starved in cc)) (λ _ _. sym same)
 
--- the question that it asks stands, or nothing changed
+-- the question that it asks is open, or nothing changed
 pub entry_asks : (count : ℕ) (s : SessionState) (entry : TraceEntry) → is_closed s.state ≡ false → AsksIt s (entry_step count s entry)
 entry_asks count s entry going = entry_cases (AsksIt s) count s entry going (λ _. inl refl) (λ _ _. inl refl) (λ _ _. open_asks s entry.event)
 
--- an answer that fits what stands leaves fewer to be waited for
-pub entry_fewer : (count : ℕ) (s : SessionState) (question : Question) (answer : Answer) (starved : Bool) → is_closed s.state ≡ false → standing_question s ≡ Some question → fits question answer ≡ true
+-- an answer that fits the open question leaves fewer to be waited for
+pub entry_fewer : (count : ℕ) (s : SessionState) (question : Question) (answer : Answer) (starved : Bool) → is_closed s.state ≡ false → pending_question s ≡ Some question → fits question answer ≡ true
     → is_closed (entry_step count s (record { event = events.Told answer; starved = starved })).session.state ≡ false
-    → questions_left (entry_step count s (record { event = events.Told answer; starved = starved })).session.standing < questions_left s.standing
+    → questions_left (entry_step count s (record { event = events.Told answer; starved = starved })).session.pending < questions_left s.pending
 entry_fewer count s question answer starved going asked fit =
-    entry_cases (λ made. is_closed made.session.state ≡ false → questions_left made.session.standing < questions_left s.standing) count s (record { event = events.Told answer; starved = starved }) going
+    entry_cases (λ made. is_closed made.session.state ≡ false → questions_left made.session.pending < questions_left s.pending) count s (record { event = events.Told answer; starved = starved }) going
     (λ _ x. absurd cc) (λ _ _ x. absurd cc) (λ _ _ x. open_fewer s question answer going asked fit x)
 
 -- ---- of any session
@@ -81,6 +82,6 @@ entry_bye count s entry =
     (λ going. entry_cases (λ made. made.session.state ≡ Closed reasons.Bye → (s.state ≡ Closed reasons.Bye) ⊎ (is_reader_end entry.event ≡ true)) count s entry going
     (λ _ e. clash_bye reasons.TraceFull (λ x. cc) e) (λ _ _ e. clash_bye reasons.Memory (λ x. cc) e) (λ _ _ e. inr (open_bye s entry.event going e)))
 
--- the question that an entry asks stands, or nothing changed
+-- the question that an entry asks is open, or nothing changed
 pub entry_asks_any : (count : ℕ) (s : SessionState) (entry : TraceEntry) → AsksIt s (entry_step count s entry)
 entry_asks_any count s entry = entry_either (AsksIt s) count s entry (λ _. inr refl) (λ going. entry_asks count s entry going)

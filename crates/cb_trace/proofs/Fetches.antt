@@ -23,20 +23,22 @@ use Rattle.cb_wire.specs.declared.item.Item.{Item}
 use Rattle.cb_wire.specs.declared.item.Item.TheVariants.{Good, Damaged, Bad}
 use Rattle.cb_wire.specs.declared.message.Message.{Message}
 use Rattle.cb_wire.specs.declared.message.Message.TheVariants as messages
-use Rattle.cb_peer.specs.declared.ask.Ask.{Ask}
-use Rattle.cb_peer.specs.declared.ask.Ask.TheVariants.{Admit, About, Wanted, Fresh}
-use Rattle.cb_peer.specs.declared.event.Event.{Event}
-use Rattle.cb_peer.specs.declared.event.Event.TheVariants as events
-use Rattle.cb_peer.specs.declared.settings.Settings.{Settings}
-use Rattle.cb_peer.specs.declared.standing.Standing.{Standing}
-use Rattle.cb_peer.specs.declared.state.State.{State}
-use Rattle.cb_peer.specs.declared.state.State.TheVariants.{Start, Greeted, Ready, Closed}
-use Rattle.cb_peer.specs.Ask.{fits, is_nil, question_at, question_of, standing_question, told_of}
-use Rattle.cb_peer.specs.Receiving.{Plan, asks, brought, by_compact, by_headers, by_phase, ends, given_up, gives_up, in_greeted, in_ready, in_start, introduced, processed, received}
-use Rattle.cb_peer.specs.Replying.{answered, heads_by, heads_told, need_told, news_told, taken_told, wanted_told}
-use Rattle.cb_peer.specs.Session.{arrives, open_step, told}
-use Rattle.cb_peer.specs.State.{SessionState, freed, with_fetch}
-use Rattle.cb_peer.proofs.Cases.{brought_cases, by_test, ends_cases}
+use Rattle.cb_peer_state.specs.declared.stage.Stage.{Stage}
+use Rattle.cb_peer_state.specs.declared.stage.Stage.TheVariants.{Admit, About, Wanted, Fresh}
+use Rattle.cb_peer_state.specs.declared.stage.Subject.TheVariants as subjects
+use Rattle.cb_peer_state.specs.declared.event.Event.{Event}
+use Rattle.cb_peer_state.specs.declared.event.Event.TheVariants as events
+use Rattle.cb_peer_state.specs.declared.settings.Settings.{Settings}
+use Rattle.cb_peer_state.specs.declared.pending.Pending.{Pending}
+use Rattle.cb_peer_state.specs.declared.state.State.{State}
+use Rattle.cb_peer_state.specs.declared.state.State.TheVariants.{Start, Greeted, Ready, Closed}
+use Rattle.cb_peer_state.specs.Questions.{fits, is_nil, question_at, question_of, pending_question, told_of}
+use Rattle.cb_peer_state.specs.Receiving.{Outcome, asks, brought, by_compact, by_headers, by_phase, ends, given_up, gives_up, in_greeted, in_ready, in_start, introduced, processed, received}
+use Rattle.cb_peer_state.specs.Replying.{answered, heads_by, heads_told, need_told, news_told, taken_told, wanted_told}
+use Rattle.cb_peer_state.specs.Session.{arrives, open_step, told}
+use Rattle.cb_peer_state.specs.declared.session_state.SessionState.{SessionState}
+use Rattle.cb_peer_state.specs.State.{freed, with_fetch}
+use Rattle.cb_peer_state.proofs.Cases.{brought_cases, by_test, ends_cases}
 use Rattle.cb_trace.specs.declared.trace.TraceEntry.{TraceEntry}
 use Rattle.cb_trace.specs.Fold.{Account, account_of, account_step, entry_step, replies, replies_to, session_of}
 use Rattle.cb_trace.specs.Whole.{lacking_of, needed_in, tells_lacking, tells_needed}
@@ -108,13 +110,13 @@ all_taken needed lacks fetch (hash ∷ hashes) need lack f =
 
 -- ---- messages of the peer
 
-abbrev pub FetchesPlan : (Hash256 → Bool) → (Hash256 → Bool) → Plan → Type 0
-FetchesPlan needed lacks plan = Fetches needed lacks plan.session.fetch
+abbrev pub FetchesOutcome : (Hash256 → Bool) → (Hash256 → Bool) → Outcome → Type 0
+FetchesOutcome needed lacks outcome = Fetches needed lacks outcome.session.fetch
 
-ends_fetches : (needed lacks : Hash256 → Bool) (s : SessionState) (sent : List Message) → Fetches needed lacks s.fetch → FetchesPlan needed lacks (ends s sent)
-ends_fetches needed lacks s sent f = ends_cases (FetchesPlan needed lacks) s sent (λ _. f) (λ _ _. f) (λ _ _. f)
+ends_fetches : (needed lacks : Hash256 → Bool) (s : SessionState) (sent : List Message) → Fetches needed lacks s.fetch → FetchesOutcome needed lacks (ends s sent)
+ends_fetches needed lacks s sent f = ends_cases (FetchesOutcome needed lacks) s sent (λ _. f) (λ _ _. f) (λ _ _. f)
 
-introduced_fetches : (needed lacks : Hash256 → Bool) (s : SessionState) (version : Version) → Fetches needed lacks s.fetch → FetchesPlan needed lacks (introduced s version)
+introduced_fetches : (needed lacks : Hash256 → Bool) (s : SessionState) (version : Version) → Fetches needed lacks s.fetch → FetchesOutcome needed lacks (introduced s version)
 unfolding introduced
 introduced_fetches needed lacks s version f =
     elim (cases_Bool (version.nonce == s.settings.nonce)) [
@@ -139,26 +141,26 @@ given_up_fetches : (needed lacks : Hash256 → Bool) (entries : List InvEntry) (
 given_up_fetches needed lacks [] fetch f = f
 given_up_fetches needed lacks (e ∷ entries) fetch f = given_up_fetches needed lacks entries (gives_up fetch e) (gives_up_fetches needed lacks fetch e f)
 
-brought_fetches : (needed lacks : Hash256 → Bool) (s : SessionState) (block : Block) → Fetches needed lacks s.fetch → FetchesPlan needed lacks (brought s block)
-brought_fetches needed lacks s block f = brought_cases (FetchesPlan needed lacks) s block (λ _. lands_fetches needed lacks s.fetch (block_hash block.header) f) (idle_fetches needed lacks)
+brought_fetches : (needed lacks : Hash256 → Bool) (s : SessionState) (block : Block) → Fetches needed lacks s.fetch → FetchesOutcome needed lacks (brought s block)
+brought_fetches needed lacks s block f = brought_cases (FetchesOutcome needed lacks) s block (λ _. lands_fetches needed lacks s.fetch (block_hash block.header) f) (idle_fetches needed lacks)
 
-start_fetches : (needed lacks : Hash256 → Bool) (s : SessionState) (message : Message) → Fetches needed lacks s.fetch → FetchesPlan needed lacks (in_start s message)
+start_fetches : (needed lacks : Hash256 → Bool) (s : SessionState) (message : Message) → Fetches needed lacks s.fetch → FetchesOutcome needed lacks (in_start s message)
 unfolding in_start
 start_fetches needed lacks s (messages.Version version) f = introduced_fetches needed lacks s version f
 start_fetches needed lacks s other f = f
 
-greeted_fetches : (needed lacks : Hash256 → Bool) (s : SessionState) (message : Message) → Fetches needed lacks s.fetch → FetchesPlan needed lacks (in_greeted s message)
+greeted_fetches : (needed lacks : Hash256 → Bool) (s : SessionState) (message : Message) → Fetches needed lacks s.fetch → FetchesOutcome needed lacks (in_greeted s message)
 unfolding in_greeted
 greeted_fetches needed lacks s (messages.SendCmpct relay) f = compact_fetches needed lacks relay s f
 greeted_fetches needed lacks s other f = f
 
-ready_fetches : (needed lacks : Hash256 → Bool) (s : SessionState) (message : Message) → Fetches needed lacks s.fetch → FetchesPlan needed lacks (in_ready s message)
+ready_fetches : (needed lacks : Hash256 → Bool) (s : SessionState) (message : Message) → Fetches needed lacks s.fetch → FetchesOutcome needed lacks (in_ready s message)
 unfolding in_ready
 ready_fetches needed lacks s messages.SendHeaders f = ends_fetches needed lacks (by_headers s) [] f
 ready_fetches needed lacks s (messages.SendCmpct relay) f = ends_fetches needed lacks (by_compact relay s) [] (compact_fetches needed lacks relay s f)
 ready_fetches needed lacks s (messages.Headers []) f = ends_fetches needed lacks s [] f
 ready_fetches needed lacks s (messages.Headers (first ∷ others)) f = f
-ready_fetches needed lacks s (messages.Inv entries) f = by_test (FetchesPlan needed lacks) (is_nil (told_of entries)) (ends s []) (asks s [] About) (λ _. ends_fetches needed lacks s [] f) (λ _. f)
+ready_fetches needed lacks s (messages.Inv entries) f = by_test (FetchesOutcome needed lacks) (is_nil (told_of entries)) (ends s []) (asks s [] (About subjects.Inventory)) (λ _. ends_fetches needed lacks s [] f) (λ _. f)
 ready_fetches needed lacks s (messages.GetData entries) f = f
 ready_fetches needed lacks s (messages.GetHeaders request) f = f
 ready_fetches needed lacks s (messages.NotFound entries) f = ends_fetches needed lacks (with_fetch (given_up entries s.fetch) s) [] (given_up_fetches needed lacks entries s.fetch f)
@@ -166,18 +168,18 @@ ready_fetches needed lacks s (messages.Tx tx) f = f
 ready_fetches needed lacks s (messages.Block block) f = brought_fetches needed lacks s block f
 ready_fetches needed lacks s other f = ends_fetches needed lacks s [] f
 
-phase_fetches : (needed lacks : Hash256 → Bool) (state : State) (s : SessionState) (message : Message) → Fetches needed lacks s.fetch → FetchesPlan needed lacks (by_phase state s message)
+phase_fetches : (needed lacks : Hash256 → Bool) (state : State) (s : SessionState) (message : Message) → Fetches needed lacks s.fetch → FetchesOutcome needed lacks (by_phase state s message)
 phase_fetches needed lacks Start s message f = start_fetches needed lacks s message f
 phase_fetches needed lacks Greeted s message f = greeted_fetches needed lacks s message f
 phase_fetches needed lacks Ready s message f = ready_fetches needed lacks s message f
 phase_fetches needed lacks (Closed why) s message f = f
 
-received_fetches : (needed lacks : Hash256 → Bool) (s : SessionState) (message : Message) → Fetches needed lacks s.fetch → FetchesPlan needed lacks (received s message)
+received_fetches : (needed lacks : Hash256 → Bool) (s : SessionState) (message : Message) → Fetches needed lacks s.fetch → FetchesOutcome needed lacks (received s message)
 unfolding received
 received_fetches needed lacks s (messages.Ping nonce) f = ends_fetches needed lacks s (messages.Pong nonce ∷ []) f
 received_fetches needed lacks s other f = phase_fetches needed lacks s.state s other f
 
-processed_fetches : (needed lacks : Hash256 → Bool) (s : SessionState) (item : Option Item) → Fetches needed lacks s.fetch → FetchesPlan needed lacks (processed s item)
+processed_fetches : (needed lacks : Hash256 → Bool) (s : SessionState) (item : Option Item) → Fetches needed lacks s.fetch → FetchesOutcome needed lacks (processed s item)
 unfolding processed
 processed_fetches needed lacks s None f = ends_fetches needed lacks s [] f
 processed_fetches needed lacks s (Some (Good message)) f = received_fetches needed lacks s message f
@@ -186,17 +188,17 @@ processed_fetches needed lacks s (Some (Bad command fault)) f = idle_fetches nee
 
 -- ---- answers
 
-heads_by_fetches : (needed lacks : Hash256 → Bool) (item : Option Item) (s : SessionState) (refused : Option Fault) (locator : List Hash256) → Fetches needed lacks s.fetch → FetchesPlan needed lacks (heads_by s item refused locator)
+heads_by_fetches : (needed lacks : Hash256 → Bool) (item : Option Item) (s : SessionState) (refused : Option Fault) (locator : List Hash256) → Fetches needed lacks s.fetch → FetchesOutcome needed lacks (heads_by s item refused locator)
 heads_by_fetches needed lacks item s (Some faults.BadWork) locator f = idle_fetches needed lacks
 heads_by_fetches needed lacks item s (Some faults.NoParent) locator f = ends_fetches needed lacks s _ f
 heads_by_fetches needed lacks item s (Some other) locator f = ends_fetches needed lacks s _ f
 heads_by_fetches needed lacks item s None locator f = ends_fetches needed lacks s _ f
 
-heads_fetches : (needed lacks : Hash256 → Bool) (item : Option Item) (s : SessionState) (heads : Heads) → Each lacks heads.lack → Fetches needed lacks s.fetch → FetchesPlan needed lacks (heads_told s item heads)
+heads_fetches : (needed lacks : Hash256 → Bool) (item : Option Item) (s : SessionState) (heads : Heads) → Each lacks heads.lack → Fetches needed lacks s.fetch → FetchesOutcome needed lacks (heads_told s item heads)
 unfolding heads_told
 heads_fetches needed lacks item s heads lack f = heads_by_fetches needed lacks item (with_fetch (wanting_all s.fetch heads.lack) s) heads.refused heads.locator (all_wanted needed lacks s.fetch heads.lack lack f)
 
-taken_fetches : (needed lacks : Hash256 → Bool) (s : SessionState) (refused : Option Fault) (locator : List Hash256) → Fetches needed lacks s.fetch → FetchesPlan needed lacks (taken_told s refused locator)
+taken_fetches : (needed lacks : Hash256 → Bool) (s : SessionState) (refused : Option Fault) (locator : List Hash256) → Fetches needed lacks s.fetch → FetchesOutcome needed lacks (taken_told s refused locator)
 unfolding taken_told
 taken_fetches needed lacks s None locator f = ends_fetches needed lacks s _ f
 taken_fetches needed lacks s (Some faults.Known) locator f = ends_fetches needed lacks s _ f
@@ -208,54 +210,54 @@ about_heads lacks (questions.Headers headers) heads fit each = each
 about_heads lacks question heads fit each = absurd cc
 
 -- an answer that fits, where what it tells to be needed and to lack is so
-answered_fetches : (needed lacks : Hash256 → Bool) (q s : SessionState) (item : Option Item) (ask : Ask) (answer : Answer) → fits (question_of q item ask) answer ≡ true → Each needed (needed_in (question_of q item ask) answer)
-    → Each lacks (lacking_of (question_of q item ask) answer) → Fetches needed lacks s.fetch → FetchesPlan needed lacks (answered s item ask answer)
+answered_fetches : (needed lacks : Hash256 → Bool) (q s : SessionState) (item : Option Item) (stage : Stage) (answer : Answer) → fits (question_of q item stage) answer ≡ true → Each needed (needed_in (question_of q item stage) answer)
+    → Each lacks (lacking_of (question_of q item stage) answer) → Fetches needed lacks s.fetch → FetchesOutcome needed lacks (answered s item stage answer)
 unfolding answered need_told wanted_told news_told
-answered_fetches needed lacks q s item ask answers.Kicked fit need lack f = idle_fetches needed lacks
+answered_fetches needed lacks q s item stage answers.Kicked fit need lack f = idle_fetches needed lacks
 answered_fetches needed lacks q s item Admit answers.Go fit need lack f = processed_fetches needed lacks s item f
-answered_fetches needed lacks q s item About (answers.Heads heads) fit need lack f = heads_fetches needed lacks item s heads (about_heads lacks (question_of q item About) heads fit lack) f
-answered_fetches needed lacks q s item About (answers.Locator locator) fit need lack f = ends_fetches needed lacks s _ f
-answered_fetches needed lacks q s item About (answers.Need told_need) fit need lack f = ends_fetches needed lacks s _ f
-answered_fetches needed lacks q s item About (answers.TxTaken refused) fit need lack f = ends_fetches needed lacks s _ f
-answered_fetches needed lacks q s item About (answers.Taken taken) fit need lack f = taken_fetches needed lacks s taken.refused taken.locator f
-answered_fetches needed lacks q s item About (answers.Served pieces) fit need lack f = ends_fetches needed lacks s _ f
-answered_fetches needed lacks q s item About (answers.Following headers) fit need lack f = ends_fetches needed lacks s _ f
+answered_fetches needed lacks q s item (About subject) (answers.Heads heads) fit need lack f = heads_fetches needed lacks item s heads (about_heads lacks (question_of q item (About subject)) heads fit lack) f
+answered_fetches needed lacks q s item (About subject) (answers.Locator locator) fit need lack f = ends_fetches needed lacks s _ f
+answered_fetches needed lacks q s item (About subject) (answers.Need told_need) fit need lack f = ends_fetches needed lacks s _ f
+answered_fetches needed lacks q s item (About subject) (answers.TxTaken refused) fit need lack f = ends_fetches needed lacks s _ f
+answered_fetches needed lacks q s item (About subject) (answers.Taken taken) fit need lack f = taken_fetches needed lacks s taken.refused taken.locator f
+answered_fetches needed lacks q s item (About subject) (answers.Served pieces) fit need lack f = ends_fetches needed lacks s _ f
+answered_fetches needed lacks q s item (About subject) (answers.Following headers) fit need lack f = ends_fetches needed lacks s _ f
 answered_fetches needed lacks q s item Wanted (answers.Need told_need) fit need lack f = all_taken needed lacks idle (blocks_in told_need.entries) need lack (idle_fetches needed lacks)
 answered_fetches needed lacks q s item Fresh (answers.News news) fit need lack f = f
-answered_fetches needed lacks q s item ask other fit need lack f = f
+answered_fetches needed lacks q s item stage other fit need lack f = f
 
 -- ---- steps
 
--- what an event tells, where a question stands
+-- what an event tells, where a question is open
 abbrev pub Tells_each : (Hash256 → Bool) → (Question → Answer → List Hash256) → Option Question → Event → Type 0
 Tells_each test words question event = (hash : Hash256) → list_any (λ (reply : Reply). has (words reply.question reply.answer) hash) (replies_to question event) ≡ true → test hash ≡ true
 
 one_told : (test : Hash256 → Bool) (words : Question → Answer → List Hash256) (question : Question) (answer : Answer) → Tells_each test words (Some question) (events.Told answer) → Each test (words question answer)
 one_told test words question answer each hash e = each hash (or_left (has (words question answer) hash) false e)
 
-told_fetches : (needed lacks : Hash256 → Bool) (standing : Option Standing) (s : SessionState) (answer : Answer) → Tells_each needed needed_in (question_at s standing) (events.Told answer) → Tells_each lacks lacking_of (question_at s standing) (events.Told answer)
-    → Fetches needed lacks s.fetch → Fetches needed lacks (told standing s answer).session.fetch
+told_fetches : (needed lacks : Hash256 → Bool) (pending : Option Pending) (s : SessionState) (answer : Answer) → Tells_each needed needed_in (question_at s pending) (events.Told answer) → Tells_each lacks lacking_of (question_at s pending) (events.Told answer)
+    → Fetches needed lacks s.fetch → Fetches needed lacks (told pending s answer).session.fetch
 told_fetches needed lacks None s answer need lack f = f
-told_fetches needed lacks (Some standing) s answer need lack f =
-    let question = question_of s standing.item standing.ask in
-    elim (cases_Bool (fits (question_of s standing.item standing.ask) answer)) [
-      | inl fit ↦ rw fit (answered_fetches needed lacks s (freed s) standing.item standing.ask answer fit (one_told needed needed_in question answer need) (one_told lacks lacking_of question answer lack) f)
+told_fetches needed lacks (Some pending) s answer need lack f =
+    let question = question_of s pending.item pending.stage in
+    elim (cases_Bool (fits (question_of s pending.item pending.stage) answer)) [
+      | inl fit ↦ rw fit (answered_fetches needed lacks s (freed s) pending.item pending.stage answer fit (one_told needed needed_in question answer need) (one_told lacks lacking_of question answer lack) f)
       | inr misfit ↦ rw misfit f
     ]
 
-arrives_fetches : (needed lacks : Hash256 → Bool) (standing : Option Standing) (s : SessionState) (item : Option Item) → Fetches needed lacks s.fetch → Fetches needed lacks (arrives standing s item).session.fetch
+arrives_fetches : (needed lacks : Hash256 → Bool) (pending : Option Pending) (s : SessionState) (item : Option Item) → Fetches needed lacks s.fetch → Fetches needed lacks (arrives pending s item).session.fetch
 arrives_fetches needed lacks None s item f = f
 arrives_fetches needed lacks (Some other) s item f = f
 
-open_fetches : (needed lacks : Hash256 → Bool) (s : SessionState) (event : Event) → Tells_each needed needed_in (standing_question s) event → Tells_each lacks lacking_of (standing_question s) event → Fetches needed lacks s.fetch
+open_fetches : (needed lacks : Hash256 → Bool) (s : SessionState) (event : Event) → Tells_each needed needed_in (pending_question s) event → Tells_each lacks lacking_of (pending_question s) event → Fetches needed lacks s.fetch
     → Fetches needed lacks (open_step s event).session.fetch
 unfolding open_step
-open_fetches needed lacks s (events.Said item) need lack f = arrives_fetches needed lacks s.standing s (Some item) f
-open_fetches needed lacks s events.Tick need lack f = arrives_fetches needed lacks s.standing s None f
-open_fetches needed lacks s (events.Told answer) need lack f = told_fetches needed lacks s.standing s answer need lack f
+open_fetches needed lacks s (events.Said item) need lack f = arrives_fetches needed lacks s.pending s (Some item) f
+open_fetches needed lacks s events.Tick need lack f = arrives_fetches needed lacks s.pending s None f
+open_fetches needed lacks s (events.Told answer) need lack f = told_fetches needed lacks s.pending s answer need lack f
 open_fetches needed lacks s other need lack f = idle_fetches needed lacks
 
-entry_fetches : (needed lacks : Hash256 → Bool) (count : ℕ) (s : SessionState) (entry : TraceEntry) → Tells_each needed needed_in (standing_question s) entry.event → Tells_each lacks lacking_of (standing_question s) entry.event → Fetches needed lacks s.fetch
+entry_fetches : (needed lacks : Hash256 → Bool) (count : ℕ) (s : SessionState) (entry : TraceEntry) → Tells_each needed needed_in (pending_question s) entry.event → Tells_each lacks lacking_of (pending_question s) entry.event → Fetches needed lacks s.fetch
     → Fetches needed lacks (entry_step count s entry).session.fetch
 entry_fetches needed lacks count s entry need lack f =
     step_cases (λ made. Fetches needed lacks made.session.fetch) count s entry (λ _. f) (λ why _. idle_fetches needed lacks) (λ _. open_fetches needed lacks s entry.event need lack f)
@@ -277,7 +279,7 @@ last_told tells xs ys hash e = list_any-append (tells hash) xs ys ∙ or_right (
 
 entry_told : (account : Account) (entry : TraceEntry) → FetchesTold account → FetchesTold (account_step account entry)
 entry_told account entry f =
-    let last = replies_to (standing_question account.session) entry.event in
+    let last = replies_to (pending_question account.session) entry.event in
     entry_fetches (told_before tells_needed (account.replies ++ last)) (told_before tells_lacking (account.replies ++ last)) account.count account.session entry (λ hash e. last_told tells_needed account.replies last hash e)
     (λ hash e. last_told tells_lacking account.replies last hash e)
     (record { flight = λ hash e. more_told tells_needed account.replies last hash (f.flight hash e); wanted = λ hash e. more_told tells_lacking account.replies last hash (f.wanted hash e) })

@@ -8,7 +8,7 @@ use Rattle.cb_journal.specs.Journal.{JournalState}
 use Rattle.cb_journal.specs.Replies.{Replies}
 use Rattle.cb_hall.specs.Badge.{BadgeState}
 use Rattle.cb_hall.specs.Hall.{Grants}
-use Rattle.cb_peer.specs.Ask.{fits}
+use Rattle.cb_peer_state.specs.Questions.{fits}
 
 reply_fits : (kicked : Bool) (old new : JournalState) (badge : BadgeState) (question : Question) (answer : Answer) → Replies kicked old.latest.node badge.connection question answer new.latest.node → fits question answer ≡ true
 reply_fits true old new badge question answer r = ap (fits question) r.0

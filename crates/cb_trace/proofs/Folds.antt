@@ -6,13 +6,14 @@ use Rattle.std.proofs.lemmas.List.{length-append}
 use Rattle.std.proofs.lemmas.List.Elements.{filter-append}
 use Rattle.std.proofs.lemmas.List.Sums.{fold-append}
 use Rattle.std.proofs.lemmas.Bool.Decides.{nat_tests}
-use Rattle.cb_peer.specs.declared.settings.Settings.{Settings}
-use Rattle.cb_peer.specs.declared.state.CloseReason.TheVariants as reasons
+use Rattle.cb_peer_state.specs.declared.settings.Settings.{Settings}
+use Rattle.cb_peer_state.specs.declared.state.CloseReason.TheVariants as reasons
 use Rattle.cb_trace.specs.declared.trace.TraceEntry.{TraceEntry}
 use Rattle.cb_trace.specs.declared.trace.Counts.{Counts}
-use Rattle.cb_peer.specs.Event.{Kind, begins, is_input, is_told, kind_of}
-use Rattle.cb_peer.specs.Session.{Stepped, stays, closes, open_step}
-use Rattle.cb_peer.specs.State.{SessionState, is_closed}
+use Rattle.cb_peer_state.specs.Event.{Kind, begins, is_input, is_told, kind_of}
+use Rattle.cb_peer_state.specs.Session.{Stepped, stays, closes, open_step}
+use Rattle.cb_peer_state.specs.declared.session_state.SessionState.{SessionState}
+use Rattle.cb_peer_state.specs.State.{is_closed}
 use Rattle.cb_trace.specs.Fold.{Account, EachOpen, account_of, account_step, entry_step, first_account, number_of, session_of}
 use Rattle.cb_trace.specs.Prompt.{EachPrompt}
 use Rattle.cb_trace.specs.Trace.{counts_of, counts_with}
@@ -37,11 +38,11 @@ pub EachOpen_more : (settings : Settings) (entries : List TraceEntry) (entry : T
 unfolding account_of
 EachOpen_more settings entries entry each going = EachOpen_fold (first_account settings) entries entry each going
 
-EachPrompt_fold : (account : Account) (entries : List TraceEntry) (entry : TraceEntry) → EachPrompt account entries → (begins (kind_of entry.event) ≡ true → (fold account_step account entries).session.standing ≡ None) → EachPrompt account (entries ++ entry ∷ [])
+EachPrompt_fold : (account : Account) (entries : List TraceEntry) (entry : TraceEntry) → EachPrompt account entries → (begins (kind_of entry.event) ≡ true → (fold account_step account entries).session.pending ≡ None) → EachPrompt account (entries ++ entry ∷ [])
 EachPrompt_fold account [] entry each free = (free, tt)
 EachPrompt_fold account (other ∷ entries) entry each free = (each.0, EachPrompt_fold (account_step account other) entries entry each.1 free)
 
-pub EachPrompt_more : (settings : Settings) (entries : List TraceEntry) (entry : TraceEntry) → EachPrompt (first_account settings) entries → (begins (kind_of entry.event) ≡ true → (session_of settings entries).standing ≡ None) → EachPrompt (first_account settings) (entries ++ entry ∷ [])
+pub EachPrompt_more : (settings : Settings) (entries : List TraceEntry) (entry : TraceEntry) → EachPrompt (first_account settings) entries → (begins (kind_of entry.event) ≡ true → (session_of settings entries).pending ≡ None) → EachPrompt (first_account settings) (entries ++ entry ∷ [])
 unfolding account_of
 EachPrompt_more settings entries entry each free = EachPrompt_fold (first_account settings) entries entry each free
 

@@ -15,25 +15,27 @@ use Rattle.cb_journal.specs.declared.question.Request.TheVariants.{After}
 use Rattle.cb_wire.specs.declared.item.Item.{Item}
 use Rattle.cb_wire.specs.declared.message.Message.{Message}
 use Rattle.cb_wire.specs.declared.message.Message.TheVariants as messages
-use Rattle.cb_peer.specs.declared.ask.Ask.{Ask}
-use Rattle.cb_peer.specs.declared.ask.Ask.TheVariants.{Admit, About, Wanted, Fresh}
-use Rattle.cb_peer.specs.declared.event.Event.{Event}
-use Rattle.cb_peer.specs.declared.event.Event.TheVariants as events
-use Rattle.cb_peer.specs.declared.settings.Settings.{Settings}
-use Rattle.cb_peer.specs.declared.standing.Standing.{Standing}
-use Rattle.cb_peer.specs.declared.state.CloseReason.{CloseReason}
-use Rattle.cb_peer.specs.declared.state.Peer.{Peer}
-use Rattle.cb_peer.specs.declared.state.State.{State}
-use Rattle.cb_peer.specs.Ask.{fits, question_at, question_of, standing_question}
-use Rattle.cb_peer.specs.Event.{is_input, is_told, kind_of}
-use Rattle.cb_peer.specs.Laws.{is_following, is_headers}
-use Rattle.cb_peer.specs.Receiving.{Plan, ends}
-use Rattle.cb_peer.specs.Replying.{answered}
-use Rattle.cb_peer.specs.Session.{Stepped, arrives, closes, for_item, open_step, openings, standing_item, stands, stays, told}
-use Rattle.cb_peer.specs.State.{SessionState, freed, is_closed}
-use Rattle.cb_peer.proofs.LawLemmas.{no_headers_unasked}
-use Rattle.cb_peer.proofs.Sending.{None_of, sent_at_end}
-use Rattle.cb_peer.proofs.Steps.{no_question, open_over}
+use Rattle.cb_peer_state.specs.declared.stage.Stage.{Stage}
+use Rattle.cb_peer_state.specs.declared.stage.Stage.TheVariants.{Admit, About, Wanted, Fresh}
+use Rattle.cb_peer_state.specs.declared.event.Event.{Event}
+use Rattle.cb_peer_state.specs.declared.event.Event.TheVariants as events
+use Rattle.cb_peer_state.specs.declared.settings.Settings.{Settings}
+use Rattle.cb_peer_state.specs.declared.pending.Pending.{Pending}
+use Rattle.cb_peer_state.specs.declared.state.CloseReason.{CloseReason}
+use Rattle.cb_peer_state.specs.declared.state.Peer.{Peer}
+use Rattle.cb_peer_state.specs.declared.state.State.{State}
+use Rattle.cb_peer_state.specs.Questions.{fits, question_at, question_of, pending_question}
+use Rattle.cb_peer_state.specs.Event.{is_input, is_told, kind_of}
+use Rattle.cb_peer_laws.specs.Laws.{is_following, is_headers}
+use Rattle.cb_peer_state.specs.Receiving.{Outcome, ends}
+use Rattle.cb_peer_state.specs.Replying.{answered}
+use Rattle.cb_peer_state.specs.Session.{Stepped, arrives, closes, for_item, open_step, openings, pending_item, pending_of, stays, told}
+use Rattle.cb_peer_state.specs.declared.session_state.SessionState.{SessionState}
+use Rattle.cb_peer_state.specs.State.{freed, is_closed}
+use Rattle.cb_peer_laws.proofs.LawLemmas.{no_headers_unasked}
+use Rattle.cb_peer_laws.proofs.Sending.{None_of}
+use Rattle.cb_peer_state.proofs.Cases.{sent_at_end}
+use Rattle.cb_peer_laws.proofs.Steps.{no_question, open_over}
 use Rattle.cb_trace.specs.declared.trace.TraceEntry.{TraceEntry}
 use Rattle.cb_trace.specs.Fold.{Account, account_of, account_step, entry_step, first_account, inputs_of, replies, replies_to, sends, session_of}
 use Rattle.cb_trace.specs.Whole.{SendsWhatFollows, following, following_in, headers_in, says_send_headers}
@@ -42,31 +44,31 @@ use Rattle.cb_trace.proofs.Reached.{open_is, step_cases}
 
 -- ---- a peer that didn't ask
 
--- It isn't told of blocks by their headers, and doesn't ask for it by the item that stands.
+-- It isn't told of blocks by their headers, and doesn't ask for it by the item that is pending.
 pub record IsUnasked (s : SessionState) : Type 0 where
   pub plain : s.peer.by_headers ≡ false
-  pub item : item_wishes (standing_item s.standing) ≡ false
+  pub item : item_wishes (pending_item s.pending) ≡ false
 
-stands_item : (item : Option Item) (next : Option Ask) → item_wishes item ≡ false → item_wishes (standing_item (stands item next)) ≡ false
-stands_item item None e = refl
-stands_item item (Some ask) e = e
+pending_wishes : (item : Option Item) (next : Option Stage) → item_wishes item ≡ false → item_wishes (pending_item (pending_of item next)) ≡ false
+pending_wishes item None e = refl
+pending_wishes item (Some stage) e = e
 
-plan_plain : (state : State) (peer : Peer) (item : Option Item) (plan : Plan) → Hears state peer item plan → item_wishes item ≡ false → peer.by_headers ≡ false → plan.session.peer.by_headers ≡ false
-plan_plain state peer item plan (keeps at of by silent) e plain = by e ∙ plain
-plan_plain state peer item plan (greets from to by silent) e plain = by ∙ plain
-plan_plain state peer item plan (readies from to of sent) e plain = ap (λ (p : Peer). p.by_headers) of ∙ plain
-plan_plain state peer item plan (stops why to of sent) e plain = ap (λ (p : Peer). p.by_headers) of
+outcome_plain : (state : State) (peer : Peer) (item : Option Item) (outcome : Outcome) → Hears state peer item outcome → item_wishes item ≡ false → peer.by_headers ≡ false → outcome.session.peer.by_headers ≡ false
+outcome_plain state peer item outcome (keeps at of by silent) e plain = by e ∙ plain
+outcome_plain state peer item outcome (greets from to by silent) e plain = by ∙ plain
+outcome_plain state peer item outcome (readies from to of sent) e plain = ap (λ (p : Peer). p.by_headers) of ∙ plain
+outcome_plain state peer item outcome (stops why to of sent) e plain = ap (λ (p : Peer). p.by_headers) of
 
-told_unasked : (standing : Option Standing) (s : SessionState) (answer : Answer) → item_wishes (standing_item standing) ≡ false → IsUnasked s → IsUnasked (told standing s answer).session
+told_unasked : (pending : Option Pending) (s : SessionState) (answer : Answer) → item_wishes (pending_item pending) ≡ false → IsUnasked s → IsUnasked (told pending s answer).session
 told_unasked None s answer e un = un
-told_unasked (Some standing) s answer e un =
-    let plan : Plan = answered (freed s) standing.item standing.ask answer in
-    elim (cases_Bool (fits (question_of s standing.item standing.ask) answer)) [
-      | inl fit ↦ rw fit (record { plain = plan_plain s.state s.peer standing.item plan (answered_hears (freed s) standing.item standing.ask answer) e un.plain; item = stands_item standing.item plan.next e })
+told_unasked (Some pending) s answer e un =
+    let outcome : Outcome = answered (freed s) pending.item pending.stage answer in
+    elim (cases_Bool (fits (question_of s pending.item pending.stage) answer)) [
+      | inl fit ↦ rw fit (record { plain = outcome_plain s.state s.peer pending.item outcome (answered_hears (freed s) pending.item pending.stage answer) e un.plain; item = pending_wishes pending.item outcome.next e })
       | inr misfit ↦ rw misfit un
     ]
 
-arrives_unasked : (standing : Option Standing) (s : SessionState) (item : Option Item) → item_wishes item ≡ false → IsUnasked s → IsUnasked (arrives standing s item).session
+arrives_unasked : (pending : Option Pending) (s : SessionState) (item : Option Item) → item_wishes item ≡ false → IsUnasked s → IsUnasked (arrives pending s item).session
 arrives_unasked None s item e un = record { plain = un.plain; item = e }
 arrives_unasked (Some other) s item e un = un
 
@@ -75,10 +77,10 @@ closes_unasked s why = record { plain = refl; item = refl }
 
 open_unasked : (s : SessionState) (event : Event) → says_send_headers event ≡ false → IsUnasked s → IsUnasked (open_step s event).session
 unfolding open_step
-open_unasked s (events.Said item) e un = arrives_unasked s.standing s (Some item) e un
+open_unasked s (events.Said item) e un = arrives_unasked s.pending s (Some item) e un
 open_unasked s (events.Broken fault) e un = closes_unasked s _
-open_unasked s events.Tick e un = arrives_unasked s.standing s None refl un
-open_unasked s (events.Told answer) e un = told_unasked s.standing s answer un.item un
+open_unasked s events.Tick e un = arrives_unasked s.pending s None refl un
+open_unasked s (events.Told answer) e un = told_unasked s.pending s answer un.item un
 open_unasked s events.ReaderEnd e un = closes_unasked s _
 open_unasked s events.NoMemory e un = closes_unasked s _
 open_unasked s events.HallFull e un = closes_unasked s _
@@ -113,31 +115,31 @@ served_headers : (question : Question) (item : Option Item) (s : SessionState) (
 served_headers (questions.Serve (After locator stop)) item s headers = ap (filter_map headers_in) (sym (sent_at_end (freed s) (messages.Headers headers ∷ [])))
 served_headers question item s headers = refl
 
-asked_headers : (s : SessionState) (item : Option Item) (ask : Ask) (headers : List Header)
-    → filter_map following (record { question = question_of s item ask; answer = answers.Following headers } ∷ []) ≡ filter_map headers_in (cond (fits (question_of s item ask) (answers.Following headers)) (for_item item (answered (freed s) item ask (answers.Following headers))) (stays s)).messages
+asked_headers : (s : SessionState) (item : Option Item) (stage : Stage) (headers : List Header)
+    → filter_map following (record { question = question_of s item stage; answer = answers.Following headers } ∷ []) ≡ filter_map headers_in (cond (fits (question_of s item stage) (answers.Following headers)) (for_item item (answered (freed s) item stage (answers.Following headers))) (stays s)).messages
 unfolding answered
 asked_headers s item Admit headers = refl
-asked_headers s item About headers = served_headers (question_of s item About) item s headers
+asked_headers s item (About subject) headers = served_headers (question_of s item (About subject)) item s headers
 asked_headers s item Wanted headers = refl
 asked_headers s item Fresh headers = refl
 
-told_headers : (standing : Option Standing) (s : SessionState) (headers : List Header) → filter_map following (replies_to (question_at s standing) (events.Told (answers.Following headers))) ≡ filter_map headers_in (told standing s (answers.Following headers)).messages
+told_headers : (pending : Option Pending) (s : SessionState) (headers : List Header) → filter_map following (replies_to (question_at s pending) (events.Told (answers.Following headers))) ≡ filter_map headers_in (told pending s (answers.Following headers)).messages
 told_headers None s headers = refl
-told_headers (Some standing) s headers = asked_headers s standing.item standing.ask headers
+told_headers (Some pending) s headers = asked_headers s pending.item pending.stage headers
 
 abbrev pub Matches : SessionState → Event → List Message → Type 0
-Matches s event sent = filter_map following (replies_to (standing_question s) event) ≡ filter_map headers_in sent
+Matches s event sent = filter_map following (replies_to (pending_question s) event) ≡ filter_map headers_in sent
 
 plain_none : (s : SessionState) (event : Event) → is_closed s.state ≡ false → s.peer.by_headers ≡ false → is_following event ≡ false → filter_map headers_in (open_step s event).messages ≡ []
 plain_none s event going plain e = none_in (open_step s event).messages (subst (λ (made : Stepped). None_of is_headers made.messages) (open_is s event going) (no_headers_unasked s event plain e))
 
 input_matches : (s : SessionState) (event : Event) → is_closed s.state ≡ false → s.peer.by_headers ≡ false → is_told (kind_of event) ≡ false → is_following event ≡ false → Matches s event (open_step s event).messages
-input_matches s event going plain e f = ap (filter_map following) (no_reply (standing_question s) event e) ∙ sym (plain_none s event going plain f)
+input_matches s event going plain e f = ap (filter_map following) (no_reply (pending_question s) event e) ∙ sym (plain_none s event going plain f)
 
 answer_matches : (s : SessionState) (answer : Answer) → is_closed s.state ≡ false → s.peer.by_headers ≡ false → Matches s (events.Told answer) (open_step s (events.Told answer)).messages
 unfolding open_step
-answer_matches s (answers.Following headers) going plain = told_headers s.standing s headers
-answer_matches s answer going plain = reply_none (standing_question s) answer refl ∙ sym (plain_none s (events.Told answer) going plain refl)
+answer_matches s (answers.Following headers) going plain = told_headers s.pending s headers
+answer_matches s answer going plain = reply_none (pending_question s) answer refl ∙ sym (plain_none s (events.Told answer) going plain refl)
 
 open_matches : (s : SessionState) (event : Event) → is_closed s.state ≡ false → s.peer.by_headers ≡ false → Matches s event (open_step s event).messages
 open_matches s (events.Told answer) going plain = answer_matches s answer going plain
@@ -158,7 +160,7 @@ pub record Follows (account : Account) : Type 0 where
   pub unsent : List (List Header)
   pub parts : answered_in account.replies ≡ sent_in account.sent ++ unsent
   pub all : is_closed account.session.state ≡ false → unsent ≡ []
-  pub clear : is_closed account.session.state ≡ true → standing_question account.session ≡ None
+  pub clear : is_closed account.session.state ≡ true → pending_question account.session ≡ None
 
 -- an account with one step more
 abbrev pub stepped : Account → Event → Stepped → Account
@@ -167,18 +169,18 @@ stepped account event made =
       session = made.session;
       count = account.count + 1;
       sent = account.sent ++ made.messages;
-      replies = account.replies ++ replies_to (standing_question account.session) event;
+      replies = account.replies ++ replies_to (pending_question account.session) event;
     }
 
 joined : (account : Account) (event : Event) (messages : List Message) (unsent : List (List Header))
-    → answered_in account.replies ++ answered_in (replies_to (standing_question account.session) event) ≡ (sent_in account.sent ++ sent_in messages) ++ unsent
-    → answered_in (account.replies ++ replies_to (standing_question account.session) event) ≡ sent_in (account.sent ++ messages) ++ unsent
+    → answered_in account.replies ++ answered_in (replies_to (pending_question account.session) event) ≡ (sent_in account.sent ++ sent_in messages) ++ unsent
+    → answered_in (account.replies ++ replies_to (pending_question account.session) event) ≡ sent_in (account.sent ++ messages) ++ unsent
 joined account event messages unsent e =
-    filter_map-append following account.replies (replies_to (standing_question account.session) event) ∙ e ∙ ap (λ (l : List (List Header)). l ++ unsent) (sym (filter_map-append headers_in account.sent messages))
+    filter_map-append following account.replies (replies_to (pending_question account.session) event) ∙ e ∙ ap (λ (l : List (List Header)). l ++ unsent) (sym (filter_map-append headers_in account.sent messages))
 
 stays_follows : (account : Account) (event : Event) → is_closed account.session.state ≡ true → Follows account → Follows (stepped account event (stays account.session))
 stays_follows account event closed follows =
-    let none : answered_in (replies_to (standing_question account.session) event) ≡ [] = ap (λ (q : Option Question). answered_in (replies_to q event)) (follows.clear closed) in
+    let none : answered_in (replies_to (pending_question account.session) event) ≡ [] = ap (λ (q : Option Question). answered_in (replies_to q event)) (follows.clear closed) in
     record {
       unasked = follows.unasked;
       unsent = follows.unsent;
@@ -191,16 +193,16 @@ stays_follows account event closed follows =
 
 -- while the session goes on, what is answered by one step more is sent, or left
 goes_on : (account : Account) (event : Event) (messages : List Message) (unsent : List (List Header)) → is_closed account.session.state ≡ false → Follows account
-    → answered_in (replies_to (standing_question account.session) event) ≡ sent_in messages ++ unsent
-    → answered_in (account.replies ++ replies_to (standing_question account.session) event) ≡ sent_in (account.sent ++ messages) ++ unsent
+    → answered_in (replies_to (pending_question account.session) event) ≡ sent_in messages ++ unsent
+    → answered_in (account.replies ++ replies_to (pending_question account.session) event) ≡ sent_in (account.sent ++ messages) ++ unsent
 goes_on account event messages unsent going follows e =
     let before : answered_in account.replies ≡ sent_in account.sent = follows.parts ∙ ap (λ (l : List (List Header)). sent_in account.sent ++ l) (follows.all going) ∙ append-nil (sent_in account.sent) in
     joined account event messages unsent
-    (ap (λ (l : List (List Header)). l ++ answered_in (replies_to (standing_question account.session) event)) before ∙ ap (λ (l : List (List Header)). sent_in account.sent ++ l) e ∙ sym (append_assoc (sent_in account.sent) (sent_in messages) unsent))
+    (ap (λ (l : List (List Header)). l ++ answered_in (replies_to (pending_question account.session) event)) before ∙ ap (λ (l : List (List Header)). sent_in account.sent ++ l) e ∙ sym (append_assoc (sent_in account.sent) (sent_in messages) unsent))
 
 closes_follows : (account : Account) (event : Event) (why : CloseReason) → is_closed account.session.state ≡ false → Follows account → Follows (stepped account event (closes why account.session))
 closes_follows account event why going follows =
-    let unsent = answered_in (replies_to (standing_question account.session) event) in
+    let unsent = answered_in (replies_to (pending_question account.session) event) in
     record {
       unasked = closes_unasked account.session why;
       unsent = unsent;

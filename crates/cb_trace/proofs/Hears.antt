@@ -28,20 +28,21 @@ use Rattle.cb_wire.specs.declared.item.Item.{Item}
 use Rattle.cb_wire.specs.declared.item.Item.TheVariants.{Good, Damaged, Bad}
 use Rattle.cb_wire.specs.declared.message.Message.{Message}
 use Rattle.cb_wire.specs.declared.message.Message.TheVariants as messages
-use Rattle.cb_peer.specs.declared.ask.Ask.{Ask}
-use Rattle.cb_peer.specs.declared.ask.Ask.TheVariants.{Admit, About, Wanted, Fresh}
-use Rattle.cb_peer.specs.declared.settings.Settings.{Settings}
-use Rattle.cb_peer.specs.declared.state.CloseReason.{CloseReason}
-use Rattle.cb_peer.specs.declared.state.CloseReason.TheVariants as reasons
-use Rattle.cb_peer.specs.declared.state.Peer.{Peer}
-use Rattle.cb_peer.specs.declared.state.State.{State}
-use Rattle.cb_peer.specs.declared.state.State.TheVariants.{Start, Greeted, Ready, Closed}
-use Rattle.cb_peer.specs.Ask.{is_nil, told_of}
-use Rattle.cb_peer.specs.Receiving.{Plan, brought, by_compact, by_headers, by_phase, ends, given_up, greeting, in_greeted, in_ready, in_start, introduced, processed, received}
-use Rattle.cb_peer.specs.Replying.{answered, heads_by, heads_told, is_block, is_heard, more_behind, more_headers, need_told, news_told, taken_told, tip_told, tx_request, wanted_told, without_brought}
-use Rattle.cb_peer.specs.State.{SessionState, stranger, with_fetch}
-use Rattle.cb_peer.proofs.Cases.{brought_cases, ends_cases}
-use Rattle.cb_peer.proofs.Sending.{None_of}
+use Rattle.cb_peer_state.specs.declared.stage.Stage.{Stage}
+use Rattle.cb_peer_state.specs.declared.stage.Stage.TheVariants.{Admit, About, Wanted, Fresh}
+use Rattle.cb_peer_state.specs.declared.settings.Settings.{Settings}
+use Rattle.cb_peer_state.specs.declared.state.CloseReason.{CloseReason}
+use Rattle.cb_peer_state.specs.declared.state.CloseReason.TheVariants as reasons
+use Rattle.cb_peer_state.specs.declared.state.Peer.{Peer}
+use Rattle.cb_peer_state.specs.declared.state.State.{State}
+use Rattle.cb_peer_state.specs.declared.state.State.TheVariants.{Start, Greeted, Ready, Closed}
+use Rattle.cb_peer_state.specs.Questions.{is_nil, told_of}
+use Rattle.cb_peer_state.specs.Receiving.{Outcome, brought, by_compact, by_headers, by_phase, ends, given_up, greeting, in_greeted, in_ready, in_start, introduced, processed, received}
+use Rattle.cb_peer_state.specs.Replying.{answered, heads_by, heads_told, is_block, is_heard, more_behind, more_headers, need_told, news_told, taken_told, tip_told, tx_request, wanted_told, without_brought}
+use Rattle.cb_peer_state.specs.declared.session_state.SessionState.{SessionState}
+use Rattle.cb_peer_state.specs.State.{stranger, with_fetch}
+use Rattle.cb_peer_state.proofs.Cases.{brought_cases, ends_cases}
+use Rattle.cb_peer_laws.proofs.Sending.{None_of}
 use Rattle.cb_trace.specs.Whole.{is_send_headers, is_wish}
 
 -- by this item the peer asks to be told of blocks by their headers
@@ -54,11 +55,11 @@ Silent sent = None_of is_send_headers sent
 
 -- What an item makes of a session that is so far and knows so much of its peer. It is as far as before; or the peer introduced
 -- itself; or the handshake is done; or the session is over.
-pub data Hears (state : State) (peer : Peer) (item : Option Item) (plan : Plan) : Type 0 where
-  keeps : plan.session.state ≡ state → plan.session.peer.version ≡ peer.version → (item_wishes item ≡ false → plan.session.peer.by_headers ≡ peer.by_headers) → Silent plan.messages → Hears state peer item plan
-  greets : state ≡ Start → plan.session.state ≡ Greeted → plan.session.peer.by_headers ≡ peer.by_headers → Silent plan.messages → Hears state peer item plan
-  readies : state ≡ Greeted → plan.session.state ≡ Ready → plan.session.peer ≡ peer → plan.messages ≡ wishes peer.version → Hears state peer item plan
-  stops : (why : CloseReason) → plan.session.state ≡ Closed why → plan.session.peer ≡ stranger → plan.messages ≡ [] → Hears state peer item plan
+pub data Hears (state : State) (peer : Peer) (item : Option Item) (outcome : Outcome) : Type 0 where
+  keeps : outcome.session.state ≡ state → outcome.session.peer.version ≡ peer.version → (item_wishes item ≡ false → outcome.session.peer.by_headers ≡ peer.by_headers) → Silent outcome.messages → Hears state peer item outcome
+  greets : state ≡ Start → outcome.session.state ≡ Greeted → outcome.session.peer.by_headers ≡ peer.by_headers → Silent outcome.messages → Hears state peer item outcome
+  readies : state ≡ Greeted → outcome.session.state ≡ Ready → outcome.session.peer ≡ peer → outcome.messages ≡ wishes peer.version → Hears state peer item outcome
+  stops : (why : CloseReason) → outcome.session.state ≡ Closed why → outcome.session.peer ≡ stranger → outcome.messages ≡ [] → Hears state peer item outcome
 
 ends_hears : (state : State) (peer : Peer) (item : Option Item) (s : SessionState) (sent : List Message) → s.state ≡ state → s.peer.version ≡ peer.version → (item_wishes item ≡ false → s.peer.by_headers ≡ peer.by_headers) → Silent sent
     → Hears state peer item (ends s sent)
@@ -222,17 +223,17 @@ need_hears item s need =
     (request_silent (list_any is_block need.entries) need.locator))
 
 -- an answer, to whatever it is one
-pub answered_hears : (s : SessionState) (item : Option Item) (ask : Ask) (answer : Answer) → Hears s.state s.peer item (answered s item ask answer)
+pub answered_hears : (s : SessionState) (item : Option Item) (stage : Stage) (answer : Answer) → Hears s.state s.peer item (answered s item stage answer)
 unfolding answered wanted_told news_told
-answered_hears s item ask answers.Kicked = stops reasons.Kicked refl refl refl
+answered_hears s item stage answers.Kicked = stops reasons.Kicked refl refl refl
 answered_hears s item Admit answers.Go = processed_hears s item
-answered_hears s item About (answers.Heads heads) = heads_hears item s heads
-answered_hears s item About (answers.Locator locator) = quiet_end item s (asking_headers locator ∷ []) refl
-answered_hears s item About (answers.Need need) = need_hears item s need
-answered_hears s item About (answers.TxTaken refused) = quiet_end item s [] refl
-answered_hears s item About (answers.Taken taken) = taken_hears item s taken.refused taken.locator
-answered_hears s item About (answers.Served pieces) = quiet_end item s (served pieces) (served_silent pieces)
-answered_hears s item About (answers.Following headers) = quiet_end item s (messages.Headers headers ∷ []) refl
+answered_hears s item (About subject) (answers.Heads heads) = heads_hears item s heads
+answered_hears s item (About subject) (answers.Locator locator) = quiet_end item s (asking_headers locator ∷ []) refl
+answered_hears s item (About subject) (answers.Need need) = need_hears item s need
+answered_hears s item (About subject) (answers.TxTaken refused) = quiet_end item s [] refl
+answered_hears s item (About subject) (answers.Taken taken) = taken_hears item s taken.refused taken.locator
+answered_hears s item (About subject) (answers.Served pieces) = quiet_end item s (served pieces) (served_silent pieces)
+answered_hears s item (About subject) (answers.Following headers) = quiet_end item s (messages.Headers headers ∷ []) refl
 answered_hears s item Wanted (answers.Need need) = keeps refl refl (λ _. refl) (asking_silent (requests_of (taken_on (blocks_in need.entries)).flight))
 answered_hears s item Fresh (answers.News news) = keeps refl refl (λ _. refl) (both_silent (tip_told s news) (telling (without_brought item news.txids)) (tip_silent s news) (telling_silent (without_brought item news.txids)))
-answered_hears s item ask other = keeps refl refl (λ _. refl) refl
+answered_hears s item stage other = keeps refl refl (λ _. refl) refl

@@ -6,11 +6,12 @@ use Rattle.std.proofs.lemmas.List.{drop_more, length-append}
 use Rattle.cb_journal.specs.declared.question.Question.{Question}
 use Rattle.cb_trace.specs.declared.trace.TraceEntry.{TraceEntry}
 use Rattle.cb_trace.specs.declared.trace.Counts.{Counts}
-use Rattle.cb_peer.specs.Event.{is_told, kind_of}
-use Rattle.cb_peer.specs.Ask.{standing_question}
-use Rattle.cb_peer.specs.Session.{Stepped, stays, step_of}
-use Rattle.cb_peer.specs.State.{SessionState, is_closed}
-use Rattle.cb_peer.proofs.Steps.{AsksIt}
+use Rattle.cb_peer_state.specs.Event.{is_told, kind_of}
+use Rattle.cb_peer_state.specs.Questions.{pending_question}
+use Rattle.cb_peer_state.specs.Session.{Stepped, stays, step_of}
+use Rattle.cb_peer_state.specs.declared.session_state.SessionState.{SessionState}
+use Rattle.cb_peer_state.specs.State.{is_closed}
+use Rattle.cb_peer_laws.proofs.Steps.{AsksIt}
 use Rattle.cb_trace.specs.Fold.{Account, EachOpen, account_of, account_step, entry_step, first_account, number_of}
 use Rattle.cb_trace.specs.Trace.{AskedLast, StandsFor, TraceView, asked_at, asked_from, base_account}
 use Rattle.cb_trace.proofs.Folds.{count_is}
@@ -26,11 +27,11 @@ abbrev pub account_at : SessionState → ℕ → Account
 account_at session count = record { session = session; count = count; sent = []; replies = [] }
 
 -- the question before an answer, and none before another entry
-pub asked_told : (account : Account) (entry : TraceEntry) → is_told (kind_of entry.event) ≡ true → standing_question account.session ∷ [] ≡ asked_at account entry
-asked_told account entry told = sym (ap (λ (b : Bool). cond b (standing_question account.session ∷ []) []) told)
+pub asked_told : (account : Account) (entry : TraceEntry) → is_told (kind_of entry.event) ≡ true → pending_question account.session ∷ [] ≡ asked_at account entry
+asked_told account entry told = sym (ap (λ (b : Bool). cond b (pending_question account.session ∷ []) []) told)
 
 pub asked_not : (account : Account) (entry : TraceEntry) → is_told (kind_of entry.event) ≡ false → [] ≡ asked_at account entry
-asked_not account entry other = sym (ap (λ (b : Bool). cond b (standing_question account.session ∷ []) []) other)
+asked_not account entry other = sym (ap (λ (b : Bool). cond b (pending_question account.session ∷ []) []) other)
 
 -- what was sent and told before makes no difference
 pub asked_same : (a b : Account) (entries : List TraceEntry) → a.session ≡ b.session → a.count ≡ b.count → asked_from a entries ≡ asked_from b entries
@@ -87,7 +88,7 @@ one_asked false question rest x xs e = e
 asked_number : (account : Account) (xs : List TraceEntry) → length (asked_from account xs) ≡ number_of is_told xs
 asked_number account [] = refl
 asked_number account (x ∷ xs) =
-    one_asked (is_told (kind_of x.event)) (standing_question account.session) (asked_from (account_step account x) xs) x (filter (λ (e : TraceEntry). is_told (kind_of e.event)) xs)
+    one_asked (is_told (kind_of x.event)) (pending_question account.session) (asked_from (account_step account x) xs) x (filter (λ (e : TraceEntry). is_told (kind_of e.event)) xs)
     (asked_number (account_step account x) xs)
 
 -- of the questions of the whole history, those since the base are the last
@@ -110,11 +111,11 @@ pub asked_from_base : (trace : TraceView) (session : SessionState) (count : ℕ)
     → asked_from (account_at session count) entries ≡ asked_from (base_account trace) trace.entries
 asked_from_base trace session count entries s k es = asked_same (account_at session count) (base_account trace) entries s k ∙ ap (asked_from (base_account trace)) es
 
--- the question that a played entry asked stands, or the one that stood goes on
-pub stands_after : (count : ℕ) (s s' : SessionState) (entry : TraceEntry) (stood asked : Option Question) → stood ≡ standing_question s → s' ≡ (entry_step count s entry).session → asked ≡ (entry_step count s entry).question
-    → (asked ≡ standing_question s') ⊎ ((asked ≡ None) × (stood ≡ standing_question s'))
-stands_after count s s' entry stood asked before same question =
+-- the question that a played entry asked is open, or the one that was open before goes on
+pub pending_is_after : (count : ℕ) (s s' : SessionState) (entry : TraceEntry) (waiting asked : Option Question) → waiting ≡ pending_question s → s' ≡ (entry_step count s entry).session → asked ≡ (entry_step count s entry).question
+    → (asked ≡ pending_question s') ⊎ ((asked ≡ None) × (waiting ≡ pending_question s'))
+pending_is_after count s s' entry waiting asked before same question =
     elim (entry_asks_any count s entry) [
-      | inl stands ↦ inl (question ∙ stands ∙ ap standing_question (sym same))
-      | inr e ↦ inr (question ∙ ap (λ (m : Stepped). m.question) e, before ∙ ap standing_question (sym (same ∙ ap (λ (m : Stepped). m.session) e)))
+      | inl stands ↦ inl (question ∙ stands ∙ ap pending_question (sym same))
+      | inr e ↦ inr (question ∙ ap (λ (m : Stepped). m.question) e, before ∙ ap pending_question (sym (same ∙ ap (λ (m : Stepped). m.session) e)))
     ]

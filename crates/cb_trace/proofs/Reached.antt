@@ -3,14 +3,15 @@ use Rattle.std.proofs.Common.{◌≡◌, ℕ, ◌+◌, true, false, cond, eqb, L
 use Rattle.std.specs.Prelude.{◌^◌}
 use Rattle.std.specs.List.{fold}
 use Rattle.std.proofs.lemmas.Bool.{cases_Bool}
-use Rattle.cb_peer.specs.declared.settings.Settings.{Settings}
-use Rattle.cb_peer.specs.declared.event.Event.{Event}
-use Rattle.cb_peer.specs.declared.state.CloseReason.{CloseReason}
-use Rattle.cb_peer.specs.declared.state.CloseReason.TheVariants as reasons
-use Rattle.cb_peer.specs.Laws.{IsReached}
-use Rattle.cb_peer.specs.Laws.IsReached.{opens, steps, stops}
-use Rattle.cb_peer.specs.Session.{Stepped, closes, open_step, stays, step_of}
-use Rattle.cb_peer.specs.State.{SessionState, is_closed}
+use Rattle.cb_peer_state.specs.declared.settings.Settings.{Settings}
+use Rattle.cb_peer_state.specs.declared.event.Event.{Event}
+use Rattle.cb_peer_state.specs.declared.state.CloseReason.{CloseReason}
+use Rattle.cb_peer_state.specs.declared.state.CloseReason.TheVariants as reasons
+use Rattle.cb_peer_laws.specs.Laws.{IsReached}
+use Rattle.cb_peer_laws.specs.Laws.IsReached.{opens, steps, stops}
+use Rattle.cb_peer_state.specs.Session.{Stepped, closes, open_step, stays, step_of}
+use Rattle.cb_peer_state.specs.declared.session_state.SessionState.{SessionState}
+use Rattle.cb_peer_state.specs.State.{is_closed}
 use Rattle.cb_trace.specs.declared.trace.TraceEntry.{TraceEntry}
 use Rattle.cb_trace.specs.Fold.{Account, account_of, account_step, entry_step, first_account, session_of}
 use Rattle.cb_trace.proofs.Folds.{entry_cases}

@@ -20,18 +20,19 @@ use Rattle.cb_state.specs.declared.wanting.Need.{Need}
 use Rattle.cb_talk.specs.Announcing.{announcing}
 use Rattle.cb_talk.specs.Inventory.{asking_for}
 use Rattle.cb_wire.specs.declared.item.Item.{Item}
-use Rattle.cb_peer.specs.declared.ask.Ask.{Ask}
-use Rattle.cb_peer.specs.declared.ask.Ask.TheVariants.{Admit, About, Wanted, Fresh}
-use Rattle.cb_peer.specs.declared.event.Event.{Event}
-use Rattle.cb_peer.specs.declared.event.Event.TheVariants as events
-use Rattle.cb_peer.specs.declared.settings.Settings.{Settings}
-use Rattle.cb_peer.specs.declared.standing.Standing.{Standing}
-use Rattle.cb_peer.specs.Ask.{fits, question_at, question_of, standing_question}
-use Rattle.cb_peer.specs.Laws.{asks_for_block, names_block}
-use Rattle.cb_peer.specs.Replying.{answered, is_heard, tip_told, tx_request, wanted_told}
-use Rattle.cb_peer.specs.Session.{Stepped, arrives, open_step, openings, step_of, told}
-use Rattle.cb_peer.specs.State.{SessionState, freed, is_closed}
-use Rattle.cb_peer.proofs.Sending.{IsMild, None_of, step_none}
+use Rattle.cb_peer_state.specs.declared.stage.Stage.{Stage}
+use Rattle.cb_peer_state.specs.declared.stage.Stage.TheVariants.{Admit, About, Wanted, Fresh}
+use Rattle.cb_peer_state.specs.declared.event.Event.{Event}
+use Rattle.cb_peer_state.specs.declared.event.Event.TheVariants as events
+use Rattle.cb_peer_state.specs.declared.settings.Settings.{Settings}
+use Rattle.cb_peer_state.specs.declared.pending.Pending.{Pending}
+use Rattle.cb_peer_state.specs.Questions.{fits, question_at, question_of, pending_question}
+use Rattle.cb_peer_laws.specs.Laws.{asks_for_block, names_block}
+use Rattle.cb_peer_state.specs.Replying.{answered, is_heard, tip_told, tx_request, wanted_told}
+use Rattle.cb_peer_state.specs.Session.{Stepped, arrives, open_step, openings, step_of, told}
+use Rattle.cb_peer_state.specs.declared.session_state.SessionState.{SessionState}
+use Rattle.cb_peer_state.specs.State.{freed, is_closed}
+use Rattle.cb_peer_laws.proofs.Sending.{IsMild, None_of, step_none}
 use Rattle.cb_trace.specs.declared.trace.TraceEntry.{TraceEntry}
 use Rattle.cb_trace.specs.Fold.{Account, account_step, entry_step, replies, replies_to, sends}
 use Rattle.cb_trace.specs.Whole.{tells_needed}
@@ -96,25 +97,25 @@ unneeded hash need lacks =
 -- ---- a step
 
 -- which of the wanted blocks are still needed is asked
-abbrev pub asks_wanted : Ask → Bool
+abbrev pub asks_wanted : Stage → Bool
 asks_wanted Wanted = true
 asks_wanted other = false
 
-abbrev pub stands_wanted : Option Standing → Bool
-stands_wanted None = false
-stands_wanted (Some standing) = asks_wanted standing.ask
+abbrev pub pending_wanted : Option Pending → Bool
+pending_wanted None = false
+pending_wanted (Some pending) = asks_wanted pending.stage
 
 -- no answer tells that the block is needed
 abbrev pub Untold : Hash256 → Option Question → Event → Type 0
 Untold hash question event = list_any (tells_needed hash) (replies_to question event) ≡ false
 
-other_step : (s : SessionState) (event : Event) (hash : Hash256) → stands_wanted s.standing ≡ false → None_of (asks_for_block hash) (step_of s event).messages
+other_step : (s : SessionState) (event : Event) (hash : Hash256) → pending_wanted s.pending ≡ false → None_of (asks_for_block hash) (step_of s event).messages
 other_step s event hash other =
     step_none (asks_for_block hash) s event (blocks_mild hash)
-    (λ stood answer same _.
+    (λ waiting answer same _.
     record {
       need = λ need. asked_by_entries hash (filter_map tx_request need.entries) (no_block_among_txs hash need.entries);
-      wanted = λ need ask. absurd (let clash : false ≡ true = sym other ∙ ap stands_wanted same ∙ ap asks_wanted ask in cc);
+      wanted = λ need stage. absurd (let clash : false ≡ true = sym other ∙ ap pending_wanted same ∙ ap asks_wanted stage in cc);
       tip = λ news. no_block_told hash (freed s) news;
       following = λ headers _. refl;
     })
@@ -125,40 +126,40 @@ fit_wanted s q item answers.Kicked hash fit untold = refl
 fit_wanted s q item (answers.Need need) hash fit untold = unneeded hash need (or_parts (has (blocks_in need.entries) hash) false untold).0
 fit_wanted s q item other hash fit untold = absurd cc
 
-by_ask : (s : SessionState) (item : Option Item) (ask : Ask) (answer : Answer) (hash : Hash256) → asks_wanted ask ≡ true → fits (question_of s item ask) answer ≡ true → Untold hash (Some (question_of s item ask)) (events.Told answer)
-    → None_of (asks_for_block hash) (answered (freed s) item ask answer).messages
-by_ask s item Wanted answer hash wanted fit untold = fit_wanted (freed s) s item answer hash fit untold
-by_ask s item Admit answer hash wanted fit untold = absurd cc
-by_ask s item About answer hash wanted fit untold = absurd cc
-by_ask s item Fresh answer hash wanted fit untold = absurd cc
+by_stage : (s : SessionState) (item : Option Item) (stage : Stage) (answer : Answer) (hash : Hash256) → asks_wanted stage ≡ true → fits (question_of s item stage) answer ≡ true → Untold hash (Some (question_of s item stage)) (events.Told answer)
+    → None_of (asks_for_block hash) (answered (freed s) item stage answer).messages
+by_stage s item Wanted answer hash wanted fit untold = fit_wanted (freed s) s item answer hash fit untold
+by_stage s item Admit answer hash wanted fit untold = absurd cc
+by_stage s item (About subject) answer hash wanted fit untold = absurd cc
+by_stage s item Fresh answer hash wanted fit untold = absurd cc
 
-told_wanted : (standing : Option Standing) (s : SessionState) (answer : Answer) (hash : Hash256) → stands_wanted standing ≡ true → Untold hash (question_at s standing) (events.Told answer) → None_of (asks_for_block hash) (told standing s answer).messages
+told_wanted : (pending : Option Pending) (s : SessionState) (answer : Answer) (hash : Hash256) → pending_wanted pending ≡ true → Untold hash (question_at s pending) (events.Told answer) → None_of (asks_for_block hash) (told pending s answer).messages
 told_wanted None s answer hash wanted untold = refl
-told_wanted (Some standing) s answer hash wanted untold =
-    elim (cases_Bool (fits (question_of s standing.item standing.ask) answer)) [
-      | inl fit ↦ rw fit (by_ask s standing.item standing.ask answer hash wanted fit untold)
+told_wanted (Some pending) s answer hash wanted untold =
+    elim (cases_Bool (fits (question_of s pending.item pending.stage) answer)) [
+      | inl fit ↦ rw fit (by_stage s pending.item pending.stage answer hash wanted fit untold)
       | inr misfit ↦ rw misfit refl
     ]
 
-arrives_none : (standing : Option Standing) (s : SessionState) (item : Option Item) (hash : Hash256) → None_of (asks_for_block hash) (arrives standing s item).messages
+arrives_none : (pending : Option Pending) (s : SessionState) (item : Option Item) (hash : Hash256) → None_of (asks_for_block hash) (arrives pending s item).messages
 arrives_none None s item hash = refl
 arrives_none (Some other) s item hash = refl
 
-wanted_step : (s : SessionState) (event : Event) (hash : Hash256) → stands_wanted s.standing ≡ true → Untold hash (standing_question s) event → None_of (asks_for_block hash) (open_step s event).messages
+wanted_step : (s : SessionState) (event : Event) (hash : Hash256) → pending_wanted s.pending ≡ true → Untold hash (pending_question s) event → None_of (asks_for_block hash) (open_step s event).messages
 unfolding open_step
-wanted_step s (events.Said item) hash wanted untold = arrives_none s.standing s (Some item) hash
-wanted_step s events.Tick hash wanted untold = arrives_none s.standing s None hash
-wanted_step s (events.Told answer) hash wanted untold = told_wanted s.standing s answer hash wanted untold
+wanted_step s (events.Said item) hash wanted untold = arrives_none s.pending s (Some item) hash
+wanted_step s events.Tick hash wanted untold = arrives_none s.pending s None hash
+wanted_step s (events.Told answer) hash wanted untold = told_wanted s.pending s answer hash wanted untold
 wanted_step s other hash wanted untold = refl
 
-open_untold : (s : SessionState) (event : Event) (hash : Hash256) → is_closed s.state ≡ false → Untold hash (standing_question s) event → None_of (asks_for_block hash) (open_step s event).messages
+open_untold : (s : SessionState) (event : Event) (hash : Hash256) → is_closed s.state ≡ false → Untold hash (pending_question s) event → None_of (asks_for_block hash) (open_step s event).messages
 open_untold s event hash going untold =
-    elim (cases_Bool (stands_wanted s.standing)) [
+    elim (cases_Bool (pending_wanted s.pending)) [
       | inl wanted ↦ wanted_step s event hash wanted untold
       | inr other ↦ subst (λ (made : Stepped). None_of (asks_for_block hash) made.messages) (open_is s event going) (other_step s event hash other)
     ]
 
-entry_untold : (count : ℕ) (s : SessionState) (entry : TraceEntry) (hash : Hash256) → Untold hash (standing_question s) entry.event → None_of (asks_for_block hash) (entry_step count s entry).messages
+entry_untold : (count : ℕ) (s : SessionState) (entry : TraceEntry) (hash : Hash256) → Untold hash (pending_question s) entry.event → None_of (asks_for_block hash) (entry_step count s entry).messages
 entry_untold count s entry hash untold =
     step_cases (λ made. None_of (asks_for_block hash) made.messages) count s entry (λ _. refl) (λ why _. refl) (λ going. open_untold s entry.event hash going untold)
 
@@ -170,7 +171,7 @@ AsksTold hash account = list_any (asks_for_block hash) account.sent ≡ true →
 entry_asks : (hash : Hash256) (account : Account) (entry : TraceEntry) → AsksTold hash account → AsksTold hash (account_step account entry)
 entry_asks hash account entry before asked =
     let made = entry_step account.count account.session entry in
-    let last = replies_to (standing_question account.session) entry.event in
+    let last = replies_to (pending_question account.session) entry.event in
     let whole : (list_any (tells_needed hash) account.replies || list_any (tells_needed hash) last) ≡ true =
     elim (or_cases (list_any (asks_for_block hash) account.sent) (list_any (asks_for_block hash) made.messages) (sym (list_any-append (asks_for_block hash) account.sent made.messages) ∙ asked)) [
       | inl first ↦ or_left (list_any (tells_needed hash) account.replies) (list_any (tells_needed hash) last) (before first)

@@ -5,18 +5,19 @@ use Rattle.std.proofs.lemmas.List.Sums.{sum_by_push}
 use Rattle.std.proofs.lemmas.List.{append-nil}
 use Rattle.cb_wire.specs.declared.message.Message.{Message}
 use Rattle.cb_journal.specs.declared.question.Question.{Question}
-use Rattle.cb_peer.specs.declared.settings.Settings.{Settings}
-use Rattle.cb_peer.specs.declared.event.Event.{Event}
+use Rattle.cb_peer_state.specs.declared.settings.Settings.{Settings}
+use Rattle.cb_peer_state.specs.declared.event.Event.{Event}
 use Rattle.cb_trace.specs.declared.trace.TraceEntry.{TraceEntry}
 use Rattle.cb_trace.specs.declared.trace.Counts.{Counts}
-use Rattle.cb_peer.specs.Ask.{standing_question}
-use Rattle.cb_peer.specs.Event.{ends_at_once, held_by}
-use Rattle.cb_peer.specs.Plan.{Answers}
-use Rattle.cb_peer.specs.Session.{Stepped, is_light, spares, stays, takes_no_memory}
-use Rattle.cb_peer.specs.State.{SessionState, is_closed, opening}
-use Rattle.cb_peer.proofs.Steps.{AsksIt}
+use Rattle.cb_peer_state.specs.Questions.{pending_question}
+use Rattle.cb_peer_state.specs.Event.{ends_at_once, held_by}
+use Rattle.cb_peer_state.specs.Outcomes.{Answers}
+use Rattle.cb_peer_state.specs.Session.{Stepped, is_light, spares, stays, takes_no_memory}
+use Rattle.cb_peer_state.specs.declared.session_state.SessionState.{SessionState}
+use Rattle.cb_peer_state.specs.State.{is_closed, opening}
+use Rattle.cb_peer_laws.proofs.Steps.{AsksIt}
 use Rattle.cb_trace.specs.Fold.{Account, account_of, entry_step, session_of}
-use Rattle.cb_trace.specs.Trace.{AreCounts, AsksWhatStands, Grows, IsTrace, Rests, StandsFor, TraceSteps, TraceView, counts_with, held_of, is_due, next_step}
+use Rattle.cb_trace.specs.Trace.{AreCounts, AsksPending, Grows, IsTrace, Rests, StandsFor, TraceSteps, TraceView, counts_with, held_of, is_due, next_step}
 use Rattle.cb_trace.proofs.Folds.{EachOpen_more, account_of_more, count_is, counts_more, items_few, told_few}
 use Rattle.cb_trace.proofs.Entries.{entry_asks, entry_ends, entry_full}
 
@@ -34,7 +35,7 @@ stands_first settings base session none room b s n = record { dropped = []; part
 pub trace_first : (settings : Settings) (base session : SessionState) (none : Counts) (room : ℕ) → base ≡ opening settings → session ≡ opening settings → none ≡ record { entries = 0; items = 0; told = 0 } → 1 ≤ room
     → IsTrace (view settings base none [] session none room)
 trace_first settings base session none room b s n r =
-    record { history = []; stands = stands_first settings base session none room b s n; free = ap (λ (x : SessionState). x.standing) b; spare = λ _. r; limit = λ _. (let zero = ap (λ (c : Counts). c.entries) n in omega (arith, zero)) }
+    record { history = []; stands = stands_first settings base session none room b s n; free = ap (λ (x : SessionState). x.pending) b; spare = λ _. r; limit = λ _. (let zero = ap (λ (c : Counts). c.entries) n in omega (arith, zero)) }
 
 -- ---- one entry more
 
@@ -103,10 +104,10 @@ trace_more base settings before es es' x x' t t' r r' entry sent asked p =
       limit = λ h. (let more = entry_full t.entries x entry p.going (stepped h) in omega (arith, more, few, counted));
     }
 
--- the question that was asked stands, or nothing changed
-asks_stands : (s s' : SessionState) (made : Stepped) (asked : Option Question) → s' ≡ made.session → asked ≡ made.question → AsksIt s made → AsksWhatStands s s' asked
-asks_stands s s' made asked same question (inl stands) = inl (question ∙ stands ∙ ap standing_question (sym same))
-asks_stands s s' made asked same question (inr e) = inr (question ∙ ap (λ (m : Stepped). m.question) e, same ∙ ap (λ (m : Stepped). m.session) e)
+-- the question that was asked is open, or nothing changed
+asks_pending : (s s' : SessionState) (made : Stepped) (asked : Option Question) → s' ≡ made.session → asked ≡ made.question → AsksIt s made → AsksPending s s' asked
+asks_pending s s' made asked same question (inl stands) = inl (question ∙ stands ∙ ap pending_question (sym same))
+asks_pending s s' made asked same question (inr e) = inr (question ∙ ap (λ (m : Stepped). m.question) e, same ∙ ap (λ (m : Stepped). m.session) e)
 
 pub trace_steps : (base : SessionState) (settings : Settings) (before : Counts) (es es' : List TraceEntry) (x x' : SessionState) (t t' : Counts) (r r' : ℕ) (event : Event) (starved : Bool) (sent : List Message) (asked : Option Question)
     → Puts base settings before es es' x x' t t' r r' (record { event = event; starved = starved }) sent asked → (takes_no_memory event ≡ true → starved ≡ false)
@@ -126,7 +127,7 @@ trace_steps base settings before es es' x x' t t' r r' event starved sent asked 
       };
       messages = p.answers.messages;
       question = p.answers.question;
-      stands = asks_stands x x' (entry_step t.entries x (record { event = event; starved = starved })) asked p.answers.after p.answers.question (entry_asks t.entries x (record { event = event; starved = starved }) p.going);
+      stands = asks_pending x x' (entry_step t.entries x (record { event = event; starved = starved })) asked p.answers.after p.answers.question (entry_asks t.entries x (record { event = event; starved = starved }) p.going);
       calm = calm;
       silent = silent;
     }

@@ -10,20 +10,21 @@ use Rattle.cb_talk.specs.Greeting.{wishes}
 use Rattle.cb_wire.specs.declared.item.Item.{Item}
 use Rattle.cb_wire.specs.declared.message.Message.{Message}
 use Rattle.cb_wire.specs.declared.message.Message.TheVariants as messages
-use Rattle.cb_peer.specs.declared.event.Event.{Event}
-use Rattle.cb_peer.specs.declared.event.Event.TheVariants as events
-use Rattle.cb_peer.specs.declared.settings.Settings.{Settings}
-use Rattle.cb_peer.specs.declared.standing.Standing.{Standing}
-use Rattle.cb_peer.specs.declared.state.CloseReason.{CloseReason}
-use Rattle.cb_peer.specs.declared.state.Peer.{Peer}
-use Rattle.cb_peer.specs.declared.state.State.{State}
-use Rattle.cb_peer.specs.declared.state.State.TheVariants.{Start, Greeted, Ready}
-use Rattle.cb_peer.specs.Ask.{fits, question_of}
-use Rattle.cb_peer.specs.Receiving.{Plan}
-use Rattle.cb_peer.specs.Replying.{answered}
-use Rattle.cb_peer.specs.Session.{Stepped, arrives, closes, for_item, open_step, openings, stays, told}
-use Rattle.cb_peer.specs.State.{SessionState, freed, is_closed, is_ready}
-use Rattle.cb_peer.proofs.Sending.{None_of}
+use Rattle.cb_peer_state.specs.declared.event.Event.{Event}
+use Rattle.cb_peer_state.specs.declared.event.Event.TheVariants as events
+use Rattle.cb_peer_state.specs.declared.settings.Settings.{Settings}
+use Rattle.cb_peer_state.specs.declared.pending.Pending.{Pending}
+use Rattle.cb_peer_state.specs.declared.state.CloseReason.{CloseReason}
+use Rattle.cb_peer_state.specs.declared.state.Peer.{Peer}
+use Rattle.cb_peer_state.specs.declared.state.State.{State}
+use Rattle.cb_peer_state.specs.declared.state.State.TheVariants.{Start, Greeted, Ready}
+use Rattle.cb_peer_state.specs.Questions.{fits, question_of}
+use Rattle.cb_peer_state.specs.Receiving.{Outcome}
+use Rattle.cb_peer_state.specs.Replying.{answered}
+use Rattle.cb_peer_state.specs.Session.{Stepped, arrives, closes, for_item, open_step, openings, stays, told}
+use Rattle.cb_peer_state.specs.declared.session_state.SessionState.{SessionState}
+use Rattle.cb_peer_state.specs.State.{freed, is_closed, is_ready}
+use Rattle.cb_peer_laws.proofs.Sending.{None_of}
 use Rattle.cb_trace.specs.declared.trace.TraceEntry.{TraceEntry}
 use Rattle.cb_trace.specs.Fold.{Account, account_of, account_step, entry_step, first_account, sends}
 use Rattle.cb_trace.specs.Whole.{came_to, is_send_headers, knows_send_headers, number_sent}
@@ -51,27 +52,27 @@ not_known state version early knows = absurd (let parts = and_parts (is_ready st
 not_past : {P : Type 0} (a b : State) → a ≡ b → is_past b ≡ false → is_past a ≡ true → P
 not_past a b same early past = absurd (let clash : false ≡ true = sym early ∙ ap is_past (sym same) ∙ past in cc)
 
-plan_tells : (s : SessionState) (item : Option Item) (plan : Plan) → Hears s.state s.peer item plan → Tells s (for_item item plan)
-plan_tells s item plan (keeps at of by silent) =
-    quiet silent (λ knows. sym (knows_same plan.session.state s.state plan.session.peer.version s.peer.version at of) ∙ knows) (λ past. ap is_past at ∙ past)
-plan_tells s item plan (greets from to by silent) =
-    quiet silent (λ knows. not_known plan.session.state plan.session.peer.version (ap is_ready to) knows) (λ past. not_past s.state Start from refl past)
-plan_tells s item plan (readies from to of sent) = tells from sent to of
-plan_tells s item plan (stops why to of sent) =
-    quiet (ap (λ (l : List Message). list_any is_send_headers l) sent) (λ knows. not_known plan.session.state plan.session.peer.version (ap is_ready to) knows) (λ past. ap is_past to)
+outcome_tells : (s : SessionState) (item : Option Item) (outcome : Outcome) → Hears s.state s.peer item outcome → Tells s (for_item item outcome)
+outcome_tells s item outcome (keeps at of by silent) =
+    quiet silent (λ knows. sym (knows_same outcome.session.state s.state outcome.session.peer.version s.peer.version at of) ∙ knows) (λ past. ap is_past at ∙ past)
+outcome_tells s item outcome (greets from to by silent) =
+    quiet silent (λ knows. not_known outcome.session.state outcome.session.peer.version (ap is_ready to) knows) (λ past. not_past s.state Start from refl past)
+outcome_tells s item outcome (readies from to of sent) = tells from sent to of
+outcome_tells s item outcome (stops why to of sent) =
+    quiet (ap (λ (l : List Message). list_any is_send_headers l) sent) (λ knows. not_known outcome.session.state outcome.session.peer.version (ap is_ready to) knows) (λ past. ap is_past to)
 
 stays_tells : (s : SessionState) → Tells s (stays s)
 stays_tells s = quiet refl (λ knows. knows) (λ past. past)
 
-arrives_tells : (standing : Option Standing) (s : SessionState) (item : Option Item) → Tells s (arrives standing s item)
+arrives_tells : (pending : Option Pending) (s : SessionState) (item : Option Item) → Tells s (arrives pending s item)
 arrives_tells None s item = quiet refl (λ knows. knows) (λ past. past)
 arrives_tells (Some other) s item = stays_tells s
 
-told_tells : (standing : Option Standing) (s : SessionState) (answer : Answer) → Tells s (told standing s answer)
+told_tells : (pending : Option Pending) (s : SessionState) (answer : Answer) → Tells s (told pending s answer)
 told_tells None s answer = stays_tells s
-told_tells (Some standing) s answer =
-    elim (cases_Bool (fits (question_of s standing.item standing.ask) answer)) [
-      | inl fit ↦ rw fit (plan_tells s standing.item (answered (freed s) standing.item standing.ask answer) (answered_hears (freed s) standing.item standing.ask answer))
+told_tells (Some pending) s answer =
+    elim (cases_Bool (fits (question_of s pending.item pending.stage) answer)) [
+      | inl fit ↦ rw fit (outcome_tells s pending.item (answered (freed s) pending.item pending.stage answer) (answered_hears (freed s) pending.item pending.stage answer))
       | inr misfit ↦ rw misfit (stays_tells s)
     ]
 
@@ -80,10 +81,10 @@ closes_tells s why = quiet refl (λ knows. absurd cc) (λ past. refl)
 
 open_tells : (s : SessionState) (event : Event) → Tells s (open_step s event)
 unfolding open_step
-open_tells s (events.Said item) = arrives_tells s.standing s (Some item)
+open_tells s (events.Said item) = arrives_tells s.pending s (Some item)
 open_tells s (events.Broken fault) = closes_tells s _
-open_tells s events.Tick = arrives_tells s.standing s None
-open_tells s (events.Told answer) = told_tells s.standing s answer
+open_tells s events.Tick = arrives_tells s.pending s None
+open_tells s (events.Told answer) = told_tells s.pending s answer
 open_tells s events.ReaderEnd = closes_tells s _
 open_tells s events.NoMemory = closes_tells s _
 open_tells s events.HallFull = closes_tells s _

@@ -5,14 +5,15 @@ use Rattle.std.specs.List.{list_any}
 use Rattle.cb_wire.specs.declared.message.Message.{Message}
 use Rattle.cb_hall.specs.Histories.{Reply}
 use Rattle.cb_journal.specs.declared.question.Question.{Question}
-use Rattle.cb_peer.specs.declared.settings.Settings.{Settings}
-use Rattle.cb_peer.specs.declared.state.CloseReason.TheVariants as reasons
-use Rattle.cb_peer.specs.declared.event.Event.{Event}
-use Rattle.cb_peer.specs.declared.event.Event.TheVariants as events
-use Rattle.cb_peer.specs.Ask.{standing_question}
-use Rattle.cb_peer.specs.Event.{Kind, kind_of, is_input}
-use Rattle.cb_peer.specs.Session.{Stepped, openings, stays, closes, open_step}
-use Rattle.cb_peer.specs.State.{SessionState, is_closed, opening}
+use Rattle.cb_peer_state.specs.declared.settings.Settings.{Settings}
+use Rattle.cb_peer_state.specs.declared.state.CloseReason.TheVariants as reasons
+use Rattle.cb_peer_state.specs.declared.event.Event.{Event}
+use Rattle.cb_peer_state.specs.declared.event.Event.TheVariants as events
+use Rattle.cb_peer_state.specs.Questions.{pending_question}
+use Rattle.cb_peer_state.specs.Event.{Kind, kind_of, is_input}
+use Rattle.cb_peer_state.specs.Session.{Stepped, openings, stays, closes, open_step}
+use Rattle.cb_peer_state.specs.declared.session_state.SessionState.{SessionState}
+use Rattle.cb_peer_state.specs.State.{is_closed, opening}
 use Rattle.cb_trace.specs.declared.trace.TraceEntry.{TraceEntry}
 
 -- A session after some entries: how many there were, what was sent, and the replies to its
@@ -35,7 +36,7 @@ entry_step count s entry =
 -- The reply that an event is to the open question.
 abbrev pub replies_to : Option Question → Event → List Reply
 replies_to (Some question) (events.Told answer) = record { question = question; answer = answer } ∷ []
-replies_to standing event = []
+replies_to pending event = []
 
 abbrev pub account_step : Account → TraceEntry → Account
 account_step account entry =
@@ -43,7 +44,7 @@ account_step account entry =
       session = (entry_step account.count account.session entry).session;
       count = account.count + 1;
       sent = account.sent ++ (entry_step account.count account.session entry).messages;
-      replies = account.replies ++ replies_to (standing_question account.session) entry.event;
+      replies = account.replies ++ replies_to (pending_question account.session) entry.event;
     }
 
 abbrev pub first_account : Settings → Account

@@ -1,9 +1,9 @@
 -- The terms of the laws for prompt traces that the peer's own end closed, in the protocol's words.
 use Rattle.std.specs.Prelude.{◌≡◌, List}
-use Rattle.cb_peer.specs.declared.settings.Settings.{Settings}
-use Rattle.cb_peer.specs.declared.state.State.TheVariants.{Closed}
-use Rattle.cb_peer.specs.declared.state.CloseReason.TheVariants.{Bye}
-use Rattle.cb_peer.specs.Pings.{pings, pongs}
+use Rattle.cb_peer_state.specs.declared.settings.Settings.{Settings}
+use Rattle.cb_peer_state.specs.declared.state.State.TheVariants.{Closed}
+use Rattle.cb_peer_state.specs.declared.state.CloseReason.TheVariants.{Bye}
+use Rattle.cb_peer_state.specs.Pings.{pings, pongs}
 use Rattle.cb_trace.specs.declared.trace.TraceEntry.{TraceEntry}
 use Rattle.cb_trace.specs.Fold.{EachOpen, first_account, inputs_of, sends, session_of}
 use Rattle.cb_trace.specs.Prompt.{EachPrompt}

@@ -5,13 +5,14 @@ use Rattle.std.specs.List.{sum_by}
 use Rattle.cb_fetch.specs.Fetching.{idle}
 use Rattle.cb_journal.specs.declared.question.Question.{Question}
 use Rattle.cb_wire.specs.declared.message.Message.{Message}
-use Rattle.cb_peer.specs.declared.settings.Settings.{Settings}
-use Rattle.cb_peer.specs.declared.event.Event.{Event}
-use Rattle.cb_peer.specs.declared.event.Event.TheVariants as events
-use Rattle.cb_peer.specs.Ask.{standing_question}
-use Rattle.cb_peer.specs.Event.{held_by, is_input, is_told, kind_of}
-use Rattle.cb_peer.specs.Session.{Stepped, is_light, spares, takes_no_memory}
-use Rattle.cb_peer.specs.State.{SessionState, is_closed}
+use Rattle.cb_peer_state.specs.declared.settings.Settings.{Settings}
+use Rattle.cb_peer_state.specs.declared.event.Event.{Event}
+use Rattle.cb_peer_state.specs.declared.event.Event.TheVariants as events
+use Rattle.cb_peer_state.specs.Questions.{pending_question}
+use Rattle.cb_peer_state.specs.Event.{held_by, is_input, is_told, kind_of}
+use Rattle.cb_peer_state.specs.Session.{Stepped, is_light, spares, takes_no_memory}
+use Rattle.cb_peer_state.specs.declared.session_state.SessionState.{SessionState}
+use Rattle.cb_peer_state.specs.State.{is_closed}
 use Rattle.cb_trace.specs.declared.trace.TraceEntry.{TraceEntry}
 use Rattle.cb_trace.specs.declared.trace.Counts.{Counts}
 use Rattle.cb_trace.specs.Fold.{Account, EachOpen, account_step, entry_step, first_account, number_of, session_of}
@@ -66,7 +67,7 @@ pub record IsTrace (trace : TraceView) : Type 0 where
   pub history : List TraceEntry
   pub stands : StandsFor trace history
   -- No question is open at the base.
-  pub free : trace.base.standing ≡ None
+  pub free : trace.base.pending ≡ None
   -- While the session isn't over, there is room for one more entry, and there are fewer than 2^62.
   pub spare : IsOpen trace → 1 ≤ trace.room
   pub limit : IsOpen trace → trace.total.entries < 2 ^ 62
@@ -78,7 +79,7 @@ held_of entries = sum_by (λ entry. held_by entry.event) entries
 -- A checkpoint is due: no question is open, and there are 65,000 entries or more, or they hold more
 -- than 8,000,000 bytes.
 abbrev pub is_due : TraceView → Bool
-is_due trace = is_none trace.session.standing && (not (nat_lt (length trace.entries) 65000) || nat_lt 8000000 (held_of trace.entries))
+is_due trace = is_none trace.session.pending && (not (nat_lt (length trace.entries) 65000) || nat_lt 8000000 (held_of trace.entries))
 
 -- The step that the next entry of a trace makes.
 abbrev pub next_step : TraceView → TraceEntry → Stepped
@@ -96,8 +97,8 @@ pub record Grows (old new : TraceView) (entry : TraceEntry) : Type 0 where
 
 -- The question asked is the one that is open afterwards. If none is asked, none is open, or the
 -- session is unchanged because the event didn't fit.
-abbrev pub AsksWhatStands : SessionState → SessionState → Option Question → Type 0
-AsksWhatStands before after asked = (asked ≡ standing_question after) ⊎ ((asked ≡ None) × (after ≡ before))
+abbrev pub AsksPending : SessionState → SessionState → Option Question → Type 0
+AsksPending before after asked = (asked ≡ pending_question after) ⊎ ((asked ≡ None) × (after ≡ before))
 
 -- The trace was given an event, and returned what its session sent and asked. The entry is starved
 -- only if the step takes memory. An answer is never starved if it lists nothing missing or needed,
@@ -108,7 +109,7 @@ pub record TraceSteps (old new : TraceView) (event : Event) (sent : List Message
   pub grows : Grows old new (record { event = event; starved = starved })
   pub messages : sent ≡ (next_step old (record { event = event; starved = starved })).messages
   pub question : asked ≡ (next_step old (record { event = event; starved = starved })).question
-  pub stands : AsksWhatStands old.session new.session asked
+  pub stands : AsksPending old.session new.session asked
   pub calm : takes_no_memory event ≡ true → starved ≡ false
   pub silent : spares old.session event ≡ true → (next_step old (record { event = event; starved = false })).messages ≡ [] → is_light (next_step old (record { event = event; starved = false })).question ≡ true → starved ≡ false
 
@@ -155,7 +156,7 @@ Readied old new false = RanOut old new ⊎ LacksBase old new
 
 -- The question that was open before an answer.
 abbrev pub asked_at : Account → TraceEntry → List (Option Question)
-asked_at account entry = if is_told (kind_of entry.event) then standing_question account.session ∷ [] else []
+asked_at account entry = if is_told (kind_of entry.event) then pending_question account.session ∷ [] else []
 
 -- The questions that were open before each answer, in order, found by folding the entries again.
 abbrev pub asked_from : Account → List TraceEntry → List (Option Question)

@@ -13,10 +13,11 @@ use Rattle.cb_wire.specs.declared.item.Item.{Item}
 use Rattle.cb_wire.specs.declared.item.Item.TheVariants.{Good}
 use Rattle.cb_wire.specs.declared.message.Message.{Message}
 use Rattle.cb_wire.specs.declared.message.Message.TheVariants as messages
-use Rattle.cb_peer.specs.declared.event.Event.{Event}
-use Rattle.cb_peer.specs.declared.event.Event.TheVariants as events
-use Rattle.cb_peer.specs.declared.settings.Settings.{Settings}
-use Rattle.cb_peer.specs.State.{SessionState, is_closed, is_ready}
+use Rattle.cb_peer_state.specs.declared.event.Event.{Event}
+use Rattle.cb_peer_state.specs.declared.event.Event.TheVariants as events
+use Rattle.cb_peer_state.specs.declared.settings.Settings.{Settings}
+use Rattle.cb_peer_state.specs.declared.session_state.SessionState.{SessionState}
+use Rattle.cb_peer_state.specs.State.{is_closed, is_ready}
 use Rattle.cb_trace.specs.declared.trace.TraceEntry.{TraceEntry}
 use Rattle.cb_trace.specs.Fold.{Account, account_step, replies, sends, session_of}
 

@@ -1,7 +1,7 @@
 //! Replays the entries of a trace to find the question that each of its answers answered.
 ghost use Rattle.std.specs.Prelude.{◌≡◌, ◌⊎◌, ◌+◌, ◌≤◌, ◌<◌, ◌^◌, [], None, IfOk, IsOkUnless, length};
 ghost use Rattle.cb_base.specs.declared.fault.Fault.TheVariants.{Memory};
-ghost use Rattle.cb_peer.specs.Ask.{standing_question};
+ghost use Rattle.cb_peer_state.specs.Questions.{pending_question};
 ghost use Rattle.cb_trace.specs.Fold.{entry_step};
 ghost use Rattle.cb_trace.specs.Trace.{asked_from};
 
@@ -22,7 +22,7 @@ pub(crate) fn questions_asked(
     entries: &[TraceEntry],
 ) -> Result<Vec<Option<Question>>, Fault>
     requires few { before + length entries.now ≤ 2 ^ 62 }
-    requires free { session.old.standing ≡ None }
+    requires free { session.old.pending ≡ None }
     ensures asked { IfOk result
         (λ asked. asked.items
         ≡ asked_from
@@ -30,14 +30,14 @@ pub(crate) fn questions_asked(
     ensures memory { IsOkUnless result Memory }
 {
     let mut asked = Vec::new(alloc);
-    let mut standing = None;
+    let mut pending = None;
     let mut count = before;
     for entry in entries {
         if entry.event.is_answer() {
-            asked.push(copy_of(alloc, &standing)?)?;
+            asked.push(copy_of(alloc, &pending)?)?;
         }
         let question = play(alloc, session, count, entry)?;
-        standing = standing_after(session, standing, question);
+        pending = pending_after(session, pending, question);
         count += 1;
     }
     Ok(asked)
@@ -56,18 +56,18 @@ fn copy_of(alloc: Global, question: &Option<Question>) -> Result<Option<Question
 
 /// The question that is open now: the one that the last step asked, or the one that was open before
 /// if the step left the session waiting.
-fn standing_after(
+fn pending_after(
     session: &Session,
-    stood: Option<Question>,
+    before: Option<Question>,
     asked: Option<Question>,
 ) -> Option<Question>
-    requires { (asked ≡ standing_question session.now)
-        ⊎ ((asked ≡ None) × (stood ≡ standing_question session.now)) }
-    ensures { result ≡ standing_question session.now }
+    requires { (asked ≡ pending_question session.now)
+        ⊎ ((asked ≡ None) × (before ≡ pending_question session.now)) }
+    ensures { result ≡ pending_question session.now }
 {
     match asked {
         Some(question) => Some(question),
-        None => { if session.is_waiting() { stood } else { None } }
+        None => { if session.is_waiting() { before } else { None } }
     }
 }
 

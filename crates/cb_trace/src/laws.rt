@@ -3,9 +3,9 @@ ghost use Rattle.std.specs.Prelude.{◌≡◌, ◌≤◌, true, false, if◌then
 ghost use Rattle.std.specs.List.{list_any};
 ghost use Rattle.cb_base.specs.declared.hash.Hash256.{Hash256};
 ghost use Rattle.cb_fetch.specs.Fetching.{has};
-ghost use Rattle.cb_peer.specs.declared.settings.Settings.{Settings};
-ghost use Rattle.cb_peer.specs.Ask.{questions_left};
-ghost use Rattle.cb_peer.specs.Laws.{IsReached, asks_for_block};
+ghost use Rattle.cb_peer_state.specs.declared.settings.Settings.{Settings};
+ghost use Rattle.cb_peer_state.specs.Questions.{questions_left};
+ghost use Rattle.cb_peer_laws.specs.Laws.{IsReached, asks_for_block};
 ghost use Rattle.cb_trace.specs.declared.trace.TraceEntry.{TraceEntry};
 ghost use Rattle.cb_trace.specs.Fold.{first_account, inputs_of, replies, sends, session_of};
 ghost use Rattle.cb_trace.specs.Laws.{AnswersPings, EndsPromptly};
@@ -20,9 +20,9 @@ pub fn each_ping_is_answered()
 
 /// The open question of a session leaves at most four answers to wait for: an item asks no more
 /// questions. The bound stated here, six, isn't tight.
-pub fn few_questions_stand()
+pub fn few_questions_are_pending()
     ensures { (settings : Settings) (entries : List TraceEntry) →
-        questions_left (session_of settings entries).standing ≤ 6 }
+        questions_left (session_of settings entries).pending ≤ 6 }
 {}
 
 /// The settings of a session never change.

@@ -12,7 +12,7 @@ mod trace;
 
 pub use laws::{
     blocks_are_fetched_as_told, each_ping_is_answered, each_session_is_reached,
-    few_questions_stand, headers_are_told_where_asked_for, send_headers_goes_out_once,
+    few_questions_are_pending, headers_are_told_where_asked_for, send_headers_goes_out_once,
     settings_stay,
 };
 pub use oracle::Oracle;

@@ -3,7 +3,7 @@ ghost use Rattle.cb_base.specs.declared.fault.Fault.{Fault};
 ghost use Rattle.cb_base.specs.declared.fault.Fault.TheVariants.{Memory, JournalFull};
 ghost use Rattle.cb_hall.specs.Badge.{BadgeState};
 ghost use Rattle.cb_hall.specs.Histories.{Asks, IsRefused, Reply};
-ghost use Rattle.cb_peer.specs.Ask.{fits};
+ghost use Rattle.cb_peer_state.specs.Questions.{fits};
 
 use cb_base::Fault;
 use cb_hall::{Badge, Hall};

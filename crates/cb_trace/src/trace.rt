@@ -1,9 +1,9 @@
 ghost use Rattle.std.specs.Prelude.{◌≡◌, ℕ, ◌+◌, ◌*◌, ◌≤◌, ◌<◌, ◌^◌, List, [], ◌∷◌, true, false, Bool, None, IfOk, IsOk, IsOkUnless, OnErr};
 ghost use Rattle.cb_base.specs.declared.fault.Fault.TheVariants.{Memory};
-ghost use Rattle.cb_peer.specs.Event.{ends_at_once};
-ghost use Rattle.cb_peer.specs.Plan.{Answers};
-ghost use Rattle.cb_peer.specs.Session.{is_light, spares, takes_no_memory};
-ghost use Rattle.cb_peer.specs.State.{is_closed};
+ghost use Rattle.cb_peer_state.specs.Event.{ends_at_once};
+ghost use Rattle.cb_peer_state.specs.Outcomes.{Answers};
+ghost use Rattle.cb_peer_state.specs.Session.{is_light, spares, takes_no_memory};
+ghost use Rattle.cb_peer_state.specs.State.{is_closed};
 ghost use Rattle.cb_trace.specs.Fold.{entry_step};
 
 use crate::asking::questions_asked;
@@ -91,8 +91,8 @@ impl Model for Trace {
 impl Trace {
     ghost use Rattle.std.specs.Prelude.{◌⊎◌, ◌≢◌, ◌-◌, min, length};
     ghost use Rattle.cb_fetch.specs.Fetching.{idle};
-    ghost use Rattle.cb_peer.specs.Session.{openings};
-    ghost use Rattle.cb_peer.specs.declared.event.Event.TheVariants as events;
+    ghost use Rattle.cb_peer_state.specs.Session.{openings};
+    ghost use Rattle.cb_peer_state.specs.declared.event.Event.TheVariants as events;
     ghost use Rattle.cb_trace.specs.Trace.{AskedLast, Grows, IsOpen, Readied, Rests, StandsFor, TraceSteps, TraceView, asked_from, base_account, held_of, is_due};
 
     /// A trace without entries and with room for one, and the messages that open its session.

@@ -1,7 +1,7 @@
 use Rattle.std.proofs.Common.{List, [], ◌∷◌, ◌++◌, refl, sym, ap, ◌∙◌, append_assoc}
 use Rattle.std.specs.Vec.Iter.{into_iter_items}
 use Rattle.cb_wire.specs.declared.item.Item.{Item}
-use Rattle.cb_peer.specs.State.{is_closed}
+use Rattle.cb_peer_state.specs.State.{is_closed}
 use Rattle.cb_session.proofs.Accounts.{open_kept}
 use Rattle.cb_session.proofs.Inputs.{took_more, took_none, took_stopped}
 use Rattle.cb_session.proofs.hearing.give_all.Goals as goal

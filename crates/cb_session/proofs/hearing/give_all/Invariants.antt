@@ -1,7 +1,7 @@
 use Rattle.std.proofs.Common.{◌≡◌, false, List, ◌++◌}
 use Rattle.std.specs.Vec.Iter.{into_iter_items}
 use Rattle.cb_wire.specs.declared.item.Item.{Item}
-use Rattle.cb_peer.specs.declared.event.Event.{Event}
+use Rattle.cb_peer_state.specs.declared.event.Event.{Event}
 use Rattle.cb_session.specs.Conversation.{Origin, Settled, WritesOn, progress}
 use Rattle.cb_session.specs.Serving.{Took}
 use Rattle.cb_session.proofs.hearing.give_all.Given as goal

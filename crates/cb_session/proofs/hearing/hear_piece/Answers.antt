@@ -1,7 +1,7 @@
 use Rattle.std.proofs.Common.{Option, inr, refl, subst, sym, ap, ◌∙◌}
 use Rattle.cb_base.specs.declared.fault.Fault.{Fault}
 use Rattle.cb_wire.specs.Stream.{Stream}
-use Rattle.cb_peer.specs.State.{is_closed}
+use Rattle.cb_peer_state.specs.State.{is_closed}
 use Rattle.cb_session.specs.Serving.{said}
 use Rattle.cb_session.proofs.Accounts.{open_kept}
 use Rattle.cb_session.proofs.Inputs.{lacked_some, no_fault, pieced_broken, pieced_refused, pieced_took, settled_lost}

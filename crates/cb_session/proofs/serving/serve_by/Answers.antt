@@ -1,7 +1,7 @@
 use Rattle.std.proofs.Common.{[], ap, sym, ◌∙◌}
 use Rattle.cb_session.specs.Conversation.{origin_of}
 use Rattle.cb_trace.specs.Trace.{TraceView}
-use Rattle.cb_peer.specs.State.{is_closed}
+use Rattle.cb_peer_state.specs.State.{is_closed}
 use Rattle.cb_session.proofs.Accounts.{not_both}
 use Rattle.cb_session.proofs.Ending.{first_free, first_open, serves_at, underway_first}
 use Rattle.cb_session.proofs.serving.serve_by.Goals as goal

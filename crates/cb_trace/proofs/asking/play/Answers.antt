@@ -1,6 +1,6 @@
 use Rattle.std.proofs.Common.{sym, ap, ◌∙◌}
-use Rattle.cb_peer.specs.Session.{Stepped}
-use Rattle.cb_peer.specs.State.{is_closed}
+use Rattle.cb_peer_state.specs.Session.{Stepped}
+use Rattle.cb_peer_state.specs.State.{is_closed}
 use Rattle.cb_trace.proofs.Questions.{steps_again}
 use Rattle.cb_trace.proofs.asking.play.Goals as goal
 

@@ -2,13 +2,13 @@ use Rattle.std.proofs.Common.{◌≡◌, List, [], ◌∷◌, ◌++◌, Option, 
 use Rattle.std.proofs.lemmas.List.{append-nil}
 use Rattle.cb_journal.specs.declared.question.Question.{Question}
 use Rattle.cb_trace.specs.Trace.{asked_at}
-use Rattle.cb_trace.proofs.Questions.{account_at, asked_not, asked_told, asked_turn, stands_after}
+use Rattle.cb_trace.proofs.Questions.{account_at, asked_not, asked_told, asked_turn, pending_is_after}
 use Rattle.cb_trace.proofs.asking.questions_asked.Goals as goal
 use Rattle.cb_trace.proofs.asking.questions_asked.Goals.{then-is_answer+in_ok-copy_of+in_ok-push, else-is_answer}
 
-pub standing_after-standing-requires : goal.standing_after-standing-requires
-standing_after-standing-requires c =
-    stands_after c.loop-entry.count c.loop-entry.session c.play.new.session c.entry-item.result c.loop-entry.standing _ c.loop-entry.invariant.stands c.in_ok-question.ensures.same c.in_ok-question.ensures.asked
+pub pending_after-pending-requires : goal.pending_after-pending-requires
+pending_after-pending-requires c =
+    pending_is_after c.loop-entry.count c.loop-entry.session c.play.new.session c.entry-item.result c.loop-entry.pending _ c.loop-entry.invariant.stands c.in_ok-question.ensures.same c.in_ok-question.ensures.asked
 
 pub loop-entry-preserved : goal.loop-entry-preserved
 loop-entry-preserved c =
@@ -29,7 +29,7 @@ loop-entry-preserved c =
     ] in
     record {
       counted = (let counted = c.loop-entry.invariant.counted in omega (arith, counted));
-      stands = c.standing_after-standing.ensures;
+      stands = c.pending_after-pending.ensures;
       parts =
           asked_turn so_far c.if-is_answer.asked.items c.loop-entry.session c.play.new.session c.loop-entry.count c.args.entries.now c.loop-entry.entry-index entry _ c.loop-entry-test.true c.entry-item.is more
           c.in_ok-question.ensures.same c.loop-entry.invariant.parts;

@@ -1,6 +1,6 @@
 use Rattle.std.proofs.Common.{IfOk, subst, sym, ap, ◌∙◌}
-use Rattle.cb_peer.specs.Plan.{Answers}
-use Rattle.cb_peer.specs.Session.{Stepped, is_light}
+use Rattle.cb_peer_state.specs.Outcomes.{Answers}
+use Rattle.cb_peer_state.specs.Session.{Stepped, is_light}
 use Rattle.cb_trace.proofs.Entries.{fed_is}
 use Rattle.cb_trace.proofs.trace.hear.Goals as goal
 

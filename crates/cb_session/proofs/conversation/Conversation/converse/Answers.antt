@@ -1,6 +1,6 @@
 use Rattle.std.proofs.Common.{ap, sym, ◌∙◌}
-use Rattle.cb_peer.specs.State.{is_closed}
-use Rattle.cb_session.proofs.Accounts.{may_ask_on, not_both, open_question_is, open_told, open_whole, stands_on}
+use Rattle.cb_peer_state.specs.State.{is_closed}
+use Rattle.cb_session.proofs.Accounts.{may_ask_on, not_both, open_question_is, open_told, open_whole, pending_on}
 use Rattle.cb_session.proofs.conversation.Conversation.converse.Goals as goal
 
 pub ask-messages-requires : goal.ask-messages-requires
@@ -11,7 +11,7 @@ ask-messages-requires g c =
 pub loop-next-preserved : goal.loop-next-preserved
 loop-next-preserved g c =
     let going = ap is_closed (sym c.state.ensures) ∙ sym c.is_closed.ensures ∙ c.if-is_closed.false in
-    let stands = stands_on c.ask-messages.new.self.trace.now c.send.new.self.trace.now _ c.send.ensures.kept c.ask-messages.ensures.asks in
+    let stands = pending_on c.ask-messages.new.self.trace.now c.send.new.self.trace.now _ c.send.ensures.kept c.ask-messages.ensures.asks in
     record {
       ends = (
         c.send.ensures.ends.0 ∙ c.ask-messages.ensures.ends.0 ∙ c.loop-next.invariant.ends.0,

@@ -1,7 +1,7 @@
 use Rattle.std.proofs.Common.{false, ◌++◌, ◌∷◌, [], refl, ap, ◌∙◌, inl}
-use Rattle.cb_peer.specs.State.{SessionState}
+use Rattle.cb_peer_state.specs.declared.session_state.SessionState.{SessionState}
 use Rattle.cb_trace.specs.Trace.{TraceView}
-use Rattle.cb_session.proofs.Accounts.{accounts_input, accounts_ran, asks_first, ended_more, gave_none, may_ask, open_told, ran_closed, rest_open, silent_step, stands_on}
+use Rattle.cb_session.proofs.Accounts.{accounts_input, accounts_ran, asks_first, ended_more, gave_none, may_ask, open_told, ran_closed, rest_open, silent_step, pending_on}
 use Rattle.cb_session.proofs.conversation.Conversation.give.Goals as goal
 
 pub returns-then-not-ready-clause-gave : goal.returns-then-not-ready-clause-gave
@@ -32,8 +32,8 @@ returns-clause-gave g c =
       given = inputs ++ c.args.event ∷ [];
       settled =
           c.converse.ensures.settled from (inputs ++ c.args.event ∷ [])
-          (stands_on c.step-sent.new.self c.send.new.self.trace.now _ c.send.ensures.kept
-          (asks_first c.ready.new.self c.step-sent.new.self _ (ap (λ (x : SessionState). x.standing) c.if-not-ready.ensures.readied.rests.same.session ∙ s.answered c.requires.going) c.step-sent.ensures.stands))
+          (pending_on c.step-sent.new.self c.send.new.self.trace.now _ c.send.ensures.kept
+          (asks_first c.ready.new.self c.step-sent.new.self _ (ap (λ (x : SessionState). x.pending) c.if-not-ready.ensures.readied.rests.same.session ∙ s.answered c.requires.going) c.step-sent.ensures.stands))
           (rw (c.send.ensures.hall, c.send.ensures.badge)
           (c.send.ensures.accounts from (inputs ++ c.args.event ∷ []) _ _
           (rw c.as_slice.ensures.value

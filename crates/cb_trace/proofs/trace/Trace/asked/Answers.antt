@@ -1,6 +1,6 @@
 use Rattle.std.proofs.Common.{◌≡◌, length, ap, ◌∙◌, arith}
 use Rattle.std.proofs.lemmas.Result.{IfOk-weaker}
-use Rattle.cb_peer.specs.State.{SessionState}
+use Rattle.cb_peer_state.specs.declared.session_state.SessionState.{SessionState}
 use Rattle.cb_trace.specs.Trace.{TraceView, asked_from}
 use Rattle.cb_trace.proofs.Questions.{account_at, asked_from_base, asked_last, entries_few}
 use Rattle.cb_trace.proofs.trace.Trace.asked.Goals as goal
@@ -12,7 +12,7 @@ questions_asked-requires c =
     let since = ap length c.entries.ensures.entries in
     record {
       few = omega (arith, few, before, since);
-      free = ap (λ (s : SessionState). s.standing) c.in_ok-session.ensures.equal ∙ c.self.invariant.0.free;
+      free = ap (λ (s : SessionState). s.pending) c.in_ok-session.ensures.equal ∙ c.self.invariant.0.free;
     }
 
 pub returns-clause-last : goal.returns-clause-last

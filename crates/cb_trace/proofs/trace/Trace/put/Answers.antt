@@ -1,8 +1,8 @@
 use Rattle.std.proofs.Common.{◌≡◌, ◌≤◌, ◌-◌, ◌+◌, [], true, false, Bool, Option, None, IfOk, IsOk, OnErr, subst, sym, ap, refl, ◌∙◌, arith, vec_len}
 use Rattle.std.specs.Prelude.{◌^◌, min, vec_capacity, Result, Ok, Err, ℕ}
 use Rattle.std.specs.Result.{is_err}
-use Rattle.cb_peer.specs.Plan.{Answers}
-use Rattle.cb_peer.specs.State.{is_closed}
+use Rattle.cb_peer_state.specs.Outcomes.{Answers}
+use Rattle.cb_peer_state.specs.State.{is_closed}
 use Rattle.cb_trace.specs.Fold.{entry_step}
 use Rattle.cb_trace.specs.Trace.{IsOpen, TraceView}
 use Rattle.cb_trace.proofs.Traces.{Puts, are_counts, held_more, trace_more, trace_steps}

@@ -1,9 +1,0 @@
-use Rattle.std.proofs.Common.{◌≡◌, ◌≢◌, [], ◌∷◌, List, Option, Some, None, true, ap, sym, subst, ◌∙◌, rules, length, ◌-◌, arith}
-use Rattle.cb_base.specs.declared.fault.Fault.TheVariants.{NoParent}
-use Rattle.cb_peer.proofs.Lights.{taken_sent}
-use Rattle.cb_peer.proofs.session.Session.hear_taken.Goals as goal
-
-pub returns-in-Some-2-clause-silent : goal.returns-in-Some-2-clause-silent
-returns-in-Some-2-clause-silent c = λ light.
-    let parent : c.in-Some-2.fault ≡ NoParent = search rules in
-    taken_sent c.args.self.now c.args.taken.now.refused c.args.taken.now.locator c.in-Some-2.fault c.in-Some-2.is parent light

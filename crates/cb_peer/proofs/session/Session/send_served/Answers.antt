@@ -1,8 +1,0 @@
-use Rattle.std.proofs.Common.{◌≡◌, ◌≢◌, [], ◌∷◌, List, Option, Some, None, true, ap, sym, subst, ◌∙◌, rules, length, ◌-◌, arith}
-use Rattle.cb_peer.proofs.Lights.{nothing_served}
-use Rattle.cb_peer.proofs.session.Session.send_served.Goals as goal
-
-pub returns-in_err-messages-clause-silent : goal.returns-in_err-messages-clause-silent
-returns-in_err-messages-clause-silent c = λ light.
-    let there : c.args.pieces.now ≢ [] = search rules in
-    absurd (there (nothing_served c.args.self.now c.args.pieces.now light))

@@ -1,9 +1,0 @@
-pub mod Ask
-pub mod Event
-pub mod Laws
-pub mod Pings
-pub mod Plan
-pub mod Receiving
-pub mod Replying
-pub mod Session
-pub mod State

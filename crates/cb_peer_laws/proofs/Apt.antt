@@ -1,0 +1,237 @@
+-- What a session that events lead to keeps: its blocks are fetched by the calls for it, where it asks which of the wanted ones are
+-- still needed none is in flight, and a block that the hall is given is sound.
+use Rattle.std.proofs.Common.{◌≡◌, ◌≢◌, Bool, true, false, cond, List, [], ◌∷◌, Option, Some, None, refl, sym, ap, subst, ◌∙◌, inl, inr}
+use Rattle.std.specs.Prelude.{◌==◌, ◌||◌, fold, int_lt, option_map, pos}
+use Rattle.std.proofs.lemmas.Bool.{cases_Bool}
+use Rattle.cb_base.specs.declared.fault.Fault.{Fault}
+use Rattle.cb_base.specs.declared.fault.Fault.TheVariants as faults
+use Rattle.cb_base.specs.declared.hash.Hash256.{Hash256}
+use Rattle.cb_block.specs.declared.block.Block.{Block}
+use Rattle.cb_chain.specs.Entries.{block_hash}
+use Rattle.cb_fetch.specs.Fetching.{FetchState, IsReached as IsFetched, blocks_in, idle, is_due, landed, taken_on, wanting_all}
+use Rattle.cb_fetch.specs.Fetching.IsReached.{opening as nothing_yet, wants, lands, takes_on}
+use Rattle.cb_journal.specs.declared.answer.Answer.{Answer}
+use Rattle.cb_journal.specs.declared.answer.Answer.TheVariants as answers
+use Rattle.cb_payload.specs.declared.inventory.InvEntry.{InvEntry}
+use Rattle.cb_payload.specs.declared.requests.CompactRelay.{CompactRelay}
+use Rattle.cb_payload.specs.declared.version.Version.{Version}
+use Rattle.cb_state.specs.declared.accepting.Heads.{Heads}
+use Rattle.cb_wire.specs.declared.item.Item.{Item}
+use Rattle.cb_wire.specs.declared.item.Item.TheVariants.{Good, Damaged, Bad}
+use Rattle.cb_wire.specs.declared.message.Message.{Message}
+use Rattle.cb_wire.specs.declared.message.Message.TheVariants as messages
+use Rattle.cb_peer_state.specs.declared.stage.Stage.{Stage}
+use Rattle.cb_peer_state.specs.declared.stage.Stage.TheVariants.{Admit, About, Wanted, Fresh}
+use Rattle.cb_peer_state.specs.declared.stage.Subject.{Subject}
+use Rattle.cb_peer_state.specs.declared.stage.Subject.TheVariants as subjects
+use Rattle.cb_peer_state.specs.declared.event.Event.{Event}
+use Rattle.cb_peer_state.specs.declared.event.Event.TheVariants as events
+use Rattle.cb_peer_state.specs.declared.pending.Pending.{Pending}
+use Rattle.cb_peer_state.specs.declared.state.State.{State}
+use Rattle.cb_peer_state.specs.declared.state.State.TheVariants.{Start, Greeted, Ready, Closed}
+use Rattle.cb_peer_state.specs.Questions.{fits, is_nil, item_block, question_of, told_of}
+use Rattle.cb_peer_laws.specs.Laws.{IsReached}
+use Rattle.cb_peer_laws.specs.Laws.IsReached.{opens, steps, stops}
+use Rattle.cb_peer_state.specs.Receiving.{Outcome, asks, brought, by_compact, by_headers, by_phase, ended, ends, given_up, gives_up, heard_of, in_greeted, in_ready, in_start, introduced, processed, received, sends}
+use Rattle.cb_peer_state.specs.Replying.{answered, heads_by, heads_told, need_told, news_told, taken_told, wanted_told}
+use Rattle.cb_peer_state.specs.Session.{Stepped, arrives, for_item, open_step, pending_item, pending_of, stays, step_of, told}
+use Rattle.cb_block.specs.Decision.{is_sound_block}
+use Rattle.cb_peer_state.specs.declared.session_state.SessionState.{SessionState}
+use Rattle.cb_peer_state.specs.State.{freed, is_closed, with_fetch, with_pending}
+use Rattle.cb_peer_state.proofs.Cases.{brought_cases, by_test, ends_cases}
+
+-- what is asked for an item suits what the session keeps
+pub record Suits (fetch : FetchState) (item : Option Item) (next : Option Stage) : Type 0 where
+  pub fetched : IsFetched fetch
+  pub idles : next ≡ Some Wanted → is_due fetch ≡ true
+  pub sound : next ≡ Some (About subjects.Block) → is_sound_block (item_block item) ≡ true
+
+abbrev pub SuitsOutcome : Option Item → Outcome → Type 0
+SuitsOutcome item outcome = Suits outcome.session.fetch item outcome.next
+
+none_suits : (fetch : FetchState) (item : Option Item) → IsFetched fetch → Suits fetch item None
+none_suits fetch item f = record { fetched = f; idles = λ e. absurd cc; sound = λ e. absurd cc }
+
+admit_suits : (fetch : FetchState) (item : Option Item) → IsFetched fetch → Suits fetch item (Some Admit)
+admit_suits fetch item f = record { fetched = f; idles = λ e. absurd cc; sound = λ e. absurd cc }
+
+fresh_suits : (fetch : FetchState) (item : Option Item) → IsFetched fetch → Suits fetch item (Some Fresh)
+fresh_suits fetch item f = record { fetched = f; idles = λ e. absurd cc; sound = λ e. absurd cc }
+
+about_suits : (fetch : FetchState) (item : Option Item) (subject : Subject) → IsFetched fetch → subject ≢ subjects.Block → Suits fetch item (Some (About subject))
+about_suits fetch item subject f other = record { fetched = f; idles = λ e. absurd cc; sound = λ e. absurd (other (let same : subject ≡ subjects.Block = cc in same)) }
+
+block_suits : (fetch : FetchState) (block : Block) → IsFetched fetch → is_sound_block block ≡ true → Suits fetch (Some (Good (messages.Block block))) (Some (About subjects.Block))
+block_suits fetch block f sound = record { fetched = f; idles = λ e. absurd cc; sound = λ _. sound }
+
+ends_suits : (item : Option Item) (s : SessionState) (sent : List Message) → IsFetched s.fetch → SuitsOutcome item (ends s sent)
+ends_suits item s sent f =
+    ends_cases (SuitsOutcome item) s sent (λ _. none_suits s.fetch item f) (λ _ due. record { fetched = f; idles = λ _. due; sound = λ e. absurd cc }) (λ _ _. fresh_suits s.fetch item f)
+
+-- ---- messages
+
+introduced_suits : (item : Option Item) (s : SessionState) (version : Version) → IsFetched s.fetch → SuitsOutcome item (introduced s version)
+unfolding introduced
+introduced_suits item s version f =
+    elim (cases_Bool (version.nonce == s.settings.nonce)) [
+      | inl own ↦ rw own (none_suits idle item nothing_yet)
+      | inr other ↦
+          elim (cases_Bool (int_lt version.version (pos 70001))) [
+            | inl old ↦ rw (other, old) (none_suits idle item nothing_yet)
+            | inr new ↦ rw (other, new) (none_suits s.fetch item f)
+          ]
+    ]
+
+compact_fetch : (relay : CompactRelay) (s : SessionState) → (by_compact relay s).fetch ≡ s.fetch
+compact_fetch relay s = elim (cases_Bool (relay.version == 1)) [ inl one ↦ rw one refl | inr other ↦ rw other refl ]
+
+compact_fetched : (relay : CompactRelay) (s : SessionState) → IsFetched s.fetch → IsFetched (by_compact relay s).fetch
+compact_fetched relay s f = subst IsFetched (sym (compact_fetch relay s)) f
+
+one_given_up : (fetch : FetchState) (e : InvEntry) → IsFetched fetch → IsFetched (gives_up fetch e)
+one_given_up fetch e f =
+    elim (cases_Bool ((e.kind == 2) || (e.kind == 4))) [ inl block ↦ rw block (lands fetch e.hash f) | inr other ↦ rw other f ]
+
+given_up_fetched : (entries : List InvEntry) (fetch : FetchState) → IsFetched fetch → IsFetched (given_up entries fetch)
+given_up_fetched [] fetch f = f
+given_up_fetched (e ∷ entries) fetch f = given_up_fetched entries (gives_up fetch e) (one_given_up fetch e f)
+
+brought_suits : (s : SessionState) (block : Block) → IsFetched s.fetch → SuitsOutcome (Some (Good (messages.Block block))) (brought s block)
+brought_suits s block f =
+    brought_cases (SuitsOutcome (Some (Good (messages.Block block)))) s block
+    (λ sound. block_suits (landed (block_hash block.header) s.fetch) block (lands s.fetch (block_hash block.header) f) sound)
+    (none_suits idle (Some (Good (messages.Block block))) nothing_yet)
+
+start_suits : (item : Option Item) (s : SessionState) (message : Message) → IsFetched s.fetch → SuitsOutcome item (in_start s message)
+unfolding in_start
+start_suits item s (messages.Version version) f = introduced_suits item s version f
+start_suits item s other f = none_suits s.fetch item f
+
+greeted_suits : (s : SessionState) (message : Message) → IsFetched s.fetch → SuitsOutcome (Some (Good message)) (in_greeted s message)
+unfolding in_greeted
+greeted_suits s messages.Verack f = about_suits s.fetch (Some (Good messages.Verack)) subjects.Locator f (λ e. cc)
+greeted_suits s messages.SendHeaders f = none_suits s.fetch (Some (Good messages.SendHeaders)) f
+greeted_suits s (messages.SendCmpct relay) f = none_suits (by_compact relay s).fetch (Some (Good (messages.SendCmpct relay))) (compact_fetched relay s f)
+greeted_suits s other f = none_suits s.fetch (Some (Good other)) f
+
+ready_suits : (s : SessionState) (message : Message) → IsFetched s.fetch → SuitsOutcome (Some (Good message)) (in_ready s message)
+unfolding in_ready
+ready_suits s messages.SendHeaders f = ends_suits _ (by_headers s) [] f
+ready_suits s (messages.SendCmpct relay) f = ends_suits _ (by_compact relay s) [] (compact_fetched relay s f)
+ready_suits s (messages.Headers []) f = ends_suits _ s [] f
+ready_suits s (messages.Headers (first ∷ others)) f = about_suits s.fetch _ subjects.Headers f (λ e. cc)
+ready_suits s (messages.Inv entries) f =
+    elim (cases_Bool (is_nil (told_of entries))) [
+      | inl none ↦ rw none (ends_suits (Some (Good (messages.Inv entries))) s [] f)
+      | inr some_told ↦ rw some_told (about_suits s.fetch (Some (Good (messages.Inv entries))) subjects.Inventory f (λ e. cc))
+    ]
+ready_suits s (messages.GetData entries) f = about_suits s.fetch _ subjects.Items f (λ e. cc)
+ready_suits s (messages.GetHeaders request) f = about_suits s.fetch _ subjects.After f (λ e. cc)
+ready_suits s (messages.NotFound entries) f = ends_suits _ (with_fetch (given_up entries s.fetch) s) [] (given_up_fetched entries s.fetch f)
+ready_suits s (messages.Tx tx) f = about_suits s.fetch _ subjects.Tx f (λ e. cc)
+ready_suits s (messages.Block block) f = brought_suits s block f
+ready_suits s other f = ends_suits _ s [] f
+
+phase_suits : (state : State) (s : SessionState) (message : Message) → IsFetched s.fetch → SuitsOutcome (Some (Good message)) (by_phase state s message)
+phase_suits Start s message f = start_suits _ s message f
+phase_suits Greeted s message f = greeted_suits s message f
+phase_suits Ready s message f = ready_suits s message f
+phase_suits (Closed why) s message f = none_suits s.fetch _ f
+
+received_suits : (s : SessionState) (message : Message) → IsFetched s.fetch → SuitsOutcome (Some (Good message)) (received s message)
+unfolding received
+received_suits s (messages.Ping nonce) f = ends_suits _ s (messages.Pong nonce ∷ []) f
+received_suits s other f = phase_suits s.state s other f
+
+processed_suits : (s : SessionState) (item : Option Item) → IsFetched s.fetch → SuitsOutcome item (processed s item)
+unfolding processed
+processed_suits s None f = ends_suits None s [] f
+processed_suits s (Some (Good message)) f = received_suits s message f
+processed_suits s (Some Damaged) f = ends_suits (Some Damaged) s [] f
+processed_suits s (Some (Bad command fault)) f = none_suits idle (Some (Bad command fault)) nothing_yet
+
+-- ---- answers
+
+heads_by_suits : (item : Option Item) (s : SessionState) (refused : Option Fault) (locator : List Hash256) → IsFetched s.fetch → SuitsOutcome item (heads_by s item refused locator)
+heads_by_suits item s (Some faults.BadWork) locator f = none_suits idle item nothing_yet
+heads_by_suits item s (Some faults.NoParent) locator f = ends_suits item s _ f
+heads_by_suits item s (Some other) locator f = ends_suits item s _ f
+heads_by_suits item s None locator f = ends_suits item s _ f
+
+heads_suits : (item : Option Item) (s : SessionState) (heads : Heads) → IsFetched s.fetch → SuitsOutcome item (heads_told s item heads)
+unfolding heads_told
+heads_suits item s heads f = heads_by_suits item (with_fetch (wanting_all s.fetch heads.lack) s) heads.refused heads.locator (wants s.fetch heads.lack f)
+
+taken_suits : (item : Option Item) (s : SessionState) (refused : Option Fault) (locator : List Hash256) → IsFetched s.fetch → SuitsOutcome item (taken_told s refused locator)
+unfolding taken_told
+taken_suits item s None locator f = ends_suits item s _ f
+taken_suits item s (Some faults.Known) locator f = ends_suits item s _ f
+taken_suits item s (Some faults.NoParent) locator f = ends_suits item s _ f
+taken_suits item s (Some other) locator f = none_suits idle item nothing_yet
+
+answered_suits : (s : SessionState) (item : Option Item) (stage : Stage) (answer : Answer) → IsFetched s.fetch → SuitsOutcome item (answered s item stage answer)
+unfolding answered need_told wanted_told news_told
+answered_suits s item stage answers.Kicked f = none_suits idle item nothing_yet
+answered_suits s item Admit answers.Go f = processed_suits s item f
+answered_suits s item (About subject) (answers.Heads heads) f = heads_suits item s heads f
+answered_suits s item (About subject) (answers.Locator locator) f = ends_suits item s _ f
+answered_suits s item (About subject) (answers.Need need) f = ends_suits item s _ f
+answered_suits s item (About subject) (answers.TxTaken refused) f = ends_suits item s _ f
+answered_suits s item (About subject) (answers.Taken taken) f = taken_suits item s taken.refused taken.locator f
+answered_suits s item (About subject) (answers.Served pieces) f = ends_suits item s _ f
+answered_suits s item (About subject) (answers.Following headers) f = ends_suits item s _ f
+answered_suits s item Wanted (answers.Need need) f = fresh_suits (taken_on (blocks_in need.entries)) item (takes_on s.fetch (blocks_in need.entries) f)
+answered_suits s item Fresh (answers.News news) f = none_suits s.fetch item f
+answered_suits s item stage other f = none_suits s.fetch item f
+
+-- ---- steps
+
+abbrev pub pending_stage : Option Pending → Option Stage
+pending_stage None = None
+pending_stage (Some pending) = Some pending.stage
+
+pub record IsApt (s : SessionState) : Type 0 where
+  pub suits : Suits s.fetch (pending_item s.pending) (pending_stage s.pending)
+
+pending_apt : (item : Option Item) (next : Option Stage) (s : SessionState) → Suits s.fetch item next → IsApt (with_pending (pending_of item next) s)
+pending_apt item None s suits = record { suits = none_suits s.fetch None suits.fetched }
+pending_apt item (Some stage) s suits = record { suits = suits }
+
+arrives_apt : (pending : Option Pending) (s : SessionState) (item : Option Item) → IsApt s → IsApt (arrives pending s item).session
+arrives_apt None s item apt = pending_apt item (Some Admit) s (admit_suits s.fetch item apt.suits.fetched)
+arrives_apt (Some other) s item apt = apt
+
+told_apt : (pending : Option Pending) (s : SessionState) (answer : Answer) → IsApt s → IsApt (told pending s answer).session
+told_apt None s answer apt = apt
+told_apt (Some pending) s answer apt =
+    elim (cases_Bool (fits (question_of s pending.item pending.stage) answer)) [
+      | inl fit ↦ rw fit (pending_apt pending.item (answered (freed s) pending.item pending.stage answer).next (answered (freed s) pending.item pending.stage answer).session (answered_suits (freed s) pending.item pending.stage answer apt.suits.fetched))
+      | inr misfit ↦ rw misfit apt
+    ]
+
+pub over_apt : (s : SessionState) → s.fetch ≡ idle → s.pending ≡ None → IsApt s
+over_apt s fetch pending = record { suits = rw (fetch, pending) (none_suits idle None nothing_yet) }
+
+open_apt : (s : SessionState) (event : Event) → IsApt s → IsApt (open_step s event).session
+unfolding open_step
+open_apt s (events.Said item) apt = arrives_apt s.pending s (Some item) apt
+open_apt s (events.Broken fault) apt = over_apt _ refl refl
+open_apt s events.Tick apt = arrives_apt s.pending s None apt
+open_apt s (events.Told answer) apt = told_apt s.pending s answer apt
+open_apt s events.ReaderEnd apt = over_apt _ refl refl
+open_apt s events.NoMemory apt = over_apt _ refl refl
+open_apt s events.HallFull apt = over_apt _ refl refl
+open_apt s events.WriteFault apt = over_apt _ refl refl
+
+step_apt : (s : SessionState) (event : Event) → IsApt s → IsApt (step_of s event).session
+unfolding step_of
+step_apt s event apt =
+    elim (cases_Bool (is_closed s.state)) [
+      | inl closed ↦ rw closed apt
+      | inr going ↦ rw going (open_apt s event apt)
+    ]
+
+pub reached_apt : (s : SessionState) → IsReached s → IsApt s
+reached_apt s (opens settings) = over_apt s refl refl
+reached_apt s (steps old event reached) = step_apt old event (reached_apt old reached)
+reached_apt s (stops old why reached) = over_apt s refl refl

@@ -1,0 +1,4 @@
+pub mod Apt
+pub mod LawLemmas
+pub mod Sending
+pub mod Steps

@@ -1,0 +1,489 @@
+-- What a step makes, as tables: it ends the session, or goes on, asks the question that is open after it, and leads to fewer answers.
+use Rattle.std.proofs.Common.{◌≡◌, ◌≢◌, ℕ, ◌<◌, ◌≤◌, Bool, true, false, cond, List, [], ◌∷◌, ◌++◌, Option, Some, None, refl, sym, ap, subst, ◌∙◌, arith, inl, inr, ◌⊎◌}
+use Rattle.std.specs.Prelude.{pos, not, ◌==◌, ◌&&◌, int_lt, length, map, filter, filter_map, option_map}
+use Rattle.std.specs.List.{list_any}
+use Rattle.std.proofs.lemmas.List.Elements.{filter_map-append}
+use Rattle.cb_base.specs.declared.fault.Fault.{Fault}
+use Rattle.cb_base.specs.declared.fault.Fault.TheVariants as faults
+use Rattle.cb_base.specs.declared.hash.Hash256.{Hash256}
+use Rattle.cb_block.specs.declared.block.Block.{Block}
+use Rattle.cb_block.specs.declared.header.Header.{Header}
+use Rattle.cb_chain.specs.Entries.{block_hash}
+use Rattle.cb_fetch.specs.Fetching.{blocks_in, is_due, landed, requests_of, taken_on, wanting_all}
+use Rattle.cb_journal.specs.declared.answer.Answer.{Answer}
+use Rattle.cb_journal.specs.declared.answer.Answer.TheVariants as answers
+use Rattle.cb_journal.specs.declared.question.Question.{Question}
+use Rattle.cb_payload.specs.declared.inventory.InvEntry.{InvEntry}
+use Rattle.cb_payload.specs.declared.requests.CompactRelay.{CompactRelay}
+use Rattle.cb_payload.specs.declared.version.Version.{Version}
+use Rattle.cb_state.specs.declared.accepting.Heads.{Heads}
+use Rattle.cb_state.specs.declared.news.News.{News}
+use Rattle.cb_state.specs.declared.serving.Piece.{Piece}
+use Rattle.cb_state.specs.declared.serving.Piece.TheVariants as piece
+use Rattle.cb_state.specs.declared.wanting.Need.{Need}
+use Rattle.cb_talk.specs.Announcing.{announced_by, announcing, telling}
+use Rattle.cb_talk.specs.Greeting.{our_version, wishes}
+use Rattle.cb_talk.specs.Inventory.{asking_for, asking_headers, written}
+use Rattle.cb_talk.specs.Serving.{lacking_in, not_found, served, served_as}
+use Rattle.cb_wire.specs.declared.item.Item.{Item}
+use Rattle.cb_wire.specs.declared.item.Item.TheVariants.{Good, Damaged, Bad}
+use Rattle.cb_wire.specs.declared.message.Message.{Message}
+use Rattle.cb_wire.specs.declared.message.Message.TheVariants as messages
+use Rattle.cb_peer_state.specs.declared.stage.Stage.{Stage}
+use Rattle.cb_peer_state.specs.declared.stage.Stage.TheVariants.{Admit, About, Wanted, Fresh}
+use Rattle.cb_peer_state.specs.declared.stage.Subject.{Subject}
+use Rattle.cb_peer_state.specs.declared.stage.Subject.TheVariants as subjects
+use Rattle.cb_peer_state.specs.declared.event.Event.{Event}
+use Rattle.cb_peer_state.specs.declared.event.Event.TheVariants as events
+use Rattle.cb_peer_state.specs.declared.settings.Settings.{Settings}
+use Rattle.cb_peer_state.specs.declared.pending.Pending.{Pending}
+use Rattle.cb_peer_state.specs.declared.state.CloseReason.{CloseReason}
+use Rattle.cb_peer_state.specs.declared.state.CloseReason.TheVariants as reasons
+use Rattle.cb_peer_state.specs.declared.state.Peer.{Peer}
+use Rattle.cb_peer_state.specs.declared.state.State.{State}
+use Rattle.cb_peer_state.specs.declared.state.State.TheVariants.{Start, Greeted, Ready, Closed}
+use Rattle.cb_peer_state.specs.Questions.{fits, is_nil, question_at, question_left, question_of, questions_left, pending_question, told_of}
+use Rattle.cb_peer_state.specs.Event.{ends_at_once, is_reader_end}
+use Rattle.cb_peer_state.specs.Pings.{item_ping, ping_nonce, pong_nonce, pongs}
+use Rattle.cb_peer_state.specs.Receiving.{Outcome, asks, brought, by_compact, by_headers, by_phase, ended, ends, given_up, greeting, heard_of, in_greeted, in_ready, in_start, introduced, last_hash, processed, received, sends}
+use Rattle.cb_peer_state.specs.Replying.{answered, heads_by, heads_told, is_block, is_heard, tx_request, more_behind, more_headers, need_told, news_told, taken_told, tip_told, wanted_told, without_brought}
+use Rattle.cb_peer_state.specs.Session.{Stepped, arrives, closes, for_item, open_step, pending_of, stays, told}
+use Rattle.cb_block.specs.Decision.{is_sound_block}
+use Rattle.cb_peer_state.specs.declared.session_state.SessionState.{SessionState}
+use Rattle.cb_peer_state.specs.State.{bare, freed, is_closed, is_ready, over, with_fetch, with_marks, with_peer, with_pending, with_state}
+
+-- one of two
+if_either : {A : Type 0} (P : A → Type 0) (b : Bool) (x y : A) → P x → P y → P (cond b x y)
+if_either P true x y p q = p
+if_either P false x y p q = q
+
+open_clash : {P : Type 0} (b : Bool) → b ≡ false → b ≡ true → P
+open_clash b e f = absurd (let clash = sym e ∙ f in cc)
+
+-- ---- what is made of an item or an answer
+
+-- how many answers what is asked then still leads to
+abbrev pub next_left : Option Stage → ℕ
+next_left None = 0
+next_left (Some stage) = question_left stage
+
+-- the session is over, nothing is sent and nothing asked
+abbrev pub stopped : Settings → CloseReason → Outcome
+stopped settings why = record { session = bare settings (Closed why); messages = []; next = None }
+
+-- What an outcome of a session that went on comes to. It goes on, leads to fewer answers than so many, and sends these pongs; or it
+-- ends, in another way than by the peer's end.
+pub data Comes (settings : Settings) (left : ℕ) (nonces : List ℕ) (outcome : Outcome) : Type 0 where
+  goes : is_closed outcome.session.state ≡ false → outcome.session.settings ≡ settings → next_left outcome.next < left → pongs outcome.messages ≡ nonces → Comes settings left nonces outcome
+  stops : (why : CloseReason) → why ≢ reasons.Bye → outcome ≡ stopped settings why → Comes settings left nonces outcome
+
+more : (settings : Settings) (left most : ℕ) (nonces : List ℕ) (outcome : Outcome) → left ≤ most → Comes settings left nonces outcome → Comes settings most nonces outcome
+more settings left most nonces outcome few (goes going same next sent) = goes going same (omega (arith, next, few)) sent
+more settings left most nonces outcome few (stops why other e) = stops why other e
+
+renamed : (settings : Settings) (left : ℕ) (nonces nonces' : List ℕ) (outcome : Outcome) → nonces ≡ nonces' → Comes settings left nonces outcome → Comes settings left nonces' outcome
+renamed settings left nonces nonces' outcome e c = subst (λ (ns : List ℕ). Comes settings left ns outcome) e c
+
+-- the end of an item, or of a tick
+ends_comes : (s : SessionState) (sent : List Message) → is_closed s.state ≡ false → Comes s.settings 3 (pongs sent) (ends s sent)
+unfolding ends
+ends_comes s sent going =
+    if_either (Comes s.settings 3 (pongs sent)) (not (is_ready s.state)) (sends s sent) (cond (is_due s.fetch) (asks s sent Wanted) (asks s sent Fresh)) (goes going refl (omega arith) refl)
+    (if_either (Comes s.settings 3 (pongs sent)) (is_due s.fetch) (asks s sent Wanted) (asks s sent Fresh) (goes going refl (omega arith) refl) (goes going refl (omega arith) refl))
+
+-- ---- messages that are no pongs
+
+greeting_plain : (settings : Settings) → pongs (greeting settings) ≡ []
+greeting_plain settings =
+    if_either (λ (sent : List Message). pongs sent ≡ []) settings.inbound (our_version settings.nonce settings.time settings.height ∷ messages.Verack ∷ []) (messages.Verack ∷ []) refl refl
+
+wishes_by : (a b : Bool) (relay : CompactRelay) → pongs (cond a [] (messages.SendHeaders ∷ []) ++ cond b [] (messages.SendCmpct relay ∷ [])) ≡ []
+wishes_by true true relay = refl
+wishes_by true false relay = refl
+wishes_by false true relay = refl
+wishes_by false false relay = refl
+
+more_plain : (headers : List Header) → pongs (more_behind headers) ≡ []
+more_plain [] = refl
+more_plain (first ∷ others) = if_either (λ (sent : List Message). pongs sent ≡ []) (length (first ∷ others) == 2000) (asking_headers (last_hash first others ∷ []) ∷ []) [] refl refl
+
+more_headers_plain : (item : Option Item) → pongs (more_headers item) ≡ []
+more_headers_plain (Some (Good (messages.Headers headers))) = more_plain headers
+more_headers_plain item = refl
+
+asking_plain : (entries : List InvEntry) → pongs (asking_for entries) ≡ []
+asking_plain [] = refl
+asking_plain (first ∷ others) = refl
+
+pongs_append : (xs ys : List Message) → pongs xs ≡ [] → pongs ys ≡ [] → pongs (xs ++ ys) ≡ []
+pongs_append xs ys e f = filter_map-append pong_nonce xs ys ∙ ap (λ (ns : List ℕ). ns ++ pongs ys) e ∙ f
+
+need_plain : (entries : List InvEntry) (b : Bool) (locator : List Hash256) → pongs (asking_for entries ++ cond b (asking_headers locator ∷ []) []) ≡ []
+need_plain entries b locator =
+    pongs_append (asking_for entries) (cond b (asking_headers locator ∷ []) []) (asking_plain entries)
+    (if_either (λ (sent : List Message). pongs sent ≡ []) b (asking_headers locator ∷ []) [] refl refl)
+
+not_found_plain : (entries : List InvEntry) → pongs (not_found entries) ≡ []
+not_found_plain [] = refl
+not_found_plain (first ∷ others) = refl
+
+there_plain : (pieces : List Piece) → pongs (filter_map served_as pieces) ≡ []
+there_plain [] = refl
+there_plain (piece.Tx tx ∷ pieces) = there_plain pieces
+there_plain (piece.Whole block ∷ pieces) = there_plain pieces
+there_plain (piece.Short block ∷ pieces) = there_plain pieces
+there_plain (piece.Lacking asked ∷ pieces) = there_plain pieces
+
+served_plain : (pieces : List Piece) → pongs (served pieces) ≡ []
+served_plain pieces = pongs_append (filter_map served_as pieces) (not_found (filter_map lacking_in pieces)) (there_plain pieces) (not_found_plain (filter_map lacking_in pieces))
+
+announced_plain : (headers : Bool) (tip : Hash256) (path : List Header) → pongs (announcing headers tip path) ≡ []
+announced_plain headers tip [] = refl
+announced_plain true tip (first ∷ others) = refl
+announced_plain false tip (first ∷ others) = refl
+
+telling_plain : (txids : List Hash256) → pongs (telling txids) ≡ []
+telling_plain [] = refl
+telling_plain (first ∷ others) = refl
+
+tip_plain : (s : SessionState) (news : News) → pongs (tip_told s news) ≡ []
+tip_plain s news =
+    if_either (λ (sent : List Message). pongs sent ≡ []) (is_heard s.marks.heard news.tip) [] (announcing (s.peer.by_headers && not news.long) news.tip news.path) refl
+    (announced_plain (s.peer.by_headers && not news.long) news.tip news.path)
+
+-- ---- a message that was let in
+
+introduced_comes : (s : SessionState) (version : Version) → is_closed s.state ≡ false → Comes s.settings 4 [] (introduced s version)
+unfolding introduced
+introduced_comes s version going =
+    let greeted : SessionState =
+    with_state Greeted (with_peer (record { version = version.version; by_headers = s.peer.by_headers; capable = s.peer.capable; wants_high = s.peer.wants_high }) s) in
+    if_either (Comes s.settings 4 []) (version.nonce == s.settings.nonce) (ended reasons.SelfPeer s) (cond (int_lt version.version (pos 70001)) (ended reasons.OldPeer s) (sends greeted (greeting s.settings))) (stops reasons.SelfPeer (λ e. cc) refl)
+    (if_either (Comes s.settings 4 []) (int_lt version.version (pos 70001)) (ended reasons.OldPeer s) (sends greeted (greeting s.settings)) (stops reasons.OldPeer (λ e. cc) refl) (goes refl refl (omega arith) (greeting_plain s.settings)))
+
+in_start_comes : (s : SessionState) (message : Message) → is_closed s.state ≡ false → Comes s.settings 4 [] (in_start s message)
+unfolding in_start
+in_start_comes s (messages.Version version) going = introduced_comes s version going
+in_start_comes s other going = goes going refl (omega arith) refl
+
+compact_either : (P : SessionState → Type 0) (relay : CompactRelay) (s : SessionState) → ((peer : Peer) → P (with_peer peer s)) → P s → P (by_compact relay s)
+compact_either P relay s changed same =
+    let peer : Peer = record { version = s.peer.version; by_headers = s.peer.by_headers; capable = true; wants_high = relay.high_bandwidth } in
+    if_either P (relay.version == 1) (with_peer peer s) s (changed peer) same
+
+in_greeted_comes : (s : SessionState) (message : Message) → is_closed s.state ≡ false → Comes s.settings 4 [] (in_greeted s message)
+unfolding in_greeted
+in_greeted_comes s messages.Verack going =
+    goes refl refl (omega arith) (wishes_by (int_lt s.peer.version (pos 70012)) (int_lt s.peer.version (pos 70014)) (record { high_bandwidth = false; version = 1 }))
+in_greeted_comes s messages.SendHeaders going = goes going refl (omega arith) refl
+in_greeted_comes s (messages.SendCmpct relay) going =
+    compact_either (λ (x : SessionState). Comes s.settings 4 [] (sends x [])) relay s (λ peer. goes going refl (omega arith) refl) (goes going refl (omega arith) refl)
+in_greeted_comes s other going = goes going refl (omega arith) refl
+
+brought_comes : (s : SessionState) (block : Block) → is_closed s.state ≡ false → Comes s.settings 4 [] (brought s block)
+unfolding brought
+brought_comes s block going =
+    if_either (Comes s.settings 4 []) (is_sound_block block) (asks (heard_of (block_hash block.header) (with_fetch (landed (block_hash block.header) s.fetch) s)) [] (About subjects.Block)) (ended reasons.BadBlock s)
+    (goes going refl (omega arith) refl) (stops reasons.BadBlock (λ e. cc) refl)
+
+quiet_comes : (s : SessionState) → is_closed s.state ≡ false → Comes s.settings 4 [] (ends s [])
+quiet_comes s going = more s.settings 3 4 [] (ends s []) (omega arith) (ends_comes s [] going)
+
+in_ready_comes : (s : SessionState) (message : Message) → is_closed s.state ≡ false → Comes s.settings 4 [] (in_ready s message)
+unfolding in_ready
+in_ready_comes s messages.SendHeaders going = quiet_comes (by_headers s) going
+in_ready_comes s (messages.SendCmpct relay) going =
+    compact_either (λ (x : SessionState). Comes s.settings 4 [] (ends x [])) relay s (λ peer. quiet_comes (with_peer peer s) going) (quiet_comes s going)
+in_ready_comes s (messages.Headers []) going = quiet_comes s going
+in_ready_comes s (messages.Headers (first ∷ others)) going = goes going refl (omega arith) refl
+in_ready_comes s (messages.Inv entries) going =
+    if_either (Comes s.settings 4 []) (is_nil (told_of entries)) (ends s []) (asks s [] (About subjects.Inventory)) (quiet_comes s going) (goes going refl (omega arith) refl)
+in_ready_comes s (messages.GetData entries) going = goes going refl (omega arith) refl
+in_ready_comes s (messages.GetHeaders request) going = goes going refl (omega arith) refl
+in_ready_comes s (messages.NotFound entries) going = quiet_comes (with_fetch (given_up entries s.fetch) s) going
+in_ready_comes s (messages.Tx tx) going = goes going refl (omega arith) refl
+in_ready_comes s (messages.Block block) going = brought_comes s block going
+in_ready_comes s other going = quiet_comes s going
+
+by_phase_comes : (state : State) (s : SessionState) (message : Message) → is_closed s.state ≡ false → Comes s.settings 4 [] (by_phase state s message)
+by_phase_comes Start s message going = in_start_comes s message going
+by_phase_comes Greeted s message going = in_greeted_comes s message going
+by_phase_comes Ready s message going = in_ready_comes s message going
+by_phase_comes (Closed why) s message going = goes going refl (omega arith) refl
+
+-- the nonce of a ping, as the list of the pongs that answer it
+abbrev pub nonces_of : Option ℕ → List ℕ
+nonces_of None = []
+nonces_of (Some nonce) = nonce ∷ []
+
+received_comes : (s : SessionState) (message : Message) → is_closed s.state ≡ false → Comes s.settings 4 (nonces_of (ping_nonce message)) (received s message)
+unfolding received
+received_comes s (messages.Ping nonce) going = more s.settings 3 4 (nonce ∷ []) (ends s (messages.Pong nonce ∷ [])) (omega arith) (ends_comes s (messages.Pong nonce ∷ []) going)
+received_comes s other going = by_phase_comes s.state s other going
+
+-- what an item owes in pongs, and a tick none
+abbrev pub owed_by : Option Item → List ℕ
+owed_by None = []
+owed_by (Some item) = nonces_of (item_ping item)
+
+processed_comes : (s : SessionState) (item : Option Item) → is_closed s.state ≡ false → Comes s.settings 4 (owed_by item) (processed s item)
+unfolding processed
+processed_comes s None going = quiet_comes s going
+processed_comes s (Some (Good message)) going = received_comes s message going
+processed_comes s (Some Damaged) going = quiet_comes s going
+processed_comes s (Some (Bad command fault)) going = stops reasons.BadMessage (λ e. cc) refl
+
+-- ---- an answer
+
+heads_by_comes : (s : SessionState) (item : Option Item) (refused : Option Fault) (locator : List Hash256) → is_closed s.state ≡ false → Comes s.settings 3 [] (heads_by s item refused locator)
+heads_by_comes s item (Some faults.BadWork) locator going = stops reasons.BadBlock (λ e. cc) refl
+heads_by_comes s item (Some faults.NoParent) locator going = ends_comes s (asking_headers locator ∷ []) going
+heads_by_comes s item (Some other) locator going = ends_comes s [] going
+heads_by_comes s item None locator going = renamed s.settings 3 (pongs (more_headers item)) [] (ends s (more_headers item)) (more_headers_plain item) (ends_comes s (more_headers item) going)
+
+heads_told_comes : (s : SessionState) (item : Option Item) (heads : Heads) → is_closed s.state ≡ false → Comes s.settings 3 [] (heads_told s item heads)
+unfolding heads_told
+heads_told_comes s item heads going = heads_by_comes (with_fetch (wanting_all s.fetch heads.lack) s) item heads.refused heads.locator going
+
+taken_told_comes : (s : SessionState) (refused : Option Fault) (locator : List Hash256) → is_closed s.state ≡ false → Comes s.settings 3 [] (taken_told s refused locator)
+unfolding taken_told
+taken_told_comes s None locator going = ends_comes s [] going
+taken_told_comes s (Some faults.Known) locator going = ends_comes s [] going
+taken_told_comes s (Some faults.NoParent) locator going = ends_comes s (asking_headers locator ∷ []) going
+taken_told_comes s (Some other) locator going = stops reasons.BadBlock (λ e. cc) refl
+
+need_told_comes : (s : SessionState) (need : Need) → is_closed s.state ≡ false → Comes s.settings 3 [] (need_told s need)
+unfolding need_told
+need_told_comes s need going =
+    let sent : List Message = asking_for (filter_map tx_request need.entries) ++ cond (list_any is_block need.entries) (asking_headers need.locator ∷ []) [] in
+    renamed s.settings 3 (pongs sent) [] (ends s sent) (need_plain (filter_map tx_request need.entries) (list_any is_block need.entries) need.locator) (ends_comes s sent going)
+
+wanted_told_comes : (s : SessionState) (need : Need) → is_closed s.state ≡ false → Comes s.settings 2 [] (wanted_told s need)
+unfolding wanted_told
+wanted_told_comes s need going = goes going refl (omega arith) (asking_plain (requests_of (taken_on (blocks_in need.entries)).flight))
+
+news_told_comes : (s : SessionState) (item : Option Item) (news : News) → is_closed s.state ≡ false → Comes s.settings 1 [] (news_told s item news)
+unfolding news_told
+news_told_comes s item news going = goes going refl (omega arith) (pongs_append (tip_told s news) (telling (without_brought item news.txids)) (tip_plain s news) (telling_plain (without_brought item news.txids)))
+
+-- what is owed in pongs where something was asked for an item: it is pending until the hall's leave
+abbrev pub owed_at : Stage → Option Item → List ℕ
+owed_at Admit item = owed_by item
+owed_at other item = []
+
+-- an answer that fits leaves fewer to be waited for, and only leave answers a ping
+pub answered_comes : (q s : SessionState) (item : Option Item) (stage : Stage) (answer : Answer) → fits (question_of q item stage) answer ≡ true → is_closed s.state ≡ false → Comes s.settings (question_left stage) (owed_at stage item) (answered s item stage answer)
+unfolding answered
+answered_comes q s item stage answers.Kicked fit going = stops reasons.Kicked (λ e. cc) refl
+answered_comes q s item Admit answers.Go fit going = processed_comes s item going
+answered_comes q s item Admit other fit going = absurd cc
+answered_comes q s item (About subject) (answers.Heads heads) fit going = heads_told_comes s item heads going
+answered_comes q s item (About subject) (answers.Locator locator) fit going = ends_comes s (asking_headers locator ∷ []) going
+answered_comes q s item (About subject) (answers.Need need) fit going = need_told_comes s need going
+answered_comes q s item (About subject) (answers.TxTaken refused) fit going = ends_comes s [] going
+answered_comes q s item (About subject) (answers.Taken taken) fit going = taken_told_comes s taken.refused taken.locator going
+answered_comes q s item (About subject) (answers.Served pieces) fit going = renamed s.settings 3 (pongs (served pieces)) [] (ends s (served pieces)) (served_plain pieces) (ends_comes s (served pieces) going)
+answered_comes q s item (About subject) (answers.Following headers) fit going = ends_comes s (messages.Headers headers ∷ []) going
+answered_comes q s item Wanted (answers.Need need) fit going = wanted_told_comes s need going
+answered_comes q s item Fresh (answers.News news) fit going = news_told_comes s item news going
+answered_comes q s item stage other fit going = goes going refl (omega arith) refl
+
+-- ---- what is asked is what is open
+
+-- The question that a step asks is the one that is open after it. Where it asks none, none is open, or nothing changed: the event
+-- didn't fit.
+abbrev pub AsksIt : SessionState → Stepped → Type 0
+AsksIt s made = (made.question ≡ pending_question made.session) ⊎ (made ≡ stays s)
+
+question_same : (s : SessionState) (pending : Option Pending) (item : Option Item) (stage : Stage) → question_of s item stage ≡ question_of (with_pending pending s) item stage
+question_same s pending item Admit = refl
+question_same s pending item (About subjects.Headers) = refl
+question_same s pending item (About subjects.Locator) = refl
+question_same s pending item (About subjects.Inventory) = refl
+question_same s pending item (About subjects.Tx) = refl
+question_same s pending item (About subjects.Block) = refl
+question_same s pending item (About subjects.Items) = refl
+question_same s pending item (About subjects.After) = refl
+question_same s pending item Wanted = refl
+question_same s pending item Fresh = refl
+
+asks_next : (item : Option Item) (s : SessionState) (next : Option Stage) → option_map (question_of s item) next ≡ pending_question (with_pending (pending_of item next) s)
+asks_next item s None = refl
+asks_next item s (Some stage) = ap (λ (question : Question). Some question) (question_same s (pending_of item (Some stage)) item stage)
+
+arrives_asks : (pending : Option Pending) (s : SessionState) (item : Option Item) → AsksIt s (arrives pending s item)
+arrives_asks None s item = inl refl
+arrives_asks (Some other) s item = inr refl
+
+told_asks : (pending : Option Pending) (s : SessionState) (answer : Answer) → AsksIt s (told pending s answer)
+told_asks None s answer = inr refl
+told_asks (Some pending) s answer =
+    let outcome : Outcome = answered (freed s) pending.item pending.stage answer in
+    if_either (AsksIt s) (fits (question_of s pending.item pending.stage) answer) (for_item pending.item outcome) (stays s) (inl (asks_next pending.item outcome.session outcome.next)) (inr refl)
+
+pub open_asks : (s : SessionState) (event : Event) → AsksIt s (open_step s event)
+unfolding open_step
+open_asks s (events.Said item) = arrives_asks s.pending s (Some item)
+open_asks s (events.Broken fault) = inl refl
+open_asks s events.Tick = arrives_asks s.pending s None
+open_asks s (events.Told answer) = told_asks s.pending s answer
+open_asks s events.ReaderEnd = inl refl
+open_asks s events.NoMemory = inl refl
+open_asks s events.HallFull = inl refl
+open_asks s events.WriteFault = inl refl
+
+-- ---- how a step goes on
+
+-- What a step of a session that went on makes: nothing, where the event doesn't fit; or the session goes on; or it ends, by the
+-- peer's end where its reason is Bye.
+pub data Steps (s : SessionState) (event : Event) (made : Stepped) : Type 0 where
+  passes : made ≡ stays s → Steps s event made
+  goes_on : is_closed made.session.state ≡ false → made.session.settings ≡ s.settings → Steps s event made
+  ends_by : (why : CloseReason) → (why ≡ reasons.Bye → is_reader_end event ≡ true) → made ≡ closes why s → Steps s event made
+
+outcome_steps : (s : SessionState) (event : Event) (item : Option Item) (left : ℕ) (nonces : List ℕ) (outcome : Outcome) → Comes s.settings left nonces outcome → Steps s event (for_item item outcome)
+outcome_steps s event item left nonces outcome (goes going same next sent) = goes_on going same
+outcome_steps s event item left nonces outcome (stops why other e) = ends_by why (λ bye. absurd (other bye)) (ap (for_item item) e)
+
+arrives_steps : (pending : Option Pending) (s : SessionState) (event : Event) (item : Option Item) → is_closed s.state ≡ false → Steps s event (arrives pending s item)
+arrives_steps None s event item going = goes_on going refl
+arrives_steps (Some other) s event item going = passes refl
+
+told_steps : (pending : Option Pending) (s : SessionState) (answer : Answer) → is_closed s.state ≡ false → Steps s (events.Told answer) (told pending s answer)
+told_steps None s answer going = passes refl
+told_steps (Some pending) s answer going =
+    let outcome : Outcome = answered (freed s) pending.item pending.stage answer in
+    let by_fit : (b : Bool) → fits (question_of s pending.item pending.stage) answer ≡ b → Steps s (events.Told answer) (cond b (for_item pending.item outcome) (stays s)) =
+    elim [
+      | true ↦ λ fit. outcome_steps s (events.Told answer) pending.item (question_left pending.stage) (owed_at pending.stage pending.item) outcome (answered_comes s (freed s) pending.item pending.stage answer fit going)
+      | false ↦ λ fit. passes refl
+    ] in
+    by_fit (fits (question_of s pending.item pending.stage) answer) refl
+
+pub open_steps : (s : SessionState) (event : Event) → is_closed s.state ≡ false → Steps s event (open_step s event)
+unfolding open_step
+open_steps s (events.Said item) going = arrives_steps s.pending s (events.Said item) (Some item) going
+open_steps s (events.Broken fault) going = ends_by reasons.BadStream (λ e. absurd cc) refl
+open_steps s events.Tick going = arrives_steps s.pending s events.Tick None going
+open_steps s (events.Told answer) going = told_steps s.pending s answer going
+open_steps s events.ReaderEnd going = ends_by reasons.Bye (λ e. refl) refl
+open_steps s events.NoMemory going = ends_by reasons.Memory (λ e. absurd cc) refl
+open_steps s events.HallFull going = ends_by reasons.HallFull (λ e. absurd cc) refl
+open_steps s events.WriteFault going = ends_by reasons.WriteFault (λ e. absurd cc) refl
+
+-- a step that ends the session sends nothing, and leaves nothing to stand
+pub record IsOver (made : Stepped) : Type 0 where
+  pub silent : made.messages ≡ []
+  pub clear : made.session.pending ≡ None
+
+pub closes_over : (s : SessionState) (why : CloseReason) → IsOver (closes why s)
+closes_over s why = record { silent = refl; clear = refl }
+
+steps_over : (s : SessionState) (event : Event) (made : Stepped) → Steps s event made → is_closed s.state ≡ false → is_closed made.session.state ≡ true → IsOver made
+steps_over s event made (passes e) going closed = open_clash (is_closed s.state) going (ap (λ (m : Stepped). is_closed m.session.state) (sym e) ∙ closed)
+steps_over s event made (goes_on after same) going closed = open_clash (is_closed made.session.state) after closed
+steps_over s event made (ends_by why bye e) going closed = subst IsOver (sym e) (closes_over s why)
+
+pub open_over : (s : SessionState) (event : Event) → is_closed s.state ≡ false → is_closed (open_step s event).session.state ≡ true → IsOver (open_step s event)
+open_over s event going closed = steps_over s event (open_step s event) (open_steps s event going) going closed
+
+-- what a session was given stays
+steps_settings : (s : SessionState) (event : Event) (made : Stepped) → Steps s event made → made.session.settings ≡ s.settings
+steps_settings s event made (passes e) = ap (λ (m : Stepped). m.session.settings) e
+steps_settings s event made (goes_on after same) = same
+steps_settings s event made (ends_by why bye e) = ap (λ (m : Stepped). m.session.settings) e
+
+pub open_settings : (s : SessionState) (event : Event) → is_closed s.state ≡ false → (open_step s event).session.settings ≡ s.settings
+open_settings s event going = steps_settings s event (open_step s event) (open_steps s event going)
+
+-- only the peer's end ends a session as such
+reason_is : (a b : CloseReason) → Closed a ≡ Closed b → a ≡ b
+reason_is a b e = cc
+
+steps_bye : (s : SessionState) (event : Event) (made : Stepped) → Steps s event made → is_closed s.state ≡ false → made.session.state ≡ Closed reasons.Bye → is_reader_end event ≡ true
+steps_bye s event made (passes e) going bye = open_clash (is_closed s.state) going (ap (λ (m : Stepped). is_closed m.session.state) (sym e) ∙ ap is_closed bye)
+steps_bye s event made (goes_on after same) going bye = open_clash (is_closed made.session.state) after (ap is_closed bye)
+steps_bye s event made (ends_by why by_end e) going bye = by_end (reason_is why reasons.Bye (ap (λ (m : Stepped). m.session.state) (sym e) ∙ bye))
+
+pub open_bye : (s : SessionState) (event : Event) → is_closed s.state ≡ false → (open_step s event).session.state ≡ Closed reasons.Bye → is_reader_end event ≡ true
+open_bye s event going bye = steps_bye s event (open_step s event) (open_steps s event going) going bye
+
+-- an event that ends the session at once ends it
+pub open_ends : (s : SessionState) (event : Event) → ends_at_once event ≡ true → is_closed (open_step s event).session.state ≡ true
+unfolding open_step
+open_ends s (events.Said item) e = absurd cc
+open_ends s (events.Broken fault) e = refl
+open_ends s events.Tick e = absurd cc
+open_ends s (events.Told answer) e = absurd cc
+open_ends s events.ReaderEnd e = refl
+open_ends s events.NoMemory e = refl
+open_ends s events.HallFull e = refl
+open_ends s events.WriteFault e = refl
+
+-- ---- fewer answers are needed
+
+pending_left : (item : Option Item) (next : Option Stage) → questions_left (pending_of item next) ≡ next_left next
+pending_left item None = refl
+pending_left item (Some stage) = refl
+
+outcome_fewer : (settings : Settings) (item : Option Item) (left : ℕ) (nonces : List ℕ) (outcome : Outcome) → Comes settings left nonces outcome → is_closed (for_item item outcome).session.state ≡ false → questions_left (for_item item outcome).session.pending < left
+outcome_fewer settings item left nonces outcome (goes going same next sent) after = (let is = pending_left item outcome.next in omega (arith, is, next))
+outcome_fewer settings item left nonces outcome (stops why other e) after = open_clash (is_closed outcome.session.state) after (ap (λ (p : Outcome). is_closed p.session.state) e)
+
+told_fits : (s : SessionState) (pending : Pending) (answer : Answer) → fits (question_of s pending.item pending.stage) answer ≡ true → told (Some pending) s answer ≡ for_item pending.item (answered (freed s) pending.item pending.stage answer)
+told_fits s pending answer fit = ap (λ (b : Bool). cond b (for_item pending.item (answered (freed s) pending.item pending.stage answer)) (stays s)) fit
+
+told_fewer : (s : SessionState) (pending : Pending) (answer : Answer) → is_closed s.state ≡ false → fits (question_of s pending.item pending.stage) answer ≡ true → is_closed (told (Some pending) s answer).session.state ≡ false
+    → questions_left (told (Some pending) s answer).session.pending < question_left pending.stage
+told_fewer s pending answer going fit =
+    subst (λ (made : Stepped). is_closed made.session.state ≡ false → questions_left made.session.pending < question_left pending.stage) (sym (told_fits s pending answer fit))
+    (outcome_fewer s.settings pending.item (question_left pending.stage) (owed_at pending.stage pending.item) (answered (freed s) pending.item pending.stage answer) (answered_comes s (freed s) pending.item pending.stage answer fit going))
+
+fewer_of : (pending : Option Pending) (s : SessionState) (question : Question) (answer : Answer) → is_closed s.state ≡ false → question_at s pending ≡ Some question → fits question answer ≡ true
+    → is_closed (told pending s answer).session.state ≡ false → questions_left (told pending s answer).session.pending < questions_left pending
+fewer_of None s question answer going asked fit after = absurd cc
+fewer_of (Some pending) s question answer going asked fit after =
+    let same : question_of s pending.item pending.stage ≡ question = (let e : Some (question_of s pending.item pending.stage) ≡ Some question = asked in cc) in
+    told_fewer s pending answer going (ap (λ (q : Question). fits q answer) same ∙ fit) after
+
+-- an answer that fits the open question leaves fewer to be waited for
+pub open_fewer : (s : SessionState) (question : Question) (answer : Answer) → is_closed s.state ≡ false → pending_question s ≡ Some question → fits question answer ≡ true
+    → is_closed (open_step s (events.Told answer)).session.state ≡ false → questions_left (open_step s (events.Told answer)).session.pending < questions_left s.pending
+unfolding open_step
+open_fewer s question answer going asked fit after = fewer_of s.pending s question answer going asked fit after
+
+left_some : (stage : Stage) → 1 ≤ question_left stage
+left_some Admit = omega arith
+left_some (About subject) = omega arith
+left_some Wanted = omega arith
+left_some Fresh = omega arith
+
+some_of : (pending : Option Pending) (s : SessionState) (question : Question) → question_at s pending ≡ Some question → 1 ≤ questions_left pending
+some_of None s question asked = absurd cc
+some_of (Some pending) s question asked = left_some pending.stage
+
+-- what is pending leads to one answer at least
+pub some_left : (s : SessionState) (question : Question) → pending_question s ≡ Some question → 1 ≤ questions_left s.pending
+some_left s question asked = some_of s.pending s question asked
+
+left_few : (stage : Stage) → question_left stage ≤ 6
+left_few Admit = omega arith
+left_few (About subject) = omega arith
+left_few Wanted = omega arith
+left_few Fresh = omega arith
+
+-- and to six at the most
+pub few_left : (pending : Option Pending) → questions_left pending ≤ 6
+few_left None = omega arith
+few_left (Some pending) = left_few pending.stage
+
+none_of : (pending : Option Pending) (s : SessionState) → question_at s pending ≡ None → pending ≡ None
+none_of None s e = refl
+none_of (Some pending) s e = absurd cc
+
+-- nothing is pending where no question is open
+pub none_pending : (s : SessionState) → pending_question s ≡ None → s.pending ≡ None
+none_pending s e = none_of s.pending s e
+
+pub no_question : (s : SessionState) → s.pending ≡ None → pending_question s ≡ None
+no_question s e = ap (question_at s) e

@@ -1,0 +1,11 @@
+use Rattle.cb_peer_laws.proofs.LawLemmas.{limits_of}
+use Rattle.cb_peer_laws.proofs.laws.few_blocks_are_fetched.Goals as goal
+
+pub returns-clause-flight : goal.returns-clause-flight
+returns-clause-flight c = λ s reached. (limits_of s reached).flight
+
+pub returns-clause-wanted : goal.returns-clause-wanted
+returns-clause-wanted c = λ s reached. (limits_of s reached).wanted
+
+pub returns-clause-once : goal.returns-clause-once
+returns-clause-once c = λ s reached. (limits_of s reached).once

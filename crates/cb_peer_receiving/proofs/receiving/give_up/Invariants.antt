@@ -1,0 +1,7 @@
+use Rattle.std.proofs.Common.{◌≡◌, ◌≤◌, ◌++◌, drop, take, length, map}
+use Rattle.std.specs.Prelude.{filter, filter_map, fold, not}
+use Rattle.cb_peer_state.specs.Receiving.{given_up}
+use Rattle.cb_peer_receiving.proofs.receiving.give_up.Given as goal
+
+abbrev pub invariant-loop-entry : goal.invariant-loop-entry
+invariant-loop-entry l = l.fetch ≡ given_up (take l.entry-index l.entries) l.fn.fetch

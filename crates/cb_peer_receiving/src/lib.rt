@@ -1,0 +1,6 @@
+//! How a session of one peer handles the peer's messages.
+#![tactic(auto)]
+
+mod receiving;
+
+pub use receiving::process;

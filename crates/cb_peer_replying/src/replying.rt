@@ -1,0 +1,436 @@
+//! How a session handles the hall's answers: one arm for each kind of answer. The hall is what
+//! Bitcoin Core keeps in ChainstateManager and CTxMemPool.
+ghost use Rattle.std.specs.Prelude.{◌≡◌, [], ◌∷◌, ◌≤◌, Option, filter, filter_map, false, length, not, IfOk, IsOk, IsOkUnless};
+ghost use Rattle.std.specs.List.{list_any};
+ghost use Rattle.cb_base.specs.DoubleHash.{double_hash};
+ghost use Rattle.cb_chain.specs.Entries.{same};
+ghost use Rattle.cb_tx.specs.Text.{tx_text};
+ghost use Rattle.cb_base.specs.declared.fault.Fault.TheVariants.{Memory};
+ghost use Rattle.cb_talk.specs.Announcing.{telling};
+ghost use Rattle.cb_talk.specs.Inventory.{asking_for, asking_headers};
+ghost use Rattle.cb_talk.specs.Serving.{served};
+ghost use Rattle.cb_wire.specs.declared.message.Message.TheVariants as messages;
+ghost use Rattle.cb_wire.specs.declared.item.Item.{Item};
+ghost use Rattle.cb_peer_state.specs.declared.stage.Stage.TheVariants as stages;
+ghost use Rattle.cb_peer_state.specs.declared.stage.Subject.{Subject};
+ghost use Rattle.cb_journal.specs.declared.answer.Answer.TheVariants as answers;
+ghost use Rattle.cb_peer_state.specs.Outcomes.{IsLightOutcome, Makes, as_list};
+ghost use Rattle.cb_peer_state.specs.Session.{weighs_answer, weighs_item};
+ghost use Rattle.cb_peer_state.specs.Receiving.{ends};
+ghost use Rattle.cb_peer_state.specs.Replying.{answered, heads_told, is_block, is_leave, more_headers, need_told, news_told, taken_told, tip_told, tx_request, wanted_told, without_brought};
+
+use cb_base::{Fault, Hash256, Shared};
+use cb_journal::Answer;
+use cb_payload::{HeaderList, InvEntry, Listed, Locator};
+use cb_peer_state::{
+    CloseReason, Reaction, SessionState, Stage, hash_of_last, one_message, push_some,
+};
+use cb_state::{Heads, Inventory, Need, News, Pieces, Taken, Txids};
+use cb_talk::{announce_tip, announce_txs, asking_for, asking_headers, served, written};
+use cb_tx::Tx;
+use cb_wire::{BoundedMessage, Item, Message};
+use std::alloc::Global;
+
+/// The most headers in one message. After a full message there may be more.
+const MOST_HEADERS: usize = 2_000;
+
+/// Handles an answer that fits the question asked for an item, unless it is the hall's leave to
+/// process the item. Fails only with `Fault::Memory`.
+#[tactic(auto, unfolding(cb_peer_state::specs::Replying::answered))]
+pub fn reply(
+    session: &mut SessionState,
+    alloc: Global,
+    item: &Option<Shared<Item>>,
+    stage: Stage,
+    answer: &Answer,
+) -> Result<Reaction, Fault>
+    requires { is_leave stage answer.now ≡ false }
+    ensures ok { IfOk result
+        (λ made. Makes (answered session.old item.now stage answer.now)
+        item.now session.new made.messages.items made.next) }
+    ensures memory { IsOkUnless result Memory }
+    ensures calm { answer.now ≡ answers.Kicked → IsOk result }
+    ensures silent { weighs_item item.now ≡ false → weighs_answer answer.now ≡ false →
+        IsLightOutcome (answered session.old item.now stage answer.now) → IsOk result }
+{
+    if let Answer::Kicked = answer {
+        return Ok(session.end_by(alloc, CloseReason::Kicked));
+    }
+    match stage {
+        Stage::Admit => Ok(Reaction::nothing(alloc)),
+        Stage::About(_) => hear_about(session, alloc, item, answer),
+        Stage::Wanted => match answer {
+            Answer::Need(need) => hear_wanted(session, alloc, need),
+            _ => Ok(Reaction::nothing(alloc)),
+        },
+        Stage::Fresh => match answer {
+            Answer::News(news) => hear_news(session, alloc, item, news),
+            _ => Ok(Reaction::nothing(alloc)),
+        },
+    }
+}
+
+/// Handles the hall's answer about an item.
+#[tactic(auto, unfolding(cb_peer_state::specs::Replying::answered))]
+#[inline(never)]
+fn hear_about(
+    session: &mut SessionState,
+    alloc: Global,
+    item: &Option<Shared<Item>>,
+    answer: &Answer,
+) -> Result<Reaction, Fault>
+    ensures ok { (subject : Subject) → IfOk result
+        (λ made. Makes (answered session.old item.now (stages.About subject) answer.now)
+        item.now session.new made.messages.items made.next) }
+    ensures memory { IsOkUnless result Memory }
+    ensures silent { (subject : Subject) →
+        weighs_item item.now ≡ false → weighs_answer answer.now ≡ false →
+        IsLightOutcome (answered session.old item.now (stages.About subject) answer.now) →
+        IsOk result }
+{
+    match answer {
+        Answer::Heads(heads) => hear_heads(session, alloc, item, heads),
+        Answer::Locator(locator) => ask_headers(session, alloc, locator),
+        Answer::Need(need) => hear_need(session, alloc, need),
+        Answer::TxTaken(_) => session.end(alloc, Vec::new(alloc)),
+        Answer::Taken(taken) => hear_taken(session, alloc, taken),
+        Answer::Served(pieces) => send_served(session, alloc, pieces),
+        Answer::Following(headers) => send_headers(session, alloc, headers),
+        Answer::Kicked => Ok(session.end_by(alloc, CloseReason::Kicked)),
+        Answer::Go | Answer::News(_) | Answer::Pairs(_) | Answer::Excerpt(_) => {
+            Ok(Reaction::nothing(alloc))
+        }
+    }
+}
+
+/// Answers `getdata`: sends what the hall has, and one `notfound` of what it lacks.
+fn send_served(session: &SessionState, alloc: Global, pieces: &Pieces) -> Result<Reaction, Fault>
+    ensures ok { (item : Option Item) →
+        IfOk result (λ made. Makes
+        (ends session.now (served pieces.now)) item session.now made.messages.items made.next) }
+    ensures memory { IsOkUnless result Memory }
+    ensures silent { IsLightOutcome (ends session.now (served pieces.now)) → IsOk result }
+{
+    if pieces.as_slice().is_empty() {
+        return session.end(alloc, Vec::new(alloc));
+    }
+    let messages = served(alloc, pieces)?;
+    session.end(alloc, messages)
+}
+
+/// Answers `getheaders`.
+fn send_headers(
+    session: &SessionState,
+    alloc: Global,
+    headers: &HeaderList,
+) -> Result<Reaction, Fault>
+    ensures ok { (item : Option Item) →
+        IfOk result (λ made. Makes
+        (ends session.now
+        (messages.Headers headers.now ∷ [])) item session.now made.messages.items made.next) }
+    ensures memory { IsOkUnless result Memory }
+{
+    let message = BoundedMessage::new(Message::Headers(headers.copy(alloc)?));
+    let messages = one_message(alloc, message)?;
+    session.end(alloc, messages)
+}
+
+/// Requests the headers after a locator, at the end of an item.
+fn ask_headers(session: &SessionState, alloc: Global, locator: &Locator) -> Result<Reaction, Fault>
+    ensures ok { (item : Option Item) →
+        IfOk result (λ made. Makes
+        (ends session.now
+        (asking_headers locator.now ∷ [])) item session.now made.messages.items made.next) }
+    ensures memory { IsOkUnless result Memory }
+{
+    let messages = one_message(alloc, asking_headers(locator.copy(alloc)?))?;
+    session.end(alloc, messages)
+}
+
+/// Handles the result of `headers`. Blocks of accepted headers that we don't have are queued
+/// for download. A header without proof of work ends the session. For an unknown parent the
+/// headers before it are requested.
+#[tactic(auto, unfolding(cb_peer_state::specs::Replying::heads_told))]
+fn hear_heads(
+    session: &mut SessionState,
+    alloc: Global,
+    item: &Option<Shared<Item>>,
+    heads: &Heads,
+) -> Result<Reaction, Fault>
+    ensures ok { IfOk result
+        (λ made. Makes (heads_told session.old item.now heads.now)
+        item.now session.new made.messages.items made.next) }
+    ensures memory { IsOkUnless result Memory }
+    ensures silent { weighs_answer (answers.Heads heads.now) ≡ false →
+        IsLightOutcome (heads_told session.old item.now heads.now) → IsOk result }
+{
+    if heads.refused == Some(Fault::BadWork) {
+        return Ok(session.end_by(alloc, CloseReason::BadBlock));
+    }
+    session.fetch.want(heads.lack.as_slice())?;
+    match heads.refused {
+        None => {
+            let messages = request_behind(alloc, item)?;
+            session.end(alloc, messages)
+        }
+        Some(fault) if fault == Fault::NoParent => ask_headers(session, alloc, &heads.locator),
+        Some(_) => session.end(alloc, Vec::new(alloc)),
+    }
+}
+
+/// Handles the result of `block`. A block already known is ignored. For an unknown parent the
+/// headers before it are requested. Any other refusal ends the session.
+#[tactic(auto, unfolding(cb_peer_state::specs::Replying::taken_told))]
+fn hear_taken(session: &mut SessionState, alloc: Global, taken: &Taken) -> Result<Reaction, Fault>
+    ensures ok { (item : Option Item) → IfOk result
+        (λ made. Makes (taken_told session.old taken.now.refused taken.now.locator)
+        item session.new made.messages.items made.next) }
+    ensures memory { IsOkUnless result Memory }
+    ensures silent { IsLightOutcome (taken_told session.old taken.now.refused taken.now.locator) →
+        IsOk result }
+{
+    match taken.refused {
+        None => session.end(alloc, Vec::new(alloc)),
+        Some(fault) if fault == Fault::Known => session.end(alloc, Vec::new(alloc)),
+        Some(fault) if fault == Fault::NoParent => ask_headers(session, alloc, &taken.locator),
+        Some(_) => Ok(session.end_by(alloc, CloseReason::BadBlock)),
+    }
+}
+
+/// Handles the result of `inv`: requests the wanted transactions, and headers if a block is
+/// wanted.
+#[tactic(auto, unfolding(cb_peer_state::specs::Replying::need_told))]
+fn hear_need(session: &mut SessionState, alloc: Global, need: &Need) -> Result<Reaction, Fault>
+    ensures ok { (item : Option Item) →
+        IfOk result (λ made. Makes
+        (need_told session.old need.now) item session.new made.messages.items made.next) }
+    ensures memory { IsOkUnless result Memory }
+    ensures silent { weighs_answer (answers.Need need.now) ≡ false →
+        IsLightOutcome (need_told session.old need.now) → IsOk result }
+{
+    let mut messages = Vec::new(alloc);
+    push_some(&mut messages, requests_of_txs(alloc, &need.entries)?)?;
+    if names_block(need.entries.as_slice()) {
+        messages.push(asking_headers(need.locator.copy(alloc)?))?;
+    }
+    session.end(alloc, messages)
+}
+
+/// Requests queued blocks that are still needed, at most 16, by inventory type 2.
+#[tactic(auto, unfolding(cb_peer_state::specs::Replying::wanted_told))]
+#[inline(never)]
+fn hear_wanted(session: &mut SessionState, alloc: Global, need: &Need) -> Result<Reaction, Fault>
+    ensures ok { (item : Option Item) →
+        IfOk result (λ made. Makes
+        (wanted_told session.old need.now) item session.new made.messages.items made.next) }
+    ensures memory { IsOkUnless result Memory }
+    ensures silent { weighs_answer (answers.Need need.now) ≡ false →
+        IsLightOutcome (wanted_told session.old need.now) → IsOk result }
+{
+    session.fetch.take_on(need.entries.as_slice())?;
+    let mut messages = Vec::new(alloc);
+    push_some(
+        &mut messages,
+        asking_for(session.fetch.flight_entries(alloc)?),
+    )?;
+    Ok(Reaction {
+        messages,
+        next: Some(session.look()),
+    })
+}
+
+/// Announces news: the tip and transactions.
+#[tactic(auto, unfolding(cb_peer_state::specs::Replying::news_told))]
+#[inline(never)]
+fn hear_news(
+    session: &mut SessionState,
+    alloc: Global,
+    item: &Option<Shared<Item>>,
+    news: &News,
+) -> Result<Reaction, Fault>
+    ensures ok { IfOk result
+        (λ made. Makes (news_told session.old item.now news.now)
+        item.now session.new made.messages.items made.next) }
+    ensures memory { IsOkUnless result Memory }
+    ensures silent { weighs_item item.now ≡ false →
+        IsLightOutcome (news_told session.old item.now news.now) → IsOk result }
+{
+    let mut messages = Vec::new(alloc);
+    push_some(&mut messages, told_tip(session, alloc, news)?)?;
+    push_some(&mut messages, told_txs(alloc, item, &news.txids)?)?;
+    session.marks.tip = Some(news.tip);
+    session.marks.next = news.next;
+    Ok(Reaction::sends(messages))
+}
+
+/// The announcement of a new tip, unless the peer announced it.
+fn told_tip(
+    session: &SessionState,
+    alloc: Global,
+    news: &News,
+) -> Result<Option<BoundedMessage>, Fault>
+    ensures message { IfOk result (λ made. as_list made ≡ tip_told session.now news.now) }
+    ensures memory { IsOkUnless result Memory }
+    ensures silent { tip_told session.now news.now ≡ [] → IsOk result }
+{
+    if session.marks.heard == Some(news.tip) {
+        return Ok(None);
+    }
+    announce_tip(
+        alloc,
+        session.peer.by_headers && !news.long,
+        news.tip,
+        &news.path,
+    )
+}
+
+/// The request for more headers, if the message had 2,000. Fails only with `Fault::Memory`.
+fn request_behind(alloc: Global, item: &Option<Shared<Item>>) -> Result<Vec<BoundedMessage>, Fault>
+    ensures messages { IfOk result (λ made. made.items ≡ more_headers item.now) }
+    ensures memory { IsOkUnless result Memory }
+    ensures silent { more_headers item.now ≡ [] → IsOk result }
+{
+    let Some(shared) = item else {
+        return Ok(Vec::new(alloc));
+    };
+    let Item::Good(bounded) = &**shared else {
+        return Ok(Vec::new(alloc));
+    };
+    let Message::Headers(headers) = bounded.message() else {
+        return Ok(Vec::new(alloc));
+    };
+    let list = headers.as_slice();
+    if list.len() != MOST_HEADERS {
+        return Ok(Vec::new(alloc));
+    }
+    let Some(hash) = hash_of_last(list) else {
+        return Ok(Vec::new(alloc));
+    };
+    one_message(alloc, asking_headers(locator_of(alloc, hash)?))
+}
+
+/// A locator of one hash. Fails only with `Fault::Memory`.
+fn locator_of(alloc: Global, hash: Hash256) -> Result<Locator, Fault>
+    ensures locator { IfOk result (λ locator. locator ≡ hash ∷ []) }
+    ensures memory { IsOkUnless result Memory }
+{
+    let mut list = Vec::with_capacity(alloc, 1)?;
+    list.push_reserved(hash);
+    Ok(Locator::from_few(list))
+}
+
+/// The `getdata` for the transactions among the entries, if any. Fails only with `Fault::Memory`,
+/// and never if there are no entries.
+fn requests_of_txs(
+    alloc: Global,
+    entries: &cb_state::Inventories,
+) -> Result<Option<BoundedMessage>, Fault>
+    ensures message { IfOk result
+        (λ made. as_list made ≡ asking_for (filter_map tx_request entries.now)) }
+    ensures memory { IsOkUnless result Memory }
+    ensures unpaid { entries.now ≡ [] → IsOk result }
+{
+    let wanted = tx_requests(alloc, entries.as_slice())?;
+    Ok(asking_for(cb_payload::Entries::from_few(wanted)))
+}
+
+/// The `getdata` entries for the transactions among the entries. Fails only with `Fault::Memory`,
+/// and never if there are no entries.
+fn tx_requests(alloc: Global, entries: &[Inventory]) -> Result<Vec<InvEntry>, Fault>
+    ensures wanted { IfOk result (λ made. made.items ≡ filter_map tx_request entries.now) }
+    ensures few { IfOk result (λ made. length made.items ≤ length entries.now) }
+    ensures memory { IsOkUnless result Memory }
+    ensures unpaid { entries.now ≡ [] → IsOk result }
+{
+    let mut wanted = Vec::new(alloc);
+    for entry in entries {
+        if let Inventory::Tx(_) = entry {
+            wanted.push(written(*entry))?;
+        }
+    }
+    Ok(wanted)
+}
+
+/// Whether an entry names a block.
+fn names_block(entries: &[Inventory]) -> bool
+    ensures { result ≡ list_any is_block entries.now }
+{
+    entries
+        .iter()
+        .any(|entry| matches!(entry, Inventory::Block(_)))
+}
+
+/// The announcement of the transactions, without the one that the item brought, if any are left.
+/// Fails only with `Fault::Memory`.
+fn told_txs(
+    alloc: Global,
+    item: &Option<Shared<Item>>,
+    txids: &Txids,
+) -> Result<Option<BoundedMessage>, Fault>
+    ensures message { IfOk result
+        (λ made. as_list made ≡ telling (without_brought item.now txids.now)) }
+    ensures memory { IsOkUnless result Memory }
+    ensures silent { weighs_item item.now ≡ false →
+        telling (without_brought item.now txids.now) ≡ [] → IsOk result }
+{
+    if txids.as_slice().is_empty() {
+        return Ok(None);
+    }
+    let Some(shared) = item else {
+        return announce_txs(alloc, txids);
+    };
+    let Item::Good(bounded) = &**shared else {
+        return announce_txs(alloc, txids);
+    };
+    let Message::Tx(tx) = bounded.message() else {
+        return announce_txs(alloc, txids);
+    };
+    told_beside(alloc, tx, txids)
+}
+
+/// The announcement of the transactions other than this one, if any. Fails only with
+/// `Fault::Memory`.
+fn told_beside(alloc: Global, tx: &Tx, txids: &Txids) -> Result<Option<BoundedMessage>, Fault>
+    ensures message { IfOk result
+        (λ made. as_list made
+        ≡ telling (filter (λ txid. not (same (double_hash (tx_text tx.now)) txid)) txids.now)) }
+    ensures memory { IsOkUnless result Memory }
+{
+    let brought = tx.txid(alloc)?;
+    let others = without(alloc, txids, &brought)?;
+    announce_all(alloc, &others)
+}
+
+/// The announcement of the transactions, if any. Fails only with `Fault::Memory`.
+fn announce_all(alloc: Global, txids: &Txids) -> Result<Option<BoundedMessage>, Fault>
+    ensures message { IfOk result (λ made. as_list made ≡ telling txids.now) }
+    ensures memory { IsOkUnless result Memory }
+{
+    announce_txs(alloc, txids)
+}
+
+/// The txids without this one. Fails only with `Fault::Memory`.
+fn without(alloc: Global, txids: &Txids, brought: &Hash256) -> Result<Txids, Fault>
+    ensures others { IfOk result
+        (λ others. others ≡ filter (λ txid. not (same brought.now txid)) txids.now) }
+    ensures memory { IsOkUnless result Memory }
+{
+    let others = all_without(alloc, txids.as_slice(), brought)?;
+    Ok(Listed::from_few(others))
+}
+
+/// The same for a slice. Fails only with `Fault::Memory`.
+fn all_without(alloc: Global, txids: &[Hash256], brought: &Hash256) -> Result<Vec<Hash256>, Fault>
+    ensures others { IfOk result
+        (λ others. others.items ≡ filter (λ txid. not (same brought.now txid)) txids.now) }
+    ensures few { IfOk result (λ others. length others.items ≤ length txids.now) }
+    ensures memory { IsOkUnless result Memory }
+{
+    let mut others = Vec::new(alloc);
+    for txid in txids {
+        if *brought != *txid {
+            others.push(*txid)?;
+        }
+    }
+    Ok(others)
+}

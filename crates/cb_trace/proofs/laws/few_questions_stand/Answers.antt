@@ -1,6 +1,0 @@
-use Rattle.cb_peer.proofs.Steps.{few_left}
-use Rattle.cb_trace.specs.Fold.{session_of}
-use Rattle.cb_trace.proofs.laws.few_questions_stand.Goals as goal
-
-pub returns : goal.returns
-returns c = λ settings entries. few_left (session_of settings entries).standing
