@@ -1,18 +1,12 @@
 -- What is answered fits in messages: blocks, locators and names of transactions.
-use Rattle.std.proofs.Common.{◌≡◌, ℕ, ◌+◌, ◌-◌, ◌≤◌, ◌^◌, zero, suc, List, [], ◌∷◌, ◌++◌, length, filter, Option, None, Some, refl, sym, ap, subst, ◌∙◌, arith, inl, inr}
-use Rattle.std.specs.Int.{w32, to_le_bytes}
+use Rattle.std.proofs.Common.{◌≡◌, ℕ, ◌+◌, ◌-◌, ◌≤◌, ◌^◌, zero, suc, List, [], ◌∷◌, length, filter, Option, None, Some, refl, sym, ap, subst, ◌∙◌, arith, inl, inr}
 use Rattle.std.specs.Prelude.{Bool, true, false, All, IfSome, filter_map, nat_le, nat_lt, option_map, slice_get}
 use Rattle.std.proofs.lemmas.Bool.{cases_Bool}
 use Rattle.std.proofs.lemmas.Bool.Decides.{nat_tests}
-use Rattle.std.proofs.lemmas.List.{length-append, length-map, length-reverse}
+use Rattle.std.proofs.lemmas.List.{length-map, length-reverse}
 use Rattle.cb_base.specs.declared.hash.Hash256.{Hash256}
-use Rattle.cb_base.specs.CompactSize.{compact_text}
-use Rattle.cb_base.proofs.Hashes.{length-double_hash}
-use Rattle.cb_tx.specs.Text.{tx_text, list_text, input_text, output_text, script_text}
 use Rattle.cb_block.specs.declared.block.Block.{Block}
 use Rattle.cb_block.specs.Blocks.{MeetsBlockRules}
-use Rattle.cb_block.specs.Genesis.{genesis_block, genesis_header, genesis_tx, headline, to_a_key}
-use Rattle.cb_block.specs.Text.{block_text, header_text}
 use Rattle.cb_chain.specs.Best.{active, best, branch}
 use Rattle.cb_chain.specs.Entries.{Entry, Tree, block_hash, block_of, genesis_hash, height_of, same, sound_block}
 use Rattle.cb_chain.specs.History.{IsHistoric}
@@ -20,6 +14,7 @@ use Rattle.cb_chain.specs.Locator.{depth_of, heights_from, locator_heights, loca
 use Rattle.cb_pool.specs.Listing.{since_of}
 use Rattle.cb_pool.specs.Rules.{txid_of}
 use Rattle.cb_pool.specs.declared.members.Pooled.{Pooled}
+use Rattle.cb_state.proofs.FirstBlock.{first_meets_rules}
 use Rattle.cb_state.proofs.TipHeight.{tip_low}
 
 -- ---- lists
@@ -93,51 +88,28 @@ locator_few tree height hashes is at e =
 
 -- ---- blocks
 
--- a message can carry it
-abbrev pub IsCarried : Block → Type 0
-IsCarried block = length (block_text block) ≤ 4000000
-
-first_header_long : length (header_text genesis_header) ≡ 80
-unfolding header_text
-first_header_long =
-    let h = genesis_header in
-    let tail = to_le_bytes w32 h.time ++ (to_le_bytes w32 h.bits ++ to_le_bytes w32 h.nonce) in
-    let prev : length h.prev.0 ≡ 32 = refl in
-    omega (arith, prev, length-double_hash (tx_text genesis_tx), length-append h.prev.0 (h.root.0 ++ tail), length-append h.root.0 tail)
-
-first_txs_long : length (list_text tx_text genesis_block.txs) ≡ 205
-unfolding tx_text list_text input_text output_text script_text compact_text headline to_a_key
-first_txs_long = refl
-
-first_carried : IsCarried genesis_block
-unfolding block_text
-first_carried = omega (arith, first_header_long, first_txs_long, length-append (header_text genesis_header) (list_text tx_text genesis_block.txs))
-
-carried : (block : Option Block) → IfSome block MeetsBlockRules → IfSome block IsCarried
-carried None meets = tt
-carried (Some block) meets = omega (arith, meets.size)
-
-shown : (entry : Entry) → IfSome entry.block MeetsBlockRules → IfSome (sound_block entry) IsCarried
+shown : (entry : Entry) → IfSome entry.block MeetsBlockRules → IfSome (sound_block entry) MeetsBlockRules
 shown entry meets =
     elim (cases_Bool entry.marked) [
       | inl marked ↦ rw marked tt
-      | inr sound ↦ rw sound (carried entry.block meets)
+      | inr sound ↦ rw sound meets
     ]
 
-pub kept_carried : (tree : Tree) (hash : Hash256) → All (λ (entry : Entry). IfSome entry.block MeetsBlockRules) tree → IfSome (block_of tree hash) IsCarried
-kept_carried [] hash all =
+kept_rules : (tree : Tree) (hash : Hash256) → All (λ (entry : Entry). IfSome entry.block MeetsBlockRules) tree → IfSome (block_of tree hash) MeetsBlockRules
+kept_rules [] hash all =
     elim (cases_Bool (same hash genesis_hash)) [
-      | inl is ↦ rw is first_carried
+      | inl is ↦ rw is first_meets_rules
       | inr isnt ↦ rw isnt tt
     ]
-kept_carried (entry ∷ older) hash all =
+kept_rules (entry ∷ older) hash all =
     elim (cases_Bool (same hash (block_hash entry.header))) [
       | inl is ↦ rw is (shown entry (all 0 entry (omega arith)))
-      | inr isnt ↦ rw isnt (kept_carried older hash (λ k d lt. all (suc k) d (omega (arith, lt))))
+      | inr isnt ↦ rw isnt (kept_rules older hash (λ k d lt. all (suc k) d (omega (arith, lt))))
     ]
 
-pub copy_carried : (tree : Tree) (hash : Hash256) (shown : Option Block) (block copy : Block) → All (λ (entry : Entry). IfSome entry.block MeetsBlockRules) tree → shown ≡ block_of tree hash → shown ≡ Some block → copy ≡ block
-    → IsCarried copy
-copy_carried tree hash shown block copy all is some same =
-    let given : IfSome (Some block) IsCarried = subst (λ (o : Option Block). IfSome o IsCarried) (sym is ∙ some) (kept_carried tree hash all) in
-    subst IsCarried (sym same) given
+-- a copy of a block that is kept meets the rules
+pub copy_meets_rules : (tree : Tree) (hash : Hash256) (shown : Option Block) (block copy : Block) → All (λ (entry : Entry). IfSome entry.block MeetsBlockRules) tree → shown ≡ block_of tree hash → shown ≡ Some block → copy ≡ block
+    → MeetsBlockRules copy
+copy_meets_rules tree hash shown block copy all is some same =
+    let given : IfSome (Some block) MeetsBlockRules = subst (λ (o : Option Block). IfSome o MeetsBlockRules) (sym is ∙ some) (kept_rules tree hash all) in
+    subst MeetsBlockRules (sym same) given

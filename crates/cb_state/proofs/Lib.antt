@@ -1,5 +1,6 @@
 pub mod AskedFor
 pub mod Carried
+pub mod FirstBlock
 pub mod Fits
 pub mod Growing
 pub mod Mined

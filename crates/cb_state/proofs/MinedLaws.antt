@@ -76,7 +76,7 @@ one_mined state mark a b is other =
 
 -- ---- the rules of a block
 
-money : IsOutsideMoney (pos 5000000000) → ⊥
+pub money : IsOutsideMoney (pos 5000000000) → ⊥
 money (inl below) = grind (arith, ints)
 money (inr above) = grind (arith, ints)
 

@@ -1,5 +1,6 @@
 ghost use Rattle.std.specs.Prelude.{◌≡◌, ◌≤◌, length, IfOk, IsOkUnless};
 ghost use Rattle.cb_base.specs.declared.fault.Fault.TheVariants.{Memory};
+ghost use Rattle.cb_block.specs.Blocks.{MeetsBlockRules};
 ghost use Rattle.cb_block.specs.Text.{block_text};
 ghost use Rattle.cb_chain.specs.Entries.{block_of};
 
@@ -8,29 +9,29 @@ use cb_block::SoundBlock;
 use cb_chain::{Chain, kept_meet_rules};
 use std::marker::Model;
 
-/// A sound block that fits in a message: at most 4,000,000 bytes when serialised (Bitcoin's
-/// protocol). Its model is the block.
+/// A sound block that meets the rules of a block by itself (Bitcoin's consensus). So it fits in a
+/// message, also as a compact block: it has at most 1,000,000 bytes when serialised. Its model is
+/// the block.
 #[derive(Drop)]
 pub struct BoundedBlock {
     block: SoundBlock,
 }
 
 impl Model for BoundedBlock {
-    ghost use Rattle.std.specs.Prelude.{◌≤◌, length};
-    ghost use Rattle.cb_block.specs.Text.{block_text};
+    ghost use Rattle.cb_block.specs.Blocks.{MeetsBlockRules};
     ghost use Rattle.cb_block.specs.declared.block.Block.{Block};
 
     ghost Value = { Block };
 
     ghost view = { λ bounded. bounded.block };
 
-    ghost invariant = { λ bounded. length (block_text bounded.block) ≤ 4000000 };
+    ghost invariant = { λ bounded. MeetsBlockRules bounded.block };
 }
 
 impl BoundedBlock {
-    /// Wraps a block that fits in a message.
+    /// Wraps a block that meets the rules of a block.
     pub fn new(block: SoundBlock) -> BoundedBlock
-        requires { length (block_text block) ≤ 4000000 }
+        requires { MeetsBlockRules block }
         ensures { result ≡ block }
     {
         BoundedBlock { block }
@@ -39,6 +40,7 @@ impl BoundedBlock {
     /// The block.
     pub fn block(&self) -> &SoundBlock
         ensures same { result.now ≡ self.now }
+        ensures rules { MeetsBlockRules self.now }
         ensures few { length (block_text self.now) ≤ 4000000 }
     {
         &self.block

@@ -1,6 +1,8 @@
 //! Laws of every state and every call. Each law is the contract of a function that does nothing.
 ghost use Rattle.std.specs.Prelude.{◌≡◌, List, Option};
 ghost use Rattle.cb_base.specs.declared.fault.Fault.{Fault};
+ghost use Rattle.cb_block.specs.Blocks.{MeetsBlockRules};
+ghost use Rattle.cb_block.specs.Genesis.{genesis_block};
 ghost use Rattle.cb_block.specs.declared.block.Block.{Block};
 ghost use Rattle.cb_block.specs.declared.header.Header.{Header};
 ghost use Rattle.cb_tx.specs.declared.tx.Tx.{Tx};
@@ -22,4 +24,10 @@ pub fn one_answer()
     ensures headers { (old new other : NodeState) (headers : List Header) (heads again : Heads)
         → TakesHeads old headers heads new → TakesHeads old headers again other →
         (heads ≡ again) × (new ≡ other) }
+{}
+
+/// Regtest's genesis block meets the rules of a block by itself (Bitcoin's consensus). The chain
+/// keeps it without having checked it.
+pub fn first_block_meets_rules()
+    ensures { MeetsBlockRules genesis_block }
 {}

@@ -22,7 +22,7 @@ pub use accepting::{Heads, Taken};
 pub use bounded::BoundedBlock;
 pub use connection::Connection;
 pub use inventory::{Inventories, Inventory, MOST_ENTRIES};
-pub use laws::one_answer;
+pub use laws::{first_block_meets_rules, one_answer};
 pub use mining::{mined_meets_rules, one_mined_block};
 pub use news::{Announced, MOST_ANNOUNCED, News, Txids};
 pub use serving::{Piece, Pieces};

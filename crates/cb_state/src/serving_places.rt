@@ -1,6 +1,7 @@
 ghost use Rattle.std.specs.Prelude.{◌≡◌, ◌≤◌, false, length, slice_get, IfOk, IsOk, IsOkUnless};
 ghost use Rattle.cb_base.specs.declared.fault.Fault.TheVariants.{BadIndex, Memory};
-ghost use Rattle.cb_block.specs.Text.{block_text, header_text};
+ghost use Rattle.cb_block.specs.Blocks.{MeetsBlockRules};
+ghost use Rattle.cb_block.specs.Text.{header_text};
 ghost use Rattle.cb_compact.specs.Differences.{sums};
 ghost use Rattle.cb_state.specs.Parts.{BlockPart, IsCarried, txs_at};
 ghost use Rattle.cb_state.specs.Serving.{are_below, excerpt_at, excerpt_of};
@@ -61,6 +62,14 @@ impl Part {
         ensures few { IsCarried self.now.txs }
     {
         &self.txs
+    }
+
+    /// Gives the transactions out, in order.
+    pub fn into_txs(self) -> Txs
+        ensures same { result ≡ self.txs }
+        ensures few { IsCarried self.txs }
+    {
+        self.txs
     }
 
     /// A copy. The transactions are shared; memory is allocated only for their list. Fails only
@@ -127,7 +136,7 @@ fn excerpt_at(
     differences: &[u64],
     block: &SoundBlock,
 ) -> Result<Excerpt, Fault>
-    requires { length (block_text block.now) ≤ 4000000 }
+    requires { MeetsBlockRules block.now }
     ensures exact { IfOk result
         (λ excerpt. excerpt ≡ excerpt_at near hash (sums 0 differences.now) block.now) }
     ensures memory { IsOkUnless result Memory }

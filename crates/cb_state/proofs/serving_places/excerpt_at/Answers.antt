@@ -1,5 +1,6 @@
-use Rattle.std.proofs.Common.{◌≢◌, ◌≤◌, ◌∙◌, ap, inl, inr, length, rules, subst, sym}
+use Rattle.std.proofs.Common.{◌≢◌, ◌≤◌, ◌∙◌, ap, arith, inl, inr, length, rules, subst, sym}
 use Rattle.cb_base.specs.declared.fault.Fault.TheVariants.{BadIndex}
+use Rattle.cb_block.specs.Blocks.{MeetsBlockRules}
 use Rattle.cb_block.specs.Text.{block_text, header_text}
 use Rattle.cb_state.specs.declared.serving_places.Excerpt.TheVariants.{Part, Whole}
 use Rattle.cb_state.specs.Parts.{IsCarried, txs_at}
@@ -25,7 +26,7 @@ returns-in_err-list-clause-refused c =
     never_below _ _ c.args.block.now.txs total c.in-Ok.ensures.found.1
 
 pub new-requires : goal.new-requires
-new-requires c = subst (λ b. length (block_text b) ≤ 4000000) (sym c.in_ok-copy.ensures.same) c.requires
+new-requires c = subst MeetsBlockRules (sym c.in_ok-copy.ensures.same) c.requires
 
 pub returns-then-not-near-clause-exact : goal.returns-then-not-near-clause-exact
 returns-then-not-near-clause-exact c =
@@ -37,7 +38,8 @@ new-requires-3 c =
     let txs = c.as_slice.ensures ∙ ap (λ b. b.txs) c.block-3.ensures.same in
     let list = c.new-2.ensures ∙ c.in_ok-list.ensures.exact ∙ ap (λ l. txs_at l c.as_slice-2.result.now) txs ∙ ap (txs_at c.args.block.now.txs) c.as_slice-2.ensures.value in
     let eighty = sym (c.header_size.ensures.text ∙ ap (λ b. length (header_text b.header)) c.block-2.ensures.same) ∙ c.header_size.ensures.size in
-    subst IsCarried (sym list) (carried c.args.block.now c.in-Ok.places.items c.args.differences.now eighty c.requires c.in-Ok.ensures.found.0)
+    let few : length (block_text c.args.block.now) ≤ 4000000 = omega (arith, c.requires.size) in
+    subst IsCarried (sym list) (carried c.args.block.now c.in-Ok.places.items c.args.differences.now eighty few c.in-Ok.ensures.found.0)
 
 pub returns-clause-exact : goal.returns-clause-exact
 returns-clause-exact c =
