@@ -6,15 +6,16 @@ runs/PROGRAM/NAME.run is a run of crates/PROGRAM/out/PROGRAM. Its lines are
     # TEXT          a remark; an empty line is one too
     args WORD ..    the program's words
     status N        the exit status that it must end with, 0 where none is told
-    input FORM      how the input's lines are read from here on: text, hex or messages
-    output FORM     how the output's lines are read: text or hex
+    input FORM      how the input's lines are read from here on: text, hex, messages or envelopes
+    output FORM     how the output's lines are read: text, hex or envelopes
     < TEXT          a line of standard input
     > TEXT          a line of standard output
     ! TEXT          a line of standard error; where a run has none, standard error isn't compared
 
 As text a line ends with a line feed. As hex the lines are bytes, one behind another, with spaces as you like. Of messages each
 line is a command's name and its payload in hex: it becomes a line of hex of the whole message, with the right checksum, as
-`decode` takes it. Text and messages, or hex, but not both, are one run's input.
+`decode` takes it. As envelopes such a line becomes the message's bytes, as `serve` takes and writes them. Text and messages, or
+hex and envelopes, but not both, are one run's input.
 
 A file of examples/ is the input of crates/cbrelay/out/cbrelay, NAME.stdout beside it what it prints, NAME.args its words and
 NAME.status its status. With WORD only those whose path has one of the words are run. The status is 0 where all came out so.
@@ -78,18 +79,19 @@ def difference(name, wanted, got):
     return "\n".join(difflib.unified_diff(*texts, f"{name}, as stored", f"{name}, now", lineterm="", n=1))
 
 
-def message(text):
-    """Returns the line of hex of a message: a command's name and a payload in hex, with the right checksum."""
+def envelope(text):
+    """Returns the bytes of a message: a command's name and a payload in hex, with the right checksum."""
     name, _, payload = text.partition(" ")
     data = bytes.fromhex(payload)
     checksum = hashlib.sha256(hashlib.sha256(data).digest()).digest()[:4]
-    return (MAGIC + name.encode().ljust(12, b"\0") + struct.pack("<I", len(data)) + checksum + data).hex() + "\n"
+    return MAGIC + name.encode().ljust(12, b"\0") + struct.pack("<I", len(data)) + checksum + data
 
 
 FORMS = {
     "text": lambda text: f"{text}\n".encode(),
     "hex": bytes.fromhex,
-    "messages": lambda text: message(text).encode(),
+    "messages": lambda text: f"{envelope(text).hex()}\n".encode(),
+    "envelopes": envelope,
 }
 
 

@@ -1,16 +1,18 @@
 #!/usr/bin/env python3
 """Plays generated conversations through `cbrelay serve`, and compares what it sends with a plain session in Python:
-python3 bench/looks/conversations.py [COUNT] [SEED]
+python3 bench/looks/conversations.py [COUNT] [SEED] [PROGRAM] [--plain], or --store
 
-Without words 10,000 conversations from seed 1, in some minutes. It needs the built program (crates/cbrelay/out/cbrelay, as ./build
+Without words 2,000 conversations from seed 1, in some minutes. It needs the built program (crates/cbrelay/out/cbrelay, as ./build
 leaves it) and python3. The plain session (bench/models/plain_session.py) was written apart from the program, from the rules in
-docs/PROTOCOL.md. Most conversations shake hands, in all orders; then come headers, blocks and transactions of a few branches,
-faulty ones among them, what a peer asks, and payloads that can't be read.
+docs/PROTOCOL.md. Worked conversations come first (bench/tools/relay_rows.py). Half of the others shake hands in all orders; then come
+headers, blocks and transactions of a few branches, faulty ones among them, what a peer asks, and payloads that can't be read. In the
+other half a chain grows, and its blocks come as compact ones, known to the mempool in whole or not, right or wrong. At the end it
+tells how often each case came, and it fails if one never did. What the plain session reads of the shared state is compared with the
+answers of the plain hall (bench/models/plain_hall.py). With --plain no program is run. With --store the worked conversations are
+written as stored runs of cbrelay (runs/cbrelay/serve-compact-*.run) and as an example (examples/relay.bin).
 """
 
-import io
 import os
-import random
 import struct
 import subprocess
 import sys
@@ -21,160 +23,36 @@ from pathlib import Path
 if not __package__:  # called as a file
     sys.path.insert(0, str(Path(__file__).resolve().parents[2]))
 
-from bench.models import plain_wire as wire
-from bench.models.plain_block import Block, Tx, paying
-from bench.models.plain_hall import Shared
-from bench.models.plain_session import PlainSession, Settings, serve
+from bench.tools import relay_rows
 from bench.tools.command_line import usage
-from bench.tools.messages import envelope
-from bench.tools.network import GENESIS, header_text
-from bench.tools.programs import built
-from bench.tools.texts import random_bytes
+from bench.tools.conversation_drawing import Conversation, Relay, Spoken
+from bench.tools.programs import ROOT, built
+from bench.tools.session_beside import beside
 
-CONVERSATIONS, LONGEST, BLOCKS = 10_000, 40, 24
+CONVERSATIONS = 2_000
 # What many conversations have to meet: how sessions end, and what the plain session sends.
-MET = {"Bye", "BadStream", "BadMessage", "BadBlock", "OldPeer", "SelfPeer", "version", "verack", "pong", "sendheaders", "sendcmpct",
-       "getheaders", "getdata", "inv", "headers", "block", "tx", "notfound", "16 asked for"}
+SENT = {"Bye", "BadStream", "BadMessage", "BadBlock", "BadRequest", "OldPeer", "SelfPeer", "version", "verack", "pong", "sendheaders",
+        "sendcmpct", "getheaders", "getdata", "inv", "headers", "block", "tx", "notfound", "cmpctblock", "getblocktxn", "blocktxn",
+        "16 asked for"}
+# And the rules of compact blocks that have to come up.
+CASES = {
+    "cmpctblock: no place", "cmpctblock: no work", "cmpctblock: known", "cmpctblock: F23 NoParent", "cmpctblock: F24 BadParent",
+    "cmpctblock: repeated ids", "cmpctblock: places missing", "cmpctblock: places missing, in flight",
+    "cmpctblock: another partial one's place", "cmpctblock: rebuilt at once", "cmpctblock: rebuilt at once of the pool",
+    "a block drops the partial one", "a wrong list", "blocktxn: nobody asked", "blocktxn: of another block", "blocktxn: wrong count",
+    "blocktxn: as many as are missing", "rebuilt: taken", "rebuilt: F10 BadCoinbase", "rebuilt: F19 NoInput", "rebuilt: F21 Overspent",
+    "rebuilt: F23 NoParent", "rebuilt: F24 BadParent", "fallback", "fallback: in flight", "fallback: wanted", "fallback: later",
+    "fallback: later, wanted already", "asked for: compact", "asked for: whole, near", "asked for: whole of a capable peer",
+    "asked of us: compact", "asked of us: compact at 5", "asked of us: compact, sent whole", "asked of us: compact, whole at 6",
+    "a compact block that isn't there", "getblocktxn: no block", "getblocktxn: no place", "getblocktxn: part", "getblocktxn: part at 10",
+    "getblocktxn: several", "getblocktxn: whole", "getblocktxn: whole at 11", "told: compact", "told: headers",
+    "told: headers, of several", "told: headers, of eight", "told: hash", "told: hash, of many",
+    "the peer is asked for compact blocks: unasked", "six questions"}
 
 
-class Conversation:
-    """The stream of one peer, and what it is answered."""
-
-    def __init__(self, seed):
-        self.rng, self.marks = random.Random(seed), 0
-        self.blocks, self.txs = [], []
-        for _ in range(self.rng.randrange(BLOCKS)):
-            self.grow()
-        self.stream = b"".join(self.items())
-
-    def mark(self):
-        self.marks += 1
-        return self.marks
-
-    def parent(self):
-        near = self.blocks[-4:] if self.rng.random() < 0.9 else self.blocks
-        return self.rng.choice(near) if near and self.rng.random() < 0.95 else None
-
-    def grow(self):
-        """One block more, mostly on one of the last; some spend what an earlier one made."""
-        parent, spent = self.parent(), []
-        if parent is not None and self.rng.random() < 0.3:
-            spent = [paying(self.mark(), [(parent.txs[0].name, 0)], [self.rng.choice([40, 50, 60])])]
-            self.txs += spent
-        prev = GENESIS if parent is None else parent.header.name
-        if self.rng.random() < 0.02:
-            prev = bytes(random_bytes(self.rng, 32))
-        self.blocks.append(Block(prev, [Tx(self.mark(), [], [50]), *spent]))
-
-    def items(self):
-        yield from self.handshake()
-        for _ in range(self.rng.randrange(LONGEST)):
-            yield self.drawn()
-
-    def handshake(self):
-        number = self.rng.choice([70014] * 8 + [70012, 70001, 70000, 60000, 80000])
-        nonce = self.rng.choice([7] * 20 + [1])
-        version = wire.version(Settings(nonce=nonce))[24:]
-        version = envelope(b"version", struct.pack("<i", number) + version[4 : self.rng.choice([96, 97, 97, 97])] + b"\7" * self.rng.randrange(2))
-        parts = [version, envelope(b"verack", b"")]
-        if self.rng.random() < 0.15:
-            self.rng.shuffle(parts)
-        if self.rng.random() < 0.1:
-            parts.pop()
-        for part in parts:
-            if self.rng.random() < 0.1:
-                yield self.drawn()
-            yield part
-
-    def drawn(self):
-        kinds = [self.ping, self.wishes, self.headers, self.headers, self.block, self.block, self.block, self.block, self.tx, self.inv,
-                 self.getdata, self.getheaders, self.notfound, self.odd]
-        return self.rng.choice(kinds)()
-
-    def ping(self):
-        return envelope(self.rng.choice([b"ping", b"ping", b"pong"]), struct.pack("<Q", self.rng.getrandbits(64)))
-
-    def wishes(self):
-        return envelope(b"sendheaders", b"") if self.rng.random() < 0.6 else wire.sendcmpct(self.rng.randrange(2), self.rng.choice([1, 1, 2]))
-
-    def some(self, things, most):
-        start = self.rng.randrange(len(things) + 1)
-        return things[start : start + self.rng.randrange(most)]
-
-    def headers(self):
-        texts = [block.header.text for block in (self.blocks if self.rng.random() < 0.5 else self.some(self.blocks, 20))]
-        if self.rng.random() < 0.05:
-            texts.append(header_text(GENESIS, bytes(32), self.rng.random() < 0.5))
-        return wire.headers(texts)
-
-    def block(self):
-        if not self.blocks:
-            return self.ping()
-        text = self.rng.choice(self.blocks).text
-        if self.rng.random() < 0.04:
-            place = self.rng.randrange(80, len(text))
-            text = text[:place] + bytes([text[place] ^ 1]) + text[place + 1 :]
-        return envelope(b"block", text)
-
-    def tx(self):
-        tx = self.rng.choice(self.txs) if self.txs and self.rng.random() < 0.7 else Tx(self.mark(), [], [50])
-        if self.blocks and self.rng.random() < 0.4:
-            tx = paying(self.mark(), [(self.rng.choice(self.blocks).txs[0].name, 0)], [self.rng.choice([40, 50, 60])])
-            self.txs.append(tx)
-        return envelope(b"tx", tx.text)
-
-    def entries(self):
-        names = [block.header.name for block in self.blocks] + [GENESIS, bytes(32)]
-        txids = [tx.name for tx in self.txs] + [bytes([1]) * 32]
-        return [(kind, self.rng.choice(txids if kind == 1 else names)) for kind in self.rng.choices([1, 2, 4, 3], [4, 4, 1, 1], k=self.rng.randrange(8))]
-
-    def inv(self):
-        return wire.entries(b"inv", self.entries())
-
-    def getdata(self):
-        return wire.entries(b"getdata", self.entries())
-
-    def notfound(self):
-        return wire.entries(b"notfound", self.entries())
-
-    def getheaders(self):
-        names = [block.header.name for block in self.blocks] + [GENESIS, bytes(32)]
-        return wire.getheaders(self.rng.choices(names, k=self.rng.randrange(4)), self.rng.choice(names))
-
-    def odd(self):
-        """What isn't known, is damaged, or can't be read."""
-        text = self.rng.choice([self.ping, self.inv, self.headers, self.getheaders, self.wishes])()
-        place = self.rng.random()
-        if place < 0.5:
-            return envelope(b"hello", bytes(random_bytes(self.rng, 5)))
-        if place < 0.8:
-            return text[:20] + bytes([text[20] ^ 1]) + text[21:]
-        if place < 0.95:
-            payload = text[24:]
-            return envelope(text[4:16].rstrip(b"\0"), payload[:-1] if payload else b"\0")
-        return bytes(24)
-
-
-class Out:
-    def __init__(self):
-        self.text = b""
-
-    def write(self, piece):
-        self.text += piece
-
-    def flush(self):
-        pass
-
-
-def plain(stream):
-    """What the plain session sends, and why it ends."""
-    out = Out()
-    why = serve(io.BufferedReader(io.BytesIO(stream)), out, PlainSession(Settings(), Shared()))
-    return out.text, why
-
-
-def met_in(text, why):
-    met = {why}
+def sent_in(text):
+    """The names of the messages in a stream."""
+    met = set()
     while text:
         size, name = struct.unpack("<I", text[16:20])[0], text[4:16].rstrip(b"\0").decode()
         met.add(name)
@@ -185,32 +63,91 @@ def met_in(text, why):
 
 
 def compared(program, seed):
-    """How the program differs from the plain session, if it does, and what was met."""
-    stream = Conversation(seed).stream
-    text, why = plain(stream)
+    """How the program differs from the plain session, if it does, what was sent, and which rules came up."""
+    spoken = (Relay if seed % 2 else Conversation)(seed, beside())
+    difference = served_differently(program, spoken.stream, spoken.answered, spoken.why)
+    return difference and f"seed {seed}: {difference}", (Counter(sent_in(spoken.answered) | {spoken.why}), spoken.session.met)
+
+
+def served_differently(program, stream, answered, why):
+    """How the program serves a stream otherwise than it should."""
     if program is None:
-        return None, met_in(text, why)
+        return None
     ran = subprocess.run([program, "serve"], input=stream, capture_output=True, timeout=60)
     told = (ran.stdout, ran.stderr.decode("ascii", "replace"), ran.returncode)
-    wanted = (text, f"closed {why}\n", {"Bye": 0, "Memory": 4}.get(why, 3))
-    return (None if told == wanted else f"seed {seed}: {told[1:]} for {wanted[1:]}, {len(told[0])} bytes for {len(wanted[0])}"), met_in(text, why)
+    wanted = (answered, f"closed {why}\n", {"Bye": 0, "Memory": 4}.get(why, 3))
+    return None if told == wanted else f"{told[1:]} for {wanted[1:]}, {differs(told[0], wanted[0])}"
+
+
+def row_differences(program, row):
+    """Where a worked conversation goes otherwise: with the plain session step by step, and with the program as a whole."""
+    spoken, found = Spoken(beside()), []
+    for remark, said, told in row.steps:
+        before = len(spoken.answered)
+        for message in said:
+            spoken.say(message.bytes())
+        if spoken.answered[before:] != b"".join(message.bytes() for message in told):
+            found.append(f"{row.name}: {remark}: the plain session tells something else")
+    if spoken.why != row.why:
+        found.append(f"{row.name}: the plain session closes with {spoken.why}")
+    difference = served_differently(program, row.said(), row.told(), row.why)
+    return found + [f"{row.name}: {difference}"] * (difference is not None)
+
+
+def store():
+    """Writes the worked conversations as stored runs, and one as an example."""
+    for make in relay_rows.ROWS:
+        row = make()
+        with open(os.path.join(ROOT, f"runs/cbrelay/serve-compact-{row.name}.run"), "w", encoding="ascii") as file:
+            file.write(relay_rows.run_text(row))
+    row = relay_rows.relay()
+    for ending, text in (("", row.said()), (".stdout", row.told()), (".args", b"serve\n")):
+        with open(os.path.join(ROOT, f"examples/relay.bin{ending}"), "wb") as file:
+            file.write(text)
+
+
+def differs(told, wanted):
+    """Where two outputs part."""
+    place = next((place for place, (one, other) in enumerate(zip(told, wanted)) if one != other), min(len(told), len(wanted)))
+    return f"{len(told)} bytes for {len(wanted)}, the first that differs at {place}"
+
+
+def counted(counts):
+    return ", ".join(f"{name} {times}" for name, times in sorted(counts.items()) if times)
+
+
+def report(count, failures, rows, sent, cases):
+    """Prints what came of it, and returns the exit status."""
+    for failure in (rows + failures)[:10]:
+        print(f"conversations: {failure}")
+    print(f"conversations: {counted(sent)}")
+    print(f"conversations: {counted(cases)}")
+    missed = sorted(name for name in SENT | CASES if not (sent + cases)[name]) if count >= 1_000 else []
+    print(f"conversations: {count - len(failures)} alike, {len(failures)} not, {len(rows)} differences in worked ones"
+          + (f"; never met: {', '.join(missed)}" if missed else ""))
+    return 1 if failures or rows or missed else 0
 
 
 def main():
-    parser = usage(__doc__, count="how many conversations", seed="the seed of the first")
+    parser = usage(__doc__, count="how many conversations", seed="the seed of the first", program="the program, if not crates/cbrelay/out/cbrelay")
+    parser.add_argument("--plain", action="store_true", help="run no program")
+    parser.add_argument("--store", action="store_true", help="write the worked conversations")
     words = parser.parse_args()
     count, seed = int(words.count or CONVERSATIONS), int(words.seed or 1)
-    program = None if os.environ.get("PLAIN") else built(None, "cbrelay")
-    met, failures = Counter(), []
+    program = None if words.plain or words.store else built(words.program, "cbrelay")
+    rows = [difference for make in relay_rows.ROWS + relay_rows.OTHERS for difference in row_differences(program, make())]
+    if words.store:
+        print("\n".join(rows) or "conversations: stored")
+        if not rows:
+            store()
+        return 1 if rows else 0
+    sent, cases, failures = Counter(), Counter(), []
     with ThreadPoolExecutor(os.cpu_count()) as lanes:
-        for failure, some in lanes.map(lambda number: compared(program, number), range(seed, seed + count)):
-            met.update(some)
+        for failure, (some, rules) in lanes.map(lambda number: compared(program, number), range(seed, seed + count)):
+            sent.update(some)
+            cases.update(rules)
             failures += [failure] if failure else []
-    for failure in failures[:10]:
-        print(f"conversations: {failure}")
-    missed = sorted(MET - set(met)) if count >= 1_000 else []
-    print(f"conversations: {count - len(failures)} alike, {len(failures)} not; {dict(met.most_common())}" + (f"; never met: {missed}" if missed else ""))
-    return 1 if failures or missed else 0
+    return report(count, failures, rows, sent, cases)
 
 
 if __name__ == "__main__":

@@ -25,6 +25,7 @@ from bench.tools.messages import pings, unknown
 from bench.tools.network import GENESIS, header_text
 from bench.tools.programs import ROOT, built
 from bench.tools.records import as_records, copies, record
+from bench.tools.relay_rows import behind_a_checkpoint
 
 
 def example(name):
@@ -102,6 +103,8 @@ RUNS = [
     ("decode blocks.hex", "cbrelay", ["decode"], example("blocks.hex")),
     ("serve blocks.bin", "cbrelay", ["serve"], example("blocks.bin")),
     ("serve conversation.bin", "cbrelay", ["serve"], example("conversation.bin")),
+    ("serve relay.bin", "cbrelay", ["serve"], example("relay.bin")),
+    ("serve, a checkpoint between a compact block and what it lacks", "cbrelay", ["serve"], behind_a_checkpoint().said()),
     ("serve, a checkpoint between three large messages and a ping", "cbrelay", ["serve"], unknown(3) + pings(1)),
     ("sound, a block of 5 transactions", "bench_sound", [], block(5, 10)),
     ("chain, a block at the tip and three blocks for two", "bench_chain", [], careful_play()),

@@ -12,8 +12,10 @@ from bench.models.plain_session import PlainSession, Settings, serve
 
 
 def main():
-    print("closed", serve(sys.stdin.buffer, sys.stdout.buffer, PlainSession(Settings(), Shared())), file=sys.stderr)
+    why = serve(sys.stdin.buffer, sys.stdout.buffer, PlainSession(Settings(), Shared()))
+    print("closed", why, file=sys.stderr)
+    return 0 if why == "Bye" else 3
 
 
 if __name__ == "__main__":
-    main()
+    sys.exit(main())

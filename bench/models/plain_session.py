@@ -1,20 +1,24 @@
 """A plain session: what one connection is answered, by docs/PROTOCOL.md, over a plain hall's state.
 
-It was written apart from the program. Items come whole; each is processed to its end, with all that it asks.
+It was written apart from the program. Items come whole; each is processed to its end, with all that it asks. `met` counts the
+rules of compact blocks that came up.
 """
 
 import struct
+from collections import Counter
 from dataclasses import dataclass, field
 
 from bench.models import plain_wire as wire
-from bench.models.plain_hall import ANNOUNCED
+from bench.models.plain_compact import differences, indexes, judged, key_of, missing, short_id, slots
+from bench.models.plain_hall import ANNOUNCED, DEPTH, PART_DEPTH
 from bench.models.plain_payload import Fault
 from bench.tools.messages import envelope
 from bench.tools.network import GENESIS, MAGIC
-from bench.tools.texts import hash_twice, merkle_root
+from bench.tools.texts import compact_size, hash_twice
 
-MOST_FLIGHT, MOST_WANTED = 16, 2_000
+MOST_FLIGHT, MOST_WANTED, MOST_QUESTIONS = 16, 2_000, 6
 TX, BLOCK, COMPACT = 1, 2, 4
+WORD = (1 << 64) - 1
 
 
 class Closed(Exception):
@@ -27,21 +31,32 @@ class Settings:
     nonce: int = 1
     time: int = 0
     height: int = 0
+    # The first nonce of our compact blocks.
+    salt: int = 0
 
 
-def is_mutated(names):
-    """Some level of the tree has equal neighbours."""
-    while len(names) > 1:
-        if any(one == other for one, other in zip(names[::2], names[1::2])):
-            return True
-        names = names + names[-1:] * (len(names) % 2)
-        names = [merkle_root(names[k : k + 2]) for k in range(0, len(names), 2)]
-    return False
+@dataclass
+class Partial:
+    """A compact block that lacks transactions: its header, and what stands at each place."""
+
+    header: object
+    slots: list
 
 
-def is_sound(block):
-    names = [tx.name for tx in block.txs]
-    return bool(names) and all(len(tx.text) != 64 for tx in block.txs) and not is_mutated(names) and merkle_root(names) == block.header.text[36:68]
+def is_sound(header, txs):
+    """Whether these transactions are those of the block with this header."""
+    return judged(header.text, [tx.text for tx in txs]) == "sound"
+
+
+def whole(header, txs):
+    """The block of these transactions."""
+    return wire.ReadBlock(header.text + compact_size(len(txs)) + b"".join(tx.text for tx in txs), txs)
+
+
+def compact(block, nonce):
+    """A block as a compact one: its first transaction whole, and short ids of all others."""
+    key = key_of(block.header.text, nonce)
+    return wire.cmpctblock(block.header.text, nonce, [short_id(key, tx.name) for tx in block.txs[1:]], [(0, block.txs[0].text)])
 
 
 @dataclass
@@ -59,9 +74,14 @@ class PlainSession:
     next: int = 0
     flight: list = field(default_factory=list)
     wanted: list = field(default_factory=list)
+    # The compact block that lacks transactions, how many compact blocks were made, and whether the peer was asked to send its own unasked.
+    partial: Partial = None
+    made: int = 0
+    asked_high: bool = False
     # How many questions the item asked, and what goes out.
     questions: int = 0
     out: list = field(default_factory=list)
+    met: Counter = field(default_factory=Counter)
 
     def opening(self):
         return b"" if self.settings.inbound else wire.version(self.settings)
@@ -77,6 +97,8 @@ class PlainSession:
             self.message(item[1], item[2])
         if self.phase == "Ready":
             self.end()
+        assert self.questions <= MOST_QUESTIONS
+        self.met["six questions"] += self.questions == MOST_QUESTIONS
         return b"".join(self.out)
 
     def message(self, name, value):
@@ -116,21 +138,27 @@ class PlainSession:
         if not headers:
             return
         self.heard = headers[-1].name
+        lack, refused = self.give_headers(headers)
+        for name in lack:
+            self.want(name)
+        if refused is None and len(headers) == wire.MOST_HEADERS:
+            self.out.append(wire.getheaders([headers[-1].name]))
+
+    def give_headers(self, headers):
+        """The names of those whose blocks are lacking, and the refusal that ended it."""
         self.questions += 1
-        refused = None
+        lack, refused = [], None
         for header in headers:
             ended = self.shared.chain.take_header(header)
             if ended not in ("taken", "F18 Known"):
                 refused = ended
                 break
-            if self.shared.lacks(header.name):
-                self.want(header.name)
+            lack += [header.name] if self.shared.lacks(header.name) else []
         if refused == "F11 BadWork":
             raise Closed("BadBlock")
         if refused == "F23 NoParent":
             self.ask_headers()
-        if refused is None and len(headers) == wire.MOST_HEADERS:
-            self.out.append(wire.getheaders([headers[-1].name]))
+        return lack, refused
 
     def want(self, name):
         if name not in self.wanted and name not in self.flight and len(self.wanted) < MOST_WANTED:
@@ -158,20 +186,63 @@ class PlainSession:
         for kind, name in entries:
             if kind not in (TX, BLOCK, COMPACT):
                 continue
-            text = self.text_of(kind, name)
-            if text is None:
+            message = self.tx_of(name) if kind == TX else self.block_of(kind, name)
+            if message is None:
                 lacking.append((kind, name))
             else:
-                self.out.append(envelope(b"tx" if kind == TX else b"block", text))
+                self.out.append(message)
         if lacking:
             self.out.append(wire.entries(b"notfound", lacking))
 
-    def text_of(self, kind, name):
-        if kind == TX:
-            return next((tx.text for tx, _ in self.shared.pool if tx.name == name), None)
+    def tx_of(self, name):
+        return next((envelope(b"tx", tx.text) for tx, _ in self.shared.pool if tx.name == name), None)
+
+    def block_of(self, kind, name):
+        """A block as it is sent: near the tip as a compact one where it was asked for so."""
         if not self.shared.has_block(name):
+            self.met["a compact block that isn't there"] += kind == COMPACT
             return None
-        return GENESIS_TEXT if name == GENESIS else self.shared.chain.kept[name].text
+        if kind == COMPACT and self.depth(name) <= DEPTH:
+            self.met["asked of us: compact"] += 1
+            self.met["asked of us: compact at 5"] += self.depth(name) == DEPTH
+            return self.made_compact(self.kept(name))
+        self.met["asked of us: compact, sent whole"] += kind == COMPACT
+        self.met["asked of us: compact, whole at 6"] += kind == COMPACT and self.depth(name) == DEPTH + 1
+        return envelope(b"block", self.kept(name).text)
+
+    def kept(self, name):
+        return GENESIS_BLOCK if name == GENESIS else self.shared.chain.kept[name]
+
+    def depth(self, name):
+        """How far below the tip's height a block stands."""
+        return self.shared.height() - self.shared.chain.height(name)
+
+    def made_compact(self, block):
+        """A compact block under the next nonce."""
+        message = compact(block, (self.settings.salt + self.made) & WORD)
+        self.made = (self.made + 1) & WORD
+        return message
+
+    def told_getblocktxn(self, request):
+        name, steps = request
+        self.questions += 1
+        if not self.shared.has_block(name):
+            self.met["getblocktxn: no block"] += 1
+            return
+        txs = self.kept(name).txs
+        places = indexes(steps, len(txs))
+        if places is None:
+            self.met["getblocktxn: no place"] += 1
+            raise Closed("BadRequest")
+        if self.depth(name) > PART_DEPTH:
+            self.met["getblocktxn: whole"] += 1
+            self.met["getblocktxn: whole at 11"] += self.depth(name) == PART_DEPTH + 1
+            self.out.append(envelope(b"block", self.kept(name).text))
+            return
+        self.met["getblocktxn: part"] += 1
+        self.met["getblocktxn: part at 10"] += self.depth(name) == PART_DEPTH
+        self.met["getblocktxn: several"] += len(places) > 1
+        self.out.append(wire.blocktxn(name, [txs[place].text for place in places]))
 
     def told_getheaders(self, request):
         self.questions += 1
@@ -184,20 +255,103 @@ class PlainSession:
         self.shared.answer_tx(self.connection, tx)
 
     def told_block(self, block):
-        if not is_sound(block):
+        if not is_sound(block.header, block.txs):
             raise Closed("BadBlock")
         self.heard = block.header.name
-        self.flight = [name for name in self.flight if name != self.heard]
+        self.land(self.heard)
+        if self.partial is not None and self.partial.header.name == self.heard:
+            self.met["a block drops the partial one"] += 1
+            self.partial = None
+        if self.give_block(block) not in ("-", "F18 Known", "F23 NoParent"):
+            raise Closed("BadBlock")
+
+    def land(self, *names):
+        """These are no longer in flight."""
+        self.flight = [name for name in self.flight if name not in names]
+
+    def give_block(self, block):
+        """The refusal, or "-"."""
         self.questions += 1
         refused = self.shared.answer_block(self.connection, block, self.capable)[0].removeprefix("block ").split(" locator")[0]
         if refused == "F23 NoParent":
             self.ask_headers()
-        elif refused not in ("-", "F18 Known"):
-            raise Closed("BadBlock")
+        return refused
 
     def told_notfound(self, entries):
-        gone = {name for kind, name in entries if kind in (BLOCK, COMPACT)}
-        self.flight = [name for name in self.flight if name not in gone]
+        self.land(*(name for kind, name in entries if kind in (BLOCK, COMPACT)))
+
+    # ---- compact blocks that the peer tells
+
+    def told_cmpctblock(self, short):
+        places = indexes([difference for difference, _ in short.prefilled], len(short.ids) + len(short.prefilled))
+        if places is None:
+            self.met["cmpctblock: no place"] += 1
+            raise Closed("BadMessage")
+        self.heard = short.header.name
+        self.met["cmpctblock: no work"] += not short.header.works
+        lack, refused = self.give_headers([short.header])
+        if not lack:
+            self.met[f"cmpctblock: {refused or 'known'}"] += 1
+            self.land(self.heard)
+            return
+        self.rebuild(short, list(zip(places, (tx for _, tx in short.prefilled))))
+
+    def rebuild(self, short, prefilled):
+        """Rebuilds a block from its prefilled transactions and the pool."""
+        self.questions += 1
+        if len(set(short.ids)) < len(short.ids):
+            self.met["cmpctblock: repeated ids"] += 1
+            self.fall_back(short.header.name)
+            return
+        key = key_of(short.header.text, short.nonce)
+        found = slots(short.ids, prefilled, [(short_id(key, tx.name), tx) for tx, _ in self.shared.pool])
+        places = missing(found)
+        if places:
+            self.met["cmpctblock: places missing"] += 1
+            self.met["cmpctblock: another partial one's place"] += self.partial is not None
+            self.met["cmpctblock: places missing, in flight"] += short.header.name in self.flight
+            self.partial = Partial(short.header, found)
+            self.out.append(wire.getblocktxn(short.header.name, differences(places)))
+            return
+        self.met["cmpctblock: rebuilt at once"] += 1
+        self.met["cmpctblock: rebuilt at once of the pool"] += bool(short.ids)
+        self.complete(short.header, found)
+
+    def told_blocktxn(self, told):
+        name, txs = told
+        partial = self.partial
+        if partial is None or partial.header.name != name:
+            self.met["blocktxn: nobody asked" if partial is None else "blocktxn: of another block"] += 1
+            return
+        self.partial = None
+        places = missing(partial.slots)
+        if len(txs) != len(places):
+            self.met["blocktxn: wrong count"] += 1
+            raise Closed("BadMessage")
+        self.met["blocktxn: as many as are missing"] += 1
+        rest = iter(txs)
+        self.complete(partial.header, [next(rest) if tx is None else tx for tx in partial.slots])
+
+    def complete(self, header, txs):
+        """Gives the block of all these transactions to the hall, or asks for the right one."""
+        if not is_sound(header, txs):
+            self.met["a wrong list"] += 1
+            self.fall_back(header.name)
+            return
+        self.land(header.name)
+        refused = self.give_block(whole(header, txs))
+        self.met["rebuilt: taken" if refused == "-" else f"rebuilt: {refused}"] += 1
+
+    def fall_back(self, name):
+        """Asks for a block whole, or keeps it in mind where too many others are in flight."""
+        if name not in self.flight and len(self.flight) == MOST_FLIGHT:
+            self.met["fallback: later"] += 1
+            self.met["fallback: later, wanted already"] += name in self.wanted
+            self.want(name)
+            return
+        self.met["fallback: in flight" if name in self.flight else "fallback: wanted" if name in self.wanted else "fallback"] += 1
+        self.flight += [name] * (name not in self.flight)
+        self.out.append(wire.entries(b"getdata", [(BLOCK, name)]))
 
     # ---- at the end of an item
 
@@ -206,19 +360,48 @@ class PlainSession:
             need = [name for _, name in self.needed([(BLOCK, name) for name in self.wanted])]
             self.flight, self.wanted = need[:MOST_FLIGHT], need[MOST_FLIGHT:]
             if self.flight:
-                self.out.append(wire.entries(b"getdata", [(BLOCK, name) for name in self.flight]))
+                kind = COMPACT if self.capable and self.is_near(need) else BLOCK
+                self.met["asked for: compact"] += kind == COMPACT
+                self.met["asked for: whole, near"] += kind == BLOCK and self.is_near(need)
+                self.met["asked for: whole of a capable peer"] += kind == BLOCK and self.capable
+                self.out.append(wire.entries(b"getdata", [(kind, name) for name in self.flight]))
+        self.news()
+
+    def is_near(self, need):
+        """Whether one block alone is needed, whose header stands on the tip."""
+        headers = self.shared.chain.headers
+        return len(need) == 1 and need[0] in headers and headers[need[0]].prev == self.shared.tip()
+
+    def news(self):
         self.questions += 1
         tip = self.shared.tip()
         path = self.shared.chain.path(self.told) if self.told is not None else []
         txids = [tx.name for tx, number in self.shared.pool if number >= self.next and tx.name != self.brought]
+        high = self.connection in self.shared.announcers
         self.told, self.next = tip, self.shared.next
         if path and tip != self.heard:
-            if self.by_headers and len(path) <= ANNOUNCED:
-                self.out.append(wire.headers([self.shared.chain.headers[name].text for name in path]))
-            else:
-                self.out.append(wire.entries(b"inv", [(BLOCK, tip)]))
+            self.tell_tip(tip, path)
         if txids:
             self.out.append(wire.entries(b"inv", [(TX, name) for name in txids]))
+        if self.capable and high != self.asked_high:
+            self.met[f"the peer is asked for compact blocks: {'unasked' if high else 'asked for'}"] += 1
+            self.out.append(wire.sendcmpct(high, 1))
+            self.asked_high = high
+
+    def tell_tip(self, tip, path):
+        """Tells a new tip: as a compact block, by headers, or by its hash."""
+        if self.wants_high and len(path) == 1:
+            self.met["told: compact"] += 1
+            self.out.append(self.made_compact(self.kept(tip)))
+        elif self.by_headers and len(path) <= ANNOUNCED:
+            self.met["told: headers"] += 1
+            self.met["told: headers, of several"] += len(path) > 1
+            self.met["told: headers, of eight"] += len(path) == ANNOUNCED
+            self.out.append(wire.headers([self.shared.chain.headers[name].text for name in path]))
+        else:
+            self.met["told: hash"] += 1
+            self.met["told: hash, of many"] += len(path) > ANNOUNCED
+            self.out.append(wire.entries(b"inv", [(BLOCK, tip)]))
 
 
 GENESIS_TEXT = bytes.fromhex(
@@ -227,6 +410,7 @@ GENESIS_TEXT = bytes.fromhex(
     "01000000010000000000000000000000000000000000000000000000000000000000000000ffffffff4d04ffff001d0104455468652054696d65732030332f4a616e2f32"
     "303039204368616e63656c6c6f72206f6e206272696e6b206f66207365636f6e64206261696c6f757420666f722062616e6b73ffffffff0100f2052a0100000043410467"
     "8afdb0fe5548271967f1a67130b7105cd6a828e03909a67962e0ea1f61deb649f6bc3f4cef38c4f35504e51ec112de5c384df7ba0b8d578a4c702b6bf11d5fac00000000")
+GENESIS_BLOCK = wire.read("block", GENESIS_TEXT)
 
 
 def good(name, data):
@@ -237,28 +421,44 @@ def good(name, data):
         return ("bad",)
 
 
+class Line:
+    """The bytes of one connection, and the session that they are for."""
+
+    def __init__(self, session):
+        self.session, self.stream = session, b""
+
+    def hear(self, piece):
+        """What is answered to more bytes, item by item."""
+        self.stream += piece
+        while len(self.stream) >= 24:
+            size = struct.unpack("<I", self.stream[16:20])[0]
+            if self.stream[:4] != MAGIC or size > 4_000_000:
+                raise Closed("BadStream")
+            if len(self.stream) < 24 + size:
+                return
+            front, payload = self.stream[:24], self.stream[24 : 24 + size]
+            self.stream = self.stream[24 + size :]
+            yield self.session.item(item_of(front, payload))
+
+
+def item_of(front, payload):
+    name = front[4:16].rstrip(b"\0")
+    if hash_twice(payload)[:4] != front[20:24] or not name or not all(0x20 <= byte <= 0x7E for byte in name):
+        return ("damaged",)
+    return good(name.decode(), payload) if name.decode() in wire.KNOWN else ("unknown",)
+
+
 def serve(reader, writer, session):
     """Serves a connection from its bytes, and returns why it ended."""
     writer.write(session.opening())
-    stream = b""
+    line = Line(session)
     try:
         while True:
             piece = reader.read1(65_536)
             if not piece:
                 raise Closed("Bye")
-            stream += piece
-            while len(stream) >= 24:
-                size = struct.unpack("<I", stream[16:20])[0]
-                if stream[:4] != MAGIC or size > 4_000_000:
-                    raise Closed("BadStream")
-                if len(stream) < 24 + size:
-                    break
-                payload, name = stream[24 : 24 + size], stream[4:16].rstrip(b"\0")
-                whole = hash_twice(payload)[:4] == stream[20:24] and name and all(0x20 <= byte <= 0x7E for byte in name)
-                known = whole and name.decode() in wire.KNOWN
-                item = good(name.decode(), payload) if known else ("unknown",) if whole else ("damaged",)
-                stream = stream[24 + size :]
-                writer.write(session.item(item))
+            for told in line.hear(piece):
+                writer.write(told)
                 writer.flush()
     except Closed as closed:
         return str(closed)

@@ -202,3 +202,23 @@ def getheaders(locator, stop=bytes(32)):
 
 def sendcmpct(high, number_of):
     return envelope(b"sendcmpct", struct.pack("<BQ", high, number_of))
+
+
+def cmpctblock(header, nonce, ids, prefilled):
+    """A compact block: the header's 80 bytes, short ids, and transactions behind their differences (BIP 152)."""
+    shorts = compact_size(len(ids)) + b"".join(number_of.to_bytes(6, "little") for number_of in ids)
+    whole = compact_size(len(prefilled)) + b"".join(spelled(difference) + text for difference, text in prefilled)
+    return envelope(b"cmpctblock", header + struct.pack("<Q", nonce) + shorts + whole)
+
+
+def getblocktxn(name, differences):
+    return envelope(b"getblocktxn", name + compact_size(len(differences)) + b"".join(map(spelled, differences)))
+
+
+def blocktxn(name, texts):
+    return envelope(b"blocktxn", name + compact_size(len(texts)) + b"".join(texts))
+
+
+def spelled(value):
+    """A number of up to 64 bits as a CompactSize."""
+    return b"\xff" + struct.pack("<Q", value) if value > 0xFFFF_FFFF else compact_size(value)

@@ -1,3 +1,4 @@
+pub mod Falling
 pub mod Limits
 pub mod Needed
 pub mod Once

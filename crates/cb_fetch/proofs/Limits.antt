@@ -3,11 +3,11 @@ use Rattle.std.proofs.Common.{◌≡◌, Bool, true, false, List, [], ◌∷◌,
 use Rattle.std.specs.Prelude.{fold, nat_lt}
 use Rattle.std.proofs.lemmas.Bool.{cases_Bool, ltb-true}
 use Rattle.cb_base.specs.declared.hash.Hash256.{Hash256}
-use Rattle.cb_fetch.specs.Fetching.{FetchState, IsFetch, IsReached, idle, is_fetched, taking_on, wanting, wanting_all, with_wanted}
-use Rattle.cb_fetch.specs.Fetching.IsReached.{opening, wants, lands as came, takes_on}
-use Rattle.cb_fetch.proofs.Once.{flies, is_wanted, lands}
+use Rattle.cb_fetch.specs.Fetching.{FetchState, IsFetch, IsReached, fallen_back, has, idle, is_fetched, taking_on, wanting, wanting_all, with_wanted}
+use Rattle.cb_fetch.specs.Fetching.IsReached.{opening, wants, lands as came, falls_back, takes_on}
+use Rattle.cb_fetch.proofs.Once.{flies, is_wanted, lands, neither}
 
-stays_wanted : (fetch : FetchState) (hash : Hash256) → IsFetch fetch → is_fetched fetch hash ≡ false → IsFetch (with_wanted fetch hash)
+stays_wanted : (fetch : FetchState) (hash : Hash256) → IsFetch fetch → has fetch.wanted hash ≡ false → IsFetch (with_wanted fetch hash)
 stays_wanted fetch hash is fresh =
     elim (cases_Bool (nat_lt (length fetch.wanted) 2000)) [
       | inl room ↦ rw room (is_wanted fetch hash is fresh (ltb-true (length fetch.wanted) 2000 room))
@@ -18,7 +18,7 @@ wants_one : (fetch : FetchState) (hash : Hash256) → IsFetch fetch → IsFetch 
 wants_one fetch hash is =
     elim (cases_Bool (is_fetched fetch hash)) [
       | inl there ↦ rw there is
-      | inr fresh ↦ rw fresh (stays_wanted fetch hash is fresh)
+      | inr fresh ↦ rw fresh (stays_wanted fetch hash is (neither (has fetch.flight hash) (has fetch.wanted hash) fresh).1)
     ]
 
 takes_one : (fetch : FetchState) (hash : Hash256) → IsFetch fetch → IsFetch (taking_on fetch hash)
@@ -26,9 +26,25 @@ takes_one fetch hash is =
     elim (cases_Bool (is_fetched fetch hash)) [
       | inl there ↦ rw there is
       | inr fresh ↦
+          let parts = neither (has fetch.flight hash) (has fetch.wanted hash) fresh in
+          elim (cases_Bool (nat_lt (length fetch.flight) 16)) [
+            | inl room ↦ rw (fresh, room) (flies fetch hash is parts.0 (ltb-true (length fetch.flight) 16 room))
+            | inr full ↦ rw (fresh, full) (stays_wanted fetch hash is parts.1)
+          ]
+    ]
+
+falls_one : (fetch : FetchState) (hash : Hash256) → IsFetch fetch → IsFetch (fallen_back hash fetch)
+falls_one fetch hash is =
+    elim (cases_Bool (has fetch.flight hash)) [
+      | inl there ↦ rw there is
+      | inr fresh ↦
           elim (cases_Bool (nat_lt (length fetch.flight) 16)) [
             | inl room ↦ rw (fresh, room) (flies fetch hash is fresh (ltb-true (length fetch.flight) 16 room))
-            | inr full ↦ rw (fresh, full) (stays_wanted fetch hash is fresh)
+            | inr full ↦
+                elim (cases_Bool (has fetch.wanted hash)) [
+                  | inl wanted ↦ rw (fresh, full, wanted) is
+                  | inr new ↦ rw (fresh, full, new) (stays_wanted fetch hash is new)
+                ]
           ]
     ]
 
@@ -38,12 +54,13 @@ folds step keeps fetch [] is = is
 folds step keeps fetch (hash ∷ hashes) is = folds step keeps (step fetch hash) hashes (keeps fetch hash is)
 
 idle_is : IsFetch idle
-idle_is = record { flight = omega arith; wanted = omega arith; once = tt }
+idle_is = record { flight = omega arith; wanted = omega arith; flight_once = tt; wanted_once = tt }
 
 pub within : (fetch : FetchState) → IsReached fetch → IsFetch fetch
 within fetch opening = idle_is
 within fetch (wants old hashes r) = folds wanting wants_one old hashes (within old r)
 within fetch (came old hash r) = lands old hash (within old r)
+within fetch (falls_back old hash r) = falls_one old hash (within old r)
 within fetch (takes_on old hashes r) = folds taking_on takes_one idle hashes idle_is
 
 -- ---- what is wanted leaves what is in flight

@@ -2,12 +2,12 @@
 use Rattle.std.proofs.Common.{◌≡◌, ℕ, ◌<◌, ◌≤◌, Bool, true, false, cond, ◌||◌, List, [], ◌∷◌, ◌++◌, length, take, drop, refl, sym, ap, ◌∙◌, arith, inl, inr}
 use Rattle.std.specs.Prelude.{fold, nat_lt}
 use Rattle.std.proofs.lemmas.Bool.{cases_Bool, cases_lt, false≢true, lt-ltb, le-ltb}
-use Rattle.std.proofs.lemmas.List.{append-nil, length-append, length-take-le, length-drop, take_all, take-append-le, drop-append-le, take-append-drop}
+use Rattle.std.proofs.lemmas.List.{length-append, length-take-le, length-drop, take_all, take-append-le, drop-append-le, take-append-drop}
 use Rattle.std.proofs.lemmas.List.Folds.{list_any-append}
 use Rattle.cb_base.specs.declared.hash.Hash256.{Hash256}
 use Rattle.cb_chain.specs.Entries.{same}
 use Rattle.cb_fetch.specs.Fetching.{AreDifferent, FetchState, has, is_fetched, once, taken_on, taking_on, with_flight, with_hash, with_wanted}
-use Rattle.cb_fetch.proofs.Once.{different_with, neither, none_of}
+use Rattle.cb_fetch.proofs.Once.{different_last, neither, none_of}
 
 -- ---- of a list that grows, a beginning
 
@@ -54,7 +54,7 @@ different_more : (xs : List Hash256) (y : Hash256) → AreDifferent xs → AreDi
 different_more xs y are =
     elim (cases_Bool (has xs y)) [
       | inl there ↦ rw there are
-      | inr fresh ↦ rw fresh (different_with xs [] y (rw (append-nil xs) are) (rw (append-nil xs) fresh))
+      | inr fresh ↦ rw fresh (different_last xs y are fresh)
     ]
 
 different_all : (xs ys : List Hash256) → AreDifferent xs → AreDifferent (fold with_hash xs ys)

@@ -1,15 +1,14 @@
 -- Hashes of which none stands twice.
-use Rattle.std.proofs.Common.{◌≡◌, ℕ, ◌+◌, ◌≤◌, Bool, true, false, cond, ◌||◌, not, List, [], ◌∷◌, ◌++◌, length, ◌<◌, take, get_or, refl, sym, ap, subst, ◌∙◌, arith, inl, inr}
+use Rattle.std.proofs.Common.{◌≡◌, ℕ, ◌+◌, ◌≤◌, Bool, true, false, cond, ◌||◌, not, List, [], ◌∷◌, ◌++◌, length, ◌<◌, take, get_or, refl, sym, ap, ◌∙◌, arith, inl, inr}
 use Rattle.std.specs.Prelude.{filter, fold}
 use Rattle.std.proofs.lemmas.Bool.{cases_Bool, false≢true, lt-ltb}
 use Rattle.std.proofs.lemmas.List.{append-nil, append_assoc, length-append, take_more}
 use Rattle.std.proofs.lemmas.List.Sums.{fold-append}
-use Rattle.std.proofs.lemmas.List.Folds.{list_any-append}
 use Rattle.cb_base.specs.declared.hash.Hash256.{Hash256}
 use Rattle.cb_chain.specs.Entries.{same}
 use Rattle.cb_chain.proofs.Nodes.{same-symm}
 use Rattle.cb_state.specs.declared.inventory.Inventory.{Inventory}
-use Rattle.cb_fetch.specs.Fetching.{AreDifferent, FetchState, IsFetch, block_in, blocks_in, has, idle, is_fetched, landed, taken_on, taking_on, with_flight, with_wanted}
+use Rattle.cb_fetch.specs.Fetching.{AreDifferent, FetchState, IsFetch, block_in, blocks_in, has, idle, landed, taken_on, taking_on, with_flight, with_wanted}
 
 pub neither : (a b : Bool) → (a || b) ≡ false → (a ≡ false) × (b ≡ false)
 neither true b e = absurd (false≢true (sym e))
@@ -19,37 +18,37 @@ pub none_of : (a b : Bool) → a ≡ false → b ≡ false → (a || b) ≡ fals
 none_of true b e f = absurd (false≢true (sym e))
 none_of false b e f = f
 
--- ---- one that is put between
+-- ---- one more, as the last
 
-lacks_with : (xs ys : List Hash256) (hash other : Hash256) → has (xs ++ ys) other ≡ false → same other hash ≡ false → has (xs ++ hash ∷ ys) other ≡ false
-lacks_with [] ys hash other lacks differs = none_of (same other hash) (has ys other) differs lacks
-lacks_with (x ∷ xs) ys hash other lacks differs =
-    let parts = neither (same other x) (has (xs ++ ys) other) lacks in
-    none_of (same other x) (has (xs ++ hash ∷ ys) other) parts.0 (lacks_with xs ys hash other parts.1 differs)
+lacks_last : (xs : List Hash256) (hash other : Hash256) → has xs other ≡ false → same other hash ≡ false → has (xs ++ hash ∷ []) other ≡ false
+lacks_last [] hash other lacks differs = none_of (same other hash) false differs refl
+lacks_last (x ∷ xs) hash other lacks differs =
+    let parts = neither (same other x) (has xs other) lacks in
+    none_of (same other x) (has (xs ++ hash ∷ []) other) parts.0 (lacks_last xs hash other parts.1 differs)
 
-pub different_with : (xs ys : List Hash256) (hash : Hash256) → AreDifferent (xs ++ ys) → has (xs ++ ys) hash ≡ false → AreDifferent (xs ++ hash ∷ ys)
-different_with [] ys hash are lacks = (lacks, are)
-different_with (x ∷ xs) ys hash are lacks =
-    let parts = neither (same hash x) (has (xs ++ ys) hash) lacks in
-    (lacks_with xs ys hash x are.0 (same-symm x hash ∙ parts.0), different_with xs ys hash are.1 parts.1)
+pub different_last : (xs : List Hash256) (hash : Hash256) → AreDifferent xs → has xs hash ≡ false → AreDifferent (xs ++ hash ∷ [])
+different_last [] hash are lacks = (refl, tt)
+different_last (x ∷ xs) hash are lacks =
+    let parts = neither (same hash x) (has xs hash) lacks in
+    (lacks_last xs hash x are.0 (same-symm x hash ∙ parts.0), different_last xs hash are.1 parts.1)
 
 -- ---- some that are left out
 
-lacks_filtered : (keeps : Hash256 → Bool) (xs ys : List Hash256) (other : Hash256) → has (xs ++ ys) other ≡ false → has (filter keeps xs ++ ys) other ≡ false
-lacks_filtered keeps [] ys other lacks = lacks
-lacks_filtered keeps (x ∷ xs) ys other lacks =
-    let parts = neither (same other x) (has (xs ++ ys) other) lacks in
+lacks_filtered : (keeps : Hash256 → Bool) (xs : List Hash256) (other : Hash256) → has xs other ≡ false → has (filter keeps xs) other ≡ false
+lacks_filtered keeps [] other lacks = lacks
+lacks_filtered keeps (x ∷ xs) other lacks =
+    let parts = neither (same other x) (has xs other) lacks in
     elim (cases_Bool (keeps x)) [
-      | inl is ↦ rw is (none_of (same other x) (has (filter keeps xs ++ ys) other) parts.0 (lacks_filtered keeps xs ys other parts.1))
-      | inr isnt ↦ rw isnt (lacks_filtered keeps xs ys other parts.1)
+      | inl is ↦ rw is (none_of (same other x) (has (filter keeps xs) other) parts.0 (lacks_filtered keeps xs other parts.1))
+      | inr isnt ↦ rw isnt (lacks_filtered keeps xs other parts.1)
     ]
 
-different_filtered : (keeps : Hash256 → Bool) (xs ys : List Hash256) → AreDifferent (xs ++ ys) → AreDifferent (filter keeps xs ++ ys)
-different_filtered keeps [] ys are = are
-different_filtered keeps (x ∷ xs) ys are =
+different_filtered : (keeps : Hash256 → Bool) (xs : List Hash256) → AreDifferent xs → AreDifferent (filter keeps xs)
+different_filtered keeps [] are = are
+different_filtered keeps (x ∷ xs) are =
     elim (cases_Bool (keeps x)) [
-      | inl is ↦ rw is (lacks_filtered keeps xs ys x are.0, different_filtered keeps xs ys are.1)
-      | inr isnt ↦ rw isnt (different_filtered keeps xs ys are.1)
+      | inl is ↦ rw is (lacks_filtered keeps xs x are.0, different_filtered keeps xs are.1)
+      | inr isnt ↦ rw isnt (different_filtered keeps xs are.1)
     ]
 
 filtered_few : (keeps : Hash256 → Bool) (xs : List Hash256) → length (filter keeps xs) ≤ length xs
@@ -69,34 +68,33 @@ lands fetch hash is =
     record {
       flight = omega (arith, filtered_few keeps fetch.flight, is.flight);
       wanted = is.wanted;
-      once = different_filtered keeps fetch.flight fetch.wanted is.once;
+      flight_once = different_filtered keeps fetch.flight is.flight_once;
+      wanted_once = is.wanted_once;
     }
 
-lacking : (xs ys : List Hash256) (hash : Hash256) → (has xs hash || has ys hash) ≡ false → has (xs ++ ys) hash ≡ false
-lacking xs ys hash lacks = list_any-append (same hash) xs ys ∙ lacks
-
-pub flies : (fetch : FetchState) (hash : Hash256) → IsFetch fetch → is_fetched fetch hash ≡ false → length fetch.flight < 16 → IsFetch (with_flight fetch hash)
+pub flies : (fetch : FetchState) (hash : Hash256) → IsFetch fetch → has fetch.flight hash ≡ false → length fetch.flight < 16 → IsFetch (with_flight fetch hash)
 flies fetch hash is fresh room = record {
   flight = omega (arith, room, length-append fetch.flight (hash ∷ []));
   wanted = is.wanted;
-  once = rw (append_assoc fetch.flight (hash ∷ []) fetch.wanted) (different_with fetch.flight fetch.wanted hash is.once (lacking fetch.flight fetch.wanted hash fresh));
+  flight_once = different_last fetch.flight hash is.flight_once fresh;
+  wanted_once = is.wanted_once;
 }
 
-pub is_wanted : (fetch : FetchState) (hash : Hash256) → IsFetch fetch → is_fetched fetch hash ≡ false → length fetch.wanted < 2000 → IsFetch (record { flight = fetch.flight; wanted = fetch.wanted ++ hash ∷ [] })
-is_wanted fetch hash is fresh room =
-    let all = fetch.flight ++ fetch.wanted in
-    let last : AreDifferent ((fetch.flight ++ fetch.wanted) ++ hash ∷ []) =
-    different_with (fetch.flight ++ fetch.wanted) [] hash (rw (append-nil (fetch.flight ++ fetch.wanted)) is.once) (rw (append-nil (fetch.flight ++ fetch.wanted)) (lacking fetch.flight fetch.wanted hash fresh)) in
-    record {
-      flight = is.flight;
-      wanted = omega (arith, room, length-append fetch.wanted (hash ∷ []));
-      once = subst AreDifferent (append_assoc fetch.flight fetch.wanted (hash ∷ [])) last;
-    }
+pub is_wanted : (fetch : FetchState) (hash : Hash256) → IsFetch fetch → has fetch.wanted hash ≡ false → length fetch.wanted < 2000 → IsFetch (record { flight = fetch.flight; wanted = fetch.wanted ++ hash ∷ [] })
+is_wanted fetch hash is fresh room = record {
+  flight = is.flight;
+  wanted = omega (arith, room, length-append fetch.wanted (hash ∷ []));
+  flight_once = is.flight_once;
+  wanted_once = different_last fetch.wanted hash is.wanted_once fresh;
+}
 
 -- ---- what a change of a list makes of it
 
-pub fresh_parts : (fetch inside : FetchState) (hash : Hash256) → inside ≡ fetch → is_fetched fetch hash ≡ false → is_fetched inside hash ≡ false
-fresh_parts fetch inside hash is fresh = ap (λ (f : FetchState). is_fetched f hash) is ∙ fresh
+pub flight_lacks : (fetch inside : FetchState) (hash : Hash256) → inside ≡ fetch → has fetch.flight hash ≡ false → has inside.flight hash ≡ false
+flight_lacks fetch inside hash is fresh = ap (λ (f : FetchState). has f.flight hash) is ∙ fresh
+
+pub wanted_lacks : (fetch inside : FetchState) (hash : Hash256) → inside ≡ fetch → has fetch.wanted hash ≡ false → has inside.wanted hash ≡ false
+wanted_lacks fetch inside hash is fresh = ap (λ (f : FetchState). has f.wanted hash) is ∙ fresh
 
 pub inserted : (keys next : List Hash256) (hash : Hash256) → next ≡ cond (has keys hash) keys (keys ++ hash ∷ []) → has keys hash ≡ false → next ≡ keys ++ hash ∷ []
 inserted keys next hash is lacks = is ∙ ap (λ b. cond b keys (keys ++ hash ∷ [])) lacks

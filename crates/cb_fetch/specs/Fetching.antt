@@ -1,7 +1,7 @@
 -- The blocks that a session downloads from its peer (Bitcoin's peer-to-peer protocol, `getdata`):
 -- wanted blocks are queued for download, and a few blocks are in flight. The limits 16 and 2,000
 -- are this program's own.
-use Rattle.std.specs.Prelude.{◌≡◌, ◌≤◌, ⊤, Bool, false, ◌&&◌, ◌||◌, not, nat_lt, ◌==◌, if◌then◌else◌, List, [], ◌∷◌, ◌++◌, length, map, filter, fold}
+use Rattle.std.specs.Prelude.{◌≡◌, ◌≤◌, ℕ, ⊤, Bool, false, ◌&&◌, ◌||◌, not, nat_lt, ◌==◌, if◌then◌else◌, List, [], ◌∷◌, ◌++◌, length, map, filter, fold}
 use Rattle.std.specs.List.{list_any}
 use Rattle.cb_base.specs.declared.hash.Hash256.{Hash256}
 use Rattle.cb_chain.specs.Entries.{same}
@@ -33,7 +33,8 @@ is_due fetch = (length fetch.flight == 0) && nat_lt 0 (length fetch.wanted)
 
 -- ---- what changes
 
--- a block was received: it is no longer in flight
+-- a block was received: it is no longer in flight. It may be wanted still, and then the question
+-- about wanted blocks tells that it isn't needed.
 abbrev pub landed : Hash256 → FetchState → FetchState
 landed hash fetch = record { flight = filter (λ other. not (same hash other)) fetch.flight; wanted = fetch.wanted }
 
@@ -63,6 +64,21 @@ taking_on fetch hash = if is_fetched fetch hash then fetch else (if nat_lt (leng
 abbrev pub taken_on : List Hash256 → FetchState
 taken_on hashes = fold taking_on idle hashes
 
+-- ---- compact blocks that couldn't be rebuilt (BIP 152)
+
+-- the whole block is to be requested now: it is in flight, or fewer than 16 are
+abbrev pub asks_now : FetchState → Hash256 → Bool
+asks_now fetch hash = has fetch.flight hash || nat_lt (length fetch.flight) 16
+
+-- A compact block couldn't be rebuilt, so the whole block is needed. If it is in flight, nothing
+-- changes. Else it goes in flight if fewer than 16 are, also if it is wanted. Else it becomes
+-- wanted, unless it is, or 2,000 are.
+abbrev pub fallen_back : Hash256 → FetchState → FetchState
+fallen_back hash fetch =
+    if has fetch.flight hash then fetch
+    else if nat_lt (length fetch.flight) 16 then with_flight fetch hash
+    else if has fetch.wanted hash then fetch else with_wanted fetch hash
+
 -- ---- entries of inventory
 
 abbrev pub as_blocks : List Hash256 → List Inventory
@@ -77,9 +93,13 @@ abbrev pub blocks_in : List Inventory → List Hash256
 blocks_in [] = []
 blocks_in (entry ∷ entries) = block_in entry ++ blocks_in entries
 
--- the `getdata` entries that request blocks, of type 2
-abbrev pub requests_of : List Hash256 → List InvEntry
-requests_of hashes = map (λ hash. record { kind = 2; hash = hash }) hashes
+-- the type of a `getdata` entry that requests a compact block (4, BIP 152) or a whole one (2)
+abbrev pub request_kind : Bool → ℕ
+request_kind compact = if compact then 4 else 2
+
+-- the `getdata` entries that request blocks, as compact ones or whole
+abbrev pub requests_of : Bool → List Hash256 → List InvEntry
+requests_of compact hashes = map (λ hash. record { kind = request_kind compact; hash = hash }) hashes
 
 -- ---- what always holds
 
@@ -88,18 +108,20 @@ abbrev pub AreDifferent : List Hash256 → Type 0
 AreDifferent [] = ⊤
 AreDifferent (hash ∷ hashes) = (has hashes hash ≡ false) × AreDifferent hashes
 
--- at most 16 blocks are in flight and at most 2,000 are wanted, and no block is in flight or wanted
--- twice
+-- at most 16 blocks are in flight and at most 2,000 are wanted, and no block is in flight twice or
+-- wanted twice
 pub record IsFetch (fetch : FetchState) : Type 0 where
   pub flight : length fetch.flight ≤ 16
   pub wanted : length fetch.wanted ≤ 2000
-  pub once : AreDifferent (fetch.flight ++ fetch.wanted)
+  pub flight_once : AreDifferent fetch.flight
+  pub wanted_once : AreDifferent fetch.wanted
 
 -- the states that calls lead to, from the start of a session on
 pub data IsReached : FetchState → Type 0 where
   opening : IsReached idle
   wants : (fetch : FetchState) (hashes : List Hash256) → IsReached fetch → IsReached (wanting_all fetch hashes)
   lands : (fetch : FetchState) (hash : Hash256) → IsReached fetch → IsReached (landed hash fetch)
+  falls_back : (fetch : FetchState) (hash : Hash256) → IsReached fetch → IsReached (fallen_back hash fetch)
   takes_on : (fetch : FetchState) (hashes : List Hash256) → IsReached fetch → IsReached (taken_on hashes)
 
 -- ---- each once

@@ -1,6 +1,6 @@
-ghost use Rattle.std.specs.Prelude.{◌≡◌, ◌≤◌, ◌<◌, false, fold, length, IfOk, IsOk, IsOkUnless, OnErr, OnOk};
+ghost use Rattle.std.specs.Prelude.{◌≡◌, ◌≤◌, ◌<◌, false, fold, length, map, nat_lt, IfOk, IsOk, IsOkUnless, OnErr, OnOk};
 ghost use Rattle.cb_base.specs.declared.fault.Fault.TheVariants.{Memory};
-ghost use Rattle.cb_fetch.specs.Fetching.{as_blocks, block_in, blocks_in, idle, is_due, is_fetched, landed, requests_of, taken_on, taking_on, wanting, wanting_all, with_flight, with_wanted};
+ghost use Rattle.cb_fetch.specs.Fetching.{as_blocks, asks_now, block_in, blocks_in, fallen_back, has, idle, is_due, is_fetched, landed, request_kind, requests_of, taken_on, taking_on, wanting, wanting_all, with_flight, with_wanted};
 
 use cb_base::{Fault, Hash256};
 use cb_payload::InvEntry;
@@ -16,13 +16,17 @@ pub const MOST_IN_FLIGHT: usize = 16;
 /// own.
 pub const MOST_WANTED: usize = 2_000;
 
-/// The inventory type of a block in `getdata`.
+/// The inventory type of a whole block in `getdata`.
 const BLOCK: u32 = 2;
+
+/// The inventory type of a compact block in `getdata` (BIP 152).
+const COMPACT_BLOCK: u32 = 4;
 
 /// The blocks that a session downloads from its peer, by hash (Bitcoin's peer-to-peer protocol,
 /// `getdata`). A block is wanted if it is queued for download: at most 2,000 are. A block is in
 /// flight if it was requested and hasn't been received yet: at most 16 are. No block is in flight
-/// or wanted twice. Contracts see the two lists, in order.
+/// twice, and none is wanted twice. A wanted block may also be in flight, where it had to be
+/// requested whole (`fall_back`). Contracts see the two lists, in order.
 #[derive(Drop)]
 pub struct Fetch {
     alloc: Global,
@@ -68,7 +72,7 @@ impl Fetch {
     }
 
     /// Notes that a block was received: it is no longer in flight. A block that isn't in flight
-    /// changes nothing.
+    /// changes nothing, and what is wanted stays so.
     pub fn land(&mut self, hash: &Hash256)
         ensures { self.new ≡ landed hash.now self.old }
     {
@@ -79,15 +83,33 @@ impl Fetch {
     fn is_fetched(&self, hash: &Hash256) -> bool
         ensures { result ≡ is_fetched self.now hash.now }
     {
-        self.flight.iter().any(|other| *hash == *other) || self.wanted.contains(hash)
+        self.is_in_flight(hash) || self.wanted.contains(hash)
     }
 
-    /// Appends a block that isn't in flight or wanted to the wanted ones, unless 2,000 are wanted.
-    /// Fails only with `Fault::Memory`.
+    /// Whether the block is in flight.
+    fn is_in_flight(&self, hash: &Hash256) -> bool
+        ensures { result ≡ has self.now.flight hash.now }
+    {
+        self.flight.iter().any(|other| *hash == *other)
+    }
+
+    /// Whether fewer than 16 blocks are in flight.
+    fn has_room_in_flight(&self) -> bool
+        ensures { result ≡ nat_lt (length self.now.flight) 16 }
+    {
+        self.flight.len() < MOST_IN_FLIGHT
+    }
+
+    /// Appends a block that isn't wanted to the wanted ones, unless 2,000 are wanted.
+    ///
+    /// Fails only with `Fault::Memory`, and never if 2,000 are wanted. After an error nothing has
+    /// changed.
     fn put_wanted(&mut self, hash: Hash256) -> Result<(), Fault>
-        requires { is_fetched self.old hash ≡ false }
+        requires { has self.old.wanted hash ≡ false }
         ensures wanted { OnOk result (self.new ≡ with_wanted self.old hash) }
         ensures memory { IsOkUnless result Memory }
+        ensures err { OnErr result (self.new ≡ self.old) }
+        ensures unpaid { with_wanted self.old hash ≡ self.old → IsOk result }
     {
         if self.wanted.len() < MOST_WANTED {
             self.wanted.insert(hash)?;
@@ -95,13 +117,15 @@ impl Fetch {
         Ok(())
     }
 
-    /// Appends a block that isn't in flight or wanted to those in flight. Fewer than 16 must be in
-    /// flight. Fails only with `Fault::Memory`.
+    /// Appends a block that isn't in flight to those in flight. Fewer than 16 must be in flight.
+    ///
+    /// Fails only with `Fault::Memory`. After an error nothing has changed.
     fn put_flight(&mut self, hash: Hash256) -> Result<(), Fault>
-        requires fresh { is_fetched self.old hash ≡ false }
+        requires fresh { has self.old.flight hash ≡ false }
         requires room { length self.old.flight < 16 }
         ensures flight { OnOk result (self.new ≡ with_flight self.old hash) }
         ensures memory { IsOkUnless result Memory }
+        ensures err { OnErr result (self.new ≡ self.old) }
     {
         self.flight.push(hash)?;
         Ok(())
@@ -129,7 +153,7 @@ impl Fetch {
         if self.is_fetched(&hash) {
             return Ok(());
         }
-        if self.flight.len() < MOST_IN_FLIGHT {
+        if self.has_room_in_flight() {
             return self.put_flight(hash);
         }
         self.put_wanted(hash)
@@ -149,6 +173,34 @@ impl Fetch {
             self.want_one(*hash)?;
         }
         Ok(())
+    }
+
+    /// Notes that a compact block couldn't be rebuilt (BIP 152), so that the whole block is needed.
+    /// If it is in flight, nothing changes. If fewer than 16 are in flight, it goes in flight.
+    /// Otherwise it becomes wanted, unless it is, or 2,000 are.
+    ///
+    /// Returns whether the whole block is to be requested now: it is in flight then.
+    ///
+    /// Fails only with `Fault::Memory`, and never if nothing is to change. After an error nothing
+    /// has changed.
+    pub fn fall_back(&mut self, hash: Hash256) -> Result<bool, Fault>
+        ensures asked { IfOk result (λ now. now ≡ asks_now self.old hash) }
+        ensures fallen { OnOk result (self.new ≡ fallen_back hash self.old) }
+        ensures memory { IsOkUnless result Memory }
+        ensures err { OnErr result (self.new ≡ self.old) }
+        ensures unpaid { fallen_back hash self.old ≡ self.old → IsOk result }
+    {
+        if self.is_in_flight(&hash) {
+            return Ok(true);
+        }
+        if self.has_room_in_flight() {
+            self.put_flight(hash)?;
+            return Ok(true);
+        }
+        if !self.wanted.contains(&hash) {
+            self.put_wanted(hash)?;
+        }
+        Ok(false)
     }
 
     /// Takes the block of an `Inventory::Block` entry as `take_one` does. Another entry changes
@@ -196,15 +248,16 @@ impl Fetch {
         Ok(Inventories::from_few(entries))
     }
 
-    /// The `getdata` entries that request the blocks in flight, of type 2, in order.
+    /// The `getdata` entries that request the blocks in flight, in order: as compact blocks (type
+    /// 4, BIP 152) if `compact`, or else whole (type 2).
     ///
     /// Fails only with `Fault::Memory`, and never if nothing is in flight.
-    pub fn flight_entries(&self, alloc: Global) -> Result<cb_payload::Entries, Fault>
-        ensures entries { IfOk result (λ entries. entries ≡ requests_of self.now.flight) }
+    pub fn flight_entries(&self, alloc: Global, compact: bool) -> Result<cb_payload::Entries, Fault>
+        ensures entries { IfOk result (λ entries. entries ≡ requests_of compact self.now.flight) }
         ensures memory { IsOkUnless result Memory }
         ensures unpaid { length self.now.flight ≡ 0 → IsOk result }
     {
-        let entries = request_entries(alloc, self.flight.as_slice())?;
+        let entries = request_entries(alloc, request_kind(compact), self.flight.as_slice())?;
         Ok(cb_payload::Entries::from_few(entries))
     }
 
@@ -243,19 +296,24 @@ fn block_entries(alloc: Global, hashes: &[Hash256]) -> Result<Vec<Inventory>, Fa
     Ok(entries)
 }
 
-/// The `getdata` entries that request the blocks with these hashes, of type 2. Fails only with
+/// The inventory type under which a block is requested.
+fn request_kind(compact: bool) -> u32
+    ensures { result ≡ request_kind compact }
+{
+    if compact { COMPACT_BLOCK } else { BLOCK }
+}
+
+/// The `getdata` entries of this type that request the blocks with these hashes. Fails only with
 /// `Fault::Memory`, and never without hashes.
-fn request_entries(alloc: Global, hashes: &[Hash256]) -> Result<Vec<InvEntry>, Fault>
-    ensures entries { IfOk result (λ entries. entries.items ≡ requests_of hashes.now) }
+fn request_entries(alloc: Global, kind: u32, hashes: &[Hash256]) -> Result<Vec<InvEntry>, Fault>
+    ensures entries { IfOk result (λ entries. entries.items
+        ≡ map (λ hash. record { kind = kind; hash = hash }) hashes.now) }
     ensures memory { IsOkUnless result Memory }
     ensures unpaid { length hashes.now ≡ 0 → IsOk result }
 {
     let mut entries = Vec::with_capacity(alloc, hashes.len())?;
     for hash in hashes {
-        entries.push(InvEntry {
-            kind: BLOCK,
-            hash: *hash,
-        })?;
+        entries.push(InvEntry { kind, hash: *hash })?;
     }
     Ok(entries)
 }

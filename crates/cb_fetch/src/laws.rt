@@ -2,18 +2,19 @@
 //! use.
 //!
 //! Each law is the contract of a function that does nothing.
-ghost use Rattle.std.specs.Prelude.{◌≡◌, ◌≤◌, ◌++◌, List, [], true, drop, length, take};
+ghost use Rattle.std.specs.Prelude.{◌≡◌, ◌≤◌, List, [], true, drop, length, take};
 ghost use Rattle.cb_base.specs.declared.hash.Hash256.{Hash256};
-ghost use Rattle.cb_fetch.specs.Fetching.{AreDifferent, FetchState, IsFetch, IsReached, has, is_due, once, taken_on, wanting, wanting_all};
+ghost use Rattle.cb_fetch.specs.Fetching.{AreDifferent, FetchState, IsFetch, IsReached, asks_now, fallen_back, has, is_due, once, taken_on, wanting, wanting_all};
 
 use crate::fetch::Fetch;
 
-/// At most 16 blocks are in flight and at most 2,000 are wanted, and no block is in flight or
+/// At most 16 blocks are in flight and at most 2,000 are wanted, and no block is in flight twice or
 /// wanted twice.
 pub fn each_is_fetched_once(fetch: &Fetch)
     ensures flight { length fetch.now.flight ≤ 16 }
     ensures wanted { length fetch.now.wanted ≤ 2000 }
-    ensures once { AreDifferent (fetch.now.flight ++ fetch.now.wanted) }
+    ensures flight_once { AreDifferent fetch.now.flight }
+    ensures wanted_once { AreDifferent fetch.now.wanted }
 {
     // No effect when it runs: it tells the prover what the type keeps.
     let _ = &fetch.flight;
@@ -26,13 +27,28 @@ pub fn limits_hold()
 
 /// No block is requested twice at a time: a block in flight doesn't become wanted, new wanted
 /// blocks don't change what is in flight, and it is time to request wanted blocks only when nothing
-/// is in flight.
+/// is in flight. The exception is a compact block that couldn't be rebuilt, which is requested
+/// whole (`what_falls_back_is_asked_for`).
 pub fn none_is_asked_for_twice()
     ensures same { (fetch : FetchState) (hash : Hash256) → has fetch.flight hash ≡ true →
         wanting fetch hash ≡ fetch }
     ensures flight { (fetch : FetchState) (hashes : List Hash256) →
         (wanting_all fetch hashes).flight ≡ fetch.flight }
     ensures due { (fetch : FetchState) → is_due fetch ≡ true → fetch.flight ≡ [] }
+{}
+
+/// A compact block that couldn't be rebuilt is requested whole now just if it is in flight
+/// afterwards. Where it is in flight nothing changes, so no room is taken twice. All other blocks
+/// stay in flight and wanted.
+pub fn what_falls_back_is_asked_for()
+    ensures asked { (fetch : FetchState) (hash : Hash256) →
+        asks_now fetch hash ≡ has (fallen_back hash fetch).flight hash }
+    ensures same { (fetch : FetchState) (hash : Hash256) → has fetch.flight hash ≡ true →
+        fallen_back hash fetch ≡ fetch }
+    ensures flight { (fetch : FetchState) (hash other : Hash256) → has fetch.flight other ≡ true →
+        has (fallen_back hash fetch).flight other ≡ true }
+    ensures wanted { (fetch : FetchState) (hash other : Hash256) → has fetch.wanted other ≡ true →
+        has (fallen_back hash fetch).wanted other ≡ true }
 {}
 
 /// What is requested is what is needed: the first 16 different blocks are in flight, the next 2,000

@@ -78,11 +78,12 @@ impl Session {
     /// An equal copy that shares the item whose question is open.
     ///
     /// Fails only with `Fault::Memory`, and never if no question is open and no block is being
-    /// downloaded.
+    /// downloaded or rebuilt.
     pub fn copy(&self, alloc: Global) -> Result<Session, Fault>
         ensures equal { IfOk result (λ copy. copy ≡ self.now) }
         ensures memory { IsOkUnless result Memory }
-        ensures unpaid { self.now.pending ≡ None → self.now.fetch ≡ idle → IsOk result }
+        ensures unpaid { self.now.pending ≡ None → self.now.fetch ≡ idle →
+            self.now.compact.partial ≡ None → IsOk result }
     {
         let kept = &self.kept;
         let pending = match &kept.pending {
@@ -96,6 +97,7 @@ impl Session {
                 peer: kept.peer,
                 marks: kept.marks,
                 fetch: kept.fetch.copy(alloc)?,
+                compact: kept.compact.copy(alloc)?,
                 pending,
             },
         })

@@ -89,7 +89,7 @@ fn follow(
 {
     let Pending { item, stage } = pending;
     let settings = session.settings;
-    match react(session, alloc, &item, stage, answer) {
+    match react(session, alloc, &item, &stage, answer) {
         Ok(reaction) => Ok(open_next(session, item, reaction)),
         Err(_) => Err(starve(session, alloc, settings)),
     }
@@ -101,23 +101,23 @@ fn react(
     session: &mut SessionState,
     alloc: Global,
     item: &Option<Shared<Item>>,
-    stage: Stage,
+    stage: &Stage,
     answer: &Answer,
 ) -> Result<Reaction, Fault>
     ensures ok { IfOk result
-        (λ made. Makes (answered session.old item.now stage answer.now)
+        (λ made. Makes (answered session.old item.now stage.now answer.now)
         item.now session.new made.messages.items made.next) }
     ensures memory { IsOkUnless result Memory }
     ensures calm { answer.now ≡ answers.Kicked → IsOk result }
     ensures silent { weighs_item item.now ≡ false → weighs_answer answer.now ≡ false →
-        IsLightOutcome (answered session.old item.now stage answer.now) → IsOk result }
+        IsLightOutcome (answered session.old item.now stage.now answer.now) → IsOk result }
 {
     match stage {
         Stage::Admit => match answer {
             Answer::Go => process(session, alloc, item),
             _ => reply(session, alloc, item, stage, answer),
         },
-        Stage::About(_) | Stage::Wanted | Stage::Fresh => {
+        Stage::About(_) | Stage::Match | Stage::Give(_) | Stage::Wanted | Stage::Fresh => {
             reply(session, alloc, item, stage, answer)
         }
     }

@@ -1,6 +1,6 @@
 -- The laws of sessions.
-use Rattle.std.proofs.Common.{◌≡◌, ℕ, ◌<◌, ◌≤◌, Bool, true, false, cond, List, [], ◌∷◌, ◌++◌, Option, Some, None, length, refl, sym, ap, subst, ◌∙◌, inl, inr, arith}
-use Rattle.std.specs.Prelude.{◌==◌, ◌&&◌, ◌||◌, not, filter, filter_map, map, nat_lt}
+use Rattle.std.proofs.Common.{◌≡◌, ℕ, ◌<◌, Bool, true, false, List, [], ◌∷◌, ◌++◌, Option, Some, None, length, refl, sym, ap, subst, ◌∙◌, inl, inr, arith}
+use Rattle.std.specs.Prelude.{◌==◌, ◌&&◌, ◌||◌, filter_map, nat_lt}
 use Rattle.std.specs.List.{list_any}
 use Rattle.std.proofs.lemmas.Bool.{cases_Bool, eqb-true}
 use Rattle.cb_base.specs.declared.hash.Hash256.{Hash256}
@@ -8,8 +8,8 @@ use Rattle.cb_block.specs.Blocks.{IsSoundBlock}
 use Rattle.cb_block.specs.declared.block.Block.{Block}
 use Rattle.cb_block.specs.declared.header.Header.{Header}
 use Rattle.cb_chain.specs.Entries.{same}
-use Rattle.cb_chain.proofs.Nodes.{same-refl}
-use Rattle.cb_fetch.specs.Fetching.{FetchState, IsFetch, blocks_in, has, is_due, requests_of, taken_on}
+use Rattle.cb_chain.proofs.Nodes.{same-refl, same-true}
+use Rattle.cb_fetch.specs.Fetching.{IsFetch, blocks_in, has, is_due, requests_of, taken_on}
 use Rattle.cb_fetch.proofs.Limits.{within}
 use Rattle.cb_journal.specs.declared.answer.Answer.{Answer}
 use Rattle.cb_journal.specs.declared.answer.Answer.TheVariants as answers
@@ -22,16 +22,14 @@ use Rattle.cb_state.specs.declared.inventory.Inventory.{Inventory}
 use Rattle.cb_state.specs.declared.inventory.Inventory.TheVariants as entry
 use Rattle.cb_state.specs.declared.news.News.{News}
 use Rattle.cb_state.specs.declared.serving.Piece.{Piece}
-use Rattle.cb_state.specs.declared.wanting.Need.{Need}
 use Rattle.cb_talk.specs.Announcing.{announcing, telling}
-use Rattle.cb_talk.specs.Inventory.{asking_for, written}
-use Rattle.cb_talk.specs.Serving.{lacking_in, not_found, served, served_as}
+use Rattle.cb_talk.specs.Inventory.{asking_block, asking_for}
+use Rattle.cb_talk.specs.Serving.{served, shorts}
 use Rattle.cb_wire.specs.declared.item.Item.{Item}
-use Rattle.cb_wire.specs.declared.item.Item.TheVariants.{Good, Damaged, Bad}
 use Rattle.cb_wire.specs.declared.message.Message.{Message}
 use Rattle.cb_wire.specs.declared.message.Message.TheVariants as messages
 use Rattle.cb_peer_state.specs.declared.stage.Stage.{Stage}
-use Rattle.cb_peer_state.specs.declared.stage.Stage.TheVariants.{Admit, About, Wanted, Fresh}
+use Rattle.cb_peer_state.specs.declared.stage.Stage.TheVariants.{Admit, About, Match, Give, Wanted, Fresh}
 use Rattle.cb_peer_state.specs.declared.stage.Subject.{Subject}
 use Rattle.cb_peer_state.specs.declared.stage.Subject.TheVariants as subjects
 use Rattle.cb_peer_state.specs.declared.event.Event.{Event}
@@ -39,19 +37,19 @@ use Rattle.cb_peer_state.specs.declared.event.Event.TheVariants as events
 use Rattle.cb_peer_state.specs.declared.pending.Pending.{Pending}
 use Rattle.cb_peer_state.specs.declared.state.State.{State}
 use Rattle.cb_peer_state.specs.declared.state.State.TheVariants.{Start, Greeted, Ready, Closed}
-use Rattle.cb_peer_state.specs.Questions.{fits, item_block, question_at, question_of, questions_left, pending_question}
-use Rattle.cb_peer_laws.specs.Laws.{IsReached, asks_for_block, greets, is_following, is_headers, names_block, wishes_for}
-use Rattle.cb_peer_state.specs.Receiving.{Outcome, by_compact, by_headers, by_phase, ends, in_greeted, in_start, received, sends}
-use Rattle.cb_peer_state.specs.Replying.{answered, is_heard, news_told, tip_told, tx_request, without_brought}
+use Rattle.cb_peer_state.specs.Questions.{fits, is_nil, item_block, question_at, question_of, questions_left, pending_question}
+use Rattle.cb_peer_laws.specs.Laws.{IsReached, asks_for_block, greets, is_following, is_headers, names_block, rebuilds, rebuilds_at, rebuilds_by, wishes_for}
+use Rattle.cb_peer_state.specs.Receiving.{Outcome, by_compact, by_phase, ends, in_greeted, in_start, received, sends}
+use Rattle.cb_peer_state.specs.Replying.{answered, is_heard, is_untold, news_told, served_told, tip_by, tip_told, tx_request, wish_told, without_brought}
 use Rattle.cb_peer_state.specs.Session.{pending_item, step_of}
 use Rattle.cb_block.specs.Decision.{is_sound_block}
 use Rattle.cb_peer_state.specs.declared.session_state.SessionState.{SessionState}
-use Rattle.cb_peer_state.specs.State.{freed, is_closed, is_ready, with_peer}
+use Rattle.cb_peer_state.specs.State.{freed, is_closed, is_ready, next_nonce, with_made, with_peer}
 use Rattle.cb_peer_laws.proofs.Apt.{IsApt, Suits, reached_apt, pending_stage}
-use Rattle.cb_peer_state.proofs.Cases.{ends_cases}
+use Rattle.cb_peer_state.proofs.Cases.{by_test}
 use Rattle.cb_block.proofs.Deciding.{sound_from}
-use Rattle.cb_peer_laws.proofs.Steps.{few_left, open_fewer}
-use Rattle.cb_peer_laws.proofs.Sending.{IsCalm, IsMild, None_of, step_none}
+use Rattle.cb_peer_laws.proofs.Steps.{open_fewer}
+use Rattle.cb_peer_laws.proofs.Sending.{IsMild, None_of, step_none, tip_none}
 use Rattle.cb_peer_state.proofs.Cases.{sent_at_end}
 
 -- ---- before the handshake is done
@@ -112,10 +110,14 @@ early_notes s other early w = absurd cc
 
 -- ---- tips
 
-pub source_not_told : (s : SessionState) (item : Option Item) (news : News) → s.marks.heard ≡ Some news.tip → (news_told s item news).messages ≡ telling (without_brought item news.txids)
+any_second : (a b : Bool) → b ≡ true → (a || b) ≡ true
+any_second true b e = refl
+any_second false b e = e
+
+pub source_not_told : (s : SessionState) (item : Option Item) (news : News) → s.marks.heard ≡ Some news.tip → (news_told s item news).messages ≡ telling (without_brought item news.txids) ++ wish_told s news.high
 unfolding news_told
 source_not_told s item news heard =
-    let is : is_heard s.marks.heard news.tip ≡ true = ap (λ (h : Option Hash256). is_heard h news.tip) heard ∙ same-refl news.tip in
+    let is : is_untold s news ≡ true = any_second (is_nil news.path) (is_heard s.marks.heard news.tip) (ap (λ (h : Option Hash256). is_heard h news.tip) heard ∙ same-refl news.tip) in
     rw is refl
 
 -- ---- headers
@@ -133,6 +135,9 @@ headers_mild =
       get_headers = λ _. refl;
       tx = λ _. refl;
       block = λ _. refl;
+      short = λ _. refl;
+      get_txs = λ _. refl;
+      txs = λ _. refl;
     }
 
 no_headers_asked : (entries : List InvEntry) → None_of is_headers (asking_for entries)
@@ -143,12 +148,12 @@ tip_by_hash : (tip : Hash256) (path : List Header) → None_of is_headers (annou
 tip_by_hash tip [] = refl
 tip_by_hash tip (first ∷ others) = refl
 
+no_headers_by : (s : SessionState) (news : News) (block : Option Block) → s.peer.by_headers ≡ false → None_of is_headers (tip_by s news block)
+no_headers_by s news (Some block) plain = refl
+no_headers_by s news None plain = rw plain (tip_by_hash news.tip news.path)
+
 no_headers_of_tip : (s : SessionState) (news : News) → s.peer.by_headers ≡ false → None_of is_headers (tip_told s news)
-no_headers_of_tip s news plain =
-    elim (cases_Bool (is_heard s.marks.heard news.tip)) [
-      | inl heard ↦ rw heard refl
-      | inr unheard ↦ rw (unheard, plain) (tip_by_hash news.tip news.path)
-    ]
+no_headers_of_tip s news plain = by_test (None_of is_headers) (is_untold s news) [] (tip_by s news news.block) (λ _. refl) (λ _. no_headers_by s news news.block plain)
 
 not_following : (answer : Answer) (headers : List Header) → is_following (events.Told answer) ≡ false → answer ≡ answers.Following headers → is_headers (messages.Headers headers) ≡ false
 not_following answer headers e same = absurd (let f : is_following (events.Told (answers.Following headers)) ≡ false = subst (λ a. is_following (events.Told a) ≡ false) same e in cc)
@@ -159,9 +164,10 @@ no_headers_unasked s event plain e =
     (λ waiting answer _ is.
     record {
       need = λ need. no_headers_asked (filter_map tx_request need.entries);
-      wanted = λ need _. no_headers_asked (requests_of (taken_on (blocks_in need.entries)).flight);
+      wanted = λ need _. no_headers_asked (requests_of (need.near && s.peer.capable) (taken_on (blocks_in need.entries)).flight);
       tip = λ news. no_headers_of_tip (freed s) news plain;
       following = λ headers same. not_following answer headers (subst (λ ev. is_following ev ≡ false) is e) same;
+      whole = λ _ _. refl;
     })
 
 -- ---- blocks that are asked for
@@ -179,6 +185,9 @@ blocks_mild hash =
       get_headers = λ _. refl;
       tx = λ _. refl;
       block = λ _. refl;
+      short = λ _. refl;
+      get_txs = λ _. refl;
+      txs = λ _. refl;
     }
 
 no_block_among_txs : (hash : Hash256) (entries : List Inventory) → list_any (names_block hash) (filter_map tx_request entries) ≡ false
@@ -191,18 +200,6 @@ no_block_among_txs hash (entry.Other kind other ∷ others) = no_block_among_txs
 asked_by_entries : (hash : Hash256) (entries : List InvEntry) → list_any (names_block hash) entries ≡ false → None_of (asks_for_block hash) (asking_for entries)
 asked_by_entries hash [] none = refl
 asked_by_entries hash (first ∷ others) none = rw none refl
-
-no_block_of_tip : (hash tip : Hash256) (by_them : Bool) (path : List Header) → None_of (asks_for_block hash) (announcing by_them tip path)
-no_block_of_tip hash tip by_them [] = refl
-no_block_of_tip hash tip true (first ∷ others) = refl
-no_block_of_tip hash tip false (first ∷ others) = refl
-
-no_block_told : (hash : Hash256) (s : SessionState) (news : News) → None_of (asks_for_block hash) (tip_told s news)
-no_block_told hash s news =
-    elim (cases_Bool (is_heard s.marks.heard news.tip)) [
-      | inl heard ↦ rw heard refl
-      | inr unheard ↦ rw unheard (no_block_of_tip hash news.tip (s.peer.by_headers && not news.long) news.path)
-    ]
 
 and_first : (a b : Bool) → (a && b) ≡ true → a ≡ true
 and_first true b e = refl
@@ -219,20 +216,38 @@ none_flies : (s : SessionState) (waiting : Pending) (hash : Hash256) → IsApt s
 none_flies s waiting hash apt same stage =
     due_is_idle s.fetch.flight s.fetch.wanted hash (apt.suits.idles (rw same (ap (λ (a : Stage). Some a) stage)))
 
-pub not_asked_twice : (s : SessionState) (event : Event) (hash : Hash256) → IsReached s → list_any (asks_for_block hash) (step_of s event).messages ≡ true → has s.fetch.flight hash ≡ false
-not_asked_twice s event hash reached asked =
+-- a block that an answer doesn't rebuild isn't the one that it does
+not_rebuilt : (s : SessionState) (event : Event) (hash other : Hash256) (waiting : Pending) (answer : Answer) → rebuilds hash s event ≡ false → s.pending ≡ Some waiting → event ≡ events.Told answer → rebuilds_by other s.compact.partial waiting.item waiting.stage answer ≡ true → same hash other ≡ false
+not_rebuilt s event hash other waiting answer isnt kept is made =
+    elim (cases_Bool (same hash other)) [
+      | inr differs ↦ differs
+      | inl equal ↦
+          absurd
+          (let by_hash : rebuilds_by hash s.compact.partial waiting.item waiting.stage answer ≡ true =
+          subst (λ (h : Hash256). rebuilds_by h s.compact.partial waiting.item waiting.stage answer ≡ true) (sym (same-true hash other equal)) made in
+          let here : rebuilds hash s event ≡ rebuilds_at hash s answer (Some waiting) = ap (rebuilds hash s) is ∙ ap (rebuilds_at hash s answer) kept in
+          let clash : false ≡ true = sym isnt ∙ here ∙ by_hash in
+          cc)
+    ]
+
+other_block : (hash other : Hash256) → same hash other ≡ false → asks_for_block hash (asking_block other) ≡ false
+other_block hash other e = rw e refl
+
+pub not_asked_twice : (s : SessionState) (event : Event) (hash : Hash256) → IsReached s → rebuilds hash s event ≡ false → list_any (asks_for_block hash) (step_of s event).messages ≡ true → has s.fetch.flight hash ≡ false
+not_asked_twice s event hash reached isnt asked =
     elim (cases_Bool (has s.fetch.flight hash)) [
       | inr free ↦ free
       | inl flies ↦
           absurd
           (let none : None_of (asks_for_block hash) (step_of s event).messages =
           step_none (asks_for_block hash) s event (blocks_mild hash)
-          (λ waiting answer same _.
+          (λ waiting answer kept is.
           record {
             need = λ need. asked_by_entries hash (filter_map tx_request need.entries) (no_block_among_txs hash need.entries);
-            wanted = λ need stage. absurd (let idle : has s.fetch.flight hash ≡ false = none_flies s waiting hash (reached_apt s reached) same stage in let clash : true ≡ false = sym flies ∙ idle in cc);
-            tip = λ news. no_block_told hash (freed s) news;
+            wanted = λ need stage. absurd (let idle : has s.fetch.flight hash ≡ false = none_flies s waiting hash (reached_apt s reached) kept stage in let clash : true ≡ false = sym flies ∙ idle in cc);
+            tip = λ news. tip_none (asks_for_block hash) (freed s) news (blocks_mild hash) (λ _. refl);
             following = λ headers _. refl;
+            whole = λ other made. other_block hash other (not_rebuilt s event hash other waiting answer isnt kept is made);
           }) in
           let clash : true ≡ false = sym asked ∙ none in
           cc)
@@ -245,6 +260,10 @@ limits_of s reached = within s.fetch (reached_apt s reached).suits.fetched
 
 item_sound : (s : SessionState) (item : Option Item) (stage : Stage) (given : Given) → Suits s.fetch item (Some stage) → question_of s item stage ≡ questions.GiveBlock given → is_sound_block given.block ≡ true
 item_sound s item Admit given suits e = absurd cc
+item_sound s item Match given suits e = absurd cc
+item_sound s item (Give block) given suits e =
+    let is : block ≡ given.block = cc in
+    subst (λ (b : Block). is_sound_block b ≡ true) is (suits.rebuilt block refl)
 item_sound s item Wanted given suits e = absurd cc
 item_sound s item Fresh given suits e = absurd cc
 item_sound s item (About subjects.Headers) given suits e = absurd cc
@@ -256,6 +275,7 @@ item_sound s item (About subjects.Block) given suits e =
     subst (λ (b : Block). is_sound_block b ≡ true) is (suits.sound refl)
 item_sound s item (About subjects.Items) given suits e = absurd cc
 item_sound s item (About subjects.After) given suits e = absurd cc
+item_sound s item (About subjects.Places) given suits e = absurd cc
 
 pending_sound : (s : SessionState) (pending : Option Pending) (given : Given) → Suits s.fetch (pending_item pending) (pending_stage pending) → question_at s pending ≡ Some (questions.GiveBlock given) → is_sound_block given.block ≡ true
 pending_sound s None given suits e = absurd cc
@@ -268,9 +288,9 @@ given_sound s given reached e = sound_from given.block (pending_sound s s.pendin
 
 -- ---- what is served
 
-pub served_is : (s : SessionState) (item : Option Item) (subject : Subject) (pieces : List Piece) → (answered s item (About subject) (answers.Served pieces)).messages ≡ filter_map served_as pieces ++ not_found (filter_map lacking_in pieces)
-unfolding answered
-served_is s item subject pieces = sent_at_end s (served pieces)
+pub served_is : (s : SessionState) (item : Option Item) (subject : Subject) (pieces : List Piece) → (answered s item (About subject) (answers.Served pieces)).messages ≡ served (next_nonce s) pieces
+unfolding answered served_told
+served_is s item subject pieces = sent_at_end (with_made (shorts pieces) s) (served (next_nonce s) pieces)
 
 -- ---- questions run out
 

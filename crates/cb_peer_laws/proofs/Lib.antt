@@ -1,4 +1,11 @@
+pub mod Again
 pub mod Apt
+pub mod CompactHeld
+pub mod CompactHonest
+pub mod CompactLaws
+pub mod CompactSteps
+pub mod CompactTable
+pub mod CompactTold
 pub mod LawLemmas
 pub mod Sending
 pub mod Steps

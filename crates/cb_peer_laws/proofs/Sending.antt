@@ -1,6 +1,6 @@
 -- What a step sends, looked through by a test that most messages don't meet.
-use Rattle.std.proofs.Common.{◌≡◌, ℕ, ℤ, Bool, true, false, cond, List, [], ◌∷◌, ◌++◌, Option, Some, None, refl, sym, ap, subst, ◌∙◌, inl, inr, ◌⊎◌}
-use Rattle.std.specs.Prelude.{◌==◌, ◌&&◌, ◌||◌, not, filter, filter_map, int_lt, length, map, nat_lt, option_map, pos}
+use Rattle.std.proofs.Common.{◌≡◌, ℕ, ℤ, Bool, true, false, cond, List, [], ◌∷◌, ◌++◌, Option, Some, None, refl, inl, inr}
+use Rattle.std.specs.Prelude.{◌==◌, ◌&&◌, ◌||◌, not, filter_map, int_lt, length, pos, Result, Ok, Err}
 use Rattle.std.specs.List.{list_any}
 use Rattle.std.proofs.lemmas.Bool.{cases_Bool}
 use Rattle.cb_base.specs.declared.fault.Fault.{Fault}
@@ -8,44 +8,62 @@ use Rattle.cb_base.specs.declared.fault.Fault.TheVariants as faults
 use Rattle.cb_base.specs.declared.hash.Hash256.{Hash256}
 use Rattle.cb_block.specs.declared.block.Block.{Block}
 use Rattle.cb_block.specs.declared.header.Header.{Header}
-use Rattle.cb_fetch.specs.Fetching.{blocks_in, has, is_due, requests_of, taken_on, wanting_all}
+use Rattle.cb_chain.specs.Entries.{block_hash, same}
+use Rattle.cb_chain.proofs.Nodes.{same-refl}
+use Rattle.cb_compact.specs.Slots.{Unfilled}
+use Rattle.cb_compact.specs.declared.named_tx.Pair.{Pair}
+use Rattle.cb_compact.specs.declared.partial.Filled.{Filled}
+use Rattle.cb_compact.specs.declared.partial.Filled.TheVariants.{Sound, Wrong}
+use Rattle.cb_fetch.specs.Fetching.{asks_now, blocks_in, fallen_back, requests_of, taken_on, wanting_all}
 use Rattle.cb_journal.specs.declared.answer.Answer.{Answer}
 use Rattle.cb_journal.specs.declared.answer.Answer.TheVariants as answers
+use Rattle.cb_payload.specs.declared.block_transactions.BlockTransactions.{BlockTransactions}
+use Rattle.cb_payload.specs.declared.block_transactions.BlockTransactionsRequest.{BlockTransactionsRequest}
+use Rattle.cb_payload.specs.declared.compact_block.HeaderAndShortIds.{HeaderAndShortIds}
 use Rattle.cb_payload.specs.declared.inventory.InvEntry.{InvEntry}
 use Rattle.cb_payload.specs.declared.requests.CompactRelay.{CompactRelay}
 use Rattle.cb_payload.specs.declared.requests.HeadersRequest.{HeadersRequest}
 use Rattle.cb_payload.specs.declared.version.Version.{Version}
+use Rattle.cb_rebuild.specs.Completing.{completed_of}
+use Rattle.cb_rebuild.specs.Places.{has_places}
+use Rattle.cb_rebuild.specs.Rebuilding.{rebuilt_of}
+use Rattle.cb_rebuild.specs.Shortening.{shortened_of}
+use Rattle.cb_rebuild.specs.declared.rebuilding.Rebuilt.{Rebuilt}
+use Rattle.cb_rebuild.specs.declared.rebuilding.Rebuilt.TheVariants as rebuilts
 use Rattle.cb_state.specs.declared.accepting.Heads.{Heads}
-use Rattle.cb_state.specs.declared.inventory.Inventory.{Inventory}
-use Rattle.cb_state.specs.declared.inventory.Inventory.TheVariants as entry
 use Rattle.cb_state.specs.declared.news.News.{News}
 use Rattle.cb_state.specs.declared.serving.Piece.{Piece}
 use Rattle.cb_state.specs.declared.serving.Piece.TheVariants as piece
+use Rattle.cb_state.specs.declared.serving_places.Excerpt.{Excerpt}
+use Rattle.cb_state.specs.declared.serving_places.Excerpt.TheVariants as excerpts
 use Rattle.cb_state.specs.declared.wanting.Need.{Need}
 use Rattle.cb_talk.specs.Announcing.{announcing, telling}
-use Rattle.cb_talk.specs.Greeting.{wishes}
-use Rattle.cb_talk.specs.Inventory.{asking_for, asking_headers, written}
-use Rattle.cb_talk.specs.Serving.{lacking_in, not_found, served, served_as}
+use Rattle.cb_talk.specs.Greeting.{wish, wishes}
+use Rattle.cb_talk.specs.Inventory.{asking_block, asking_for, asking_headers, asking_txs}
+use Rattle.cb_talk.specs.Serving.{excerpt_told, lacking_in, nonce_behind, not_found, sent, served, shorts}
 use Rattle.cb_tx.specs.declared.tx.Tx.{Tx}
 use Rattle.cb_wire.specs.declared.item.Item.{Item}
 use Rattle.cb_wire.specs.declared.item.Item.TheVariants.{Good, Damaged, Bad}
 use Rattle.cb_wire.specs.declared.message.Message.{Message}
 use Rattle.cb_wire.specs.declared.message.Message.TheVariants as messages
 use Rattle.cb_peer_state.specs.declared.stage.Stage.{Stage}
-use Rattle.cb_peer_state.specs.declared.stage.Stage.TheVariants.{Admit, About, Wanted, Fresh}
+use Rattle.cb_peer_state.specs.declared.stage.Stage.TheVariants.{Admit, About, Match, Give, Wanted, Fresh}
+use Rattle.cb_peer_state.specs.declared.stage.Subject.TheVariants as subjects
 use Rattle.cb_peer_state.specs.declared.event.Event.{Event}
 use Rattle.cb_peer_state.specs.declared.event.Event.TheVariants as events
 use Rattle.cb_peer_state.specs.declared.settings.Settings.{Settings}
+use Rattle.cb_peer_state.specs.declared.state.CloseReason.TheVariants as reasons
 use Rattle.cb_peer_state.specs.declared.pending.Pending.{Pending}
 use Rattle.cb_peer_state.specs.declared.state.State.{State}
 use Rattle.cb_peer_state.specs.declared.state.State.TheVariants.{Start, Greeted, Ready, Closed}
-use Rattle.cb_peer_state.specs.Questions.{fits, is_nil, question_of, told_of}
-use Rattle.cb_peer_state.specs.Receiving.{Outcome, asks, brought, by_compact, by_phase, ended, ends, greeting, in_greeted, in_ready, in_start, introduced, last_hash, processed, received, sends}
-use Rattle.cb_peer_state.specs.Replying.{answered, heads_by, heads_told, is_block, tx_request, more_behind, more_headers, need_told, news_told, taken_told, tip_told, wanted_told, without_brought}
-use Rattle.cb_peer_state.specs.Session.{Stepped, arrives, open_step, step_of, told}
+use Rattle.cb_peer_state.specs.Questions.{fits, is_nil, question_of, short_in, told_of}
+use Rattle.cb_peer_laws.specs.Laws.{completes, is_short_of, rebuilds_by}
+use Rattle.cb_peer_state.specs.Receiving.{Outcome, asks, by_phase, completed_by, ended, ends, falls_back, filled_by, greeting, heard_of, in_greeted, in_ready, in_start, introduced, last_hash, processed, received, short_heard, txs_heard}
+use Rattle.cb_peer_state.specs.Replying.{answered, before_parent, differ, excerpt_answered, given_told, heads_by, heads_for, heads_told, is_block, is_workless, more_behind, more_headers, need_told, news_told, paired, pairs_told, rebuilt_by, served_told, short_told, is_untold, taken_told, tip_by, tip_told, tx_request, wanted_told, wish_told, without_brought}
+use Rattle.cb_peer_state.specs.Session.{arrives, open_step, step_of, told}
 use Rattle.cb_peer_state.specs.declared.session_state.SessionState.{SessionState}
-use Rattle.cb_peer_state.specs.State.{freed, is_closed}
-use Rattle.cb_peer_state.proofs.Cases.{brought_cases, sent_at_end}
+use Rattle.cb_peer_state.specs.State.{freed, is_closed, landing, next_nonce, with_fetch, with_made, with_partial}
+use Rattle.cb_peer_state.proofs.Cases.{brought_cases, by_test, sent_at_end}
 
 -- none of the messages meets the test
 abbrev pub None_of : (Message → Bool) → List Message → Type 0
@@ -63,6 +81,13 @@ pub record IsMild (test : Message → Bool) : Type 0 where
   pub get_headers : (request : HeadersRequest) → test (messages.GetHeaders request) ≡ false
   pub tx : (tx : Tx) → test (messages.Tx tx) ≡ false
   pub block : (block : Block) → test (messages.Block block) ≡ false
+  pub short : (short : HeaderAndShortIds) → test (messages.CmpctBlock short) ≡ false
+  pub get_txs : (request : BlockTransactionsRequest) → test (messages.GetBlockTxn request) ≡ false
+  pub txs : (given : BlockTransactions) → test (messages.BlockTxn given) ≡ false
+
+-- the requests for these whole blocks don't meet the test
+abbrev pub NoneWhole : (Message → Bool) → (Hash256 → Bool) → Type 0
+NoneWhole test which = (hash : Hash256) → which hash ≡ true → test (asking_block hash) ≡ false
 
 none_of_one : (test : Message → Bool) (message : Message) → test message ≡ false → None_of test (message ∷ [])
 none_of_one test message e = rw e refl
@@ -93,19 +118,42 @@ wishes_none test version m =
     (elim (cases_Bool (int_lt version (pos 70012))) [ inl old ↦ rw old refl | inr new ↦ rw new (none_of_one test _ m.send_headers) ])
     (elim (cases_Bool (int_lt version (pos 70014))) [ inl old ↦ rw old refl | inr new ↦ rw new (none_of_one test _ (m.send_compact _)) ])
 
-there_none : (test : Message → Bool) (pieces : List Piece) → IsMild test → None_of test (filter_map served_as pieces)
-there_none test [] m = refl
-there_none test (piece.Tx tx ∷ others) m = rw (m.tx tx) (there_none test others m)
-there_none test (piece.Whole block ∷ others) m = rw (m.block block) (there_none test others m)
-there_none test (piece.Short block ∷ others) m = rw (m.block block) (there_none test others m)
-there_none test (piece.Lacking asked ∷ others) m = there_none test others m
+there_none : (test : Message → Bool) (nonce : ℕ) (pieces : List Piece) → IsMild test → None_of test (sent nonce pieces)
+there_none test nonce [] m = refl
+there_none test nonce (piece.Tx tx ∷ others) m = rw (m.tx tx) (there_none test nonce others m)
+there_none test nonce (piece.Whole block ∷ others) m = rw (m.block block) (there_none test nonce others m)
+there_none test nonce (piece.Short block ∷ others) m = rw (m.short (shortened_of block nonce)) (there_none test (nonce_behind nonce (piece.Short block)) others m)
+there_none test nonce (piece.Lacking asked ∷ others) m = there_none test nonce others m
 
 lacking_none : (test : Message → Bool) (entries : List InvEntry) → IsMild test → None_of test (not_found entries)
 lacking_none test [] m = refl
 lacking_none test (first ∷ others) m = none_of_one test _ (m.not_found (first ∷ others))
 
-served_none : (test : Message → Bool) (pieces : List Piece) → IsMild test → None_of test (served pieces)
-served_none test pieces m = none_of_both test (filter_map served_as pieces) (not_found (filter_map lacking_in pieces)) (there_none test pieces m) (lacking_none test (filter_map lacking_in pieces) m)
+served_none : (test : Message → Bool) (nonce : ℕ) (pieces : List Piece) → IsMild test → None_of test (served nonce pieces)
+served_none test nonce pieces m = none_of_both test (sent nonce pieces) (not_found (filter_map lacking_in pieces)) (there_none test nonce pieces m) (lacking_none test (filter_map lacking_in pieces) m)
+
+excerpt_none : (test : Message → Bool) (excerpt : Excerpt) → IsMild test → None_of test (excerpt_told excerpt)
+excerpt_none test excerpts.Absent m = refl
+excerpt_none test (excerpts.Refused fault) m = refl
+excerpt_none test (excerpts.Part part) m = none_of_one test _ (m.txs _)
+excerpt_none test (excerpts.Whole block) m = none_of_one test _ (m.block block)
+
+wish_none : (test : Message → Bool) (s : SessionState) (high : Bool) → IsMild test → None_of test (wish_told s high)
+wish_none test s high m =
+    by_test (None_of test) (s.peer.capable && differ high s.compact.asked_high) (wish high ∷ []) [] (λ _. none_of_one test _ (m.send_compact _)) (λ _. refl)
+
+announcing_none : (test : Message → Bool) (by_headers : Bool) (tip : Hash256) (path : List Header) → IsMild test → ((headers : List Header) → test (messages.Headers headers) ≡ false) → None_of test (announcing by_headers tip path)
+announcing_none test by_headers tip [] m h = refl
+announcing_none test true tip (first ∷ others) m h = none_of_one test _ (h (first ∷ others))
+announcing_none test false tip (first ∷ others) m h = none_of_one test _ (m.inv _)
+
+tip_by_none : (test : Message → Bool) (s : SessionState) (news : News) (block : Option Block) → IsMild test → ((headers : List Header) → test (messages.Headers headers) ≡ false) → None_of test (tip_by s news block)
+tip_by_none test s news (Some block) m h = none_of_one test _ (m.short _)
+tip_by_none test s news None m h = announcing_none test (s.peer.by_headers && not news.long) news.tip news.path m h
+
+-- a new tip is announced by headers, an inventory or a compact block
+pub tip_none : (test : Message → Bool) (s : SessionState) (news : News) → IsMild test → ((headers : List Header) → test (messages.Headers headers) ≡ false) → None_of test (tip_told s news)
+tip_none test s news m h = by_test (None_of test) (is_untold s news) [] (tip_by s news news.block) (λ _. refl) (λ _. tip_by_none test s news news.block m h)
 
 telling_none : (test : Message → Bool) (txids : List Hash256) → IsMild test → None_of test (telling txids)
 telling_none test [] m = refl
@@ -113,6 +161,10 @@ telling_none test (first ∷ others) m = none_of_one test _ (m.inv _)
 
 request_none : (test : Message → Bool) (locator : List Hash256) → IsMild test → None_of test (asking_headers locator ∷ [])
 request_none test locator m = none_of_one test _ (m.get_headers _)
+
+before_none : (test : Message → Bool) (refused : Option Fault) (locator : List Hash256) → IsMild test → None_of test (before_parent refused locator)
+before_none test (Some faults.NoParent) locator m = request_none test locator m
+before_none test refused locator m = refl
 
 -- ---- messages of the peer
 
@@ -140,35 +192,66 @@ greeted_none test s messages.SendHeaders m = refl
 greeted_none test s (messages.SendCmpct relay) m = refl
 greeted_none test s other m = refl
 
-ready_none : (test : Message → Bool) (s : SessionState) (message : Message) → IsMild test → None_of test (in_ready s message).messages
+-- a block that can't be rebuilt
+falls_none : (test : Message → Bool) (s : SessionState) (hash : Hash256) → test (asking_block hash) ≡ false → None_of test (falls_back s hash).messages
+unfolding falls_back
+falls_none test s hash none =
+    none_at_end test (with_fetch (fallen_back hash s.fetch) s) (cond (asks_now s.fetch hash) (asking_block hash ∷ []) [])
+    (by_test (None_of test) (asks_now s.fetch hash) (asking_block hash ∷ []) [] (λ _. none_of_one test (asking_block hash) none) (λ _. refl))
+
+filled_none : (test : Message → Bool) (s : SessionState) (hash : Hash256) (filled : Result Filled Fault) → test (asking_block hash) ≡ false → None_of test (filled_by s hash filled).messages
+filled_none test s hash (Ok (Sound block)) none = refl
+filled_none test s hash (Ok Wrong) none = falls_none test s hash none
+filled_none test s hash (Err fault) none = refl
+
+completed_none : (test : Message → Bool) (s : SessionState) (given : BlockTransactions) (partial : Option Unfilled) → NoneWhole test (λ hash. completes hash partial (Some (Good (messages.BlockTxn given)))) → None_of test (completed_by s given partial).messages
+completed_none test s given None whole = none_at_end test s [] refl
+completed_none test s given (Some partial) whole =
+    by_test (λ (outcome : Outcome). None_of test outcome.messages) (same (block_hash partial.header) given.block) (filled_by (with_partial None s) given.block (completed_of partial given)) (ends s [])
+    (λ it. filled_none test (with_partial None s) given.block (completed_of partial given) (whole given.block (rw (same-refl given.block) it)))
+    (λ _. none_at_end test s [] refl)
+
+txs_none : (test : Message → Bool) (s : SessionState) (given : BlockTransactions) → NoneWhole test (λ hash. completes hash s.compact.partial (Some (Good (messages.BlockTxn given)))) → None_of test (txs_heard s given).messages
+unfolding txs_heard
+txs_none test s given whole = completed_none test s given s.compact.partial whole
+
+heard_none : (test : Message → Bool) (s : SessionState) (short : HeaderAndShortIds) → None_of test (short_heard s short).messages
+unfolding short_heard
+heard_none test s short =
+    by_test (λ (outcome : Outcome). None_of test outcome.messages) (has_places short.txs) (asks (heard_of (block_hash short.header) s) [] (About subjects.Headers)) (ended reasons.BadMessage s) (λ _. refl) (λ _. refl)
+
+ready_none : (test : Message → Bool) (s : SessionState) (message : Message) → IsMild test → NoneWhole test (λ hash. completes hash s.compact.partial (Some (Good message))) → None_of test (in_ready s message).messages
 unfolding in_ready
-ready_none test s (messages.Headers []) m = none_at_end test s [] refl
-ready_none test s (messages.Headers (first ∷ others)) m = refl
-ready_none test s (messages.Inv entries) m =
+ready_none test s (messages.Headers []) m whole = none_at_end test s [] refl
+ready_none test s (messages.Headers (first ∷ others)) m whole = refl
+ready_none test s (messages.Inv entries) m whole =
     elim (cases_Bool (is_nil (told_of entries))) [ inl none ↦ rw none (none_at_end test s [] refl) | inr told_some ↦ rw told_some refl ]
-ready_none test s (messages.GetData entries) m = refl
-ready_none test s (messages.GetHeaders request) m = refl
-ready_none test s (messages.Tx tx) m = refl
-ready_none test s (messages.Block block) m = brought_cases (λ outcome. None_of test outcome.messages) s block (λ _. refl) refl
-ready_none test s other m = none_at_end test _ [] refl
+ready_none test s (messages.GetData entries) m whole = refl
+ready_none test s (messages.GetHeaders request) m whole = refl
+ready_none test s (messages.Tx tx) m whole = refl
+ready_none test s (messages.Block block) m whole = brought_cases (λ outcome. None_of test outcome.messages) s block (λ _. refl) refl
+ready_none test s (messages.CmpctBlock short) m whole = heard_none test s short
+ready_none test s (messages.GetBlockTxn request) m whole = refl
+ready_none test s (messages.BlockTxn given) m whole = txs_none test s given whole
+ready_none test s other m whole = none_at_end test _ [] refl
 
-phase_none : (test : Message → Bool) (state : State) (s : SessionState) (message : Message) → IsMild test → None_of test (by_phase state s message).messages
-phase_none test Start s message m = start_none test s message m
-phase_none test Greeted s message m = greeted_none test s message m
-phase_none test Ready s message m = ready_none test s message m
-phase_none test (Closed why) s message m = refl
+phase_none : (test : Message → Bool) (state : State) (s : SessionState) (message : Message) → IsMild test → NoneWhole test (λ hash. completes hash s.compact.partial (Some (Good message))) → None_of test (by_phase state s message).messages
+phase_none test Start s message m whole = start_none test s message m
+phase_none test Greeted s message m whole = greeted_none test s message m
+phase_none test Ready s message m whole = ready_none test s message m whole
+phase_none test (Closed why) s message m whole = refl
 
-received_none : (test : Message → Bool) (s : SessionState) (message : Message) → IsMild test → None_of test (received s message).messages
+received_none : (test : Message → Bool) (s : SessionState) (message : Message) → IsMild test → NoneWhole test (λ hash. completes hash s.compact.partial (Some (Good message))) → None_of test (received s message).messages
 unfolding received
-received_none test s (messages.Ping nonce) m = none_at_end test s _ (none_of_one test _ (m.pong nonce))
-received_none test s other m = phase_none test s.state s other m
+received_none test s (messages.Ping nonce) m whole = none_at_end test s _ (none_of_one test _ (m.pong nonce))
+received_none test s other m whole = phase_none test s.state s other m whole
 
-processed_none : (test : Message → Bool) (s : SessionState) (item : Option Item) → IsMild test → None_of test (processed s item).messages
+processed_none : (test : Message → Bool) (s : SessionState) (item : Option Item) → IsMild test → NoneWhole test (λ hash. completes hash s.compact.partial item) → None_of test (processed s item).messages
 unfolding processed
-processed_none test s None m = none_at_end test s [] refl
-processed_none test s (Some (Good message)) m = received_none test s message m
-processed_none test s (Some Damaged) m = none_at_end test s [] refl
-processed_none test s (Some (Bad command fault)) m = refl
+processed_none test s None m whole = none_at_end test s [] refl
+processed_none test s (Some (Good message)) m whole = received_none test s message m whole
+processed_none test s (Some Damaged) m whole = none_at_end test s [] refl
+processed_none test s (Some (Bad command fault)) m whole = refl
 
 -- ---- answers
 
@@ -194,12 +277,42 @@ taken_none test s (Some faults.Known) locator m = none_at_end test s [] refl
 taken_none test s (Some faults.NoParent) locator m = none_at_end test s _ (request_none test locator m)
 taken_none test s (Some other) locator m = refl
 
--- of an answer the test isn't met by the headers that it tells of, nor by what is asked for then
-pub record IsCalm (test : Message → Bool) (s : SessionState) (stage : Stage) (answer : Answer) : Type 0 where
+short_none : (test : Message → Bool) (s : SessionState) (hash : Hash256) (heads : Heads) → IsMild test → None_of test (short_told s hash heads).messages
+unfolding short_told
+short_none test s hash heads m =
+    let before : List Message = before_parent heads.refused heads.locator in
+    let none : None_of test before = before_none test heads.refused heads.locator m in
+    by_test (λ (outcome : Outcome). None_of test outcome.messages) (is_workless heads.refused) (ended reasons.BadBlock s) (cond (is_nil heads.lack) (ends (landing hash s) before) (asks s before Match)) (λ _. refl)
+    (λ _. by_test (λ (outcome : Outcome). None_of test outcome.messages) (is_nil heads.lack) (ends (landing hash s) before) (asks s before Match) (λ _. none_at_end test (landing hash s) before none) (λ _. none))
+
+heads_for_none : (test : Message → Bool) (s : SessionState) (item : Option Item) (short : Option HeaderAndShortIds) (heads : Heads) → IsMild test → None_of test (heads_for s item short heads).messages
+heads_for_none test s item None heads m = heads_by_none test (with_fetch (wanting_all s.fetch heads.lack) s) item heads.refused heads.locator m
+heads_for_none test s item (Some short) heads m = short_none test s (block_hash short.header) heads m
+
+rebuilt_none : (test : Message → Bool) (s : SessionState) (hash : Hash256) (rebuilt : Rebuilt) → IsMild test → test (asking_block hash) ≡ false → None_of test (rebuilt_by s hash rebuilt).messages
+rebuilt_none test s hash (rebuilts.Sound block) m none = refl
+rebuilt_none test s hash (rebuilts.Lacking partial request) m none = none_at_end test (with_partial (Some partial) s) (asking_txs request ∷ []) (none_of_one test (asking_txs request) (m.get_txs request))
+rebuilt_none test s hash rebuilts.Useless m none = falls_none test s hash none
+
+paired_none : (test : Message → Bool) (s : SessionState) (short : Option HeaderAndShortIds) (pairs : List Pair) → IsMild test → NoneWhole test (λ hash. is_short_of hash short) → None_of test (paired s short pairs).messages
+paired_none test s None pairs m whole = refl
+paired_none test s (Some short) pairs m whole =
+    by_test (λ (outcome : Outcome). None_of test outcome.messages) (has_places short.txs) (rebuilt_by s (block_hash short.header) (rebuilt_of short pairs)) (ended reasons.BadMessage s)
+    (λ _. rebuilt_none test s (block_hash short.header) (rebuilt_of short pairs) m (whole (block_hash short.header) (same-refl (block_hash short.header)))) (λ _. refl)
+
+excerpt_answered_none : (test : Message → Bool) (s : SessionState) (excerpt : Excerpt) → IsMild test → None_of test (excerpt_answered s excerpt).messages
+unfolding excerpt_answered
+excerpt_answered_none test s (excerpts.Refused fault) m = refl
+excerpt_answered_none test s other m = none_at_end test s (excerpt_told other) (excerpt_none test other m)
+
+-- Of an answer the test isn't met by the headers that it tells of, nor by what is asked for then, nor by the request for a whole
+-- block that can't be rebuilt.
+pub record IsCalm (test : Message → Bool) (s : SessionState) (item : Option Item) (stage : Stage) (answer : Answer) : Type 0 where
   pub need : (need : Need) → None_of test (asking_for (filter_map tx_request need.entries))
-  pub wanted : (need : Need) → stage ≡ Wanted → None_of test (asking_for (requests_of (taken_on (blocks_in need.entries)).flight))
+  pub wanted : (need : Need) → stage ≡ Wanted → None_of test (asking_for (requests_of (need.near && s.peer.capable) (taken_on (blocks_in need.entries)).flight))
   pub tip : (news : News) → None_of test (tip_told s news)
   pub following : (headers : List Header) → answer ≡ answers.Following headers → test (messages.Headers headers) ≡ false
+  pub whole : NoneWhole test (λ hash. rebuilds_by hash s.compact.partial item stage answer)
 
 need_none : (test : Message → Bool) (s : SessionState) (need : Need) → IsMild test → None_of test (asking_for (filter_map tx_request need.entries)) → None_of test (need_told s need).messages
 unfolding need_told
@@ -207,19 +320,28 @@ need_none test s need m asked =
     none_at_end test s _ (none_of_both test (asking_for (filter_map tx_request need.entries)) _ asked
     (elim (cases_Bool (list_any is_block need.entries)) [ inl block ↦ rw block (request_none test need.locator m) | inr none ↦ rw none refl ]))
 
-answered_none : (test : Message → Bool) (s : SessionState) (item : Option Item) (stage : Stage) (answer : Answer) → IsMild test → IsCalm test s stage answer → None_of test (answered s item stage answer).messages
-unfolding answered heads_told wanted_told news_told
+news_none : (test : Message → Bool) (s : SessionState) (item : Option Item) (news : News) → IsMild test → None_of test (tip_told s news) → None_of test (news_told s item news).messages
+unfolding news_told
+news_none test s item news m tip =
+    none_of_both test (tip_told s news ++ telling (without_brought item news.txids)) (wish_told s news.high)
+    (none_of_both test (tip_told s news) (telling (without_brought item news.txids)) tip (telling_none test (without_brought item news.txids) m)) (wish_none test s news.high m)
+
+answered_none : (test : Message → Bool) (s : SessionState) (item : Option Item) (stage : Stage) (answer : Answer) → IsMild test → IsCalm test s item stage answer → None_of test (answered s item stage answer).messages
+unfolding answered heads_told wanted_told given_told pairs_told served_told
 answered_none test s item stage answers.Kicked m calm = refl
-answered_none test s item Admit answers.Go m calm = processed_none test s item m
-answered_none test s item (About subject) (answers.Heads heads) m calm = heads_by_none test _ item heads.refused heads.locator m
+answered_none test s item Admit answers.Go m calm = processed_none test s item m calm.whole
+answered_none test s item (About subject) (answers.Heads heads) m calm = heads_for_none test s item (short_in item) heads m
 answered_none test s item (About subject) (answers.Locator locator) m calm = none_at_end test s _ (request_none test locator m)
 answered_none test s item (About subject) (answers.Need need) m calm = need_none test s need m (calm.need need)
 answered_none test s item (About subject) (answers.TxTaken refused) m calm = none_at_end test s [] refl
 answered_none test s item (About subject) (answers.Taken taken) m calm = taken_none test s taken.refused taken.locator m
-answered_none test s item (About subject) (answers.Served pieces) m calm = none_at_end test s _ (served_none test pieces m)
+answered_none test s item (About subject) (answers.Served pieces) m calm = none_at_end test (with_made (shorts pieces) s) (served (next_nonce s) pieces) (served_none test (next_nonce s) pieces m)
 answered_none test s item (About subject) (answers.Following headers) m calm = none_at_end test s _ (none_of_one test _ (calm.following headers refl))
+answered_none test s item (About subject) (answers.Excerpt excerpt) m calm = excerpt_answered_none test s excerpt m
+answered_none test s item Match (answers.Pairs pairs) m calm = paired_none test s (short_in item) pairs m calm.whole
+answered_none test s item (Give block) (answers.Taken taken) m calm = none_at_end test s (before_parent taken.refused taken.locator) (before_none test taken.refused taken.locator m)
 answered_none test s item Wanted (answers.Need need) m calm = calm.wanted need refl
-answered_none test s item Fresh (answers.News news) m calm = none_of_both test (tip_told s news) _ (calm.tip news) (telling_none test (without_brought item news.txids) m)
+answered_none test s item Fresh (answers.News news) m calm = news_none test s item news m (calm.tip news)
 answered_none test s item stage other m calm = refl
 
 -- ---- steps
@@ -228,7 +350,7 @@ arrives_none : (test : Message → Bool) (pending : Option Pending) (s : Session
 arrives_none test None s item = refl
 arrives_none test (Some other) s item = refl
 
-told_none : (test : Message → Bool) (pending : Option Pending) (s : SessionState) (answer : Answer) → IsMild test → ((waiting : Pending) → pending ≡ Some waiting → IsCalm test (freed s) waiting.stage answer) → None_of test (told pending s answer).messages
+told_none : (test : Message → Bool) (pending : Option Pending) (s : SessionState) (answer : Answer) → IsMild test → ((waiting : Pending) → pending ≡ Some waiting → IsCalm test (freed s) waiting.item waiting.stage answer) → None_of test (told pending s answer).messages
 told_none test None s answer m calm = refl
 told_none test (Some pending) s answer m calm =
     elim (cases_Bool (fits (question_of s pending.item pending.stage) answer)) [
@@ -236,14 +358,14 @@ told_none test (Some pending) s answer m calm =
       | inr misfit ↦ rw misfit refl
     ]
 
-open_none : (test : Message → Bool) (s : SessionState) (event : Event) → IsMild test → ((waiting : Pending) (answer : Answer) → s.pending ≡ Some waiting → event ≡ events.Told answer → IsCalm test (freed s) waiting.stage answer) → None_of test (open_step s event).messages
+open_none : (test : Message → Bool) (s : SessionState) (event : Event) → IsMild test → ((waiting : Pending) (answer : Answer) → s.pending ≡ Some waiting → event ≡ events.Told answer → IsCalm test (freed s) waiting.item waiting.stage answer) → None_of test (open_step s event).messages
 unfolding open_step
 open_none test s (events.Said item) m calm = arrives_none test s.pending s (Some item)
 open_none test s events.Tick m calm = arrives_none test s.pending s None
 open_none test s (events.Told answer) m calm = told_none test s.pending s answer m (λ waiting same. calm waiting answer same refl)
 open_none test s other m calm = refl
 
-pub step_none : (test : Message → Bool) (s : SessionState) (event : Event) → IsMild test → ((waiting : Pending) (answer : Answer) → s.pending ≡ Some waiting → event ≡ events.Told answer → IsCalm test (freed s) waiting.stage answer) → None_of test (step_of s event).messages
+pub step_none : (test : Message → Bool) (s : SessionState) (event : Event) → IsMild test → ((waiting : Pending) (answer : Answer) → s.pending ≡ Some waiting → event ≡ events.Told answer → IsCalm test (freed s) waiting.item waiting.stage answer) → None_of test (step_of s event).messages
 unfolding step_of
 step_none test s event m calm =
     elim (cases_Bool (is_closed s.state)) [

@@ -1,6 +1,6 @@
 -- What a step makes, as tables: it ends the session, or goes on, asks the question that is open after it, and leads to fewer answers.
 use Rattle.std.proofs.Common.{◌≡◌, ◌≢◌, ℕ, ◌<◌, ◌≤◌, Bool, true, false, cond, List, [], ◌∷◌, ◌++◌, Option, Some, None, refl, sym, ap, subst, ◌∙◌, arith, inl, inr, ◌⊎◌}
-use Rattle.std.specs.Prelude.{pos, not, ◌==◌, ◌&&◌, int_lt, length, map, filter, filter_map, option_map}
+use Rattle.std.specs.Prelude.{pos, not, ◌==◌, ◌&&◌, int_lt, length, filter_map, option_map, Result, Ok, Err}
 use Rattle.std.specs.List.{list_any}
 use Rattle.std.proofs.lemmas.List.Elements.{filter_map-append}
 use Rattle.cb_base.specs.declared.fault.Fault.{Fault}
@@ -8,30 +8,42 @@ use Rattle.cb_base.specs.declared.fault.Fault.TheVariants as faults
 use Rattle.cb_base.specs.declared.hash.Hash256.{Hash256}
 use Rattle.cb_block.specs.declared.block.Block.{Block}
 use Rattle.cb_block.specs.declared.header.Header.{Header}
-use Rattle.cb_chain.specs.Entries.{block_hash}
-use Rattle.cb_fetch.specs.Fetching.{blocks_in, is_due, landed, requests_of, taken_on, wanting_all}
+use Rattle.cb_chain.specs.Entries.{block_hash, same}
+use Rattle.cb_compact.specs.Slots.{Unfilled}
+use Rattle.cb_compact.specs.declared.named_tx.Pair.{Pair}
+use Rattle.cb_compact.specs.declared.partial.Filled.{Filled}
+use Rattle.cb_compact.specs.declared.partial.Filled.TheVariants.{Sound, Wrong}
+use Rattle.cb_fetch.specs.Fetching.{asks_now, blocks_in, fallen_back, is_due, requests_of, taken_on, wanting_all}
 use Rattle.cb_journal.specs.declared.answer.Answer.{Answer}
 use Rattle.cb_journal.specs.declared.answer.Answer.TheVariants as answers
 use Rattle.cb_journal.specs.declared.question.Question.{Question}
+use Rattle.cb_payload.specs.declared.block_transactions.BlockTransactions.{BlockTransactions}
+use Rattle.cb_payload.specs.declared.compact_block.HeaderAndShortIds.{HeaderAndShortIds}
 use Rattle.cb_payload.specs.declared.inventory.InvEntry.{InvEntry}
 use Rattle.cb_payload.specs.declared.requests.CompactRelay.{CompactRelay}
 use Rattle.cb_payload.specs.declared.version.Version.{Version}
+use Rattle.cb_rebuild.specs.Completing.{completed_of}
+use Rattle.cb_rebuild.specs.Places.{has_places}
+use Rattle.cb_rebuild.specs.Rebuilding.{rebuilt_of}
+use Rattle.cb_rebuild.specs.declared.rebuilding.Rebuilt.{Rebuilt}
+use Rattle.cb_rebuild.specs.declared.rebuilding.Rebuilt.TheVariants as rebuilts
 use Rattle.cb_state.specs.declared.accepting.Heads.{Heads}
 use Rattle.cb_state.specs.declared.news.News.{News}
 use Rattle.cb_state.specs.declared.serving.Piece.{Piece}
 use Rattle.cb_state.specs.declared.serving.Piece.TheVariants as piece
+use Rattle.cb_state.specs.declared.serving_places.Excerpt.{Excerpt}
+use Rattle.cb_state.specs.declared.serving_places.Excerpt.TheVariants as excerpts
 use Rattle.cb_state.specs.declared.wanting.Need.{Need}
-use Rattle.cb_talk.specs.Announcing.{announced_by, announcing, telling}
-use Rattle.cb_talk.specs.Greeting.{our_version, wishes}
-use Rattle.cb_talk.specs.Inventory.{asking_for, asking_headers, written}
-use Rattle.cb_talk.specs.Serving.{lacking_in, not_found, served, served_as}
+use Rattle.cb_talk.specs.Announcing.{announcing, telling}
+use Rattle.cb_talk.specs.Greeting.{our_version, wish}
+use Rattle.cb_talk.specs.Inventory.{asking_block, asking_for, asking_headers, asking_txs}
+use Rattle.cb_talk.specs.Serving.{excerpt_told, lacking_in, nonce_behind, not_found, sent, served, shorts}
 use Rattle.cb_wire.specs.declared.item.Item.{Item}
 use Rattle.cb_wire.specs.declared.item.Item.TheVariants.{Good, Damaged, Bad}
 use Rattle.cb_wire.specs.declared.message.Message.{Message}
 use Rattle.cb_wire.specs.declared.message.Message.TheVariants as messages
 use Rattle.cb_peer_state.specs.declared.stage.Stage.{Stage}
-use Rattle.cb_peer_state.specs.declared.stage.Stage.TheVariants.{Admit, About, Wanted, Fresh}
-use Rattle.cb_peer_state.specs.declared.stage.Subject.{Subject}
+use Rattle.cb_peer_state.specs.declared.stage.Stage.TheVariants.{Admit, About, Match, Give, Wanted, Fresh}
 use Rattle.cb_peer_state.specs.declared.stage.Subject.TheVariants as subjects
 use Rattle.cb_peer_state.specs.declared.event.Event.{Event}
 use Rattle.cb_peer_state.specs.declared.event.Event.TheVariants as events
@@ -42,15 +54,15 @@ use Rattle.cb_peer_state.specs.declared.state.CloseReason.TheVariants as reasons
 use Rattle.cb_peer_state.specs.declared.state.Peer.{Peer}
 use Rattle.cb_peer_state.specs.declared.state.State.{State}
 use Rattle.cb_peer_state.specs.declared.state.State.TheVariants.{Start, Greeted, Ready, Closed}
-use Rattle.cb_peer_state.specs.Questions.{fits, is_nil, question_at, question_left, question_of, questions_left, pending_question, told_of}
+use Rattle.cb_peer_state.specs.Questions.{fits, is_nil, question_at, question_left, question_of, questions_left, pending_question, short_in, told_of}
 use Rattle.cb_peer_state.specs.Event.{ends_at_once, is_reader_end}
 use Rattle.cb_peer_state.specs.Pings.{item_ping, ping_nonce, pong_nonce, pongs}
-use Rattle.cb_peer_state.specs.Receiving.{Outcome, asks, brought, by_compact, by_headers, by_phase, ended, ends, given_up, greeting, heard_of, in_greeted, in_ready, in_start, introduced, last_hash, processed, received, sends}
-use Rattle.cb_peer_state.specs.Replying.{answered, heads_by, heads_told, is_block, is_heard, tx_request, more_behind, more_headers, need_told, news_told, taken_told, tip_told, wanted_told, without_brought}
+use Rattle.cb_peer_state.specs.Receiving.{Outcome, asks, brought, by_compact, by_headers, by_phase, completed_by, ended, ends, falls_back, filled_by, given_up, gives, greeting, heard_of, in_greeted, in_ready, in_start, introduced, last_hash, processed, received, sends, short_heard, txs_heard}
+use Rattle.cb_peer_state.specs.Replying.{answered, before_parent, differ, excerpt_answered, given_told, heads_by, heads_for, heads_told, is_block, is_untold, is_workless, more_behind, more_headers, need_told, news_told, paired, pairs_told, rebuilt_by, served_told, short_told, taken_told, tip_by, tip_told, tx_request, wanted_told, wish_told, without_brought}
 use Rattle.cb_peer_state.specs.Session.{Stepped, arrives, closes, for_item, open_step, pending_of, stays, told}
-use Rattle.cb_block.specs.Decision.{is_sound_block}
 use Rattle.cb_peer_state.specs.declared.session_state.SessionState.{SessionState}
-use Rattle.cb_peer_state.specs.State.{bare, freed, is_closed, is_ready, over, with_fetch, with_marks, with_peer, with_pending, with_state}
+use Rattle.cb_peer_state.proofs.Cases.{brought_cases, dropping_cases}
+use Rattle.cb_peer_state.specs.State.{bare, freed, is_closed, is_ready, landing, next_nonce, with_fetch, with_made, with_partial, with_peer, with_pending, with_state}
 
 -- one of two
 if_either : {A : Type 0} (P : A → Type 0) (b : Bool) (x y : A) → P x → P y → P (cond b x y)
@@ -127,15 +139,25 @@ not_found_plain : (entries : List InvEntry) → pongs (not_found entries) ≡ []
 not_found_plain [] = refl
 not_found_plain (first ∷ others) = refl
 
-there_plain : (pieces : List Piece) → pongs (filter_map served_as pieces) ≡ []
-there_plain [] = refl
-there_plain (piece.Tx tx ∷ pieces) = there_plain pieces
-there_plain (piece.Whole block ∷ pieces) = there_plain pieces
-there_plain (piece.Short block ∷ pieces) = there_plain pieces
-there_plain (piece.Lacking asked ∷ pieces) = there_plain pieces
+there_plain : (nonce : ℕ) (pieces : List Piece) → pongs (sent nonce pieces) ≡ []
+there_plain nonce [] = refl
+there_plain nonce (piece.Tx tx ∷ pieces) = there_plain nonce pieces
+there_plain nonce (piece.Whole block ∷ pieces) = there_plain nonce pieces
+there_plain nonce (piece.Short block ∷ pieces) = there_plain (nonce_behind nonce (piece.Short block)) pieces
+there_plain nonce (piece.Lacking asked ∷ pieces) = there_plain nonce pieces
 
-served_plain : (pieces : List Piece) → pongs (served pieces) ≡ []
-served_plain pieces = pongs_append (filter_map served_as pieces) (not_found (filter_map lacking_in pieces)) (there_plain pieces) (not_found_plain (filter_map lacking_in pieces))
+served_plain : (nonce : ℕ) (pieces : List Piece) → pongs (served nonce pieces) ≡ []
+served_plain nonce pieces = pongs_append (sent nonce pieces) (not_found (filter_map lacking_in pieces)) (there_plain nonce pieces) (not_found_plain (filter_map lacking_in pieces))
+
+excerpt_plain : (excerpt : Excerpt) → pongs (excerpt_told excerpt) ≡ []
+excerpt_plain excerpts.Absent = refl
+excerpt_plain (excerpts.Refused fault) = refl
+excerpt_plain (excerpts.Part part) = refl
+excerpt_plain (excerpts.Whole block) = refl
+
+before_plain : (refused : Option Fault) (locator : List Hash256) → pongs (before_parent refused locator) ≡ []
+before_plain (Some faults.NoParent) locator = refl
+before_plain refused locator = refl
 
 announced_plain : (headers : Bool) (tip : Hash256) (path : List Header) → pongs (announcing headers tip path) ≡ []
 announced_plain headers tip [] = refl
@@ -146,22 +168,33 @@ telling_plain : (txids : List Hash256) → pongs (telling txids) ≡ []
 telling_plain [] = refl
 telling_plain (first ∷ others) = refl
 
+tip_by_plain : (s : SessionState) (news : News) (block : Option Block) → pongs (tip_by s news block) ≡ []
+tip_by_plain s news (Some block) = refl
+tip_by_plain s news None = announced_plain (s.peer.by_headers && not news.long) news.tip news.path
+
 tip_plain : (s : SessionState) (news : News) → pongs (tip_told s news) ≡ []
-tip_plain s news =
-    if_either (λ (sent : List Message). pongs sent ≡ []) (is_heard s.marks.heard news.tip) [] (announcing (s.peer.by_headers && not news.long) news.tip news.path) refl
-    (announced_plain (s.peer.by_headers && not news.long) news.tip news.path)
+tip_plain s news = if_either (λ (sent : List Message). pongs sent ≡ []) (is_untold s news) [] (tip_by s news news.block) refl (tip_by_plain s news news.block)
+
+wish_plain : (s : SessionState) (high : Bool) → pongs (wish_told s high) ≡ []
+wish_plain s high = if_either (λ (sent : List Message). pongs sent ≡ []) (s.peer.capable && differ high s.compact.asked_high) (wish high ∷ []) [] refl refl
+
+news_plain : (s : SessionState) (item : Option Item) (news : News) → pongs ((tip_told s news ++ telling (without_brought item news.txids)) ++ wish_told s news.high) ≡ []
+news_plain s item news =
+    pongs_append (tip_told s news ++ telling (without_brought item news.txids)) (wish_told s news.high)
+    (pongs_append (tip_told s news) (telling (without_brought item news.txids)) (tip_plain s news) (telling_plain (without_brought item news.txids)))
+    (wish_plain s news.high)
 
 -- ---- a message that was let in
 
-introduced_comes : (s : SessionState) (version : Version) → is_closed s.state ≡ false → Comes s.settings 4 [] (introduced s version)
+introduced_comes : (s : SessionState) (version : Version) → is_closed s.state ≡ false → Comes s.settings 6 [] (introduced s version)
 unfolding introduced
 introduced_comes s version going =
     let greeted : SessionState =
     with_state Greeted (with_peer (record { version = version.version; by_headers = s.peer.by_headers; capable = s.peer.capable; wants_high = s.peer.wants_high }) s) in
-    if_either (Comes s.settings 4 []) (version.nonce == s.settings.nonce) (ended reasons.SelfPeer s) (cond (int_lt version.version (pos 70001)) (ended reasons.OldPeer s) (sends greeted (greeting s.settings))) (stops reasons.SelfPeer (λ e. cc) refl)
-    (if_either (Comes s.settings 4 []) (int_lt version.version (pos 70001)) (ended reasons.OldPeer s) (sends greeted (greeting s.settings)) (stops reasons.OldPeer (λ e. cc) refl) (goes refl refl (omega arith) (greeting_plain s.settings)))
+    if_either (Comes s.settings 6 []) (version.nonce == s.settings.nonce) (ended reasons.SelfPeer s) (cond (int_lt version.version (pos 70001)) (ended reasons.OldPeer s) (sends greeted (greeting s.settings))) (stops reasons.SelfPeer (λ e. cc) refl)
+    (if_either (Comes s.settings 6 []) (int_lt version.version (pos 70001)) (ended reasons.OldPeer s) (sends greeted (greeting s.settings)) (stops reasons.OldPeer (λ e. cc) refl) (goes refl refl (omega arith) (greeting_plain s.settings)))
 
-in_start_comes : (s : SessionState) (message : Message) → is_closed s.state ≡ false → Comes s.settings 4 [] (in_start s message)
+in_start_comes : (s : SessionState) (message : Message) → is_closed s.state ≡ false → Comes s.settings 6 [] (in_start s message)
 unfolding in_start
 in_start_comes s (messages.Version version) going = introduced_comes s version going
 in_start_comes s other going = goes going refl (omega arith) refl
@@ -171,41 +204,78 @@ compact_either P relay s changed same =
     let peer : Peer = record { version = s.peer.version; by_headers = s.peer.by_headers; capable = true; wants_high = relay.high_bandwidth } in
     if_either P (relay.version == 1) (with_peer peer s) s (changed peer) same
 
-in_greeted_comes : (s : SessionState) (message : Message) → is_closed s.state ≡ false → Comes s.settings 4 [] (in_greeted s message)
+in_greeted_comes : (s : SessionState) (message : Message) → is_closed s.state ≡ false → Comes s.settings 6 [] (in_greeted s message)
 unfolding in_greeted
 in_greeted_comes s messages.Verack going =
     goes refl refl (omega arith) (wishes_by (int_lt s.peer.version (pos 70012)) (int_lt s.peer.version (pos 70014)) (record { high_bandwidth = false; version = 1 }))
 in_greeted_comes s messages.SendHeaders going = goes going refl (omega arith) refl
 in_greeted_comes s (messages.SendCmpct relay) going =
-    compact_either (λ (x : SessionState). Comes s.settings 4 [] (sends x [])) relay s (λ peer. goes going refl (omega arith) refl) (goes going refl (omega arith) refl)
+    compact_either (λ (x : SessionState). Comes s.settings 6 [] (sends x [])) relay s (λ peer. goes going refl (omega arith) refl) (goes going refl (omega arith) refl)
 in_greeted_comes s other going = goes going refl (omega arith) refl
 
-brought_comes : (s : SessionState) (block : Block) → is_closed s.state ≡ false → Comes s.settings 4 [] (brought s block)
-unfolding brought
+brought_comes : (s : SessionState) (block : Block) → is_closed s.state ≡ false → Comes s.settings 6 [] (brought s block)
 brought_comes s block going =
-    if_either (Comes s.settings 4 []) (is_sound_block block) (asks (heard_of (block_hash block.header) (with_fetch (landed (block_hash block.header) s.fetch) s)) [] (About subjects.Block)) (ended reasons.BadBlock s)
-    (goes going refl (omega arith) refl) (stops reasons.BadBlock (λ e. cc) refl)
+    let hash : Hash256 = block_hash block.header in
+    brought_cases (Comes s.settings 6 []) s block
+    (λ _. dropping_cases (λ (x : SessionState). Comes s.settings 6 [] (asks (heard_of hash x) [] (About subjects.Block))) hash (landing hash s) (goes going refl (omega arith) refl) (goes going refl (omega arith) refl))
+    (stops reasons.BadBlock (λ e. cc) refl)
 
-quiet_comes : (s : SessionState) → is_closed s.state ≡ false → Comes s.settings 4 [] (ends s [])
-quiet_comes s going = more s.settings 3 4 [] (ends s []) (omega arith) (ends_comes s [] going)
+quiet_comes : (s : SessionState) → is_closed s.state ≡ false → Comes s.settings 6 [] (ends s [])
+quiet_comes s going = more s.settings 3 6 [] (ends s []) (omega arith) (ends_comes s [] going)
 
-in_ready_comes : (s : SessionState) (message : Message) → is_closed s.state ≡ false → Comes s.settings 4 [] (in_ready s message)
+-- ---- compact blocks
+
+falls_back_comes : (s : SessionState) (hash : Hash256) → is_closed s.state ≡ false → Comes s.settings 3 [] (falls_back s hash)
+unfolding falls_back
+falls_back_comes s hash going =
+    let fallen : SessionState = with_fetch (fallen_back hash s.fetch) s in
+    let sent : List Message = cond (asks_now s.fetch hash) (asking_block hash ∷ []) [] in
+    renamed s.settings 3 (pongs sent) [] (ends fallen sent) (if_either (λ (sent : List Message). pongs sent ≡ []) (asks_now s.fetch hash) (asking_block hash ∷ []) [] refl refl) (ends_comes fallen sent going)
+
+gives_comes : (s : SessionState) (block : Block) → is_closed s.state ≡ false → Comes s.settings 4 [] (gives s block)
+gives_comes s block going = goes going refl (omega arith) refl
+
+short_heard_comes : (s : SessionState) (short : HeaderAndShortIds) → is_closed s.state ≡ false → Comes s.settings 6 [] (short_heard s short)
+unfolding short_heard
+short_heard_comes s short going =
+    if_either (Comes s.settings 6 []) (has_places short.txs) (asks (heard_of (block_hash short.header) s) [] (About subjects.Headers)) (ended reasons.BadMessage s) (goes going refl (omega arith) refl) (stops reasons.BadMessage (λ e. cc) refl)
+
+filled_by_comes : (s : SessionState) (hash : Hash256) (filled : Result Filled Fault) → is_closed s.state ≡ false → Comes s.settings 4 [] (filled_by s hash filled)
+filled_by_comes s hash (Ok (Sound block)) going = gives_comes s block going
+filled_by_comes s hash (Ok Wrong) going = more s.settings 3 4 [] (falls_back s hash) (omega arith) (falls_back_comes s hash going)
+filled_by_comes s hash (Err fault) going = stops reasons.BadMessage (λ e. cc) refl
+
+completed_by_comes : (s : SessionState) (given : BlockTransactions) (partial : Option Unfilled) → is_closed s.state ≡ false → Comes s.settings 6 [] (completed_by s given partial)
+completed_by_comes s given None going = quiet_comes s going
+completed_by_comes s given (Some partial) going =
+    let filled : Outcome = filled_by (with_partial None s) given.block (completed_of partial given) in
+    if_either (Comes s.settings 6 []) (same (block_hash partial.header) given.block) filled (ends s [])
+    (more s.settings 4 6 [] filled (omega arith) (filled_by_comes (with_partial None s) given.block (completed_of partial given) going)) (quiet_comes s going)
+
+txs_heard_comes : (s : SessionState) (given : BlockTransactions) → is_closed s.state ≡ false → Comes s.settings 6 [] (txs_heard s given)
+unfolding txs_heard
+txs_heard_comes s given going = completed_by_comes s given s.compact.partial going
+
+in_ready_comes : (s : SessionState) (message : Message) → is_closed s.state ≡ false → Comes s.settings 6 [] (in_ready s message)
 unfolding in_ready
 in_ready_comes s messages.SendHeaders going = quiet_comes (by_headers s) going
 in_ready_comes s (messages.SendCmpct relay) going =
-    compact_either (λ (x : SessionState). Comes s.settings 4 [] (ends x [])) relay s (λ peer. quiet_comes (with_peer peer s) going) (quiet_comes s going)
+    compact_either (λ (x : SessionState). Comes s.settings 6 [] (ends x [])) relay s (λ peer. quiet_comes (with_peer peer s) going) (quiet_comes s going)
 in_ready_comes s (messages.Headers []) going = quiet_comes s going
 in_ready_comes s (messages.Headers (first ∷ others)) going = goes going refl (omega arith) refl
 in_ready_comes s (messages.Inv entries) going =
-    if_either (Comes s.settings 4 []) (is_nil (told_of entries)) (ends s []) (asks s [] (About subjects.Inventory)) (quiet_comes s going) (goes going refl (omega arith) refl)
+    if_either (Comes s.settings 6 []) (is_nil (told_of entries)) (ends s []) (asks s [] (About subjects.Inventory)) (quiet_comes s going) (goes going refl (omega arith) refl)
 in_ready_comes s (messages.GetData entries) going = goes going refl (omega arith) refl
 in_ready_comes s (messages.GetHeaders request) going = goes going refl (omega arith) refl
 in_ready_comes s (messages.NotFound entries) going = quiet_comes (with_fetch (given_up entries s.fetch) s) going
 in_ready_comes s (messages.Tx tx) going = goes going refl (omega arith) refl
 in_ready_comes s (messages.Block block) going = brought_comes s block going
+in_ready_comes s (messages.CmpctBlock short) going = short_heard_comes s short going
+in_ready_comes s (messages.GetBlockTxn request) going = goes going refl (omega arith) refl
+in_ready_comes s (messages.BlockTxn given) going = txs_heard_comes s given going
 in_ready_comes s other going = quiet_comes s going
 
-by_phase_comes : (state : State) (s : SessionState) (message : Message) → is_closed s.state ≡ false → Comes s.settings 4 [] (by_phase state s message)
+by_phase_comes : (state : State) (s : SessionState) (message : Message) → is_closed s.state ≡ false → Comes s.settings 6 [] (by_phase state s message)
 by_phase_comes Start s message going = in_start_comes s message going
 by_phase_comes Greeted s message going = in_greeted_comes s message going
 by_phase_comes Ready s message going = in_ready_comes s message going
@@ -216,9 +286,9 @@ abbrev pub nonces_of : Option ℕ → List ℕ
 nonces_of None = []
 nonces_of (Some nonce) = nonce ∷ []
 
-received_comes : (s : SessionState) (message : Message) → is_closed s.state ≡ false → Comes s.settings 4 (nonces_of (ping_nonce message)) (received s message)
+received_comes : (s : SessionState) (message : Message) → is_closed s.state ≡ false → Comes s.settings 6 (nonces_of (ping_nonce message)) (received s message)
 unfolding received
-received_comes s (messages.Ping nonce) going = more s.settings 3 4 (nonce ∷ []) (ends s (messages.Pong nonce ∷ [])) (omega arith) (ends_comes s (messages.Pong nonce ∷ []) going)
+received_comes s (messages.Ping nonce) going = more s.settings 3 6 (nonce ∷ []) (ends s (messages.Pong nonce ∷ [])) (omega arith) (ends_comes s (messages.Pong nonce ∷ []) going)
 received_comes s other going = by_phase_comes s.state s other going
 
 -- what an item owes in pongs, and a tick none
@@ -226,7 +296,7 @@ abbrev pub owed_by : Option Item → List ℕ
 owed_by None = []
 owed_by (Some item) = nonces_of (item_ping item)
 
-processed_comes : (s : SessionState) (item : Option Item) → is_closed s.state ≡ false → Comes s.settings 4 (owed_by item) (processed s item)
+processed_comes : (s : SessionState) (item : Option Item) → is_closed s.state ≡ false → Comes s.settings 6 (owed_by item) (processed s item)
 unfolding processed
 processed_comes s None going = quiet_comes s going
 processed_comes s (Some (Good message)) going = received_comes s message going
@@ -241,9 +311,66 @@ heads_by_comes s item (Some faults.NoParent) locator going = ends_comes s (askin
 heads_by_comes s item (Some other) locator going = ends_comes s [] going
 heads_by_comes s item None locator going = renamed s.settings 3 (pongs (more_headers item)) [] (ends s (more_headers item)) (more_headers_plain item) (ends_comes s (more_headers item) going)
 
-heads_told_comes : (s : SessionState) (item : Option Item) (heads : Heads) → is_closed s.state ≡ false → Comes s.settings 3 [] (heads_told s item heads)
+-- the header of a compact block
+short_told_comes : (s : SessionState) (hash : Hash256) (heads : Heads) → is_closed s.state ≡ false → Comes s.settings 5 [] (short_told s hash heads)
+unfolding short_told
+short_told_comes s hash heads going =
+    let sent : List Message = before_parent heads.refused heads.locator in
+    let plain : pongs sent ≡ [] = before_plain heads.refused heads.locator in
+    let known : Outcome = ends (landing hash s) sent in
+    if_either (Comes s.settings 5 []) (is_workless heads.refused) (ended reasons.BadBlock s) (cond (is_nil heads.lack) known (asks s sent Match)) (stops reasons.BadBlock (λ e. cc) refl)
+    (if_either (Comes s.settings 5 []) (is_nil heads.lack) known (asks s sent Match)
+    (more s.settings 3 5 [] known (omega arith) (renamed s.settings 3 (pongs sent) [] known plain (ends_comes (landing hash s) sent going)))
+    (goes going refl (omega arith) plain))
+
+heads_for_comes : (s : SessionState) (item : Option Item) (short : Option HeaderAndShortIds) (heads : Heads) → is_closed s.state ≡ false → Comes s.settings 5 [] (heads_for s item short heads)
+heads_for_comes s item None heads going =
+    let wanting : SessionState = with_fetch (wanting_all s.fetch heads.lack) s in
+    more s.settings 3 5 [] (heads_by wanting item heads.refused heads.locator) (omega arith) (heads_by_comes wanting item heads.refused heads.locator going)
+heads_for_comes s item (Some short) heads going = short_told_comes s (block_hash short.header) heads going
+
+heads_told_comes : (s : SessionState) (item : Option Item) (heads : Heads) → is_closed s.state ≡ false → Comes s.settings 5 [] (heads_told s item heads)
 unfolding heads_told
-heads_told_comes s item heads going = heads_by_comes (with_fetch (wanting_all s.fetch heads.lack) s) item heads.refused heads.locator going
+heads_told_comes s item heads going = heads_for_comes s item (short_in item) heads going
+
+-- a block that is rebuilt
+rebuilt_by_comes : (s : SessionState) (hash : Hash256) (rebuilt : Rebuilt) → is_closed s.state ≡ false → Comes s.settings 4 [] (rebuilt_by s hash rebuilt)
+rebuilt_by_comes s hash (rebuilts.Sound block) going = gives_comes s block going
+rebuilt_by_comes s hash (rebuilts.Lacking partial request) going =
+    let kept : SessionState = with_partial (Some partial) s in
+    more s.settings 3 4 [] (ends kept (asking_txs request ∷ [])) (omega arith) (ends_comes kept (asking_txs request ∷ []) going)
+rebuilt_by_comes s hash rebuilts.Useless going = more s.settings 3 4 [] (falls_back s hash) (omega arith) (falls_back_comes s hash going)
+
+paired_comes : (s : SessionState) (short : Option HeaderAndShortIds) (pairs : List Pair) → is_closed s.state ≡ false → Comes s.settings 4 [] (paired s short pairs)
+paired_comes s None pairs going = goes going refl (omega arith) refl
+paired_comes s (Some short) pairs going =
+    if_either (Comes s.settings 4 []) (has_places short.txs) (rebuilt_by s (block_hash short.header) (rebuilt_of short pairs)) (ended reasons.BadMessage s)
+    (rebuilt_by_comes s (block_hash short.header) (rebuilt_of short pairs) going) (stops reasons.BadMessage (λ e. cc) refl)
+
+pairs_told_comes : (s : SessionState) (item : Option Item) (pairs : List Pair) → is_closed s.state ≡ false → Comes s.settings 4 [] (pairs_told s item pairs)
+unfolding pairs_told
+pairs_told_comes s item pairs going = paired_comes s (short_in item) pairs going
+
+given_told_comes : (s : SessionState) (refused : Option Fault) (locator : List Hash256) → is_closed s.state ≡ false → Comes s.settings 3 [] (given_told s refused locator)
+unfolding given_told
+given_told_comes s refused locator going =
+    let sent : List Message = before_parent refused locator in
+    renamed s.settings 3 (pongs sent) [] (ends s sent) (before_plain refused locator) (ends_comes s sent going)
+
+-- what the peer requested
+told_of_excerpt : (s : SessionState) (excerpt : Excerpt) → is_closed s.state ≡ false → Comes s.settings 3 [] (ends s (excerpt_told excerpt))
+told_of_excerpt s excerpt going = renamed s.settings 3 (pongs (excerpt_told excerpt)) [] (ends s (excerpt_told excerpt)) (excerpt_plain excerpt) (ends_comes s (excerpt_told excerpt) going)
+
+excerpt_answered_comes : (s : SessionState) (excerpt : Excerpt) → is_closed s.state ≡ false → Comes s.settings 3 [] (excerpt_answered s excerpt)
+unfolding excerpt_answered
+excerpt_answered_comes s (excerpts.Refused fault) going = stops reasons.BadRequest (λ e. cc) refl
+excerpt_answered_comes s other going = told_of_excerpt s other going
+
+served_told_comes : (s : SessionState) (pieces : List Piece) → is_closed s.state ≡ false → Comes s.settings 3 [] (served_told s pieces)
+unfolding served_told
+served_told_comes s pieces going =
+    let sent : List Message = served (next_nonce s) pieces in
+    renamed s.settings 3 (pongs sent) [] (ends (with_made (shorts pieces) s) sent) (served_plain (next_nonce s) pieces) (ends_comes (with_made (shorts pieces) s) sent going)
 
 taken_told_comes : (s : SessionState) (refused : Option Fault) (locator : List Hash256) → is_closed s.state ≡ false → Comes s.settings 3 [] (taken_told s refused locator)
 unfolding taken_told
@@ -260,11 +387,15 @@ need_told_comes s need going =
 
 wanted_told_comes : (s : SessionState) (need : Need) → is_closed s.state ≡ false → Comes s.settings 2 [] (wanted_told s need)
 unfolding wanted_told
-wanted_told_comes s need going = goes going refl (omega arith) (asking_plain (requests_of (taken_on (blocks_in need.entries)).flight))
+wanted_told_comes s need going = goes going refl (omega arith) (asking_plain (requests_of (need.near && s.peer.capable) (taken_on (blocks_in need.entries)).flight))
 
 news_told_comes : (s : SessionState) (item : Option Item) (news : News) → is_closed s.state ≡ false → Comes s.settings 1 [] (news_told s item news)
 unfolding news_told
-news_told_comes s item news going = goes going refl (omega arith) (pongs_append (tip_told s news) (telling (without_brought item news.txids)) (tip_plain s news) (telling_plain (without_brought item news.txids)))
+news_told_comes s item news going = goes going refl (omega arith) (news_plain s item news)
+
+-- what comes to fewer than three is fewer than what an item leads to
+later : (s : SessionState) (outcome : Outcome) → Comes s.settings 3 [] outcome → Comes s.settings 5 [] outcome
+later s outcome c = more s.settings 3 5 [] outcome (omega arith) c
 
 -- what is owed in pongs where something was asked for an item: it is pending until the hall's leave
 abbrev pub owed_at : Stage → Option Item → List ℕ
@@ -278,12 +409,15 @@ answered_comes q s item stage answers.Kicked fit going = stops reasons.Kicked (�
 answered_comes q s item Admit answers.Go fit going = processed_comes s item going
 answered_comes q s item Admit other fit going = absurd cc
 answered_comes q s item (About subject) (answers.Heads heads) fit going = heads_told_comes s item heads going
-answered_comes q s item (About subject) (answers.Locator locator) fit going = ends_comes s (asking_headers locator ∷ []) going
-answered_comes q s item (About subject) (answers.Need need) fit going = need_told_comes s need going
-answered_comes q s item (About subject) (answers.TxTaken refused) fit going = ends_comes s [] going
-answered_comes q s item (About subject) (answers.Taken taken) fit going = taken_told_comes s taken.refused taken.locator going
-answered_comes q s item (About subject) (answers.Served pieces) fit going = renamed s.settings 3 (pongs (served pieces)) [] (ends s (served pieces)) (served_plain pieces) (ends_comes s (served pieces) going)
-answered_comes q s item (About subject) (answers.Following headers) fit going = ends_comes s (messages.Headers headers ∷ []) going
+answered_comes q s item (About subject) (answers.Locator locator) fit going = later s (ends s (asking_headers locator ∷ [])) (ends_comes s (asking_headers locator ∷ []) going)
+answered_comes q s item (About subject) (answers.Need need) fit going = later s (need_told s need) (need_told_comes s need going)
+answered_comes q s item (About subject) (answers.TxTaken refused) fit going = later s (ends s []) (ends_comes s [] going)
+answered_comes q s item (About subject) (answers.Taken taken) fit going = later s (taken_told s taken.refused taken.locator) (taken_told_comes s taken.refused taken.locator going)
+answered_comes q s item (About subject) (answers.Served pieces) fit going = later s (served_told s pieces) (served_told_comes s pieces going)
+answered_comes q s item (About subject) (answers.Following headers) fit going = later s (ends s (messages.Headers headers ∷ [])) (ends_comes s (messages.Headers headers ∷ []) going)
+answered_comes q s item (About subject) (answers.Excerpt excerpt) fit going = later s (excerpt_answered s excerpt) (excerpt_answered_comes s excerpt going)
+answered_comes q s item Match (answers.Pairs pairs) fit going = pairs_told_comes s item pairs going
+answered_comes q s item (Give block) (answers.Taken taken) fit going = given_told_comes s taken.refused taken.locator going
 answered_comes q s item Wanted (answers.Need need) fit going = wanted_told_comes s need going
 answered_comes q s item Fresh (answers.News news) fit going = news_told_comes s item news going
 answered_comes q s item stage other fit going = goes going refl (omega arith) refl
@@ -304,6 +438,9 @@ question_same s pending item (About subjects.Tx) = refl
 question_same s pending item (About subjects.Block) = refl
 question_same s pending item (About subjects.Items) = refl
 question_same s pending item (About subjects.After) = refl
+question_same s pending item (About subjects.Places) = refl
+question_same s pending item Match = refl
+question_same s pending item (Give block) = refl
 question_same s pending item Wanted = refl
 question_same s pending item Fresh = refl
 
@@ -455,6 +592,8 @@ open_fewer s question answer going asked fit after = fewer_of s.pending s questi
 left_some : (stage : Stage) → 1 ≤ question_left stage
 left_some Admit = omega arith
 left_some (About subject) = omega arith
+left_some Match = omega arith
+left_some (Give block) = omega arith
 left_some Wanted = omega arith
 left_some Fresh = omega arith
 
@@ -469,6 +608,8 @@ some_left s question asked = some_of s.pending s question asked
 left_few : (stage : Stage) → question_left stage ≤ 6
 left_few Admit = omega arith
 left_few (About subject) = omega arith
+left_few Match = omega arith
+left_few (Give block) = omega arith
 left_few Wanted = omega arith
 left_few Fresh = omega arith
 

@@ -1,19 +1,28 @@
 -- The terms of the laws for every session, in the words of the protocol.
-use Rattle.std.specs.Prelude.{◌&&◌, ◌||◌, ◌==◌, Bool, true, false}
+use Rattle.std.specs.Prelude.{◌&&◌, ◌||◌, ◌==◌, Bool, true, false, Option, None, Some}
 use Rattle.std.specs.List.{list_any}
 use Rattle.cb_base.specs.declared.hash.Hash256.{Hash256}
-use Rattle.cb_chain.specs.Entries.{same}
-use Rattle.cb_journal.specs.declared.answer.Answer.TheVariants.{Following}
+use Rattle.cb_chain.specs.Entries.{block_hash, same}
+use Rattle.cb_compact.specs.Slots.{Unfilled}
+use Rattle.cb_journal.specs.declared.answer.Answer.{Answer}
+use Rattle.cb_journal.specs.declared.answer.Answer.TheVariants.{Following, Go, Pairs}
+use Rattle.cb_payload.specs.declared.compact_block.HeaderAndShortIds.{HeaderAndShortIds}
 use Rattle.cb_payload.specs.declared.inventory.InvEntry.{InvEntry}
+use Rattle.cb_wire.specs.declared.item.Item.{Item}
+use Rattle.cb_wire.specs.declared.item.Item.TheVariants.{Good}
 use Rattle.cb_wire.specs.declared.message.Message.{Message}
 use Rattle.cb_wire.specs.declared.message.Message.TheVariants as messages
 use Rattle.cb_peer_state.specs.declared.event.Event.{Event}
 use Rattle.cb_peer_state.specs.declared.event.Event.TheVariants as events
+use Rattle.cb_peer_state.specs.declared.pending.Pending.{Pending}
 use Rattle.cb_peer_state.specs.declared.settings.Settings.{Settings}
+use Rattle.cb_peer_state.specs.declared.stage.Stage.{Stage}
+use Rattle.cb_peer_state.specs.declared.stage.Stage.TheVariants.{Admit, Match}
 use Rattle.cb_peer_state.specs.declared.state.CloseReason.{CloseReason}
+use Rattle.cb_peer_state.specs.Questions.{short_in}
 use Rattle.cb_peer_state.specs.Session.{step_of}
 use Rattle.cb_peer_state.specs.declared.session_state.SessionState.{SessionState}
-use Rattle.cb_peer_state.specs.State.{opening, over}
+use Rattle.cb_peer_state.specs.State.{is_partial, opening, over}
 
 -- A reachable session: events lead to it from a new one. It may be ended at any time.
 pub data IsReached : SessionState → Type 0 where
@@ -50,3 +59,30 @@ names_block hash e = (e.kind == 2 || e.kind == 4) && same hash e.hash
 abbrev pub asks_for_block : Hash256 → Message → Bool
 asks_for_block hash (messages.GetData entries) = list_any (names_block hash) entries
 asks_for_block hash other = false
+
+-- ---- an answer by which the block with this hash is rebuilt, or seen not to be (BIP 152)
+
+abbrev pub is_short_of : Hash256 → Option HeaderAndShortIds → Bool
+is_short_of hash None = false
+is_short_of hash (Some short) = same hash (block_hash short.header)
+
+-- A `blocktxn` of the block that is being rebuilt.
+abbrev pub completes : Hash256 → Option Unfilled → Option Item → Bool
+completes hash partial (Some (Good (messages.BlockTxn given))) =
+    same hash given.block && is_partial given.block partial
+completes hash partial item = false
+
+-- The mempool's transactions for a compact block, or the hall's leave for a `blocktxn`.
+abbrev pub rebuilds_by : Hash256 → Option Unfilled → Option Item → Stage → Answer → Bool
+rebuilds_by hash partial item Match (Pairs pairs) = is_short_of hash (short_in item)
+rebuilds_by hash partial item Admit Go = completes hash partial item
+rebuilds_by hash partial item stage answer = false
+
+abbrev pub rebuilds_at : Hash256 → SessionState → Answer → Option Pending → Bool
+rebuilds_at hash s answer None = false
+rebuilds_at hash s answer (Some pending) =
+    rebuilds_by hash s.compact.partial pending.item pending.stage answer
+
+abbrev pub rebuilds : Hash256 → SessionState → Event → Bool
+rebuilds hash s (events.Told answer) = rebuilds_at hash s answer s.pending
+rebuilds hash s other = false

@@ -1,8 +1,15 @@
 //! What holds for every session of a peer, whatever events it is given.
 #![tactic(auto)]
 
+mod compact_laws;
 mod laws;
 
+pub use compact_laws::{
+    a_compact_block_is_not_held_against_its_peer, a_fallback_asks_for_the_whole_block,
+    an_honest_block_is_rebuilt, bandwidth_wishes_alternate,
+    compact_blocks_are_announced_where_asked_for, each_compact_block_has_its_nonce,
+    missing_transactions_are_requested, one_block_is_rebuilt_at_a_time,
+};
 pub use laws::{
     a_tip_is_not_told_to_its_source, few_blocks_are_fetched, headers_are_sent_where_asked_for,
     no_block_in_flight_is_asked_for, only_the_handshake_counts, questions_run_out,

@@ -11,6 +11,7 @@ ghost use Rattle.cb_peer_state.specs.Outcomes.{IsLightOutcome, Makes};
 ghost use Rattle.cb_peer_state.specs.Session.{weighs_item};
 ghost use Rattle.cb_peer_state.specs.Receiving.{brought, by_compact, given_up, gives_up, greeting, in_greeted, in_ready, in_start, introduced, processed, received};
 
+use crate::compact::{ask_places, hear_short, hear_txs};
 use cb_base::{Fault, Hash256, Shared};
 use cb_block::{Block, Header, sound_of};
 use cb_fetch::Fetch;
@@ -241,13 +242,13 @@ fn hear_ready(
         }
         Message::Tx(tx) => Ok(Reaction::about(alloc, Subject::Tx, Question::GiveTx(tx.clone()?))),
         Message::Block(block) => bring(session, alloc, block),
+        Message::CmpctBlock(short) => hear_short(session, alloc, short),
+        Message::GetBlockTxn(request) => ask_places(session, alloc, request),
+        Message::BlockTxn(given) => hear_txs(session, alloc, given),
         Message::Version(_)
         | Message::Verack
         | Message::Ping(_)
         | Message::Pong(_)
-        | Message::CmpctBlock(_)
-        | Message::GetBlockTxn(_)
-        | Message::BlockTxn(_)
         | Message::Unknown(_, _) => session.end(alloc, Vec::new(alloc)),
     }
 }
@@ -297,8 +298,9 @@ fn hear_inventory(
     Ok(Reaction::about(alloc, Subject::Inventory, Question::Want(known)))
 }
 
-/// Handles `block`. If its transactions don't match the Merkle root in its header, the session
-/// ends. Otherwise the block is no longer in flight and goes to the hall.
+/// Handles `block`. If it isn't sound (no transaction, one of 64 bytes, equal neighbours in its
+/// Merkle tree, or another root than its header's), the session ends and the hall isn't given the
+/// block. Otherwise the block is no longer in flight and goes to the hall.
 #[tactic(auto, unfolding(cb_peer_state::specs::Receiving::brought))]
 fn bring(
     session: &mut SessionState,
@@ -316,6 +318,9 @@ fn bring(
     let hash = block.header.hash();
     session.marks.heard = Some(hash);
     session.fetch.land(&hash);
+    if session.compact.is_partial(&hash) {
+        session.compact.partial = None;
+    }
     Ok(Reaction::about(
         alloc,
         Subject::Block,

@@ -2,6 +2,7 @@
 //! ChainstateManager and CTxMemPool.
 #![tactic(auto)]
 
+mod compact;
 mod replying;
 
 pub use replying::reply;

@@ -1,6 +1,6 @@
 //! How a session handles the hall's answers: one arm for each kind of answer. The hall is what
 //! Bitcoin Core keeps in ChainstateManager and CTxMemPool.
-ghost use Rattle.std.specs.Prelude.{◌≡◌, [], ◌∷◌, ◌≤◌, Option, filter, filter_map, false, length, not, IfOk, IsOk, IsOkUnless};
+ghost use Rattle.std.specs.Prelude.{◌≡◌, [], ◌∷◌, ◌≤◌, None, Option, filter, filter_map, false, length, not, IfOk, IsOk, IsOkUnless};
 ghost use Rattle.std.specs.List.{list_any};
 ghost use Rattle.cb_base.specs.DoubleHash.{double_hash};
 ghost use Rattle.cb_chain.specs.Entries.{same};
@@ -8,7 +8,6 @@ ghost use Rattle.cb_tx.specs.Text.{tx_text};
 ghost use Rattle.cb_base.specs.declared.fault.Fault.TheVariants.{Memory};
 ghost use Rattle.cb_talk.specs.Announcing.{telling};
 ghost use Rattle.cb_talk.specs.Inventory.{asking_for, asking_headers};
-ghost use Rattle.cb_talk.specs.Serving.{served};
 ghost use Rattle.cb_wire.specs.declared.message.Message.TheVariants as messages;
 ghost use Rattle.cb_wire.specs.declared.item.Item.{Item};
 ghost use Rattle.cb_peer_state.specs.declared.stage.Stage.TheVariants as stages;
@@ -17,8 +16,9 @@ ghost use Rattle.cb_journal.specs.declared.answer.Answer.TheVariants as answers;
 ghost use Rattle.cb_peer_state.specs.Outcomes.{IsLightOutcome, Makes, as_list};
 ghost use Rattle.cb_peer_state.specs.Session.{weighs_answer, weighs_item};
 ghost use Rattle.cb_peer_state.specs.Receiving.{ends};
-ghost use Rattle.cb_peer_state.specs.Replying.{answered, heads_told, is_block, is_leave, more_headers, need_told, news_told, taken_told, tip_told, tx_request, wanted_told, without_brought};
+ghost use Rattle.cb_peer_state.specs.Replying.{answered, differ, heads_for, heads_told, is_block, is_leave, is_untold, more_headers, need_told, news_told, served_told, taken_told, tip_made, tip_told, tx_request, wanted_told, wish_told, without_brought};
 
+use crate::compact::{answer_places, hear_given, hear_pairs, hear_short_heads, short_in};
 use cb_base::{Fault, Hash256, Shared};
 use cb_journal::Answer;
 use cb_payload::{HeaderList, InvEntry, Listed, Locator};
@@ -26,7 +26,10 @@ use cb_peer_state::{
     CloseReason, Reaction, SessionState, Stage, hash_of_last, one_message, push_some,
 };
 use cb_state::{Heads, Inventory, Need, News, Pieces, Taken, Txids};
-use cb_talk::{announce_tip, announce_txs, asking_for, asking_headers, served, written};
+use cb_talk::{
+    announce_block, announce_tip, announce_txs, asking_for, asking_headers, served, shorts, wish,
+    written,
+};
 use cb_tx::Tx;
 use cb_wire::{BoundedMessage, Item, Message};
 use std::alloc::Global;
@@ -41,17 +44,17 @@ pub fn reply(
     session: &mut SessionState,
     alloc: Global,
     item: &Option<Shared<Item>>,
-    stage: Stage,
+    stage: &Stage,
     answer: &Answer,
 ) -> Result<Reaction, Fault>
-    requires { is_leave stage answer.now ≡ false }
+    requires { is_leave stage.now answer.now ≡ false }
     ensures ok { IfOk result
-        (λ made. Makes (answered session.old item.now stage answer.now)
+        (λ made. Makes (answered session.old item.now stage.now answer.now)
         item.now session.new made.messages.items made.next) }
     ensures memory { IsOkUnless result Memory }
     ensures calm { answer.now ≡ answers.Kicked → IsOk result }
     ensures silent { weighs_item item.now ≡ false → weighs_answer answer.now ≡ false →
-        IsLightOutcome (answered session.old item.now stage answer.now) → IsOk result }
+        IsLightOutcome (answered session.old item.now stage.now answer.now) → IsOk result }
 {
     if let Answer::Kicked = answer {
         return Ok(session.end_by(alloc, CloseReason::Kicked));
@@ -59,6 +62,14 @@ pub fn reply(
     match stage {
         Stage::Admit => Ok(Reaction::nothing(alloc)),
         Stage::About(_) => hear_about(session, alloc, item, answer),
+        Stage::Match => match answer {
+            Answer::Pairs(pairs) => hear_pairs(session, alloc, item, pairs),
+            _ => Ok(Reaction::nothing(alloc)),
+        },
+        Stage::Give(_) => match answer {
+            Answer::Taken(taken) => hear_given(session, alloc, taken),
+            _ => Ok(Reaction::nothing(alloc)),
+        },
         Stage::Wanted => match answer {
             Answer::Need(need) => hear_wanted(session, alloc, need),
             _ => Ok(Reaction::nothing(alloc)),
@@ -97,24 +108,31 @@ fn hear_about(
         Answer::Served(pieces) => send_served(session, alloc, pieces),
         Answer::Following(headers) => send_headers(session, alloc, headers),
         Answer::Kicked => Ok(session.end_by(alloc, CloseReason::Kicked)),
-        Answer::Go | Answer::News(_) | Answer::Pairs(_) | Answer::Excerpt(_) => {
-            Ok(Reaction::nothing(alloc))
-        }
+        Answer::Excerpt(excerpt) => answer_places(session, alloc, excerpt),
+        Answer::Go | Answer::News(_) | Answer::Pairs(_) => Ok(Reaction::nothing(alloc)),
     }
 }
 
-/// Answers `getdata`: sends what the hall has, and one `notfound` of what it lacks.
-fn send_served(session: &SessionState, alloc: Global, pieces: &Pieces) -> Result<Reaction, Fault>
+/// Answers `getdata`: sends what the hall has, and one `notfound` of what it lacks. Each compact
+/// block has a nonce of its own (BIP 152).
+#[tactic(auto, unfolding(cb_peer_state::specs::Replying::served_told))]
+fn send_served(
+    session: &mut SessionState,
+    alloc: Global,
+    pieces: &Pieces,
+) -> Result<Reaction, Fault>
     ensures ok { (item : Option Item) →
         IfOk result (λ made. Makes
-        (ends session.now (served pieces.now)) item session.now made.messages.items made.next) }
+        (served_told session.old pieces.now) item session.new made.messages.items made.next) }
     ensures memory { IsOkUnless result Memory }
-    ensures silent { IsLightOutcome (ends session.now (served pieces.now)) → IsOk result }
+    ensures silent { IsLightOutcome (served_told session.old pieces.now) → IsOk result }
 {
-    if pieces.as_slice().is_empty() {
-        return session.end(alloc, Vec::new(alloc));
-    }
-    let messages = served(alloc, pieces)?;
+    let messages = if pieces.as_slice().is_empty() {
+        Vec::new(alloc)
+    } else {
+        served(alloc, pieces, session.next_nonce())?
+    };
+    session.count_made(shorts(pieces));
     session.end(alloc, messages)
 }
 
@@ -147,9 +165,7 @@ fn ask_headers(session: &SessionState, alloc: Global, locator: &Locator) -> Resu
     session.end(alloc, messages)
 }
 
-/// Handles the result of `headers`. Blocks of accepted headers that we don't have are queued
-/// for download. A header without proof of work ends the session. For an unknown parent the
-/// headers before it are requested.
+/// Handles the hall's answer about headers, or about the header of a compact block.
 #[tactic(auto, unfolding(cb_peer_state::specs::Replying::heads_told))]
 fn hear_heads(
     session: &mut SessionState,
@@ -161,8 +177,31 @@ fn hear_heads(
         (λ made. Makes (heads_told session.old item.now heads.now)
         item.now session.new made.messages.items made.next) }
     ensures memory { IsOkUnless result Memory }
-    ensures silent { weighs_answer (answers.Heads heads.now) ≡ false →
+    ensures silent { weighs_item item.now ≡ false →
+        weighs_answer (answers.Heads heads.now) ≡ false →
         IsLightOutcome (heads_told session.old item.now heads.now) → IsOk result }
+{
+    match short_in(item) {
+        Some(short) => hear_short_heads(session, alloc, short, heads),
+        None => hear_headers(session, alloc, item, heads),
+    }
+}
+
+/// Handles the result of `headers`. Blocks of accepted headers that we don't have are queued
+/// for download. A header without proof of work ends the session. For an unknown parent the
+/// headers before it are requested.
+fn hear_headers(
+    session: &mut SessionState,
+    alloc: Global,
+    item: &Option<Shared<Item>>,
+    heads: &Heads,
+) -> Result<Reaction, Fault>
+    ensures ok { IfOk result
+        (λ made. Makes (heads_for session.old item.now None heads.now)
+        item.now session.new made.messages.items made.next) }
+    ensures memory { IsOkUnless result Memory }
+    ensures silent { weighs_answer (answers.Heads heads.now) ≡ false →
+        IsLightOutcome (heads_for session.old item.now None heads.now) → IsOk result }
 {
     if heads.refused == Some(Fault::BadWork) {
         return Ok(session.end_by(alloc, CloseReason::BadBlock));
@@ -216,7 +255,8 @@ fn hear_need(session: &mut SessionState, alloc: Global, need: &Need) -> Result<R
     session.end(alloc, messages)
 }
 
-/// Requests queued blocks that are still needed, at most 16, by inventory type 2.
+/// Requests the queued blocks that are still needed, at most 16. One alone on top of the tip is
+/// requested as a compact block (type 4, BIP 152) of a peer that knows them, others whole (type 2).
 #[tactic(auto, unfolding(cb_peer_state::specs::Replying::wanted_told))]
 #[inline(never)]
 fn hear_wanted(session: &mut SessionState, alloc: Global, need: &Need) -> Result<Reaction, Fault>
@@ -228,10 +268,11 @@ fn hear_wanted(session: &mut SessionState, alloc: Global, need: &Need) -> Result
         IsLightOutcome (wanted_told session.old need.now) → IsOk result }
 {
     session.fetch.take_on(need.entries.as_slice())?;
+    let compact = need.near && session.peer.capable;
     let mut messages = Vec::new(alloc);
     push_some(
         &mut messages,
-        asking_for(session.fetch.flight_entries(alloc)?),
+        asking_for(session.fetch.flight_entries(alloc, compact)?),
     )?;
     Ok(Reaction {
         messages,
@@ -239,7 +280,8 @@ fn hear_wanted(session: &mut SessionState, alloc: Global, need: &Need) -> Result
     })
 }
 
-/// Announces news: the tip and transactions.
+/// Announces news: the tip and transactions. A peer that knows compact blocks is told when it is to
+/// announce blocks by them (BIP 152, `sendcmpct`), and when no longer.
 #[tactic(auto, unfolding(cb_peer_state::specs::Replying::news_told))]
 #[inline(never)]
 fn hear_news(
@@ -258,12 +300,58 @@ fn hear_news(
     let mut messages = Vec::new(alloc);
     push_some(&mut messages, told_tip(session, alloc, news)?)?;
     push_some(&mut messages, told_txs(alloc, item, &news.txids)?)?;
+    push_some(&mut messages, told_wish(session, news.high))?;
+    let made = tip_made(session, news);
     session.marks.tip = Some(news.tip);
     session.marks.next = news.next;
+    session.count_made(made);
+    if session.peer.capable {
+        session.compact.asked_high = news.high;
+    }
     Ok(Reaction::sends(messages))
 }
 
-/// The announcement of a new tip, unless the peer announced it.
+/// Whether a new tip isn't announced: there is none, or it is the last block heard of from the peer.
+fn is_untold(session: &SessionState, news: &News) -> bool
+    ensures { result ≡ is_untold session.now news.now }
+{
+    news.path.as_slice().is_empty() || session.marks.heard == Some(news.tip)
+}
+
+/// The number of compact blocks made to announce a new tip.
+fn tip_made(session: &SessionState, news: &News) -> u64
+    ensures { result ≡ tip_made session.now news.now }
+{
+    if is_untold(session, news) {
+        return 0;
+    }
+    match &news.block {
+        None => 0,
+        Some(_) => 1,
+    }
+}
+
+/// How the peer is told that it is to announce blocks as compact blocks, or no longer, if that
+/// changed.
+fn told_wish(session: &SessionState, high: bool) -> Option<BoundedMessage>
+    ensures { as_list result ≡ wish_told session.now high }
+{
+    if session.peer.capable && differ(high, session.compact.asked_high) {
+        Some(wish(high))
+    } else {
+        None
+    }
+}
+
+/// Whether two answers to a question differ.
+fn differ(one: bool, other: bool) -> bool
+    ensures { result ≡ differ one other }
+{
+    if one { !other } else { other }
+}
+
+/// The announcement of a new tip, unless the peer announced it: by its block as a compact block where
+/// the hall gave it (BIP 152), else by headers or its hash.
 fn told_tip(
     session: &SessionState,
     alloc: Global,
@@ -273,8 +361,11 @@ fn told_tip(
     ensures memory { IsOkUnless result Memory }
     ensures silent { tip_told session.now news.now ≡ [] → IsOk result }
 {
-    if session.marks.heard == Some(news.tip) {
+    if is_untold(session, news) {
         return Ok(None);
+    }
+    if let Some(block) = &news.block {
+        return Ok(Some(announce_block(alloc, block, session.next_nonce())?));
     }
     announce_tip(
         alloc,

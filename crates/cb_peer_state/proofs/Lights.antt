@@ -1,39 +1,33 @@
 -- Where nothing is sent and nothing asked but what is new.
-use Rattle.std.proofs.Common.{◌≡◌, ◌≢◌, ℕ, ◌+◌, Bool, true, false, cond, List, [], ◌∷◌, ◌++◌, Option, Some, None, length, refl, sym, ap, subst, ◌∙◌, arith}
-use Rattle.std.specs.Prelude.{◌&&◌, not, filter_map, option_map, MatchOption}
+use Rattle.std.proofs.Common.{◌≡◌, ℕ, Bool, true, false, cond, List, [], ◌∷◌, Option, Some, None, length, refl, sym, ap, subst, ◌∙◌}
+use Rattle.std.specs.Prelude.{◌&&◌, not, option_map, MatchOption}
 use Rattle.std.specs.List.{list_any, slice_get}
 use Rattle.cb_base.specs.declared.fault.Fault.{Fault}
 use Rattle.cb_base.specs.declared.fault.Fault.TheVariants as faults
 use Rattle.cb_base.specs.declared.hash.Hash256.{Hash256}
 use Rattle.cb_block.specs.declared.header.Header.{Header}
 use Rattle.cb_chain.specs.Entries.{block_hash}
-use Rattle.cb_fetch.specs.Fetching.{wanting_all}
 use Rattle.cb_journal.specs.declared.answer.Answer.{Answer}
 use Rattle.cb_journal.specs.declared.answer.Answer.TheVariants as answers
 use Rattle.cb_journal.specs.declared.question.Question.{Question}
-use Rattle.cb_state.specs.declared.accepting.Heads.{Heads}
 use Rattle.cb_state.specs.declared.inventory.Inventory.{Inventory}
-use Rattle.cb_state.specs.declared.serving.Piece.{Piece}
-use Rattle.cb_state.specs.declared.serving.Piece.TheVariants as piece
 use Rattle.cb_talk.specs.Inventory.{asking_headers}
-use Rattle.cb_talk.specs.Serving.{lacking_in, not_found, served, served_as}
 use Rattle.cb_wire.specs.declared.item.Item.{Item}
-use Rattle.cb_wire.specs.declared.item.Item.TheVariants.{Good, Damaged, Bad}
 use Rattle.cb_wire.specs.declared.message.Message.{Message}
 use Rattle.cb_wire.specs.declared.message.Message.TheVariants as messages
 use Rattle.cb_peer_state.specs.declared.stage.Stage.{Stage}
-use Rattle.cb_peer_state.specs.declared.stage.Stage.TheVariants.{Admit, About, Wanted, Fresh}
+use Rattle.cb_peer_state.specs.declared.stage.Stage.TheVariants.{Admit, About, Match, Give, Wanted, Fresh}
 use Rattle.cb_peer_state.specs.declared.stage.Subject.{Subject}
 use Rattle.cb_peer_state.specs.declared.stage.Subject.TheVariants as subjects
 use Rattle.cb_peer_state.specs.declared.pending.Pending.{Pending}
 use Rattle.cb_peer_state.specs.declared.event.Event.TheVariants as events
 use Rattle.cb_peer_state.specs.Questions.{fits, is_nil, question_of}
 use Rattle.cb_peer_state.specs.Outcomes.{Answers, IsLightOutcome, as_list, is_light_stage}
-use Rattle.cb_peer_state.specs.Receiving.{Outcome, ends, last_hash, received}
-use Rattle.cb_peer_state.specs.Replying.{answered, heads_by, heads_told, is_block, more_headers, taken_told}
+use Rattle.cb_peer_state.specs.Receiving.{ends, last_hash, received}
+use Rattle.cb_peer_state.specs.Replying.{answered, is_block, taken_told}
 use Rattle.cb_peer_state.specs.Session.{Stepped, for_item, is_light, spares, pending_item, stays, told, weighs_answer, weighs_item}
 use Rattle.cb_peer_state.specs.declared.session_state.SessionState.{SessionState}
-use Rattle.cb_peer_state.specs.State.{freed, with_fetch}
+use Rattle.cb_peer_state.specs.State.{freed}
 use Rattle.cb_peer_state.proofs.Cases.{sent_at_end}
 
 -- a message that is sent isn't nothing
@@ -44,20 +38,6 @@ pub ping_sent : {P : Type 0} (s : SessionState) (message : Message) (nonce : ℕ
 unfolding received
 ping_sent s message nonce same light = some_sent s (messages.Pong nonce) [] (subst (λ (m : Message). IsLightOutcome (received s m)) same light)
 
--- headers of which none was refused
-pub heads_light : (s : SessionState) (item : Option Item) (heads : Heads) → heads.refused ≡ None → IsLightOutcome (heads_told s item heads) → more_headers item ≡ []
-unfolding heads_told
-heads_light s item heads none light =
-    let t = with_fetch (wanting_all s.fetch heads.lack) s in
-    let same : heads_by t item heads.refused heads.locator ≡ ends t (more_headers item) = ap (λ (refused : Option Fault). heads_by t item refused heads.locator) none in
-    sym (sent_at_end t (more_headers item)) ∙ sym (ap (λ (outcome : Outcome). outcome.messages) same) ∙ light.0
-
-pub heads_sent : {P : Type 0} (s : SessionState) (item : Option Item) (heads : Heads) (fault : Fault) → heads.refused ≡ Some fault → fault ≡ faults.NoParent → IsLightOutcome (heads_told s item heads) → P
-unfolding heads_told
-heads_sent s item heads fault is parent light =
-    let t = with_fetch (wanting_all s.fetch heads.lack) s in
-    some_sent t (asking_headers heads.locator) [] (subst (λ (refused : Option Fault). IsLightOutcome (heads_by t item refused heads.locator)) (is ∙ ap (λ (f : Fault). Some f) parent) light)
-
 pub taken_sent : {P : Type 0} (s : SessionState) (refused : Option Fault) (locator : List Hash256) (fault : Fault) → refused ≡ Some fault → fault ≡ faults.NoParent → IsLightOutcome (taken_told s refused locator) → P
 unfolding taken_told
 taken_sent s refused locator fault is parent light =
@@ -67,19 +47,6 @@ taken_sent s refused locator fault is parent light =
 pub none_named : {P : Type 0} (entries : List Inventory) (found : Bool) → not (is_nil entries) ≡ false → found ≡ list_any is_block entries → found ≡ true → P
 none_named [] found none is named = absurd (let e : true ≡ false = sym named ∙ is in cc)
 none_named (first ∷ others) found none is named = absurd cc
-
-not_empty : (sent : List Message) (last : Message) → sent ++ last ∷ [] ≢ []
-not_empty [] last = λ e. cc
-not_empty (first ∷ others) last = λ e. cc
-
--- where nothing is sent nothing was asked for
-pub nothing_served : (s : SessionState) (pieces : List Piece) → IsLightOutcome (ends s (served pieces)) → pieces ≡ []
-nothing_served s [] light = refl
-nothing_served s (piece.Tx tx ∷ others) light = some_sent s (messages.Tx tx) _ light
-nothing_served s (piece.Whole block ∷ others) light = some_sent s (messages.Block block) _ light
-nothing_served s (piece.Short block ∷ others) light = some_sent s (messages.Block block) _ light
-nothing_served s (piece.Lacking asked ∷ others) light =
-    absurd (not_empty (filter_map served_as others) _ (sym (sent_at_end s (served (piece.Lacking asked ∷ others))) ∙ light.0))
 
 pub locator_sent : {P : Type 0} (s : SessionState) (item : Option Item) (subject : Subject) (answer : Answer) (locator : List Hash256) → answer ≡ answers.Locator locator → IsLightOutcome (answered s item (About subject) answer) → P
 unfolding answered
@@ -101,6 +68,8 @@ light_stage : (s : SessionState) (item : Option Item) (next : Option Stage) → 
 light_stage s item None e = refl
 light_stage s item (Some Fresh) e = refl
 light_stage s item (Some Admit) e = absurd cc
+light_stage s item (Some Match) e = absurd cc
+light_stage s item (Some (Give block)) e = absurd cc
 light_stage s item (Some Wanted) e = absurd cc
 light_stage s item (Some (About subjects.Headers)) e = absurd cc
 light_stage s item (Some (About subjects.Locator)) e = absurd cc
@@ -109,6 +78,7 @@ light_stage s item (Some (About subjects.Tx)) e = absurd cc
 light_stage s item (Some (About subjects.Block)) e = absurd cc
 light_stage s item (Some (About subjects.Items)) e = absurd cc
 light_stage s item (Some (About subjects.After)) e = absurd cc
+light_stage s item (Some (About subjects.Places)) e = absurd cc
 
 met_is : (s : SessionState) (pending : Pending) (answer : Answer) → s.pending ≡ Some pending → fits (question_of s pending.item pending.stage) answer ≡ true
     → told s.pending s answer ≡ for_item pending.item (answered (freed s) pending.item pending.stage answer)

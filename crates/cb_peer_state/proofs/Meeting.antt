@@ -1,11 +1,11 @@
 -- Which answers fit the question that is open.
-use Rattle.std.proofs.Common.{◌≡◌, Bool, true, false, Option, Some, None, refl}
+use Rattle.std.proofs.Common.{◌≡◌, Option, refl}
 use Rattle.cb_journal.specs.declared.answer.Answer.{Answer}
 use Rattle.cb_journal.specs.declared.answer.Answer.TheVariants as answers
 use Rattle.cb_wire.specs.declared.item.Item.{Item}
 use Rattle.cb_peer_state.specs.declared.session_state.SessionState.{SessionState}
 use Rattle.cb_peer_state.specs.declared.stage.Stage.{Stage}
-use Rattle.cb_peer_state.specs.declared.stage.Stage.TheVariants.{Admit, About, Wanted, Fresh}
+use Rattle.cb_peer_state.specs.declared.stage.Stage.TheVariants.{Admit, About, Match, Give, Wanted, Fresh}
 use Rattle.cb_peer_state.specs.declared.stage.Subject.TheVariants as subjects
 use Rattle.cb_peer_state.specs.Questions.{fits, is_met, question_of}
 
@@ -20,5 +20,8 @@ fits_met s item (About subjects.Tx) other = refl
 fits_met s item (About subjects.Block) other = refl
 fits_met s item (About subjects.Items) other = refl
 fits_met s item (About subjects.After) other = refl
+fits_met s item (About subjects.Places) other = refl
+fits_met s item Match other = refl
+fits_met s item (Give block) other = refl
 fits_met s item Wanted other = refl
 fits_met s item Fresh other = refl

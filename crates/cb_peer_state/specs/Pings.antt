@@ -1,5 +1,5 @@
 -- Pings and pongs, by their nonces (BIP 31).
-use Rattle.std.specs.Prelude.{ℕ, List, [], filter_map, Option, Some, None}
+use Rattle.std.specs.Prelude.{ℕ, List, filter_map, Option, Some, None}
 use Rattle.cb_wire.specs.declared.item.Item.{Item}
 use Rattle.cb_wire.specs.declared.item.Item.TheVariants.{Good}
 use Rattle.cb_wire.specs.declared.message.Message.{Message}

@@ -9,6 +9,9 @@ use Rattle.cb_fetch.specs.Fetching.{as_blocks}
 use Rattle.cb_journal.specs.declared.answer.Answer.{Answer}
 use Rattle.cb_journal.specs.declared.answer.Answer.TheVariants as answers
 use Rattle.cb_journal.specs.declared.question.Question.{Question}
+use Rattle.cb_journal.specs.declared.question.Sought.{Sought}
+use Rattle.cb_payload.specs.declared.block_transactions.BlockTransactionsRequest.{BlockTransactionsRequest}
+use Rattle.cb_payload.specs.declared.compact_block.HeaderAndShortIds.{HeaderAndShortIds}
 use Rattle.cb_journal.specs.declared.question.Question.TheVariants as questions
 use Rattle.cb_journal.specs.declared.question.Request.TheVariants.{Items, After, Places}
 use Rattle.cb_payload.specs.declared.inventory.InvEntry.{InvEntry}
@@ -49,6 +52,7 @@ told_of entries = filter_map known entries
 
 abbrev pub item_headers : Option Item → List Header
 item_headers (Some (Good (messages.Headers headers))) = headers
+item_headers (Some (Good (messages.CmpctBlock short))) = short.header ∷ []
 item_headers item = []
 
 abbrev pub item_inventory : Option Item → List InvEntry
@@ -75,6 +79,20 @@ abbrev pub item_stop : Option Item → Hash256
 item_stop (Some (Good (messages.GetHeaders request))) = request.stop
 item_stop item = record { 0 = replicate 32 0 }
 
+abbrev pub item_places : Option Item → BlockTransactionsRequest
+item_places (Some (Good (messages.GetBlockTxn request))) = request
+item_places item = record { block = record { 0 = replicate 32 0 }; differences = [] }
+
+-- The compact block that an item brought, if it did.
+abbrev pub short_in : Option Item → Option HeaderAndShortIds
+short_in (Some (Good (messages.CmpctBlock short))) = Some short
+short_in item = None
+
+-- What is looked for in the mempool: the transactions with a compact block's short ids.
+abbrev pub sought_for : Option HeaderAndShortIds → Sought
+sought_for (Some short) = record { header = short.header; nonce = short.nonce; ids = short.txs.ids }
+sought_for None = record { header = genesis_block.header; nonce = 0; ids = [] }
+
 -- The question about an item, by its subject. The end of the handshake asks for the chain's
 -- locator.
 abbrev pub about : Subject → SessionState → Option Item → Question
@@ -85,15 +103,19 @@ about subjects.Tx s item = questions.GiveTx (item_tx item)
 about subjects.Block s item = questions.GiveBlock (record { block = item_block item; capable = s.peer.capable })
 about subjects.Items s item = questions.Serve (Items (map understood (item_requests item)))
 about subjects.After s item = questions.Serve (After (item_locator item) (item_stop item))
+about subjects.Places s item = questions.Serve (Places (item_places item).block (item_places item).differences)
 
 -- The question for each step of an item or tick: whether it is admitted; what the item leads to;
--- which queued blocks are still needed; and what is new. The question for news doesn't ask for the
--- tip's block.
+-- which transactions of the mempool have a compact block's short ids; what the hall says of a
+-- rebuilt block; which queued blocks are still needed; and what is new. News come with the tip's
+-- block for a peer that wants compact blocks unasked (BIP 152).
 abbrev pub question_of : SessionState → Option Item → Stage → Question
 question_of s item stages.Admit = questions.Admit
 question_of s item (stages.About subject) = about subject s item
+question_of s item stages.Match = questions.Match (sought_for (short_in item))
+question_of s item (stages.Give block) = questions.GiveBlock (record { block = block; capable = s.peer.capable })
 question_of s item stages.Wanted = questions.Want (as_blocks s.fetch.wanted)
-question_of s item stages.Fresh = questions.News (record { tip = s.marks.tip; from = s.marks.next; whole = false })
+question_of s item stages.Fresh = questions.News (record { tip = s.marks.tip; from = s.marks.next; whole = s.peer.wants_high })
 
 -- The open question, if there is one.
 abbrev pub question_at : SessionState → Option Pending → Option Question
@@ -106,8 +128,10 @@ pending_question s = question_at s s.pending
 -- The number of answers still to come, with the open question's own. Each answer that fits leaves
 -- fewer.
 abbrev pub question_left : Stage → ℕ
-question_left stages.Admit = 4
-question_left (stages.About subject) = 3
+question_left stages.Admit = 6
+question_left (stages.About subject) = 5
+question_left stages.Match = 4
+question_left (stages.Give block) = 3
 question_left stages.Wanted = 2
 question_left stages.Fresh = 1
 
@@ -142,6 +166,9 @@ is_met (stages.About subjects.Tx) (answers.TxTaken refused) = true
 is_met (stages.About subjects.Block) (answers.Taken taken) = true
 is_met (stages.About subjects.Items) (answers.Served pieces) = true
 is_met (stages.About subjects.After) (answers.Following headers) = true
+is_met (stages.About subjects.Places) (answers.Excerpt excerpt) = true
+is_met stages.Match (answers.Pairs pairs) = true
+is_met (stages.Give block) (answers.Taken taken) = true
 is_met stages.Wanted (answers.Need need) = true
 is_met stages.Fresh (answers.News news) = true
 is_met stage other = false

@@ -1,12 +1,21 @@
 -- How a session handles its peer's messages: one line for each message. Sources: Bitcoin's
--- peer-to-peer protocol; BIP 31 (pong), BIP 130 (sendheaders), BIP 152 (sendcmpct). 'Own' marks a
--- choice of this node.
-use Rattle.std.specs.Prelude.{ℕ, pos, Bool, true, false, not, ◌||◌, ◌==◌, nat_lt, int_lt, if◌then◌else◌, List, [], ◌∷◌, ◌++◌, length, fold, Option, Some, None}
+-- peer-to-peer protocol; BIP 31 (pong), BIP 130 (sendheaders), BIP 152 (sendcmpct, cmpctblock,
+-- getblocktxn, blocktxn). 'Own' marks a choice of this node.
+use Rattle.std.specs.Prelude.{pos, true, not, ◌||◌, ◌==◌, int_lt, if◌then◌else◌, List, [], ◌∷◌, fold, Option, Some, None, Result, Ok, Err}
 use Rattle.cb_base.specs.declared.hash.Hash256.{Hash256}
 use Rattle.cb_block.specs.declared.block.Block.{Block}
 use Rattle.cb_block.specs.declared.header.Header.{Header}
-use Rattle.cb_chain.specs.Entries.{block_hash}
-use Rattle.cb_fetch.specs.Fetching.{FetchState, is_due, landed}
+use Rattle.cb_base.specs.declared.fault.Fault.{Fault}
+use Rattle.cb_chain.specs.Entries.{block_hash, same}
+use Rattle.cb_compact.specs.Slots.{Unfilled}
+use Rattle.cb_compact.specs.declared.partial.Filled.{Filled}
+use Rattle.cb_compact.specs.declared.partial.Filled.TheVariants.{Sound, Wrong}
+use Rattle.cb_fetch.specs.Fetching.{FetchState, asks_now, fallen_back, is_due, landed}
+use Rattle.cb_payload.specs.declared.block_transactions.BlockTransactions.{BlockTransactions}
+use Rattle.cb_payload.specs.declared.compact_block.HeaderAndShortIds.{HeaderAndShortIds}
+use Rattle.cb_rebuild.specs.Completing.{completed_of}
+use Rattle.cb_rebuild.specs.Places.{has_places}
+use Rattle.cb_talk.specs.Inventory.{asking_block}
 use Rattle.cb_payload.specs.declared.inventory.InvEntry.{InvEntry}
 use Rattle.cb_payload.specs.declared.requests.CompactRelay.{CompactRelay}
 use Rattle.cb_payload.specs.declared.version.Version.{Version}
@@ -16,7 +25,7 @@ use Rattle.cb_wire.specs.declared.item.Item.TheVariants.{Good, Damaged, Bad}
 use Rattle.cb_wire.specs.declared.message.Message.{Message}
 use Rattle.cb_wire.specs.declared.message.Message.TheVariants as messages
 use Rattle.cb_peer_state.specs.declared.stage.Stage.{Stage}
-use Rattle.cb_peer_state.specs.declared.stage.Stage.TheVariants.{About, Wanted, Fresh}
+use Rattle.cb_peer_state.specs.declared.stage.Stage.TheVariants.{About, Give, Wanted, Fresh}
 use Rattle.cb_peer_state.specs.declared.stage.Subject.TheVariants as subjects
 use Rattle.cb_peer_state.specs.declared.settings.Settings.{Settings}
 use Rattle.cb_peer_state.specs.declared.state.CloseReason.{CloseReason}
@@ -26,7 +35,7 @@ use Rattle.cb_peer_state.specs.declared.state.State.TheVariants.{Start, Greeted,
 use Rattle.cb_peer_state.specs.Questions.{is_nil, told_of}
 use Rattle.cb_block.specs.Decision.{is_sound_block}
 use Rattle.cb_peer_state.specs.declared.session_state.SessionState.{SessionState}
-use Rattle.cb_peer_state.specs.State.{is_ready, over, with_fetch, with_marks, with_peer, with_state}
+use Rattle.cb_peer_state.specs.State.{dropping, is_ready, landing, over, with_fetch, with_marks, with_partial, with_peer, with_state}
 
 -- The result of a message or an answer: the session after it, the messages to send, and the next
 -- question, if any.
@@ -91,10 +100,11 @@ introduced s version =
 
 -- ---- a message that was admitted
 
--- A `block`: the session ends if its transactions don't match the Merkle root in its header.
+-- A `block`: the session ends unless the block is sound. A mutated tree (CVE-2012-2459) ends it
+-- too, though its root matches the header.
 unfoldable pub brought : SessionState → Block → Outcome
 brought s block =
-    if is_sound_block block then asks (heard_of (block_hash block.header) (with_fetch (landed (block_hash block.header) s.fetch) s)) [] (About subjects.Block)
+    if is_sound_block block then asks (heard_of (block_hash block.header) (dropping (block_hash block.header) (landing (block_hash block.header) s))) [] (About subjects.Block)
     else ended reasons.BadBlock s
 
 -- A block of a `notfound` is no longer in flight; it is named as a block or a compact block.
@@ -109,6 +119,43 @@ abbrev pub last_hash : Header → List Header → Hash256
 last_hash header [] = block_hash header
 last_hash header (next ∷ others) = last_hash next others
 
+-- ---- compact blocks (BIP 152)
+
+-- A block that was rebuilt is given to the hall. It is no longer in flight.
+abbrev pub gives : SessionState → Block → Outcome
+gives s block = asks (landing (block_hash block.header) s) [] (Give block)
+
+-- A compact block that can't be rebuilt is requested whole, or queued for download if 16 others are
+-- in flight.
+unfoldable pub falls_back : SessionState → Hash256 → Outcome
+falls_back s hash = ends (with_fetch (fallen_back hash s.fetch) s) (if asks_now s.fetch hash then asking_block hash ∷ [] else [])
+
+-- A `cmpctblock`: the hall is asked about its header. The session ends if a prefilled transaction
+-- has a place past the block's end.
+unfoldable pub short_heard : SessionState → HeaderAndShortIds → Outcome
+short_heard s short =
+    if has_places short.txs then asks (heard_of (block_hash short.header) s) [] (About subjects.Headers)
+    else ended reasons.BadMessage s
+
+-- The completed block is given to the hall, or requested whole if it isn't sound. The session ends
+-- if not as many transactions came as were missing.
+abbrev pub filled_by : SessionState → Hash256 → Result Filled Fault → Outcome
+filled_by s hash (Ok (Sound block)) = gives s block
+filled_by s hash (Ok Wrong) = falls_back s hash
+filled_by s hash (Err fault) = ended reasons.BadMessage s
+
+-- The block that is completed is no longer being rebuilt, whatever comes of it. Transactions of
+-- another block are ignored.
+abbrev pub completed_by : SessionState → BlockTransactions → Option Unfilled → Outcome
+completed_by s given None = ends s []
+completed_by s given (Some partial) =
+    if same (block_hash partial.header) given.block then filled_by (with_partial None s) given.block (completed_of partial given)
+    else ends s []
+
+-- A `blocktxn`: the transactions that a compact block lacked.
+unfoldable pub txs_heard : SessionState → BlockTransactions → Outcome
+txs_heard s given = completed_by s given s.compact.partial
+
 -- A message once the handshake is complete.
 unfoldable pub in_ready : SessionState → Message → Outcome
 in_ready s messages.SendHeaders = ends (by_headers s) []
@@ -121,6 +168,9 @@ in_ready s (messages.GetHeaders request) = asks s [] (About subjects.After)
 in_ready s (messages.NotFound entries) = ends (with_fetch (given_up entries s.fetch) s) []
 in_ready s (messages.Tx tx) = asks s [] (About subjects.Tx)
 in_ready s (messages.Block block) = brought s block
+in_ready s (messages.CmpctBlock short) = short_heard s short
+in_ready s (messages.GetBlockTxn request) = asks s [] (About subjects.Places)
+in_ready s (messages.BlockTxn given) = txs_heard s given
 in_ready s other = ends s []
 
 -- A message before the peer's `version` has come. Anything but a `version` is ignored.

@@ -1,38 +1,48 @@
 -- How a session handles the hall's answers: one line for each kind of answer. Sources: Bitcoin's
 -- peer-to-peer protocol; BIP 130 for announcing a tip. 'Own' marks a choice of this node.
-use Rattle.std.specs.Prelude.{Bool, true, false, not, ◌&&◌, ◌==◌, if◌then◌else◌, List, [], ◌∷◌, ◌++◌, length, filter, filter_map, Option, Some, None}
+use Rattle.std.specs.Prelude.{ℕ, Bool, true, false, not, ◌&&◌, ◌||◌, ◌==◌, if◌then◌else◌, List, [], ◌∷◌, ◌++◌, length, filter, filter_map, Option, Some, None}
 use Rattle.std.specs.List.{list_any}
 use Rattle.cb_base.specs.declared.fault.Fault.{Fault}
 use Rattle.cb_base.specs.declared.fault.Fault.TheVariants as faults
 use Rattle.cb_base.specs.declared.hash.Hash256.{Hash256}
 use Rattle.cb_base.specs.DoubleHash.{double_hash}
+use Rattle.cb_block.specs.declared.block.Block.{Block}
 use Rattle.cb_block.specs.declared.header.Header.{Header}
-use Rattle.cb_chain.specs.Entries.{same}
+use Rattle.cb_chain.specs.Entries.{block_hash, same}
+use Rattle.cb_compact.specs.declared.named_tx.Pair.{Pair}
 use Rattle.cb_fetch.specs.Fetching.{blocks_in, requests_of, taken_on, wanting_all}
 use Rattle.cb_journal.specs.declared.answer.Answer.{Answer}
 use Rattle.cb_journal.specs.declared.answer.Answer.TheVariants as answers
+use Rattle.cb_payload.specs.declared.compact_block.HeaderAndShortIds.{HeaderAndShortIds}
 use Rattle.cb_payload.specs.declared.inventory.InvEntry.{InvEntry}
+use Rattle.cb_rebuild.specs.Places.{has_places}
+use Rattle.cb_rebuild.specs.Rebuilding.{rebuilt_of}
+use Rattle.cb_rebuild.specs.declared.rebuilding.Rebuilt.{Rebuilt}
+use Rattle.cb_rebuild.specs.declared.rebuilding.Rebuilt.TheVariants as rebuilts
 use Rattle.cb_state.specs.declared.accepting.Heads.{Heads}
-use Rattle.cb_state.specs.declared.accepting.Taken.{Taken}
 use Rattle.cb_state.specs.declared.inventory.Inventory.{Inventory}
 use Rattle.cb_state.specs.declared.inventory.Inventory.TheVariants as entry
 use Rattle.cb_state.specs.declared.news.News.{News}
+use Rattle.cb_state.specs.declared.serving.Piece.{Piece}
+use Rattle.cb_state.specs.declared.serving_places.Excerpt.{Excerpt}
+use Rattle.cb_state.specs.declared.serving_places.Excerpt.TheVariants as excerpts
 use Rattle.cb_state.specs.declared.wanting.Need.{Need}
-use Rattle.cb_talk.specs.Announcing.{announcing, telling}
-use Rattle.cb_talk.specs.Inventory.{asking_for, asking_headers, written}
-use Rattle.cb_talk.specs.Serving.{served}
-use Rattle.cb_tx.specs.declared.tx.Tx.{Tx}
+use Rattle.cb_talk.specs.Announcing.{announcing, announcing_block, telling}
+use Rattle.cb_talk.specs.Greeting.{wish}
+use Rattle.cb_talk.specs.Inventory.{asking_for, asking_headers, asking_txs, written}
+use Rattle.cb_talk.specs.Serving.{excerpt_told, served, shorts}
 use Rattle.cb_tx.specs.Text.{tx_text}
 use Rattle.cb_wire.specs.declared.item.Item.{Item}
 use Rattle.cb_wire.specs.declared.item.Item.TheVariants.{Good}
 use Rattle.cb_wire.specs.declared.message.Message.{Message}
 use Rattle.cb_wire.specs.declared.message.Message.TheVariants as messages
 use Rattle.cb_peer_state.specs.declared.stage.Stage.{Stage}
-use Rattle.cb_peer_state.specs.declared.stage.Stage.TheVariants.{Admit, About, Wanted, Fresh}
+use Rattle.cb_peer_state.specs.declared.stage.Stage.TheVariants.{Admit, About, Match, Give, Wanted, Fresh}
 use Rattle.cb_peer_state.specs.declared.state.CloseReason.TheVariants as reasons
-use Rattle.cb_peer_state.specs.Receiving.{Outcome, asks, ended, ends, last_hash, processed, sends}
+use Rattle.cb_peer_state.specs.Receiving.{Outcome, asks, ended, ends, falls_back, gives, last_hash, processed, sends}
 use Rattle.cb_peer_state.specs.declared.session_state.SessionState.{SessionState}
-use Rattle.cb_peer_state.specs.State.{with_fetch, with_marks}
+use Rattle.cb_peer_state.specs.Questions.{is_nil, short_in}
+use Rattle.cb_peer_state.specs.State.{landing, next_nonce, with_asked_high, with_fetch, with_made, with_marks, with_partial}
 
 -- After a full message of 2,000 headers, the headers after them are requested.
 abbrev pub more_behind : List Header → List Message
@@ -52,9 +62,6 @@ heads_by s item (Some faults.NoParent) locator = ends s (asking_headers locator 
 heads_by s item (Some other) locator = ends s []
 heads_by s item None locator = ends s (more_headers item)
 
-unfoldable pub heads_told : SessionState → Option Item → Heads → Outcome
-heads_told s item heads = heads_by (with_fetch (wanting_all s.fetch heads.lack) s) item heads.refused heads.locator
-
 -- The result of `block`. A block already known is ignored. For an unknown parent the headers before
 -- it are requested. Any other refusal ends the session.
 unfoldable pub taken_told : SessionState → Option Fault → List Hash256 → Outcome
@@ -62,6 +69,62 @@ taken_told s None locator = ends s []
 taken_told s (Some faults.Known) locator = ends s []
 taken_told s (Some faults.NoParent) locator = ends s (asking_headers locator ∷ [])
 taken_told s (Some other) locator = ended reasons.BadBlock s
+
+-- The headers before one with an unknown parent are requested.
+abbrev pub before_parent : Option Fault → List Hash256 → List Message
+before_parent (Some faults.NoParent) locator = asking_headers locator ∷ []
+before_parent refused locator = []
+
+-- A rebuilt block isn't held against its peer, whatever the hall says of it.
+unfoldable pub given_told : SessionState → Option Fault → List Hash256 → Outcome
+given_told s refused locator = ends s (before_parent refused locator)
+
+abbrev pub is_workless : Option Fault → Bool
+is_workless (Some faults.BadWork) = true
+is_workless refused = false
+
+-- The header of a compact block. One without work ends the session. If its block isn't missing it
+-- is no longer in flight, and the item is done. Else the mempool is searched for its transactions.
+unfoldable pub short_told : SessionState → Hash256 → Heads → Outcome
+short_told s hash heads =
+    if is_workless heads.refused then ended reasons.BadBlock s
+    else if is_nil heads.lack then ends (landing hash s) (before_parent heads.refused heads.locator)
+    else asks s (before_parent heads.refused heads.locator) Match
+
+-- What comes of the transactions of the mempool that have a compact block's short ids: the block is
+-- given, or what it lacks is requested and it replaces one that was being rebuilt, or it is
+-- requested whole.
+abbrev pub rebuilt_by : SessionState → Hash256 → Rebuilt → Outcome
+rebuilt_by s hash (rebuilts.Sound block) = gives s block
+rebuilt_by s hash (rebuilts.Lacking partial request) = ends (with_partial (Some partial) s) (asking_txs request ∷ [])
+rebuilt_by s hash rebuilts.Useless = falls_back s hash
+
+abbrev pub paired : SessionState → Option HeaderAndShortIds → List Pair → Outcome
+paired s None pairs = sends s []
+paired s (Some short) pairs =
+    if has_places short.txs then rebuilt_by s (block_hash short.header) (rebuilt_of short pairs)
+    else ended reasons.BadMessage s
+
+unfoldable pub pairs_told : SessionState → Option Item → List Pair → Outcome
+pairs_told s item pairs = paired s (short_in item) pairs
+
+-- Headers, or the header of a compact block.
+abbrev pub heads_for : SessionState → Option Item → Option HeaderAndShortIds → Heads → Outcome
+heads_for s item None heads = heads_by (with_fetch (wanting_all s.fetch heads.lack) s) item heads.refused heads.locator
+heads_for s item (Some short) heads = short_told s (block_hash short.header) heads
+
+unfoldable pub heads_told : SessionState → Option Item → Heads → Outcome
+heads_told s item heads = heads_for s item (short_in item) heads
+
+-- The transactions of a block that the peer requested. A request for a place past the block's end
+-- ends the session.
+unfoldable pub excerpt_answered : SessionState → Excerpt → Outcome
+excerpt_answered s (excerpts.Refused fault) = ended reasons.BadRequest s
+excerpt_answered s other = ends s (excerpt_told other)
+
+-- Transactions and blocks that the peer requested. Each compact block has the next nonce.
+unfoldable pub served_told : SessionState → List Piece → Outcome
+served_told s pieces = ends (with_made (shorts pieces) s) (served (next_nonce s) pieces)
 
 -- The `getdata` entry for a transaction.
 abbrev pub tx_request : Inventory → Option InvEntry
@@ -77,32 +140,65 @@ unfoldable pub need_told : SessionState → Need → Outcome
 need_told s need =
     ends s (asking_for (filter_map tx_request need.entries) ++ (if list_any is_block need.entries then asking_headers need.locator ∷ [] else []))
 
--- Queued blocks that are still needed are requested, the first 16 of them, by type 2.
+-- Queued blocks that are still needed are requested, the first 16 of them: as a compact block
+-- (type 4) if one alone is needed, on top of the tip, from a peer that supports compact blocks; else
+-- whole (type 2).
 unfoldable pub wanted_told : SessionState → Need → Outcome
 wanted_told s need =
     let fetch = taken_on (blocks_in need.entries) in
-    asks (with_fetch fetch s) (asking_for (requests_of fetch.flight)) Fresh
+    asks (with_fetch fetch s) (asking_for (requests_of (need.near && s.peer.capable) fetch.flight)) Fresh
 
 -- Whether the tip is the last block heard of from the peer.
 abbrev pub is_heard : Option Hash256 → Hash256 → Bool
 is_heard None tip = false
 is_heard (Some hash) tip = same hash tip
 
--- The announcement of a new tip, unless it is the last block heard of from the peer.
+-- The announcement of a new tip: by its block where the hall gave it, as a compact block with the
+-- next nonce (BIP 152), else by headers or its hash.
+abbrev pub tip_by : SessionState → News → Option Block → List Message
+tip_by s news (Some block) = announcing_block block (next_nonce s) ∷ []
+tip_by s news None = announcing (s.peer.by_headers && not news.long) news.tip news.path
+
+-- Whether a new tip isn't announced: there is none, or it is the last block heard of from the peer.
+abbrev pub is_untold : SessionState → News → Bool
+is_untold s news = is_nil news.path || is_heard s.marks.heard news.tip
+
 abbrev pub tip_told : SessionState → News → List Message
-tip_told s news = if is_heard s.marks.heard news.tip then [] else announcing (s.peer.by_headers && not news.long) news.tip news.path
+tip_told s news = if is_untold s news then [] else tip_by s news news.block
+
+-- The number of compact blocks made to announce it.
+abbrev pub count_of : Option Block → ℕ
+count_of None = 0
+count_of (Some block) = 1
+
+abbrev pub tip_made : SessionState → News → ℕ
+tip_made s news = if is_untold s news then 0 else count_of news.block
+
+-- Whether two answers to a question differ.
+abbrev pub differ : Bool → Bool → Bool
+differ true other = not other
+differ false other = other
+
+-- A peer that supports compact blocks is told when it is to announce blocks by them, and when no
+-- longer.
+abbrev pub wish_told : SessionState → Bool → List Message
+wish_told s high = if s.peer.capable && differ high s.compact.asked_high then wish high ∷ [] else []
+
+abbrev pub high_asked : SessionState → Bool → Bool
+high_asked s high = if s.peer.capable then high else s.compact.asked_high
 
 -- The transactions without the one that the item brought.
 abbrev pub without_brought : Option Item → List Hash256 → List Hash256
 without_brought (Some (Good (messages.Tx tx))) txids = filter (λ txid. not (same (double_hash (tx_text tx)) txid)) txids
 without_brought item txids = txids
 
--- News: the tip and transactions are announced.
+-- News: the tip and transactions are announced, and how the peer is to announce its own.
 unfoldable pub news_told : SessionState → Option Item → News → Outcome
 news_told s item news =
     sends
-    (with_marks (record { heard = s.marks.heard; tip = Some news.tip; next = news.next }) s)
-    (tip_told s news ++ telling (without_brought item news.txids))
+    (with_asked_high (high_asked s news.high) (with_made (tip_made s news)
+    (with_marks (record { heard = s.marks.heard; tip = Some news.tip; next = news.next }) s)))
+    ((tip_told s news ++ telling (without_brought item news.txids)) ++ wish_told s news.high)
 
 -- The hall's leave to process an item or a tick.
 abbrev pub is_leave : Stage → Answer → Bool
@@ -118,8 +214,11 @@ answered s item (About subject) (answers.Locator locator) = ends s (asking_heade
 answered s item (About subject) (answers.Need need) = need_told s need
 answered s item (About subject) (answers.TxTaken refused) = ends s []
 answered s item (About subject) (answers.Taken taken) = taken_told s taken.refused taken.locator
-answered s item (About subject) (answers.Served pieces) = ends s (served pieces)
+answered s item (About subject) (answers.Served pieces) = served_told s pieces
 answered s item (About subject) (answers.Following headers) = ends s (messages.Headers headers ∷ [])
+answered s item (About subject) (answers.Excerpt excerpt) = excerpt_answered s excerpt
+answered s item Match (answers.Pairs pairs) = pairs_told s item pairs
+answered s item (Give block) (answers.Taken taken) = given_told s taken.refused taken.locator
 answered s item Wanted (answers.Need need) = wanted_told s need
 answered s item Fresh (answers.News news) = news_told s item news
 answered s item stage other = sends s []

@@ -91,10 +91,12 @@ takes_no_memory other = true
 
 -- ---- answers that take no memory
 
--- An item whose text is hashed without a limit in this crate: a transaction or a block.
+-- An item that is hashed or copied: a transaction, a block, or part of a block.
 abbrev pub weighs_item : Option Item → Bool
 weighs_item (Some (Good (messages.Tx tx))) = true
 weighs_item (Some (Good (messages.Block block))) = true
+weighs_item (Some (Good (messages.CmpctBlock short))) = true
+weighs_item (Some (Good (messages.BlockTxn given))) = true
 weighs_item item = false
 
 -- An answer that lists missing blocks or needed entries.
@@ -108,8 +110,8 @@ abbrev pub pending_item : Option Pending → Option Item
 pending_item None = None
 pending_item (Some pending) = pending.item
 
--- An answer that lists nothing missing or needed, to an item that is neither a transaction nor a
--- block. It takes no memory if nothing is sent to it and nothing is asked but what is new
+-- An answer that lists nothing missing or needed, to an item that is no transaction, no block and
+-- no part of one. It takes no memory if nothing is sent to it and nothing is asked but what is new
 -- (`is_light`).
 abbrev pub spares : SessionState → Event → Bool
 spares s (events.Told answer) = not (weighs_item (pending_item s.pending)) && not (weighs_answer answer)

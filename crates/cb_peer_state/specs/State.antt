@@ -1,6 +1,10 @@
 -- What a session keeps about its peer.
-use Rattle.std.specs.Prelude.{ℕ, pos, Bool, true, false, List, codes, Option, None}
-use Rattle.cb_fetch.specs.Fetching.{FetchState, idle}
+use Rattle.std.specs.Prelude.{ℕ, ◌+◌, ◌%◌, ◌^◌, pos, Bool, true, false, List, codes, Option, None, Some, if◌then◌else◌}
+use Rattle.cb_base.specs.declared.hash.Hash256.{Hash256}
+use Rattle.cb_chain.specs.Entries.{block_hash, same}
+use Rattle.cb_compact.specs.Slots.{Unfilled}
+use Rattle.cb_fetch.specs.Fetching.{FetchState, idle, landed}
+use Rattle.cb_peer_state.specs.declared.compact.CompactState.{CompactState}
 use Rattle.cb_peer_state.specs.declared.session_state.SessionState.{SessionState}
 use Rattle.cb_peer_state.specs.declared.settings.Settings.{Settings}
 use Rattle.cb_peer_state.specs.declared.pending.Pending.{Pending}
@@ -19,10 +23,14 @@ stranger = record { version = pos 0; by_headers = false; capable = false; wants_
 abbrev pub unmarked : Marks
 unmarked = record { heard = None; tip = None; next = 0 }
 
+-- No compact block was made for the peer, and none is being rebuilt.
+abbrev pub no_compact : CompactState
+no_compact = record { partial = None; made = 0; asked_high = false }
+
 -- A session about which only its settings and its state are known. This is so at its beginning and
 -- when it is over.
 abbrev pub bare : Settings → State → SessionState
-bare settings state = record { settings = settings; state = state; peer = stranger; marks = unmarked; fetch = idle; pending = None }
+bare settings state = record { settings = settings; state = state; peer = stranger; marks = unmarked; fetch = idle; compact = no_compact; pending = None }
 
 abbrev pub opening : Settings → SessionState
 opening settings = bare settings Start
@@ -41,19 +49,53 @@ is_ready other = false
 -- ---- a session with one part replaced
 
 abbrev pub with_state : State → SessionState → SessionState
-with_state state s = record { settings = s.settings; state = state; peer = s.peer; marks = s.marks; fetch = s.fetch; pending = s.pending }
+with_state state s = record { settings = s.settings; state = state; peer = s.peer; marks = s.marks; fetch = s.fetch; compact = s.compact; pending = s.pending }
 
 abbrev pub with_peer : Peer → SessionState → SessionState
-with_peer peer s = record { settings = s.settings; state = s.state; peer = peer; marks = s.marks; fetch = s.fetch; pending = s.pending }
+with_peer peer s = record { settings = s.settings; state = s.state; peer = peer; marks = s.marks; fetch = s.fetch; compact = s.compact; pending = s.pending }
 
 abbrev pub with_marks : Marks → SessionState → SessionState
-with_marks marks s = record { settings = s.settings; state = s.state; peer = s.peer; marks = marks; fetch = s.fetch; pending = s.pending }
+with_marks marks s = record { settings = s.settings; state = s.state; peer = s.peer; marks = marks; fetch = s.fetch; compact = s.compact; pending = s.pending }
 
 abbrev pub with_fetch : FetchState → SessionState → SessionState
-with_fetch fetch s = record { settings = s.settings; state = s.state; peer = s.peer; marks = s.marks; fetch = fetch; pending = s.pending }
+with_fetch fetch s = record { settings = s.settings; state = s.state; peer = s.peer; marks = s.marks; fetch = fetch; compact = s.compact; pending = s.pending }
 
 abbrev pub with_pending : Option Pending → SessionState → SessionState
-with_pending pending s = record { settings = s.settings; state = s.state; peer = s.peer; marks = s.marks; fetch = s.fetch; pending = pending }
+with_pending pending s = record { settings = s.settings; state = s.state; peer = s.peer; marks = s.marks; fetch = s.fetch; compact = s.compact; pending = pending }
+
+abbrev pub with_compact : CompactState → SessionState → SessionState
+with_compact compact s = record { settings = s.settings; state = s.state; peer = s.peer; marks = s.marks; fetch = s.fetch; compact = compact; pending = s.pending }
+
+-- ---- compact blocks (BIP 152)
+
+-- With this block, or none, being rebuilt.
+abbrev pub with_partial : Option Unfilled → SessionState → SessionState
+with_partial partial s = with_compact (record { partial = partial; made = s.compact.made; asked_high = s.compact.asked_high }) s
+
+-- With this many more compact blocks made for the peer, modulo 2^64.
+abbrev pub with_made : ℕ → SessionState → SessionState
+with_made count s = with_compact (record { partial = s.compact.partial; made = (s.compact.made + count) % 2 ^ 64; asked_high = s.compact.asked_high }) s
+
+-- With what the peer was last asked: whether to announce blocks as compact blocks.
+abbrev pub with_asked_high : Bool → SessionState → SessionState
+with_asked_high high s = with_compact (record { partial = s.compact.partial; made = s.compact.made; asked_high = high }) s
+
+-- The nonce of the next compact block that is made for the peer.
+abbrev pub next_nonce : SessionState → ℕ
+next_nonce s = (s.settings.salt + s.compact.made) % 2 ^ 64
+
+-- A block came: it is no longer in flight.
+abbrev pub landing : Hash256 → SessionState → SessionState
+landing hash s = with_fetch (landed hash s.fetch) s
+
+-- Whether a block with this hash is being rebuilt.
+abbrev pub is_partial : Hash256 → Option Unfilled → Bool
+is_partial hash None = false
+is_partial hash (Some partial) = same (block_hash partial.header) hash
+
+-- A block that came whole is no longer being rebuilt.
+abbrev pub dropping : Hash256 → SessionState → SessionState
+dropping hash s = if is_partial hash s.compact.partial then with_partial None s else s
 
 -- No question is open any more.
 abbrev pub freed : SessionState → SessionState

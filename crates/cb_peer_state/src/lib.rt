@@ -2,6 +2,7 @@
 //! that it asks is what Bitcoin Core keeps in ChainstateManager and CTxMemPool.
 #![tactic(auto)]
 
+mod compact;
 mod event;
 mod pending;
 mod reaction;
@@ -10,6 +11,7 @@ mod settings;
 mod stage;
 mod state;
 
+pub use compact::CompactState;
 pub use event::Event;
 pub use pending::Pending;
 pub use reaction::{NextQuestion, Reaction, hash_of_last, one_message, push_some};

@@ -19,9 +19,9 @@ pub struct Pending {
 }
 
 impl Pending {
-    /// An equal copy that shares the item.
+    /// An equal copy that shares the item and the block of its stage.
     ///
-    /// Fails only with `Fault::Memory`, if the item can't count another owner.
+    /// Fails only with `Fault::Memory`, if the item or a block can't count another owner.
     pub fn copy(&self) -> Result<Pending, Fault>
         ensures equal { IfOk result (λ copy. copy ≡ self.now) }
         ensures memory { IsOkUnless result Memory }
@@ -32,7 +32,7 @@ impl Pending {
         };
         Ok(Pending {
             item,
-            stage: self.stage,
+            stage: self.stage.copy()?,
         })
     }
 
@@ -42,7 +42,7 @@ impl Pending {
         ensures fits { (s : SessionState) →
             result ≡ fits (question_of s self.now.item self.now.stage) answer.now }
     {
-        match self.stage {
+        match &self.stage {
             Stage::Admit => matches!(answer, Answer::Kicked | Answer::Go),
             Stage::About(Subject::Headers) => matches!(answer, Answer::Kicked | Answer::Heads(_)),
             Stage::About(Subject::Locator) => matches!(answer, Answer::Kicked | Answer::Locator(_)),
@@ -51,6 +51,9 @@ impl Pending {
             Stage::About(Subject::Block) => matches!(answer, Answer::Kicked | Answer::Taken(_)),
             Stage::About(Subject::Items) => matches!(answer, Answer::Kicked | Answer::Served(_)),
             Stage::About(Subject::After) => matches!(answer, Answer::Kicked | Answer::Following(_)),
+            Stage::About(Subject::Places) => matches!(answer, Answer::Kicked | Answer::Excerpt(_)),
+            Stage::Match => matches!(answer, Answer::Kicked | Answer::Pairs(_)),
+            Stage::Give(_) => matches!(answer, Answer::Kicked | Answer::Taken(_)),
             Stage::Wanted => matches!(answer, Answer::Kicked | Answer::Need(_)),
             Stage::Fresh => matches!(answer, Answer::Kicked | Answer::News(_)),
         }

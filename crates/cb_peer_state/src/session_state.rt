@@ -4,17 +4,20 @@ ghost use Rattle.cb_wire.specs.declared.item.Item.{Item};
 ghost use Rattle.cb_journal.specs.declared.question.Question.TheVariants as questions;
 ghost use Rattle.cb_peer_state.specs.declared.stage.Stage.TheVariants as stages;
 ghost use Rattle.cb_peer_state.specs.Outcomes.{Makes, is_light_stage};
-ghost use Rattle.cb_peer_state.specs.Receiving.{ends};
-ghost use Rattle.cb_peer_state.specs.State.{bare, over};
+ghost use Rattle.cb_peer_state.specs.Receiving.{ends, falls_back, gives};
+ghost use Rattle.cb_peer_state.specs.State.{bare, next_nonce, over, with_made};
 
+use crate::compact::CompactState;
 use crate::pending::Pending;
-use crate::reaction::{NextQuestion, Reaction};
+use crate::reaction::{NextQuestion, Reaction, one_message};
 use crate::settings::Settings;
 use crate::stage::Stage;
 use crate::state::{CloseReason, Marks, Peer, State};
-use cb_base::Fault;
+use cb_base::{Fault, Hash256};
+use cb_block::SoundBlock;
 use cb_fetch::Fetch;
-use cb_journal::{Question, Told};
+use cb_journal::{Given, Question, Told};
+use cb_talk::asking_block;
 use cb_wire::BoundedMessage;
 use std::alloc::Global;
 
@@ -46,6 +49,8 @@ pub struct SessionState {
     pub marks: Marks,
     /// The blocks that it downloads.
     pub fetch: Fetch,
+    /// What it keeps for compact blocks (BIP 152).
+    pub compact: CompactState,
     /// The item or tick whose question is open, if there is one.
     pub pending: Option<Pending>,
 }
@@ -61,6 +66,7 @@ impl SessionState {
             peer: STRANGER,
             marks: UNMARKED,
             fetch: Fetch::new(alloc),
+            compact: CompactState::new(),
             pending: None,
         }
     }
@@ -105,13 +111,18 @@ impl SessionState {
             }),
         })
     }
+
     /// The question for news: what changed in the tip and the mempool since the peer was last told.
-    /// It doesn't ask for the tip's block.
+    /// The tip's block is asked for if the peer wants compact blocks unasked (BIP 152).
     pub fn look(&self) -> NextQuestion
         ensures { result ≡ record {
           stage = stages.Fresh;
           question = questions.News
-              (record { tip = self.now.marks.tip; from = self.now.marks.next; whole = false });
+              (record {
+                tip = self.now.marks.tip;
+                from = self.now.marks.next;
+                whole = self.now.peer.wants_high;
+              });
         } }
     {
         NextQuestion {
@@ -119,8 +130,63 @@ impl SessionState {
             question: Question::News(Told {
                 tip: self.marks.tip,
                 from: self.marks.next,
-                whole: false,
+                whole: self.peer.wants_high,
             }),
         }
+    }
+
+    /// The nonce of the next compact block that is made for the peer (BIP 152): the salt of the
+    /// settings plus the number of those made before, modulo 2^64.
+    pub fn next_nonce(&self) -> u64
+        ensures { result ≡ next_nonce self.now }
+    {
+        self.settings.salt.wrapping_add(self.compact.made)
+    }
+
+    /// Counts compact blocks that were made for the peer, modulo 2^64.
+    pub fn count_made(&mut self, count: u64)
+        ensures { self.new ≡ with_made count self.old }
+    {
+        self.compact.made = self.compact.made.wrapping_add(count);
+    }
+
+    /// Gives the hall a block that was rebuilt from a compact block. It is no longer in flight.
+    ///
+    /// Fails only with `Fault::Memory`, if the block can't count another owner.
+    pub fn give(&mut self, alloc: Global, block: SoundBlock) -> Result<Reaction, Fault>
+        ensures ok { (item : Option Item) →
+            IfOk result (λ made. Makes
+            (gives self.old block) item self.new made.messages.items made.next) }
+        ensures memory { IsOkUnless result Memory }
+    {
+        self.fetch.land(&block.block().header.hash());
+        let question = Question::GiveBlock(Given {
+            block: block.copy()?,
+            capable: self.peer.capable,
+        });
+        Ok(Reaction {
+            messages: Vec::new(alloc),
+            next: Some(NextQuestion {
+                stage: Stage::Give(block),
+                question,
+            }),
+        })
+    }
+
+    /// Requests a block whole that couldn't be rebuilt from its compact block, or queues it for
+    /// download if 16 others are in flight. Then the item ends. Fails only with `Fault::Memory`.
+    #[tactic(auto, unfolding(crate::specs::Receiving::falls_back))]
+    pub fn fall_back(&mut self, alloc: Global, hash: Hash256) -> Result<Reaction, Fault>
+        ensures ok { (item : Option Item) →
+            IfOk result (λ made. Makes
+            (falls_back self.old hash) item self.new made.messages.items made.next) }
+        ensures memory { IsOkUnless result Memory }
+    {
+        let messages = if self.fetch.fall_back(hash)? {
+            one_message(alloc, asking_block(alloc, hash)?)?
+        } else {
+            Vec::new(alloc)
+        };
+        self.end(alloc, messages)
     }
 }

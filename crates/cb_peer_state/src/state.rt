@@ -51,7 +51,7 @@ pub enum CloseReason {
     BadMessage,
     /// A header or a block broke a rule.
     BadBlock,
-    /// A request named something impossible. No session ends with this reason yet.
+    /// A request named something impossible: a place past a block's end (`getblocktxn`).
     BadRequest,
     /// The peer's protocol version is too old.
     OldPeer,
@@ -120,7 +120,7 @@ pub struct Peer {
 /// What a session and its peer announced to each other.
 #[derive(Clone, Copy, PartialEq, Eq)]
 pub struct Marks {
-    /// The last block that the peer told of by `headers` or `block`.
+    /// The last block that the peer told of by `headers`, `cmpctblock` or `block`.
     pub heard: Option<Hash256>,
     /// The tip that the peer was told last.
     pub tip: Option<Hash256>,

@@ -1,13 +1,15 @@
 -- How new blocks and transactions are announced (Bitcoin's peer-to-peer protocol, `inv`; BIP 130
--- for headers).
-use Rattle.std.specs.Prelude.{Bool, List, [], ◌∷◌, map, if◌then◌else◌}
+-- for headers; BIP 152 for compact blocks).
+use Rattle.std.specs.Prelude.{ℕ, Bool, List, [], ◌∷◌, map, if◌then◌else◌}
 use Rattle.cb_base.specs.declared.hash.Hash256.{Hash256}
+use Rattle.cb_block.specs.declared.block.Block as blocks
 use Rattle.cb_block.specs.declared.header.Header.{Header}
 use Rattle.cb_payload.specs.declared.inventory.InvEntry.{InvEntry}
 use Rattle.cb_state.specs.declared.inventory.Inventory.TheVariants as entry
+use Rattle.cb_rebuild.specs.Shortening.{shortened_of}
 use Rattle.cb_talk.specs.Inventory.{written}
 use Rattle.cb_wire.specs.declared.message.Message.{Message}
-use Rattle.cb_wire.specs.declared.message.Message.TheVariants.{Inv, Headers}
+use Rattle.cb_wire.specs.declared.message.Message.TheVariants.{CmpctBlock, Inv, Headers}
 
 -- The inventory entry of a transaction.
 abbrev pub tx_entry : Hash256 → InvEntry
@@ -22,6 +24,11 @@ announced_by headers tip path = if headers then Headers path else Inv (written (
 abbrev pub announcing : Bool → Hash256 → List Header → List Message
 announcing headers tip [] = []
 announcing headers tip (first ∷ others) = announced_by headers tip (first ∷ others) ∷ []
+
+-- A block as a compact block under this nonce: its first transaction whole, and short ids of all
+-- others. So a new tip is announced to a peer that asked for it (BIP 152, high-bandwidth mode).
+abbrev pub announcing_block : blocks.Block → ℕ → Message
+announcing_block block nonce = CmpctBlock (shortened_of block nonce)
 
 -- The announcement of transactions. Without transactions there is none.
 abbrev pub telling : List Hash256 → List Message

@@ -1,6 +1,6 @@
 -- The messages of a handshake (Bitcoin's peer-to-peer protocol; BIP 130, `sendheaders`; BIP 152,
 -- `sendcmpct`).
-use Rattle.std.specs.Prelude.{ℕ, ℤ, pos, true, false, List, [], ◌∷◌, ◌++◌, codes, replicate, int_lt, if◌then◌else◌}
+use Rattle.std.specs.Prelude.{ℕ, ℤ, pos, Bool, true, false, List, [], ◌∷◌, ◌++◌, codes, replicate, int_lt, if◌then◌else◌}
 use Rattle.cb_payload.specs.declared.version.NetAddress.{NetAddress}
 use Rattle.cb_wire.specs.declared.message.Message.{Message}
 use Rattle.cb_wire.specs.declared.message.Message.TheVariants.{Version, SendHeaders, SendCmpct}
@@ -25,10 +25,14 @@ our_version nonce time height =
       relay = true;
     })
 
+-- How this node wishes to hear of new blocks: as compact blocks of version 1, unasked if `high`
+-- (BIP 152, high-bandwidth mode), or else only on request.
+abbrev pub wish : Bool → Message
+wish high = SendCmpct (record { high_bandwidth = high; version = 1 })
+
 -- The messages that are sent once the handshake is done: `sendheaders` if the peer's version is at
--- least 70012, and `sendcmpct` for compact blocks of version 1, only on request, if it is at least
--- 70014.
+-- least 70012, and `sendcmpct` for compact blocks only on request, if it is at least 70014.
 abbrev pub wishes : ℤ → List Message
 wishes version =
     (if int_lt version (pos 70012) then [] else SendHeaders ∷ [])
-    ++ (if int_lt version (pos 70014) then [] else SendCmpct (record { high_bandwidth = false; version = 1 }) ∷ [])
+    ++ (if int_lt version (pos 70014) then [] else wish false ∷ [])

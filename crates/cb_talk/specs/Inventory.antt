@@ -1,12 +1,13 @@
--- Inventory entries in messages (Bitcoin's peer-to-peer protocol, `inv`, `getdata`, `getheaders`;
--- BIP 152 for type 4).
+-- Inventory entries in messages, and requests (Bitcoin's peer-to-peer protocol, `inv`, `getdata`,
+-- `getheaders`; BIP 152 for type 4 and `getblocktxn`).
 use Rattle.std.specs.Prelude.{List, [], ◌∷◌, replicate, nat_eq, if◌then◌else◌}
 use Rattle.cb_base.specs.declared.hash.Hash256.{Hash256}
+use Rattle.cb_payload.specs.declared.block_transactions.BlockTransactionsRequest.{BlockTransactionsRequest}
 use Rattle.cb_payload.specs.declared.inventory.InvEntry.{InvEntry}
 use Rattle.cb_state.specs.declared.inventory.Inventory.{Inventory}
 use Rattle.cb_state.specs.declared.inventory.Inventory.TheVariants as entry
 use Rattle.cb_wire.specs.declared.message.Message.{Message}
-use Rattle.cb_wire.specs.declared.message.Message.TheVariants.{GetData, GetHeaders}
+use Rattle.cb_wire.specs.declared.message.Message.TheVariants.{GetBlockTxn, GetData, GetHeaders}
 
 -- An entry as it is sent: its type and a hash.
 abbrev pub written : Inventory → InvEntry
@@ -25,6 +26,14 @@ understood e =
 abbrev pub asking_for : List InvEntry → List Message
 asking_for [] = []
 asking_for (first ∷ others) = GetData (first ∷ others) ∷ []
+
+-- The request for one whole block.
+abbrev pub asking_block : Hash256 → Message
+asking_block hash = GetData (written (entry.Block hash) ∷ [])
+
+-- The request for transactions that a compact block lacks (BIP 152).
+abbrev pub asking_txs : BlockTransactionsRequest → Message
+asking_txs request = GetBlockTxn request
 
 -- The request for the headers after a block locator, as many as the peer sends.
 abbrev pub asking_headers : List Hash256 → Message

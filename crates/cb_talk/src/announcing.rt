@@ -1,11 +1,12 @@
 ghost use Rattle.std.specs.Prelude.{◌≡◌, ◌∷◌, ◌≤◌, [], length, map, IfOk, IsOk, IsOkUnless, MatchOption};
 ghost use Rattle.cb_base.specs.declared.fault.Fault.TheVariants.{Memory};
-ghost use Rattle.cb_talk.specs.Announcing.{announcing, telling, tx_entry};
+ghost use Rattle.cb_talk.specs.Announcing.{announcing, announcing_block, telling, tx_entry};
 
 use crate::inventory::written;
 use cb_base::{Fault, Hash256};
 use cb_payload::{Entries, HeaderList, InvEntry};
-use cb_state::{Announced, Inventory, Txids};
+use cb_rebuild::shortened;
+use cb_state::{Announced, BoundedBlock, Inventory, Txids};
 use cb_wire::{BoundedMessage, Message};
 use std::alloc::Global;
 
@@ -36,6 +37,23 @@ pub fn announce_tip(
     let mut entries = Vec::with_capacity(alloc, 1)?;
     entries.push(written(Inventory::Block(tip)))?;
     Ok(Some(BoundedMessage::new(Message::Inv(Entries::from_few(entries)))))
+}
+
+/// Returns the message that announces a block by itself (`cmpctblock`, BIP 152): its first
+/// transaction whole, and short ids of all others under the nonce. No transaction is hashed or
+/// copied.
+///
+/// Fails only with `Fault::Memory`.
+pub fn announce_block(
+    alloc: Global,
+    block: &BoundedBlock,
+    nonce: u64,
+) -> Result<BoundedMessage, Fault>
+    ensures message { IfOk result (λ message. message ≡ announcing_block block.now nonce) }
+    ensures memory { IsOkUnless result Memory }
+{
+    let form = shortened(alloc, block.block(), nonce)?;
+    Ok(BoundedMessage::new(Message::CmpctBlock(form)))
 }
 
 /// Returns the message that announces transactions (`inv`). Without transactions there is no

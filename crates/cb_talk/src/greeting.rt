@@ -1,6 +1,6 @@
 ghost use Rattle.std.specs.Prelude.{◌≡◌, IfOk, IsOk, IsOkUnless, []};
 ghost use Rattle.cb_base.specs.declared.fault.Fault.TheVariants.{Memory};
-ghost use Rattle.cb_talk.specs.Greeting.{our_version, wishes};
+ghost use Rattle.cb_talk.specs.Greeting.{our_version, wish, wishes};
 
 use cb_base::Fault;
 use cb_payload::{Agent, CompactRelay, NetAddress, Version};
@@ -49,6 +49,18 @@ pub fn our_version(
     })))
 }
 
+/// Returns the message that says how this node wishes to hear of new blocks (`sendcmpct`, BIP 152):
+/// by compact blocks of version 1. They come unasked if `high` (high-bandwidth mode), or else only
+/// on request. No memory is allocated.
+pub fn wish(high: bool) -> BoundedMessage
+    ensures { result ≡ wish high }
+{
+    BoundedMessage::new(Message::SendCmpct(CompactRelay {
+        high_bandwidth: high,
+        version: 1,
+    }))
+}
+
 /// Returns the messages that are sent once the handshake is done, as far as the peer's protocol
 /// version knows them:
 /// - `sendheaders`, from version 70012 on: announce blocks by headers (BIP 130);
@@ -66,10 +78,7 @@ pub fn wishes(alloc: Global, version: i32) -> Result<Vec<BoundedMessage>, Fault>
         messages.push(BoundedMessage::new(Message::SendHeaders))?;
     }
     if version >= COMPACT_VERSION {
-        messages.push(BoundedMessage::new(Message::SendCmpct(CompactRelay {
-            high_bandwidth: false,
-            version: 1,
-        })))?;
+        messages.push(wish(false))?;
     }
     Ok(messages)
 }

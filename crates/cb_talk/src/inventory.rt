@@ -1,10 +1,12 @@
-ghost use Rattle.std.specs.Prelude.{◌≡◌, ◌∷◌, [], MatchOption};
-ghost use Rattle.cb_talk.specs.Inventory.{asking_for, asking_headers, understood, written};
+ghost use Rattle.std.specs.Prelude.{◌≡◌, ◌∷◌, [], IfOk, IsOkUnless, MatchOption};
+ghost use Rattle.cb_base.specs.declared.fault.Fault.TheVariants.{Memory};
+ghost use Rattle.cb_talk.specs.Inventory.{asking_block, asking_for, asking_headers, asking_txs, understood, written};
 
-use cb_base::Hash256;
-use cb_payload::{Entries, HeadersRequest, InvEntry, Locator};
+use cb_base::{Fault, Hash256};
+use cb_payload::{BlockTransactionsRequest, Entries, HeadersRequest, InvEntry, Locator};
 use cb_state::Inventory;
 use cb_wire::{BoundedMessage, Message};
+use std::alloc::Global;
 
 /// An inventory entry as it is sent: type 1 is a transaction, 2 a block, 4 a compact block
 /// (BIP 152).
@@ -42,6 +44,26 @@ pub fn asking_for(entries: Entries) -> Option<BoundedMessage>
         return None;
     }
     Some(BoundedMessage::new(Message::GetData(entries)))
+}
+
+/// Returns the message that asks for one whole block (`getdata`, type 2).
+///
+/// Fails only with `Fault::Memory`.
+pub fn asking_block(alloc: Global, hash: Hash256) -> Result<BoundedMessage, Fault>
+    ensures message { IfOk result (λ message. message ≡ asking_block hash) }
+    ensures memory { IsOkUnless result Memory }
+{
+    let mut entries = Vec::with_capacity(alloc, 1)?;
+    entries.push(written(Inventory::Block(hash)))?;
+    Ok(BoundedMessage::new(Message::GetData(Entries::from_few(entries))))
+}
+
+/// Returns the message that asks for transactions that a compact block lacks (`getblocktxn`, BIP
+/// 152). No memory is allocated.
+pub fn asking_txs(request: BlockTransactionsRequest) -> BoundedMessage
+    ensures { result ≡ asking_txs request }
+{
+    BoundedMessage::new(Message::GetBlockTxn(request))
 }
 
 /// Returns the message that asks for the headers after a block locator, as many as the peer sends

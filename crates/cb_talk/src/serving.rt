@@ -1,26 +1,29 @@
-ghost use Rattle.std.specs.Prelude.{◌≡◌, ◌≤◌, filter_map, length, IfOk, IsOkUnless};
+ghost use Rattle.std.specs.Prelude.{◌≡◌, ◌∷◌, ◌≤◌, [], filter_map, length, IfOk, IsOk, IsOkUnless, MatchOption};
 ghost use Rattle.cb_base.specs.declared.fault.Fault.TheVariants.{Memory};
-ghost use Rattle.cb_wire.specs.declared.message.Message.TheVariants.{Block, Tx};
-ghost use Rattle.cb_talk.specs.Serving.{lacking_in, served, served_as};
+ghost use Rattle.cb_wire.specs.declared.message.Message.TheVariants.{Block, BlockTxn, Tx};
+ghost use Rattle.cb_talk.specs.Serving.{excerpt_told, lacking_in, nonce_behind, sent, served, served_as, shorts};
 
+use crate::announcing::announce_block;
 use crate::inventory::written;
-use cb_base::Fault;
-use cb_payload::{Entries, InvEntry};
+use cb_base::{Fault, Hash256};
+use cb_payload::{BlockTransactions, Entries, InvEntry};
 use cb_pool::Candidate;
-use cb_state::{BoundedBlock, Piece, Pieces};
+use cb_state::{BoundedBlock, Excerpt, Part, Piece, Pieces};
 use cb_wire::{BoundedMessage, Message};
 use std::alloc::Global;
 
-/// Returns the messages that answer a `getdata`: a `tx` or `block` for each piece that is there, in
-/// order, and then one `notfound` with all entries that aren't there, if any (this node's own
-/// order). Transactions and blocks are shared.
+/// Returns the messages that answer a `getdata`: a `tx`, `block` or `cmpctblock` (BIP 152) for each
+/// piece that is there, in order, and then one `notfound` with all entries that aren't there, if
+/// any (this node's own order). The first `cmpctblock` is made under the nonce, and each further
+/// one under the next. Transactions and blocks are shared; for a `cmpctblock` no transaction is
+/// hashed.
 ///
 /// Fails only with `Fault::Memory`.
-pub fn served(alloc: Global, pieces: &Pieces) -> Result<Vec<BoundedMessage>, Fault>
-    ensures messages { IfOk result (λ messages. messages.items ≡ served pieces.now) }
+pub fn served(alloc: Global, pieces: &Pieces, nonce: u64) -> Result<Vec<BoundedMessage>, Fault>
+    ensures messages { IfOk result (λ messages. messages.items ≡ served nonce pieces.now) }
     ensures memory { IsOkUnless result Memory }
 {
-    let mut messages = there(alloc, pieces.as_slice())?;
+    let mut messages = sent(alloc, pieces.as_slice(), nonce)?;
     let lacking = lacking(alloc, pieces.as_slice())?;
     if !lacking.is_empty() {
         messages.push(BoundedMessage::new(Message::NotFound(Entries::from_few(lacking))))?;
@@ -28,28 +31,63 @@ pub fn served(alloc: Global, pieces: &Pieces) -> Result<Vec<BoundedMessage>, Fau
     Ok(messages)
 }
 
+/// How many of the pieces are sent as a `cmpctblock`. So many nonces are used by `served`.
+pub fn shorts(pieces: &Pieces) -> u64
+    ensures { result ≡ shorts pieces.now }
+{
+    count_shorts(pieces.as_slice())
+}
+
+/// How many of the pieces are sent as a `cmpctblock`.
+fn count_shorts(pieces: &[Piece]) -> u64
+    ensures { result ≡ shorts pieces.now }
+{
+    let mut count = 0;
+    for piece in pieces {
+        if let Piece::Short(_) = piece {
+            count += 1;
+        }
+    }
+    count
+}
+
 /// The messages of the pieces that are there, in order. Fails only with `Fault::Memory`.
-fn there(alloc: Global, pieces: &[Piece]) -> Result<Vec<BoundedMessage>, Fault>
-    ensures messages { IfOk result (λ messages. messages.items ≡ filter_map served_as pieces.now) }
+fn sent(alloc: Global, pieces: &[Piece], nonce: u64) -> Result<Vec<BoundedMessage>, Fault>
+    ensures messages { IfOk result (λ messages. messages.items ≡ sent nonce pieces.now) }
     ensures memory { IsOkUnless result Memory }
 {
     let mut messages = Vec::new(alloc);
+    let mut next = nonce;
     for piece in pieces {
-        if let Some(message) = message_of(piece)? {
+        let made = message_of(alloc, piece, next)?;
+        next = nonce_behind(piece, next);
+        if let Some(message) = made {
             messages.push(message)?;
         }
     }
     Ok(messages)
 }
 
+/// The nonce of the first `cmpctblock` behind a piece.
+fn nonce_behind(piece: &Piece, nonce: u64) -> u64
+    ensures { result ≡ nonce_behind nonce piece.now }
+{
+    match piece {
+        Piece::Short(_) => nonce.wrapping_add(1),
+        Piece::Tx(_) | Piece::Whole(_) | Piece::Lacking(_) => nonce,
+    }
+}
+
 /// The message of a piece; `None` if it isn't there. Fails only with `Fault::Memory`.
-fn message_of(piece: &Piece) -> Result<Option<BoundedMessage>, Fault>
-    ensures message { IfOk result (λ message. message ≡ served_as piece.now) }
+fn message_of(alloc: Global, piece: &Piece, nonce: u64) -> Result<Option<BoundedMessage>, Fault>
+    ensures message { IfOk result (λ made. MatchOption made (served_as nonce piece.now ≡ [])
+        (λ message. served_as nonce piece.now ≡ message ∷ [])) }
     ensures memory { IsOkUnless result Memory }
 {
     match piece {
         Piece::Tx(candidate) => Ok(Some(tx_message(candidate)?)),
-        Piece::Whole(block) | Piece::Short(block) => Ok(Some(block_message(block)?)),
+        Piece::Whole(block) => Ok(Some(block_message(block)?)),
+        Piece::Short(block) => Ok(Some(announce_block(alloc, block, nonce)?)),
         Piece::Lacking(_) => Ok(None),
     }
 }
@@ -85,4 +123,43 @@ fn lacking(alloc: Global, pieces: &[Piece]) -> Result<Vec<InvEntry>, Fault>
         }
     }
     Ok(entries)
+}
+
+/// Returns the message that answers a `getblocktxn` (BIP 152): `blocktxn` with the transactions, or
+/// `block` if it is too far below the tip for single ones. There is none if the block isn't there,
+/// or if it hasn't these places. Transactions and blocks are shared.
+///
+/// Fails only with `Fault::Memory`, and never if there is no message.
+pub fn send_excerpt(alloc: Global, excerpt: &Excerpt) -> Result<Option<BoundedMessage>, Fault>
+    ensures message { IfOk result (λ made. MatchOption made (excerpt_told excerpt.now ≡ [])
+        (λ message. excerpt_told excerpt.now ≡ message ∷ [])) }
+    ensures memory { IsOkUnless result Memory }
+    ensures unpaid { excerpt_told excerpt.now ≡ [] → IsOk result }
+{
+    match excerpt {
+        Excerpt::Absent | Excerpt::Refused(_) => Ok(None),
+        Excerpt::Part(part) => Ok(Some(part_message(alloc, part)?)),
+        Excerpt::Whole(block) => Ok(Some(block_message(block)?)),
+    }
+}
+
+/// The bytes of a hash.
+fn hash_bytes(hash: &Hash256) -> &[u8]
+    ensures bytes { result.now ≡ hash.now.0 }
+    ensures len { length hash.now.0 ≡ 32 }
+{
+    hash.0.as_slice()
+}
+
+/// The message of a part of a block. Fails only with `Fault::Memory`.
+fn part_message(alloc: Global, part: &Part) -> Result<BoundedMessage, Fault>
+    ensures message { IfOk result (λ message. message
+        ≡ BlockTxn (record { block = part.now.hash; txs = part.now.txs })) }
+    ensures memory { IsOkUnless result Memory }
+{
+    let block = part.hash();
+    // No effect when it runs: it tells the prover what the type keeps.
+    let _ = hash_bytes(&block);
+    let txs = part.copy(alloc)?.into_txs();
+    Ok(BoundedMessage::new(Message::BlockTxn(BlockTransactions { block, txs })))
 }

@@ -16,7 +16,7 @@ use Rattle.cb_wire.specs.declared.item.Item.{Item}
 use Rattle.cb_wire.specs.declared.message.Message.{Message}
 use Rattle.cb_wire.specs.declared.message.Message.TheVariants as messages
 use Rattle.cb_peer_state.specs.declared.stage.Stage.{Stage}
-use Rattle.cb_peer_state.specs.declared.stage.Stage.TheVariants.{Admit, About, Wanted, Fresh}
+use Rattle.cb_peer_state.specs.declared.stage.Stage.TheVariants.{Admit, About, Match, Give, Wanted, Fresh}
 use Rattle.cb_peer_state.specs.declared.event.Event.{Event}
 use Rattle.cb_peer_state.specs.declared.event.Event.TheVariants as events
 use Rattle.cb_peer_state.specs.declared.settings.Settings.{Settings}
@@ -33,13 +33,13 @@ use Rattle.cb_peer_state.specs.Session.{Stepped, arrives, closes, for_item, open
 use Rattle.cb_peer_state.specs.declared.session_state.SessionState.{SessionState}
 use Rattle.cb_peer_state.specs.State.{freed, is_closed}
 use Rattle.cb_peer_laws.proofs.LawLemmas.{no_headers_unasked}
-use Rattle.cb_peer_laws.proofs.Sending.{None_of}
 use Rattle.cb_peer_state.proofs.Cases.{sent_at_end}
 use Rattle.cb_peer_laws.proofs.Steps.{no_question, open_over}
 use Rattle.cb_trace.specs.declared.trace.TraceEntry.{TraceEntry}
 use Rattle.cb_trace.specs.Fold.{Account, account_of, account_step, entry_step, first_account, inputs_of, replies, replies_to, sends, session_of}
 use Rattle.cb_trace.specs.Whole.{SendsWhatFollows, following, following_in, headers_in, says_send_headers}
 use Rattle.cb_trace.proofs.Hears.{Hears, answered_hears, greets, item_wishes, keeps, readies, stops}
+use Rattle.cb_trace.proofs.Quiet.{NoneOf}
 use Rattle.cb_trace.proofs.Reached.{open_is, step_cases}
 
 -- ---- a peer that didn't ask
@@ -91,7 +91,7 @@ entry_unasked count s entry e un = step_cases (λ made. IsUnasked made.session) 
 
 -- ---- what a step sends of headers
 
-none_in : (sent : List Message) → None_of is_headers sent → filter_map headers_in sent ≡ []
+none_in : (sent : List Message) → NoneOf is_headers sent → filter_map headers_in sent ≡ []
 none_in [] none = refl
 none_in (messages.Headers headers ∷ sent) none = absurd (let clash : true ≡ false = none in cc)
 none_in (message ∷ sent) none = none_in sent none
@@ -120,6 +120,8 @@ asked_headers : (s : SessionState) (item : Option Item) (stage : Stage) (headers
 unfolding answered
 asked_headers s item Admit headers = refl
 asked_headers s item (About subject) headers = served_headers (question_of s item (About subject)) item s headers
+asked_headers s item Match headers = refl
+asked_headers s item (Give block) headers = refl
 asked_headers s item Wanted headers = refl
 asked_headers s item Fresh headers = refl
 
@@ -131,7 +133,7 @@ abbrev pub Matches : SessionState → Event → List Message → Type 0
 Matches s event sent = filter_map following (replies_to (pending_question s) event) ≡ filter_map headers_in sent
 
 plain_none : (s : SessionState) (event : Event) → is_closed s.state ≡ false → s.peer.by_headers ≡ false → is_following event ≡ false → filter_map headers_in (open_step s event).messages ≡ []
-plain_none s event going plain e = none_in (open_step s event).messages (subst (λ (made : Stepped). None_of is_headers made.messages) (open_is s event going) (no_headers_unasked s event plain e))
+plain_none s event going plain e = none_in (open_step s event).messages (subst (λ (made : Stepped). NoneOf is_headers made.messages) (open_is s event going) (no_headers_unasked s event plain e))
 
 input_matches : (s : SessionState) (event : Event) → is_closed s.state ≡ false → s.peer.by_headers ≡ false → is_told (kind_of event) ≡ false → is_following event ≡ false → Matches s event (open_step s event).messages
 input_matches s event going plain e f = ap (filter_map following) (no_reply (pending_question s) event e) ∙ sym (plain_none s event going plain f)

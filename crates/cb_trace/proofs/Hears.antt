@@ -1,49 +1,58 @@
 -- How far a session is after a message or an answer, what it knows of its peer then, and whether it sent `sendheaders`.
-use Rattle.std.proofs.Common.{◌≡◌, Bool, true, false, cond, ◌&&◌, List, [], ◌∷◌, ◌++◌, Option, Some, None, refl, ◌∙◌, inl, inr}
-use Rattle.std.specs.Prelude.{◌==◌, filter_map, int_lt, length, not, pos}
+use Rattle.std.proofs.Common.{◌≡◌, Bool, true, false, cond, List, [], ◌∷◌, ◌++◌, Option, Some, None, refl, inl, inr}
+use Rattle.std.specs.Prelude.{◌==◌, Result, Ok, Err, filter_map, int_lt, pos}
 use Rattle.std.specs.List.{list_any}
-use Rattle.std.proofs.lemmas.Bool.{cases_Bool, or_from}
-use Rattle.std.proofs.lemmas.List.Folds.{list_any-append}
+use Rattle.std.proofs.lemmas.Bool.{cases_Bool}
 use Rattle.cb_base.specs.declared.fault.Fault.{Fault}
 use Rattle.cb_base.specs.declared.fault.Fault.TheVariants as faults
 use Rattle.cb_base.specs.declared.hash.Hash256.{Hash256}
 use Rattle.cb_block.specs.declared.block.Block.{Block}
-use Rattle.cb_block.specs.declared.header.Header.{Header}
-use Rattle.cb_fetch.specs.Fetching.{blocks_in, requests_of, taken_on, wanting_all}
+use Rattle.cb_block.specs.Decision.{is_sound_block}
+use Rattle.cb_chain.specs.Entries.{block_hash, same}
+use Rattle.cb_compact.specs.Slots.{Unfilled}
+use Rattle.cb_compact.specs.declared.named_tx.Pair.{Pair}
+use Rattle.cb_compact.specs.declared.partial.Filled.{Filled}
+use Rattle.cb_compact.specs.declared.partial.Filled.TheVariants as filling
+use Rattle.cb_fetch.specs.Fetching.{asks_now, blocks_in, fallen_back, requests_of, taken_on, wanting_all}
 use Rattle.cb_journal.specs.declared.answer.Answer.{Answer}
 use Rattle.cb_journal.specs.declared.answer.Answer.TheVariants as answers
+use Rattle.cb_payload.specs.declared.block_transactions.BlockTransactions.{BlockTransactions}
+use Rattle.cb_payload.specs.declared.compact_block.HeaderAndShortIds.{HeaderAndShortIds}
 use Rattle.cb_payload.specs.declared.inventory.InvEntry.{InvEntry}
 use Rattle.cb_payload.specs.declared.requests.CompactRelay.{CompactRelay}
 use Rattle.cb_payload.specs.declared.version.Version.{Version}
+use Rattle.cb_rebuild.specs.Completing.{completed_of}
+use Rattle.cb_rebuild.specs.Places.{has_places}
+use Rattle.cb_rebuild.specs.Rebuilding.{rebuilt_of}
+use Rattle.cb_rebuild.specs.declared.rebuilding.Rebuilt.{Rebuilt}
+use Rattle.cb_rebuild.specs.declared.rebuilding.Rebuilt.TheVariants as rebuilts
 use Rattle.cb_state.specs.declared.accepting.Heads.{Heads}
-use Rattle.cb_state.specs.declared.news.News.{News}
-use Rattle.cb_state.specs.declared.serving.Piece.{Piece}
-use Rattle.cb_state.specs.declared.serving.Piece.TheVariants as piece
+use Rattle.cb_state.specs.declared.serving_places.Excerpt.{Excerpt}
+use Rattle.cb_state.specs.declared.serving_places.Excerpt.TheVariants as excerpts
 use Rattle.cb_state.specs.declared.wanting.Need.{Need}
-use Rattle.cb_talk.specs.Announcing.{announcing, telling}
 use Rattle.cb_talk.specs.Greeting.{wishes}
-use Rattle.cb_talk.specs.Inventory.{asking_for, asking_headers}
-use Rattle.cb_talk.specs.Serving.{lacking_in, not_found, served, served_as}
+use Rattle.cb_talk.specs.Inventory.{asking_block, asking_for, asking_headers, asking_txs}
+use Rattle.cb_talk.specs.Serving.{excerpt_told, served, shorts}
 use Rattle.cb_wire.specs.declared.item.Item.{Item}
 use Rattle.cb_wire.specs.declared.item.Item.TheVariants.{Good, Damaged, Bad}
 use Rattle.cb_wire.specs.declared.message.Message.{Message}
 use Rattle.cb_wire.specs.declared.message.Message.TheVariants as messages
 use Rattle.cb_peer_state.specs.declared.stage.Stage.{Stage}
-use Rattle.cb_peer_state.specs.declared.stage.Stage.TheVariants.{Admit, About, Wanted, Fresh}
-use Rattle.cb_peer_state.specs.declared.settings.Settings.{Settings}
+use Rattle.cb_peer_state.specs.declared.stage.Stage.TheVariants.{Admit, About, Match, Give, Wanted, Fresh}
+use Rattle.cb_peer_state.specs.declared.stage.Subject.TheVariants as subjects
 use Rattle.cb_peer_state.specs.declared.state.CloseReason.{CloseReason}
 use Rattle.cb_peer_state.specs.declared.state.CloseReason.TheVariants as reasons
 use Rattle.cb_peer_state.specs.declared.state.Peer.{Peer}
 use Rattle.cb_peer_state.specs.declared.state.State.{State}
 use Rattle.cb_peer_state.specs.declared.state.State.TheVariants.{Start, Greeted, Ready, Closed}
-use Rattle.cb_peer_state.specs.Questions.{is_nil, told_of}
-use Rattle.cb_peer_state.specs.Receiving.{Outcome, brought, by_compact, by_headers, by_phase, ends, given_up, greeting, in_greeted, in_ready, in_start, introduced, processed, received}
-use Rattle.cb_peer_state.specs.Replying.{answered, heads_by, heads_told, is_block, is_heard, more_behind, more_headers, need_told, news_told, taken_told, tip_told, tx_request, wanted_told, without_brought}
+use Rattle.cb_peer_state.specs.Questions.{is_nil, short_in, told_of}
+use Rattle.cb_peer_state.specs.Receiving.{Outcome, asks, brought, by_compact, by_headers, by_phase, completed_by, ended, ends, falls_back, filled_by, given_up, heard_of, in_greeted, in_ready, in_start, introduced, processed, received, short_heard, txs_heard}
+use Rattle.cb_peer_state.specs.Replying.{answered, before_parent, excerpt_answered, given_told, heads_by, heads_for, heads_told, is_block, is_workless, more_headers, need_told, news_told, paired, pairs_told, rebuilt_by, served_told, short_told, taken_told, tx_request, wanted_told}
 use Rattle.cb_peer_state.specs.declared.session_state.SessionState.{SessionState}
-use Rattle.cb_peer_state.specs.State.{stranger, with_fetch}
-use Rattle.cb_peer_state.proofs.Cases.{brought_cases, ends_cases}
-use Rattle.cb_peer_laws.proofs.Sending.{None_of}
+use Rattle.cb_peer_state.specs.State.{dropping, is_partial, landing, next_nonce, stranger, with_fetch, with_made, with_partial}
+use Rattle.cb_peer_state.proofs.Cases.{by_test, ends_cases}
 use Rattle.cb_trace.specs.Whole.{is_send_headers, is_wish}
+use Rattle.cb_trace.proofs.Quiet.{IsRare, NoneOf, excerpt_none, greeting_none, more_none, news_none, none_of_both, parent_none, served_none}
 
 -- by this item the peer asks to be told of blocks by their headers
 abbrev pub item_wishes : Option Item → Bool
@@ -51,7 +60,7 @@ item_wishes None = false
 item_wishes (Some item) = is_wish item
 
 abbrev pub Silent : List Message → Type 0
-Silent sent = None_of is_send_headers sent
+Silent sent = NoneOf is_send_headers sent
 
 -- What an item makes of a session that is so far and knows so much of its peer. It is as far as before; or the peer introduced
 -- itself; or the handshake is done; or the session is over.
@@ -70,19 +79,21 @@ quiet_end item s sent silent = ends_hears s.state s.peer item s sent refl refl (
 
 -- ---- messages that are no `sendheaders`
 
-both_silent : (xs ys : List Message) → Silent xs → Silent ys → Silent (xs ++ ys)
-both_silent xs ys x y = list_any-append is_send_headers xs ys ∙ or_from (list_any is_send_headers xs) (list_any is_send_headers ys) x y
-
-greeting_silent : (settings : Settings) → Silent (greeting settings)
-greeting_silent settings = elim (cases_Bool settings.inbound) [ inl inbound ↦ rw inbound refl | inr outbound ↦ rw outbound refl ]
-
-behind_silent : (headers : List Header) → Silent (more_behind headers)
-behind_silent [] = refl
-behind_silent (first ∷ others) = elim (cases_Bool (length (first ∷ others) == 2000)) [ inl full ↦ rw full refl | inr fewer ↦ rw fewer refl ]
-
-more_silent : (item : Option Item) → Silent (more_headers item)
-more_silent (Some (Good (messages.Headers headers))) = behind_silent headers
-more_silent item = refl
+rare : IsRare is_send_headers
+rare =
+    record {
+      version = λ _. refl;
+      verack = refl;
+      pong = λ _. refl;
+      inv = λ _. refl;
+      not_found = λ _. refl;
+      get_headers = λ _. refl;
+      headers = λ _. refl;
+      tx = λ _. refl;
+      block = λ _. refl;
+      get_txs = λ _. refl;
+      block_txs = λ _. refl;
+    }
 
 asking_silent : (entries : List InvEntry) → Silent (asking_for entries)
 asking_silent [] = refl
@@ -92,35 +103,9 @@ request_silent : (b : Bool) (locator : List Hash256) → Silent (cond b (asking_
 request_silent true locator = refl
 request_silent false locator = refl
 
-not_found_silent : (entries : List InvEntry) → Silent (not_found entries)
-not_found_silent [] = refl
-not_found_silent (first ∷ others) = refl
-
-there_silent : (pieces : List Piece) → Silent (filter_map served_as pieces)
-there_silent [] = refl
-there_silent (piece.Tx tx ∷ pieces) = there_silent pieces
-there_silent (piece.Whole block ∷ pieces) = there_silent pieces
-there_silent (piece.Short block ∷ pieces) = there_silent pieces
-there_silent (piece.Lacking asked ∷ pieces) = there_silent pieces
-
-served_silent : (pieces : List Piece) → Silent (served pieces)
-served_silent pieces = both_silent (filter_map served_as pieces) (not_found (filter_map lacking_in pieces)) (there_silent pieces) (not_found_silent (filter_map lacking_in pieces))
-
-announcing_silent : (by_them : Bool) (tip : Hash256) (path : List Header) → Silent (announcing by_them tip path)
-announcing_silent by_them tip [] = refl
-announcing_silent true tip (first ∷ others) = refl
-announcing_silent false tip (first ∷ others) = refl
-
-tip_silent : (s : SessionState) (news : News) → Silent (tip_told s news)
-tip_silent s news =
-    elim (cases_Bool (is_heard s.marks.heard news.tip)) [
-      | inl heard ↦ rw heard refl
-      | inr unheard ↦ rw unheard (announcing_silent (s.peer.by_headers && not news.long) news.tip news.path)
-    ]
-
-telling_silent : (txids : List Hash256) → Silent (telling txids)
-telling_silent [] = refl
-telling_silent (first ∷ others) = refl
+whole_silent : (b : Bool) (hash : Hash256) → Silent (cond b (asking_block hash ∷ []) [])
+whole_silent true hash = refl
+whole_silent false hash = refl
 
 -- ---- messages of the peer
 
@@ -132,7 +117,7 @@ introduced_hears item s version at =
       | inr other ↦
           elim (cases_Bool (int_lt version.version (pos 70001))) [
             | inl old ↦ rw (other, old) (stops reasons.OldPeer refl refl refl)
-            | inr new ↦ rw (other, new) (greets at refl refl (greeting_silent s.settings))
+            | inr new ↦ rw (other, new) (greets at refl refl (greeting_none is_send_headers s.settings rare))
           ]
     ]
 
@@ -158,7 +143,42 @@ greeted_hears s (messages.SendCmpct relay) at = keeps (compact_state relay s) (c
 greeted_hears s other at = keeps refl refl (λ _. refl) refl
 
 brought_hears : (item : Option Item) (s : SessionState) (block : Block) → Hears s.state s.peer item (brought s block)
-brought_hears item s block = brought_cases (Hears s.state s.peer item) s block (λ _. keeps refl refl (λ _. refl) refl) (stops reasons.BadBlock refl refl refl)
+unfolding brought
+brought_hears item s block =
+    let hash = block_hash block.header in
+    by_test (Hears s.state s.peer item) (is_sound_block block) (asks (heard_of hash (dropping hash (landing hash s))) [] (About subjects.Block)) (ended reasons.BadBlock s)
+    (λ _.
+    elim (cases_Bool (is_partial hash s.compact.partial)) [
+      | inl is ↦ rw is (keeps refl refl (λ _. refl) refl)
+      | inr isnt ↦ rw isnt (keeps refl refl (λ _. refl) refl)
+    ]) (λ _. stops reasons.BadBlock refl refl refl)
+
+-- ---- compact blocks
+
+falls_back_hears : (item : Option Item) (s : SessionState) (hash : Hash256) → Hears s.state s.peer item (falls_back s hash)
+unfolding falls_back
+falls_back_hears item s hash = quiet_end item (with_fetch (fallen_back hash s.fetch) s) (cond (asks_now s.fetch hash) (asking_block hash ∷ []) []) (whole_silent (asks_now s.fetch hash) hash)
+
+short_hears : (item : Option Item) (s : SessionState) (short : HeaderAndShortIds) → Hears s.state s.peer item (short_heard s short)
+unfolding short_heard
+short_hears item s short =
+    by_test (Hears s.state s.peer item) (has_places short.txs) (asks (heard_of (block_hash short.header) s) [] (About subjects.Headers)) (ended reasons.BadMessage s)
+    (λ _. keeps refl refl (λ _. refl) refl) (λ _. stops reasons.BadMessage refl refl refl)
+
+filled_hears : (item : Option Item) (s : SessionState) (hash : Hash256) (filled : Result Filled Fault) → Hears s.state s.peer item (filled_by s hash filled)
+filled_hears item s hash (Ok (filling.Sound block)) = keeps refl refl (λ _. refl) refl
+filled_hears item s hash (Ok filling.Wrong) = falls_back_hears item s hash
+filled_hears item s hash (Err fault) = stops reasons.BadMessage refl refl refl
+
+completed_hears : (item : Option Item) (s : SessionState) (given : BlockTransactions) (partial : Option Unfilled) → Hears s.state s.peer item (completed_by s given partial)
+completed_hears item s given None = quiet_end item s [] refl
+completed_hears item s given (Some partial) =
+    by_test (Hears s.state s.peer item) (same (block_hash partial.header) given.block) (filled_by (with_partial None s) given.block (completed_of partial given)) (ends s [])
+    (λ _. filled_hears item (with_partial None s) given.block (completed_of partial given)) (λ _. quiet_end item s [] refl)
+
+txs_hears : (item : Option Item) (s : SessionState) (given : BlockTransactions) → Hears s.state s.peer item (txs_heard s given)
+unfolding txs_heard
+txs_hears item s given = completed_hears item s given s.compact.partial
 
 ready_hears : (s : SessionState) (message : Message) → Hears s.state s.peer (Some (Good message)) (in_ready s message)
 unfolding in_ready
@@ -176,6 +196,9 @@ ready_hears s (messages.GetHeaders request) = keeps refl refl (λ _. refl) refl
 ready_hears s (messages.NotFound entries) = quiet_end (Some (Good (messages.NotFound entries))) (with_fetch (given_up entries s.fetch) s) [] refl
 ready_hears s (messages.Tx tx) = keeps refl refl (λ _. refl) refl
 ready_hears s (messages.Block block) = brought_hears (Some (Good (messages.Block block))) s block
+ready_hears s (messages.CmpctBlock short) = short_hears (Some (Good (messages.CmpctBlock short))) s short
+ready_hears s (messages.GetBlockTxn request) = keeps refl refl (λ _. refl) refl
+ready_hears s (messages.BlockTxn given) = txs_hears (Some (Good (messages.BlockTxn given))) s given
 ready_hears s other = quiet_end (Some (Good other)) s [] refl
 
 phase_hears : (state : State) (s : SessionState) (message : Message) → s.state ≡ state → Hears s.state s.peer (Some (Good message)) (by_phase state s message)
@@ -202,11 +225,42 @@ heads_by_hears : (item : Option Item) (s : SessionState) (refused : Option Fault
 heads_by_hears item s (Some faults.BadWork) locator = stops reasons.BadBlock refl refl refl
 heads_by_hears item s (Some faults.NoParent) locator = quiet_end item s (asking_headers locator ∷ []) refl
 heads_by_hears item s (Some other) locator = quiet_end item s [] refl
-heads_by_hears item s None locator = quiet_end item s (more_headers item) (more_silent item)
+heads_by_hears item s None locator = quiet_end item s (more_headers item) (more_none is_send_headers item rare)
+
+parent_silent : (refused : Option Fault) (locator : List Hash256) → Silent (before_parent refused locator)
+parent_silent refused locator = parent_none is_send_headers refused locator rare
+
+short_told_hears : (item : Option Item) (s : SessionState) (hash : Hash256) (heads : Heads) → Hears s.state s.peer item (short_told s hash heads)
+unfolding short_told
+short_told_hears item s hash heads =
+    let sent = before_parent heads.refused heads.locator in
+    let silent = parent_silent heads.refused heads.locator in
+    let there : Outcome = ends (landing hash s) sent in
+    by_test (Hears s.state s.peer item) (is_workless heads.refused) (ended reasons.BadBlock s) (cond (is_nil heads.lack) there (asks s sent Match)) (λ _. stops reasons.BadBlock refl refl refl)
+    (λ _. by_test (Hears s.state s.peer item) (is_nil heads.lack) there (asks s sent Match) (λ _. quiet_end item (landing hash s) sent silent) (λ _. keeps refl refl (λ _. refl) silent))
+
+heads_for_hears : (item : Option Item) (s : SessionState) (short : Option HeaderAndShortIds) (heads : Heads) → Hears s.state s.peer item (heads_for s item short heads)
+heads_for_hears item s None heads = heads_by_hears item (with_fetch (wanting_all s.fetch heads.lack) s) heads.refused heads.locator
+heads_for_hears item s (Some short) heads = short_told_hears item s (block_hash short.header) heads
 
 heads_hears : (item : Option Item) (s : SessionState) (heads : Heads) → Hears s.state s.peer item (heads_told s item heads)
 unfolding heads_told
-heads_hears item s heads = heads_by_hears item (with_fetch (wanting_all s.fetch heads.lack) s) heads.refused heads.locator
+heads_hears item s heads = heads_for_hears item s (short_in item) heads
+
+rebuilt_hears : (item : Option Item) (s : SessionState) (hash : Hash256) (rebuilt : Rebuilt) → Hears s.state s.peer item (rebuilt_by s hash rebuilt)
+rebuilt_hears item s hash (rebuilts.Sound block) = keeps refl refl (λ _. refl) refl
+rebuilt_hears item s hash (rebuilts.Lacking partial request) = quiet_end item (with_partial (Some partial) s) (asking_txs request ∷ []) refl
+rebuilt_hears item s hash rebuilts.Useless = falls_back_hears item s hash
+
+paired_hears : (item : Option Item) (s : SessionState) (short : Option HeaderAndShortIds) (pairs : List Pair) → Hears s.state s.peer item (paired s short pairs)
+paired_hears item s None pairs = keeps refl refl (λ _. refl) refl
+paired_hears item s (Some short) pairs =
+    by_test (Hears s.state s.peer item) (has_places short.txs) (rebuilt_by s (block_hash short.header) (rebuilt_of short pairs)) (ended reasons.BadMessage s)
+    (λ _. rebuilt_hears item s (block_hash short.header) (rebuilt_of short pairs)) (λ _. stops reasons.BadMessage refl refl refl)
+
+pairs_hears : (item : Option Item) (s : SessionState) (pairs : List Pair) → Hears s.state s.peer item (pairs_told s item pairs)
+unfolding pairs_told
+pairs_hears item s pairs = paired_hears item s (short_in item) pairs
 
 taken_hears : (item : Option Item) (s : SessionState) (refused : Option Fault) (locator : List Hash256) → Hears s.state s.peer item (taken_told s refused locator)
 unfolding taken_told
@@ -215,16 +269,25 @@ taken_hears item s (Some faults.Known) locator = quiet_end item s [] refl
 taken_hears item s (Some faults.NoParent) locator = quiet_end item s (asking_headers locator ∷ []) refl
 taken_hears item s (Some other) locator = stops reasons.BadBlock refl refl refl
 
+given_hears : (item : Option Item) (s : SessionState) (refused : Option Fault) (locator : List Hash256) → Hears s.state s.peer item (given_told s refused locator)
+unfolding given_told
+given_hears item s refused locator = quiet_end item s (before_parent refused locator) (parent_silent refused locator)
+
+excerpt_hears : (item : Option Item) (s : SessionState) (excerpt : Excerpt) → Hears s.state s.peer item (excerpt_answered s excerpt)
+unfolding excerpt_answered
+excerpt_hears item s (excerpts.Refused fault) = stops reasons.BadRequest refl refl refl
+excerpt_hears item s other = quiet_end item s (excerpt_told other) (excerpt_none is_send_headers other rare)
+
 need_hears : (item : Option Item) (s : SessionState) (need : Need) → Hears s.state s.peer item (need_told s need)
 unfolding need_told
 need_hears item s need =
     quiet_end item s (asking_for (filter_map tx_request need.entries) ++ cond (list_any is_block need.entries) (asking_headers need.locator ∷ []) [])
-    (both_silent (asking_for (filter_map tx_request need.entries)) (cond (list_any is_block need.entries) (asking_headers need.locator ∷ []) []) (asking_silent (filter_map tx_request need.entries))
+    (none_of_both is_send_headers (asking_for (filter_map tx_request need.entries)) (cond (list_any is_block need.entries) (asking_headers need.locator ∷ []) []) (asking_silent (filter_map tx_request need.entries))
     (request_silent (list_any is_block need.entries) need.locator))
 
 -- an answer, to whatever it is one
 pub answered_hears : (s : SessionState) (item : Option Item) (stage : Stage) (answer : Answer) → Hears s.state s.peer item (answered s item stage answer)
-unfolding answered wanted_told news_told
+unfolding answered wanted_told news_told served_told
 answered_hears s item stage answers.Kicked = stops reasons.Kicked refl refl refl
 answered_hears s item Admit answers.Go = processed_hears s item
 answered_hears s item (About subject) (answers.Heads heads) = heads_hears item s heads
@@ -232,8 +295,11 @@ answered_hears s item (About subject) (answers.Locator locator) = quiet_end item
 answered_hears s item (About subject) (answers.Need need) = need_hears item s need
 answered_hears s item (About subject) (answers.TxTaken refused) = quiet_end item s [] refl
 answered_hears s item (About subject) (answers.Taken taken) = taken_hears item s taken.refused taken.locator
-answered_hears s item (About subject) (answers.Served pieces) = quiet_end item s (served pieces) (served_silent pieces)
+answered_hears s item (About subject) (answers.Served pieces) = quiet_end item (with_made (shorts pieces) s) (served (next_nonce s) pieces) (served_none is_send_headers (next_nonce s) pieces rare (λ _. refl))
 answered_hears s item (About subject) (answers.Following headers) = quiet_end item s (messages.Headers headers ∷ []) refl
-answered_hears s item Wanted (answers.Need need) = keeps refl refl (λ _. refl) (asking_silent (requests_of (taken_on (blocks_in need.entries)).flight))
-answered_hears s item Fresh (answers.News news) = keeps refl refl (λ _. refl) (both_silent (tip_told s news) (telling (without_brought item news.txids)) (tip_silent s news) (telling_silent (without_brought item news.txids)))
+answered_hears s item (About subject) (answers.Excerpt excerpt) = excerpt_hears item s excerpt
+answered_hears s item Match (answers.Pairs pairs) = pairs_hears item s pairs
+answered_hears s item (Give block) (answers.Taken taken) = given_hears item s taken.refused taken.locator
+answered_hears s item Wanted (answers.Need need) = keeps refl refl (λ _. refl) (asking_silent (requests_of _ (taken_on (blocks_in need.entries)).flight))
+answered_hears s item Fresh (answers.News news) = keeps refl refl (λ _. refl) (news_none is_send_headers s item news rare (λ _. refl) (λ _. refl))
 answered_hears s item stage other = keeps refl refl (λ _. refl) refl

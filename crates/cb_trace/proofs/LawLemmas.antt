@@ -1,5 +1,5 @@
 -- What a prompt trace that ended by the peer's end sent, and what a session was given.
-use Rattle.std.proofs.Common.{◌≡◌, ℕ, ◌<◌, ◌≢◌, Bool, true, false, cond, List, [], ◌∷◌, ◌++◌, Option, Some, None, refl, sym, ap, subst, ◌∙◌, append_assoc, arith, inl, inr, ◌⊎◌}
+use Rattle.std.proofs.Common.{◌≡◌, ℕ, ◌<◌, ◌≢◌, Bool, true, false, cond, List, [], ◌∷◌, ◌++◌, Option, Some, None, refl, sym, ap, ◌∙◌, append_assoc, arith, inl, inr, ◌⊎◌}
 use Rattle.std.specs.List.{fold}
 use Rattle.std.proofs.lemmas.List.{append-nil}
 use Rattle.std.proofs.lemmas.List.Elements.{filter_map-append}
@@ -9,7 +9,7 @@ use Rattle.cb_wire.specs.declared.item.Item.TheVariants.{Good}
 use Rattle.cb_wire.specs.declared.message.Message.{Message}
 use Rattle.cb_wire.specs.declared.message.Message.TheVariants as messages
 use Rattle.cb_peer_state.specs.declared.stage.Stage.{Stage}
-use Rattle.cb_peer_state.specs.declared.stage.Stage.TheVariants.{Admit, About, Wanted, Fresh}
+use Rattle.cb_peer_state.specs.declared.stage.Stage.TheVariants.{Admit, About, Match, Give, Wanted, Fresh}
 use Rattle.cb_peer_state.specs.declared.settings.Settings.{Settings}
 use Rattle.cb_peer_state.specs.declared.pending.Pending.{Pending}
 use Rattle.cb_peer_state.specs.declared.state.State.{State}
@@ -64,16 +64,20 @@ arrives_settles None s item free fine = refl
 arrives_settles (Some other) s item free fine = absurd cc
 
 -- nothing is owed but before the hall's leave
-owed_next : (item : Option Item) (next : Option Stage) → next_left next < 4 → owed (pending_of item next) ≡ []
+owed_next : (item : Option Item) (next : Option Stage) → next_left next < 6 → owed (pending_of item next) ≡ []
 owed_next item None few = refl
 owed_next item (Some Admit) few = absurd (omega (arith, few))
 owed_next item (Some (About subject)) few = refl
+owed_next item (Some Match) few = refl
+owed_next item (Some (Give block)) few = refl
 owed_next item (Some Wanted) few = refl
 owed_next item (Some Fresh) few = refl
 
-left_most : (stage : Stage) (n : ℕ) → n < question_left stage → n < 4
+left_most : (stage : Stage) (n : ℕ) → n < question_left stage → n < 6
 left_most Admit n few = few
 left_most (About subject) n few = omega (arith, few)
+left_most Match n few = omega (arith, few)
+left_most (Give block) n few = omega (arith, few)
 left_most Wanted n few = omega (arith, few)
 left_most Fresh n few = omega (arith, few)
 

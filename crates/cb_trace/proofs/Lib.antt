@@ -1,3 +1,4 @@
+pub mod Counted
 pub mod Entries
 pub mod Fetches
 pub mod Fitting
@@ -5,8 +6,12 @@ pub mod Folds
 pub mod Followed
 pub mod Hears
 pub mod LawLemmas
+pub mod Missing
+pub mod Numbered
 pub mod Questions
+pub mod Quiet
 pub mod Reached
 pub mod Requested
+pub mod Runs
 pub mod Traces
 pub mod Wishes

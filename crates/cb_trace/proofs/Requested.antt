@@ -1,59 +1,103 @@
--- The hall told of each block that is asked for that it is needed.
-use Rattle.std.proofs.Common.{◌≡◌, ℕ, Bool, true, false, ◌||◌, List, [], ◌∷◌, Option, Some, None, refl, sym, ap, subst, ◌∙◌, inl, inr}
-use Rattle.std.specs.Prelude.{◌&&◌, filter_map, not}
+-- What a message or an answer makes of what is fetched, and which blocks are asked for then: needed ones alone.
+use Rattle.std.proofs.Common.{◌≡◌, ℕ, Bool, true, false, cond, ◌||◌, List, [], ◌∷◌, ◌++◌, Option, Some, None, refl, sym, ap, subst, ◌∙◌, inl, inr}
+use Rattle.std.specs.Prelude.{◌==◌, ◌&&◌, Result, Ok, Err, filter_map, int_lt, pos}
 use Rattle.std.specs.List.{list_any}
-use Rattle.std.proofs.lemmas.Bool.{cases_Bool, or_cases, or_from, or_left, or_parts, or_right}
-use Rattle.std.proofs.lemmas.List.Folds.{list_any-append}
+use Rattle.std.proofs.lemmas.Bool.{cases_Bool, or_cases}
+use Rattle.cb_base.specs.declared.fault.Fault.{Fault}
+use Rattle.cb_base.specs.declared.fault.Fault.TheVariants as faults
 use Rattle.cb_base.specs.declared.hash.Hash256.{Hash256}
+use Rattle.cb_block.specs.declared.block.Block.{Block}
 use Rattle.cb_block.specs.declared.header.Header.{Header}
-use Rattle.cb_chain.specs.Entries.{same}
-use Rattle.cb_fetch.specs.Fetching.{blocks_in, has, requests_of, taken_on}
-use Rattle.cb_fetch.proofs.Needed.{was_needed}
+use Rattle.cb_block.specs.Decision.{is_sound_block}
+use Rattle.cb_chain.specs.Entries.{block_hash, same}
+use Rattle.cb_compact.specs.Slots.{Unfilled, missing}
+use Rattle.cb_compact.specs.declared.named_tx.Pair.{Pair}
+use Rattle.cb_compact.specs.declared.partial.Filled.{Filled}
+use Rattle.cb_compact.specs.declared.partial.Filled.TheVariants as filling
+use Rattle.cb_fetch.specs.Fetching.{asks_now, blocks_in, fallen_back, has, requests_of, taken_on, wanting_all}
 use Rattle.cb_journal.specs.declared.answer.Answer.{Answer}
 use Rattle.cb_journal.specs.declared.answer.Answer.TheVariants as answers
 use Rattle.cb_journal.specs.declared.question.Question.{Question}
+use Rattle.cb_journal.specs.declared.question.Question.TheVariants as questions
+use Rattle.cb_payload.specs.declared.block_transactions.BlockTransactions.{BlockTransactions}
+use Rattle.cb_payload.specs.declared.compact_block.HeaderAndShortIds.{HeaderAndShortIds}
 use Rattle.cb_payload.specs.declared.inventory.InvEntry.{InvEntry}
+use Rattle.cb_payload.specs.declared.requests.CompactRelay.{CompactRelay}
+use Rattle.cb_payload.specs.declared.version.Version.{Version}
+use Rattle.cb_rebuild.specs.Completing.{completed_of}
+use Rattle.cb_rebuild.specs.Places.{has_places}
+use Rattle.cb_rebuild.specs.Rebuilding.{are_different, block_with, rebuilt_of, told_by, unfilled_of, whole_of}
+use Rattle.cb_rebuild.specs.declared.rebuilding.Rebuilt.{Rebuilt}
+use Rattle.cb_rebuild.specs.declared.rebuilding.Rebuilt.TheVariants as rebuilts
+use Rattle.cb_state.specs.declared.accepting.Heads.{Heads}
 use Rattle.cb_state.specs.declared.inventory.Inventory.{Inventory}
 use Rattle.cb_state.specs.declared.inventory.Inventory.TheVariants as entry
 use Rattle.cb_state.specs.declared.news.News.{News}
+use Rattle.cb_state.specs.declared.serving.Piece.{Piece}
+use Rattle.cb_state.specs.declared.serving_places.Excerpt.{Excerpt}
+use Rattle.cb_state.specs.declared.serving_places.Excerpt.TheVariants as excerpts
 use Rattle.cb_state.specs.declared.wanting.Need.{Need}
-use Rattle.cb_talk.specs.Announcing.{announcing}
-use Rattle.cb_talk.specs.Inventory.{asking_for}
+use Rattle.cb_talk.specs.Announcing.{telling}
+use Rattle.cb_talk.specs.Inventory.{asking_block, asking_for, asking_headers, asking_txs}
+use Rattle.cb_talk.specs.Greeting.{wishes}
+use Rattle.cb_talk.specs.Serving.{excerpt_told, served, shorts}
 use Rattle.cb_wire.specs.declared.item.Item.{Item}
+use Rattle.cb_wire.specs.declared.item.Item.TheVariants.{Good, Damaged, Bad}
+use Rattle.cb_wire.specs.declared.message.Message.{Message}
+use Rattle.cb_wire.specs.declared.message.Message.TheVariants as messages
 use Rattle.cb_peer_state.specs.declared.stage.Stage.{Stage}
-use Rattle.cb_peer_state.specs.declared.stage.Stage.TheVariants.{Admit, About, Wanted, Fresh}
-use Rattle.cb_peer_state.specs.declared.event.Event.{Event}
-use Rattle.cb_peer_state.specs.declared.event.Event.TheVariants as events
-use Rattle.cb_peer_state.specs.declared.settings.Settings.{Settings}
-use Rattle.cb_peer_state.specs.declared.pending.Pending.{Pending}
-use Rattle.cb_peer_state.specs.Questions.{fits, question_at, question_of, pending_question}
-use Rattle.cb_peer_laws.specs.Laws.{asks_for_block, names_block}
-use Rattle.cb_peer_state.specs.Replying.{answered, is_heard, tip_told, tx_request, wanted_told}
-use Rattle.cb_peer_state.specs.Session.{Stepped, arrives, open_step, openings, step_of, told}
+use Rattle.cb_peer_state.specs.declared.stage.Stage.TheVariants.{Admit, About, Match, Give, Wanted, Fresh}
+use Rattle.cb_peer_state.specs.declared.stage.Subject.{Subject}
+use Rattle.cb_peer_state.specs.declared.stage.Subject.TheVariants as subjects
+use Rattle.cb_peer_state.specs.declared.state.CloseReason.{CloseReason}
+use Rattle.cb_peer_state.specs.declared.state.CloseReason.TheVariants as reasons
+use Rattle.cb_peer_state.specs.declared.state.State.{State}
+use Rattle.cb_peer_state.specs.declared.state.State.TheVariants.{Start, Greeted, Ready, Closed}
+use Rattle.cb_peer_state.specs.Questions.{about, fits, is_nil, question_of, short_in, told_of}
+use Rattle.cb_peer_state.specs.Receiving.{Outcome, asks, brought, by_compact, by_headers, by_phase, completed_by, ended, ends, falls_back, filled_by, given_up, gives, greeting, heard_of, in_greeted, in_ready, in_start, introduced, processed, received, short_heard, txs_heard}
+use Rattle.cb_peer_state.specs.Replying.{answered, before_parent, excerpt_answered, given_told, heads_by, heads_for, heads_told, is_block, is_workless, more_headers, need_told, news_told, paired, pairs_told, rebuilt_by, served_told, short_told, taken_told, tip_told, tx_request, wanted_told, wish_told, without_brought}
 use Rattle.cb_peer_state.specs.declared.session_state.SessionState.{SessionState}
-use Rattle.cb_peer_state.specs.State.{freed, is_closed}
-use Rattle.cb_peer_laws.proofs.Sending.{IsMild, None_of, step_none}
-use Rattle.cb_trace.specs.declared.trace.TraceEntry.{TraceEntry}
-use Rattle.cb_trace.specs.Fold.{Account, account_step, entry_step, replies, replies_to, sends}
-use Rattle.cb_trace.specs.Whole.{tells_needed}
-use Rattle.cb_trace.proofs.Reached.{kept, open_is, step_cases}
+use Rattle.cb_peer_state.specs.State.{dropping, is_partial, landing, next_nonce, with_fetch, with_made, with_partial}
+use Rattle.cb_peer_state.proofs.Cases.{by_test, ends_cases}
+use Rattle.cb_peer_laws.specs.Laws.{asks_for_block, names_block}
+use Rattle.cb_trace.specs.Whole.{lacking_of, missing_in, needed_in}
+use Rattle.cb_trace.proofs.Fetches.{Each, Fetches, Tests, rebuilding, all_taken, all_wanted, back_fetches, given_up_fetches, idle_fetches, lands_fetches, none_each, same_each, with_rebuilding}
+use Rattle.cb_trace.proofs.Quiet.{IsRare, NoneOf, excerpt_none, greeting_none, more_none, news_none, none_of_both, parent_none, request_none, served_none}
 
--- ---- messages that ask for no block of this hash
+-- ---- what is asked for
 
-blocks_mild : (hash : Hash256) → IsMild (asks_for_block hash)
-blocks_mild hash =
+-- each block that is asked for meets the test
+abbrev pub Asks : (Hash256 → Bool) → List Message → Type 0
+Asks needed sent = (hash : Hash256) → list_any (asks_for_block hash) sent ≡ true → needed hash ≡ true
+
+rare : (hash : Hash256) → IsRare (asks_for_block hash)
+rare hash =
     record {
       version = λ _. refl;
       verack = refl;
       pong = λ _. refl;
-      send_headers = refl;
-      send_compact = λ _. refl;
       inv = λ _. refl;
       not_found = λ _. refl;
       get_headers = λ _. refl;
+      headers = λ _. refl;
       tx = λ _. refl;
       block = λ _. refl;
+      get_txs = λ _. refl;
+      block_txs = λ _. refl;
     }
+
+-- no block is asked for
+abbrev pub AsksNone : List Message → Type 0
+AsksNone sent = (hash : Hash256) → NoneOf (asks_for_block hash) sent
+
+pub none_asked : (needed : Hash256 → Bool) (sent : List Message) → AsksNone sent → Asks needed sent
+none_asked needed sent none hash e = absurd (let clash : false ≡ true = sym (none hash) ∙ e in cc)
+
+wishes_ask : (a b : Bool) (relay : CompactRelay) → AsksNone (cond a [] (messages.SendHeaders ∷ []) ++ cond b [] (messages.SendCmpct relay ∷ []))
+wishes_ask true true relay hash = refl
+wishes_ask true false relay hash = refl
+wishes_ask false true relay hash = refl
+wishes_ask false false relay hash = refl
 
 no_block_among_txs : (hash : Hash256) (entries : List Inventory) → list_any (names_block hash) (filter_map tx_request entries) ≡ false
 no_block_among_txs hash [] = refl
@@ -62,130 +106,332 @@ no_block_among_txs hash (entry.Block other ∷ others) = no_block_among_txs hash
 no_block_among_txs hash (entry.CompactBlock other ∷ others) = no_block_among_txs hash others
 no_block_among_txs hash (entry.Other kind other ∷ others) = no_block_among_txs hash others
 
-asked_by_entries : (hash : Hash256) (entries : List InvEntry) → list_any (names_block hash) entries ≡ false → None_of (asks_for_block hash) (asking_for entries)
+asked_by_entries : (hash : Hash256) (entries : List InvEntry) → list_any (names_block hash) entries ≡ false → NoneOf (asks_for_block hash) (asking_for entries)
 asked_by_entries hash [] none = refl
 asked_by_entries hash (first ∷ others) none = rw none refl
 
-no_block_announced : (hash tip : Hash256) (by_them : Bool) (path : List Header) → None_of (asks_for_block hash) (announcing by_them tip path)
-no_block_announced hash tip by_them [] = refl
-no_block_announced hash tip true (first ∷ others) = refl
-no_block_announced hash tip false (first ∷ others) = refl
+-- the transactions of an `inv` and the headers before its blocks
+need_asks : (need : Need) → AsksNone (asking_for (filter_map tx_request need.entries) ++ cond (list_any is_block need.entries) (asking_headers need.locator ∷ []) [])
+need_asks need hash =
+    none_of_both (asks_for_block hash) (asking_for (filter_map tx_request need.entries)) (cond (list_any is_block need.entries) (asking_headers need.locator ∷ []) [])
+    (asked_by_entries hash (filter_map tx_request need.entries) (no_block_among_txs hash need.entries))
+    (elim (cases_Bool (list_any is_block need.entries)) [ inl block ↦ rw block (request_none (asks_for_block hash) need.locator (rare hash)) | inr none ↦ rw none refl ])
 
-no_block_told : (hash : Hash256) (s : SessionState) (news : News) → None_of (asks_for_block hash) (tip_told s news)
-no_block_told hash s news =
-    elim (cases_Bool (is_heard s.marks.heard news.tip)) [
-      | inl heard ↦ rw heard refl
-      | inr unheard ↦ rw unheard (no_block_announced hash news.tip (s.peer.by_headers && not news.long) news.path)
-    ]
+-- a request of a compact block or of a whole one names it alone
+named_is : (compact : Bool) (hash other : Hash256) (others : Bool) → (names_block hash (record { kind = cond compact 4 2; hash = other }) || others) ≡ (same hash other || others)
+named_is true hash other others = refl
+named_is false hash other others = refl
 
--- what is asked for of blocks is what is to be in flight
-lacks_requests : (hash : Hash256) (hashes : List Hash256) → has hashes hash ≡ false → list_any (names_block hash) (requests_of hashes) ≡ false
-lacks_requests hash [] lacks = refl
-lacks_requests hash (first ∷ others) lacks =
-    let parts = or_parts (same hash first) (has others hash) lacks in
-    or_from (same hash first) (list_any (names_block hash) (requests_of others)) parts.0 (lacks_requests hash others parts.1)
+requests_name : (compact : Bool) (hashes : List Hash256) (hash : Hash256) → list_any (names_block hash) (requests_of compact hashes) ≡ has hashes hash
+requests_name compact [] hash = refl
+requests_name compact (first ∷ others) hash = named_is compact hash first (list_any (names_block hash) (requests_of compact others)) ∙ ap (λ (b : Bool). same hash first || b) (requests_name compact others hash)
 
-unneeded : (hash : Hash256) (need : Need) → has (blocks_in need.entries) hash ≡ false → None_of (asks_for_block hash) (asking_for (requests_of (taken_on (blocks_in need.entries)).flight))
-unneeded hash need lacks =
-    let free : has (taken_on (blocks_in need.entries)).flight hash ≡ false =
-    elim (cases_Bool (has (taken_on (blocks_in need.entries)).flight hash)) [
-      | inl flies ↦ absurd (let clash : false ≡ true = sym lacks ∙ was_needed (blocks_in need.entries) hash flies in cc)
-      | inr none ↦ none
-    ] in
-    asked_by_entries hash (requests_of (taken_on (blocks_in need.entries)).flight) (lacks_requests hash (taken_on (blocks_in need.entries)).flight free)
+entries_name : (entries : List InvEntry) (hash : Hash256) → list_any (asks_for_block hash) (asking_for entries) ≡ true → list_any (names_block hash) entries ≡ true
+entries_name [] hash e = e
+entries_name (first ∷ others) hash e =
+    elim (or_cases (list_any (names_block hash) (first ∷ others)) false e) [ inl is ↦ is | inr isnt ↦ absurd (let clash : false ≡ true = isnt in cc) ]
 
--- ---- a step
+requests_ask : (needed : Hash256 → Bool) (compact : Bool) (hashes : List Hash256) → Each needed hashes → Asks needed (asking_for (requests_of compact hashes))
+requests_ask needed compact hashes each hash e = each hash (sym (requests_name compact hashes hash) ∙ entries_name (requests_of compact hashes) hash e)
 
--- which of the wanted blocks are still needed is asked
-abbrev pub asks_wanted : Stage → Bool
-asks_wanted Wanted = true
-asks_wanted other = false
+whole_asks : (needed : Hash256 → Bool) (b : Bool) (hash : Hash256) → Each needed (hash ∷ []) → Asks needed (cond b (asking_block hash ∷ []) [])
+whole_asks needed true hash each = requests_ask needed false (hash ∷ []) each
+whole_asks needed false hash each = none_asked needed [] (λ _. refl)
 
-abbrev pub pending_wanted : Option Pending → Bool
-pending_wanted None = false
-pending_wanted (Some pending) = asks_wanted pending.stage
+-- ---- what an outcome comes to
 
--- no answer tells that the block is needed
-abbrev pub Untold : Hash256 → Option Question → Event → Type 0
-Untold hash question event = list_any (tells_needed hash) (replies_to question event) ≡ false
+-- the block of a compact block
+abbrev pub short_hashes : Option HeaderAndShortIds → List Hash256
+short_hashes None = []
+short_hashes (Some short) = block_hash short.header ∷ []
 
-other_step : (s : SessionState) (event : Event) (hash : Hash256) → pending_wanted s.pending ≡ false → None_of (asks_for_block hash) (step_of s event).messages
-other_step s event hash other =
-    step_none (asks_for_block hash) s event (blocks_mild hash)
-    (λ waiting answer same _.
-    record {
-      need = λ need. asked_by_entries hash (filter_map tx_request need.entries) (no_block_among_txs hash need.entries);
-      wanted = λ need stage. absurd (let clash : false ≡ true = sym other ∙ ap pending_wanted same ∙ ap asks_wanted stage in cc);
-      tip = λ news. no_block_told hash (freed s) news;
-      following = λ headers _. refl;
-    })
+-- the block that the mempool is searched for next
+abbrev pub matched : Option Item → Option Stage → List Hash256
+matched item (Some Match) = short_hashes (short_in item)
+matched item next = []
 
-fit_wanted : (s q : SessionState) (item : Option Item) (answer : Answer) (hash : Hash256) → fits (question_of q item Wanted) answer ≡ true → Untold hash (Some (question_of q item Wanted)) (events.Told answer) → None_of (asks_for_block hash) (answered s item Wanted answer).messages
-unfolding answered wanted_told
-fit_wanted s q item answers.Kicked hash fit untold = refl
-fit_wanted s q item (answers.Need need) hash fit untold = unneeded hash need (or_parts (has (blocks_in need.entries) hash) false untold).0
-fit_wanted s q item other hash fit untold = absurd cc
+-- What is fetched and rebuilt is so, the block that the mempool is searched for is missing, and the blocks that are asked for are needed.
+pub record Comes (t : Tests) (item : Option Item) (outcome : Outcome) : Type 0 where
+  pub fetches : Fetches t outcome.session.fetch outcome.session.compact.partial
+  pub sought : Each t.missing (matched item outcome.next)
+  pub asked : Asks t.needed outcome.messages
 
-by_stage : (s : SessionState) (item : Option Item) (stage : Stage) (answer : Answer) (hash : Hash256) → asks_wanted stage ≡ true → fits (question_of s item stage) answer ≡ true → Untold hash (Some (question_of s item stage)) (events.Told answer)
-    → None_of (asks_for_block hash) (answered (freed s) item stage answer).messages
-by_stage s item Wanted answer hash wanted fit untold = fit_wanted (freed s) s item answer hash fit untold
-by_stage s item Admit answer hash wanted fit untold = absurd cc
-by_stage s item (About subject) answer hash wanted fit untold = absurd cc
-by_stage s item Fresh answer hash wanted fit untold = absurd cc
+abbrev pub FetchesAt : Tests → SessionState → Type 0
+FetchesAt t s = Fetches t s.fetch s.compact.partial
 
-told_wanted : (pending : Option Pending) (s : SessionState) (answer : Answer) (hash : Hash256) → pending_wanted pending ≡ true → Untold hash (question_at s pending) (events.Told answer) → None_of (asks_for_block hash) (told pending s answer).messages
-told_wanted None s answer hash wanted untold = refl
-told_wanted (Some pending) s answer hash wanted untold =
-    elim (cases_Bool (fits (question_of s pending.item pending.stage) answer)) [
-      | inl fit ↦ rw fit (by_stage s pending.item pending.stage answer hash wanted fit untold)
-      | inr misfit ↦ rw misfit refl
-    ]
+ends_comes : (t : Tests) (item : Option Item) (s : SessionState) (sent : List Message) → FetchesAt t s → Asks t.needed sent → Comes t item (ends s sent)
+ends_comes t item s sent f asked =
+    let same : (next : Option Stage) → Each t.missing (matched item next) → Comes t item (record { session = s; messages = sent; next = next }) =
+    λ next each. record { fetches = f; sought = each; asked = asked } in
+    ends_cases (Comes t item) s sent (λ _. same None (none_each t.missing)) (λ _ _. same (Some Wanted) (none_each t.missing)) (λ _ _. same (Some Fresh) (none_each t.missing))
 
-arrives_none : (pending : Option Pending) (s : SessionState) (item : Option Item) (hash : Hash256) → None_of (asks_for_block hash) (arrives pending s item).messages
-arrives_none None s item hash = refl
-arrives_none (Some other) s item hash = refl
+silent : (t : Tests) → Asks t.needed []
+silent t = none_asked t.needed [] (λ _. refl)
 
-wanted_step : (s : SessionState) (event : Event) (hash : Hash256) → pending_wanted s.pending ≡ true → Untold hash (pending_question s) event → None_of (asks_for_block hash) (open_step s event).messages
-unfolding open_step
-wanted_step s (events.Said item) hash wanted untold = arrives_none s.pending s (Some item) hash
-wanted_step s events.Tick hash wanted untold = arrives_none s.pending s None hash
-wanted_step s (events.Told answer) hash wanted untold = told_wanted s.pending s answer hash wanted untold
-wanted_step s other hash wanted untold = refl
+quiet_comes : (t : Tests) (item : Option Item) (s : SessionState) → FetchesAt t s → Comes t item (ends s [])
+quiet_comes t item s f = ends_comes t item s [] f (silent t)
 
-open_untold : (s : SessionState) (event : Event) (hash : Hash256) → is_closed s.state ≡ false → Untold hash (pending_question s) event → None_of (asks_for_block hash) (open_step s event).messages
-open_untold s event hash going untold =
-    elim (cases_Bool (pending_wanted s.pending)) [
-      | inl wanted ↦ wanted_step s event hash wanted untold
-      | inr other ↦ subst (λ (made : Stepped). None_of (asks_for_block hash) made.messages) (open_is s event going) (other_step s event hash other)
-    ]
+plain_comes : (t : Tests) (item : Option Item) (s : SessionState) (sent : List Message) → FetchesAt t s → AsksNone sent → Comes t item (ends s sent)
+plain_comes t item s sent f none = ends_comes t item s sent f (none_asked t.needed sent none)
 
-entry_untold : (count : ℕ) (s : SessionState) (entry : TraceEntry) (hash : Hash256) → Untold hash (pending_question s) entry.event → None_of (asks_for_block hash) (entry_step count s entry).messages
-entry_untold count s entry hash untold =
-    step_cases (λ made. None_of (asks_for_block hash) made.messages) count s entry (λ _. refl) (λ why _. refl) (λ going. open_untold s entry.event hash going untold)
+over_comes : (t : Tests) (item : Option Item) (why : CloseReason) (s : SessionState) → Comes t item (ended why s)
+over_comes t item why s = record { fetches = idle_fetches t; sought = none_each t.missing; asked = silent t }
 
--- ---- over all entries
+-- ---- messages of the peer
 
-abbrev pub AsksTold : Hash256 → Account → Type 0
-AsksTold hash account = list_any (asks_for_block hash) account.sent ≡ true → list_any (tells_needed hash) account.replies ≡ true
-
-entry_asks : (hash : Hash256) (account : Account) (entry : TraceEntry) → AsksTold hash account → AsksTold hash (account_step account entry)
-entry_asks hash account entry before asked =
-    let made = entry_step account.count account.session entry in
-    let last = replies_to (pending_question account.session) entry.event in
-    let whole : (list_any (tells_needed hash) account.replies || list_any (tells_needed hash) last) ≡ true =
-    elim (or_cases (list_any (asks_for_block hash) account.sent) (list_any (asks_for_block hash) made.messages) (sym (list_any-append (asks_for_block hash) account.sent made.messages) ∙ asked)) [
-      | inl first ↦ or_left (list_any (tells_needed hash) account.replies) (list_any (tells_needed hash) last) (before first)
-      | inr now ↦
-          elim (cases_Bool (list_any (tells_needed hash) last)) [
-            | inl told_now ↦ or_right (list_any (tells_needed hash) account.replies) (list_any (tells_needed hash) last) told_now
-            | inr untold ↦ absurd (let clash : false ≡ true = sym (entry_untold account.count account.session entry hash untold) ∙ now in cc)
+introduced_comes : (t : Tests) (item : Option Item) (s : SessionState) (version : Version) → FetchesAt t s → Comes t item (introduced s version)
+unfolding introduced
+introduced_comes t item s version f =
+    elim (cases_Bool (version.nonce == s.settings.nonce)) [
+      | inl own ↦ rw own (over_comes t item reasons.SelfPeer s)
+      | inr other ↦
+          elim (cases_Bool (int_lt version.version (pos 70001))) [
+            | inl old ↦ rw (other, old) (over_comes t item reasons.OldPeer s)
+            | inr new ↦ rw (other, new) (record { fetches = f; sought = none_each t.missing; asked = none_asked t.needed (greeting s.settings) (λ hash. greeting_none (asks_for_block hash) s.settings (rare hash)) })
           ]
-    ] in
-    list_any-append (tells_needed hash) account.replies last ∙ whole
+    ]
 
-openings_ask : (settings : Settings) (hash : Hash256) → list_any (asks_for_block hash) (openings settings) ≡ false
-openings_ask settings hash = elim (cases_Bool settings.inbound) [ inl inbound ↦ rw inbound refl | inr outbound ↦ rw outbound refl ]
+compact_fetches : (t : Tests) (relay : CompactRelay) (s : SessionState) → FetchesAt t s → FetchesAt t (by_compact relay s)
+compact_fetches t relay s f = elim (cases_Bool (relay.version == 1)) [ inl one ↦ rw one f | inr other ↦ rw other f ]
 
-pub asked_needed : (settings : Settings) (entries : List TraceEntry) (hash : Hash256) → list_any (asks_for_block hash) (sends settings entries) ≡ true → list_any (tells_needed hash) (replies settings entries) ≡ true
-asked_needed settings entries hash =
-    kept (AsksTold hash) (λ account entry before. entry_asks hash account entry before) settings entries (λ asked. absurd (let clash : false ≡ true = sym (openings_ask settings hash) ∙ asked in cc))
+dropping_fetches : (t : Tests) (s : SessionState) (hash : Hash256) → FetchesAt t s → FetchesAt t (dropping hash s)
+dropping_fetches t s hash f =
+    elim (cases_Bool (is_partial hash s.compact.partial)) [
+      | inl is ↦ rw is (with_rebuilding t s.fetch s.compact.partial None (none_each t.missing) f)
+      | inr isnt ↦ rw isnt f
+    ]
+
+brought_comes : (t : Tests) (item : Option Item) (s : SessionState) (block : Block) → FetchesAt t s → Comes t item (brought s block)
+unfolding brought
+brought_comes t item s block f =
+    let hash = block_hash block.header in
+    let whole : SessionState = dropping hash (landing hash s) in
+    by_test (Comes t item) (is_sound_block block) (asks (heard_of hash whole) [] (About subjects.Block)) (ended reasons.BadBlock s)
+    (λ _. record { fetches = dropping_fetches t (landing hash s) hash (lands_fetches t s.fetch s.compact.partial hash f); sought = none_each t.missing; asked = silent t }) (λ _. over_comes t item reasons.BadBlock s)
+
+falls_back_comes : (t : Tests) (item : Option Item) (s : SessionState) (hash : Hash256) → Each t.missing (hash ∷ []) → FetchesAt t s → Comes t item (falls_back s hash)
+unfolding falls_back
+falls_back_comes t item s hash each f =
+    ends_comes t item (with_fetch (fallen_back hash s.fetch) s) (cond (asks_now s.fetch hash) (asking_block hash ∷ []) []) (back_fetches t s.fetch s.compact.partial hash each f)
+    (whole_asks t.needed (asks_now s.fetch hash) hash (λ other e. t.is_needed other (each other e)))
+
+gives_comes : (t : Tests) (item : Option Item) (s : SessionState) (block : Block) → FetchesAt t s → Comes t item (gives s block)
+gives_comes t item s block f = record { fetches = lands_fetches t s.fetch s.compact.partial (block_hash block.header) f; sought = none_each t.missing; asked = silent t }
+
+short_comes : (t : Tests) (item : Option Item) (s : SessionState) (short : HeaderAndShortIds) → FetchesAt t s → Comes t item (short_heard s short)
+unfolding short_heard
+short_comes t item s short f =
+    by_test (Comes t item) (has_places short.txs) (asks (heard_of (block_hash short.header) s) [] (About subjects.Headers)) (ended reasons.BadMessage s)
+    (λ _. record { fetches = f; sought = none_each t.missing; asked = silent t }) (λ _. over_comes t item reasons.BadMessage s)
+
+filled_comes : (t : Tests) (item : Option Item) (s : SessionState) (hash : Hash256) (filled : Result Filled Fault) → Each t.missing (hash ∷ []) → FetchesAt t s → Comes t item (filled_by s hash filled)
+filled_comes t item s hash (Ok (filling.Sound block)) each f = gives_comes t item s block f
+filled_comes t item s hash (Ok filling.Wrong) each f = falls_back_comes t item s hash each f
+filled_comes t item s hash (Err fault) each f = over_comes t item reasons.BadMessage s
+
+completed_comes : (t : Tests) (item : Option Item) (s : SessionState) (given : BlockTransactions) (partial : Option Unfilled) → s.compact.partial ≡ partial → FetchesAt t s → Comes t item (completed_by s given partial)
+completed_comes t item s given None is f = quiet_comes t item s f
+completed_comes t item s given (Some partial) is f =
+    let was : Each t.missing (block_hash partial.header ∷ []) = subst (λ (p : Option Unfilled). Each t.missing (rebuilding p)) is f.rebuilt in
+    by_test (Comes t item) (same (block_hash partial.header) given.block) (filled_by (with_partial None s) given.block (completed_of partial given)) (ends s [])
+    (λ e.
+    filled_comes t item (with_partial None s) given.block (completed_of partial given) (same_each t.missing (block_hash partial.header) given.block e was)
+    (with_rebuilding t s.fetch s.compact.partial None (none_each t.missing) f))
+    (λ _. quiet_comes t item s f)
+
+txs_comes : (t : Tests) (item : Option Item) (s : SessionState) (given : BlockTransactions) → FetchesAt t s → Comes t item (txs_heard s given)
+unfolding txs_heard
+txs_comes t item s given f = completed_comes t item s given s.compact.partial refl f
+
+start_comes : (t : Tests) (item : Option Item) (s : SessionState) (message : Message) → FetchesAt t s → Comes t item (in_start s message)
+unfolding in_start
+start_comes t item s (messages.Version version) f = introduced_comes t item s version f
+start_comes t item s other f = record { fetches = f; sought = none_each t.missing; asked = silent t }
+
+greeted_comes : (t : Tests) (item : Option Item) (s : SessionState) (message : Message) → FetchesAt t s → Comes t item (in_greeted s message)
+unfolding in_greeted
+greeted_comes t item s messages.Verack f =
+    record { fetches = f; sought = none_each t.missing; asked = none_asked t.needed (wishes s.peer.version) (wishes_ask (int_lt s.peer.version (pos 70012)) (int_lt s.peer.version (pos 70014)) _) }
+greeted_comes t item s (messages.SendCmpct relay) f = record { fetches = compact_fetches t relay s f; sought = none_each t.missing; asked = silent t }
+greeted_comes t item s other f = record { fetches = f; sought = none_each t.missing; asked = silent t }
+
+ready_comes : (t : Tests) (item : Option Item) (s : SessionState) (message : Message) → FetchesAt t s → Comes t item (in_ready s message)
+unfolding in_ready
+ready_comes t item s messages.SendHeaders f = quiet_comes t item (by_headers s) f
+ready_comes t item s (messages.SendCmpct relay) f = quiet_comes t item (by_compact relay s) (compact_fetches t relay s f)
+ready_comes t item s (messages.Headers []) f = quiet_comes t item s f
+ready_comes t item s (messages.Headers (first ∷ others)) f = record { fetches = f; sought = none_each t.missing; asked = silent t }
+ready_comes t item s (messages.Inv entries) f =
+    by_test (Comes t item) (is_nil (told_of entries)) (ends s []) (asks s [] (About subjects.Inventory)) (λ _. quiet_comes t item s f) (λ _. record { fetches = f; sought = none_each t.missing; asked = silent t })
+ready_comes t item s (messages.GetData entries) f = record { fetches = f; sought = none_each t.missing; asked = silent t }
+ready_comes t item s (messages.GetHeaders request) f = record { fetches = f; sought = none_each t.missing; asked = silent t }
+ready_comes t item s (messages.NotFound entries) f = quiet_comes t item (with_fetch (given_up entries s.fetch) s) (given_up_fetches t entries s.fetch s.compact.partial f)
+ready_comes t item s (messages.Tx tx) f = record { fetches = f; sought = none_each t.missing; asked = silent t }
+ready_comes t item s (messages.Block block) f = brought_comes t item s block f
+ready_comes t item s (messages.CmpctBlock short) f = short_comes t item s short f
+ready_comes t item s (messages.GetBlockTxn request) f = record { fetches = f; sought = none_each t.missing; asked = silent t }
+ready_comes t item s (messages.BlockTxn given) f = txs_comes t item s given f
+ready_comes t item s other f = quiet_comes t item s f
+
+phase_comes : (t : Tests) (item : Option Item) (state : State) (s : SessionState) (message : Message) → FetchesAt t s → Comes t item (by_phase state s message)
+phase_comes t item Start s message f = start_comes t item s message f
+phase_comes t item Greeted s message f = greeted_comes t item s message f
+phase_comes t item Ready s message f = ready_comes t item s message f
+phase_comes t item (Closed why) s message f = record { fetches = f; sought = none_each t.missing; asked = silent t }
+
+received_comes : (t : Tests) (item : Option Item) (s : SessionState) (message : Message) → FetchesAt t s → Comes t item (received s message)
+unfolding received
+received_comes t item s (messages.Ping nonce) f = plain_comes t item s (messages.Pong nonce ∷ []) f (λ _. refl)
+received_comes t item s other f = phase_comes t item s.state s other f
+
+processed_comes : (t : Tests) (s : SessionState) (item : Option Item) → FetchesAt t s → Comes t item (processed s item)
+unfolding processed
+processed_comes t s None f = quiet_comes t None s f
+processed_comes t s (Some (Good message)) f = received_comes t (Some (Good message)) s message f
+processed_comes t s (Some Damaged) f = quiet_comes t (Some Damaged) s f
+processed_comes t s (Some (Bad command fault)) f = over_comes t (Some (Bad command fault)) reasons.BadMessage s
+
+-- ---- answers
+
+heads_by_comes : (t : Tests) (item : Option Item) (s : SessionState) (refused : Option Fault) (locator : List Hash256) → FetchesAt t s → Comes t item (heads_by s item refused locator)
+heads_by_comes t item s (Some faults.BadWork) locator f = over_comes t item reasons.BadBlock s
+heads_by_comes t item s (Some faults.NoParent) locator f = plain_comes t item s (asking_headers locator ∷ []) f (λ _. refl)
+heads_by_comes t item s (Some other) locator f = quiet_comes t item s f
+heads_by_comes t item s None locator f = plain_comes t item s (more_headers item) f (λ hash. more_none (asks_for_block hash) item (rare hash))
+
+parent_asks : (refused : Option Fault) (locator : List Hash256) → AsksNone (before_parent refused locator)
+parent_asks refused locator hash = parent_none (asks_for_block hash) refused locator (rare hash)
+
+-- the header of a compact block: its block is missing where the answer lists one
+short_told_comes : (t : Tests) (item : Option Item) (s : SessionState) (hash : Hash256) (heads : Heads) → (is_nil heads.lack ≡ false → Each t.missing (matched item (Some Match))) → FetchesAt t s → Comes t item (short_told s hash heads)
+unfolding short_told
+short_told_comes t item s hash heads each f =
+    let sent = before_parent heads.refused heads.locator in
+    let none = parent_asks heads.refused heads.locator in
+    let there : Outcome = ends (landing hash s) sent in
+    by_test (Comes t item) (is_workless heads.refused) (ended reasons.BadBlock s) (cond (is_nil heads.lack) there (asks s sent Match)) (λ _. over_comes t item reasons.BadBlock s)
+    (λ _.
+    by_test (Comes t item) (is_nil heads.lack) there (asks s sent Match) (λ _. plain_comes t item (landing hash s) sent (lands_fetches t s.fetch s.compact.partial hash f) none)
+    (λ lacks. record { fetches = f; sought = each lacks; asked = none_asked t.needed sent none }))
+
+heads_for_comes : (t : Tests) (item : Option Item) (s : SessionState) (short : Option HeaderAndShortIds) (heads : Heads) → Each t.lacks heads.lack → (is_nil heads.lack ≡ false → Each t.missing (matched item (Some Match))) → FetchesAt t s
+    → Comes t item (heads_for s item short heads)
+heads_for_comes t item s None heads lack each f = heads_by_comes t item (with_fetch (wanting_all s.fetch heads.lack) s) heads.refused heads.locator (all_wanted t s.fetch s.compact.partial heads.lack lack f)
+heads_for_comes t item s (Some short) heads lack each f = short_told_comes t item s (block_hash short.header) heads each f
+
+heads_comes : (t : Tests) (item : Option Item) (s : SessionState) (heads : Heads) → Each t.lacks heads.lack → (is_nil heads.lack ≡ false → Each t.missing (matched item (Some Match))) → FetchesAt t s → Comes t item (heads_told s item heads)
+unfolding heads_told
+heads_comes t item s heads lack each f = heads_for_comes t item s (short_in item) heads lack each f
+
+-- what lacks transactions has the header of the compact block
+abbrev pub IsUnder : HeaderAndShortIds → Rebuilt → Type 0
+IsUnder short (rebuilts.Lacking partial request) = partial.header ≡ short.header
+IsUnder short other = Unit {0}
+
+whole_under : (short : HeaderAndShortIds) (block : Block) → IsUnder short (whole_of block)
+unfolding whole_of
+whole_under short block = by_test (IsUnder short) (is_sound_block block) (rebuilts.Sound block) rebuilts.Useless (λ _. tt) (λ _. tt)
+
+told_under : (short : HeaderAndShortIds) (unfilled : Unfilled) (places : List ℕ) → unfilled.header ≡ short.header → IsUnder short (told_by unfilled places)
+told_under short unfilled [] same = whole_under short (block_with unfilled [])
+told_under short unfilled (place ∷ others) same = same
+
+rebuilt_under : (short : HeaderAndShortIds) (pairs : List Pair) → IsUnder short (rebuilt_of short pairs)
+unfolding rebuilt_of unfilled_of
+rebuilt_under short pairs =
+    let unfilled = unfilled_of short pairs in
+    by_test (IsUnder short) (are_different short.txs.ids) (told_by unfilled (missing 0 unfilled.slots)) rebuilts.Useless (λ _. told_under short unfilled (missing 0 unfilled.slots) refl) (λ _. tt)
+
+rebuilt_comes : (t : Tests) (item : Option Item) (s : SessionState) (short : HeaderAndShortIds) (rebuilt : Rebuilt) → IsUnder short rebuilt → Each t.missing (block_hash short.header ∷ []) → FetchesAt t s
+    → Comes t item (rebuilt_by s (block_hash short.header) rebuilt)
+rebuilt_comes t item s short (rebuilts.Sound block) under each f = gives_comes t item s block f
+rebuilt_comes t item s short (rebuilts.Lacking partial request) under each f =
+    let own : Each t.missing (rebuilding (Some partial)) = subst (λ (header : Header). Each t.missing (block_hash header ∷ [])) (sym under) each in
+    plain_comes t item (with_partial (Some partial) s) (asking_txs request ∷ []) (with_rebuilding t s.fetch s.compact.partial (Some partial) own f) (λ _. refl)
+rebuilt_comes t item s short rebuilts.Useless under each f = falls_back_comes t item s (block_hash short.header) each f
+
+paired_comes : (t : Tests) (item : Option Item) (s : SessionState) (short : Option HeaderAndShortIds) (pairs : List Pair) → Each t.missing (short_hashes short) → FetchesAt t s → Comes t item (paired s short pairs)
+paired_comes t item s None pairs each f = record { fetches = f; sought = none_each t.missing; asked = silent t }
+paired_comes t item s (Some short) pairs each f =
+    by_test (Comes t item) (has_places short.txs) (rebuilt_by s (block_hash short.header) (rebuilt_of short pairs)) (ended reasons.BadMessage s)
+    (λ _. rebuilt_comes t item s short (rebuilt_of short pairs) (rebuilt_under short pairs) each f) (λ _. over_comes t item reasons.BadMessage s)
+
+pairs_comes : (t : Tests) (item : Option Item) (s : SessionState) (pairs : List Pair) → Each t.missing (matched item (Some Match)) → FetchesAt t s → Comes t item (pairs_told s item pairs)
+unfolding pairs_told
+pairs_comes t item s pairs each f = paired_comes t item s (short_in item) pairs each f
+
+taken_comes : (t : Tests) (item : Option Item) (s : SessionState) (refused : Option Fault) (locator : List Hash256) → FetchesAt t s → Comes t item (taken_told s refused locator)
+unfolding taken_told
+taken_comes t item s None locator f = quiet_comes t item s f
+taken_comes t item s (Some faults.Known) locator f = quiet_comes t item s f
+taken_comes t item s (Some faults.NoParent) locator f = plain_comes t item s (asking_headers locator ∷ []) f (λ _. refl)
+taken_comes t item s (Some other) locator f = over_comes t item reasons.BadBlock s
+
+given_comes : (t : Tests) (item : Option Item) (s : SessionState) (refused : Option Fault) (locator : List Hash256) → FetchesAt t s → Comes t item (given_told s refused locator)
+unfolding given_told
+given_comes t item s refused locator f = plain_comes t item s (before_parent refused locator) f (parent_asks refused locator)
+
+excerpt_comes : (t : Tests) (item : Option Item) (s : SessionState) (excerpt : Excerpt) → FetchesAt t s → Comes t item (excerpt_answered s excerpt)
+unfolding excerpt_answered
+excerpt_comes t item s (excerpts.Refused fault) f = over_comes t item reasons.BadRequest s
+excerpt_comes t item s other f = plain_comes t item s (excerpt_told other) f (λ hash. excerpt_none (asks_for_block hash) other (rare hash))
+
+served_comes : (t : Tests) (item : Option Item) (s : SessionState) (pieces : List Piece) → FetchesAt t s → Comes t item (served_told s pieces)
+unfolding served_told
+served_comes t item s pieces f = plain_comes t item (with_made (shorts pieces) s) (served (next_nonce s) pieces) f (λ hash. served_none (asks_for_block hash) (next_nonce s) pieces (rare hash) (λ _. refl))
+
+need_comes : (t : Tests) (item : Option Item) (s : SessionState) (need : Need) → FetchesAt t s → Comes t item (need_told s need)
+unfolding need_told
+need_comes t item s need f = plain_comes t item s _ f (need_asks need)
+
+wanted_comes : (t : Tests) (item : Option Item) (s : SessionState) (need : Need) → Each t.needed (blocks_in need.entries) → Each t.lacks (blocks_in need.entries) → FetchesAt t s → Comes t item (wanted_told s need)
+unfolding wanted_told
+wanted_comes t item s need needs lack f =
+    let taken = all_taken t _ s.compact.partial (blocks_in need.entries) needs lack (with_rebuilding t _ None s.compact.partial f.rebuilt (idle_fetches t)) in
+    record { fetches = taken; sought = none_each t.missing; asked = requests_ask t.needed (need.near && s.peer.capable) (taken_on (blocks_in need.entries)).flight taken.flight }
+
+news_comes : (t : Tests) (item : Option Item) (s : SessionState) (news : News) → FetchesAt t s → Comes t item (news_told s item news)
+unfolding news_told
+news_comes t item s news f =
+    let sent = (tip_told s news ++ telling (without_brought item news.txids)) ++ wish_told s news.high in
+    record { fetches = f; sought = none_each t.missing; asked = none_asked t.needed sent (λ hash. news_none (asks_for_block hash) s item news (rare hash) (λ _. refl) (λ _. refl)) }
+
+-- ---- what an answer tells
+
+-- what an answer to a question tells is so
+pub record Tells (t : Tests) (question : Question) (answer : Answer) : Type 0 where
+  pub needed : Each t.needed (needed_in question answer)
+  pub lacks : Each t.lacks (lacking_of question answer)
+  pub missing : Each t.missing (missing_in question answer)
+
+heads_lack : (t : Tests) (question : Question) (heads : Heads) → fits question (answers.Heads heads) ≡ true → Tells t question (answers.Heads heads) → Each t.lacks heads.lack
+heads_lack t (questions.Headers headers) heads fit tells = tells.lacks
+heads_lack t question heads fit tells = absurd cc
+
+-- the question about a compact block is about its header alone
+short_missing : (t : Tests) (q : SessionState) (item : Option Item) (subject : Subject) (heads : Heads) → fits (about subject q item) (answers.Heads heads) ≡ true → Tells t (about subject q item) (answers.Heads heads) → is_nil heads.lack ≡ false
+    → Each t.missing (matched item (Some Match))
+short_missing t q (Some (Good (messages.CmpctBlock short))) subjects.Headers heads fit tells lacks = subst (λ (b : Bool). Each t.missing (cond b [] (block_hash short.header ∷ []))) lacks tells.missing
+short_missing t q (Some (Good (messages.CmpctBlock short))) subject heads fit tells lacks = absurd cc
+short_missing t q item subject heads fit tells lacks = none_each t.missing
+
+-- an answer that fits
+pub answered_comes : (t : Tests) (q s : SessionState) (item : Option Item) (stage : Stage) (answer : Answer) → fits (question_of q item stage) answer ≡ true → Tells t (question_of q item stage) answer → Each t.missing (matched item (Some stage))
+    → FetchesAt t s → Comes t item (answered s item stage answer)
+unfolding answered
+answered_comes t q s item stage answers.Kicked fit tells each f = over_comes t item reasons.Kicked s
+answered_comes t q s item Admit answers.Go fit tells each f = processed_comes t s item f
+answered_comes t q s item (About subject) (answers.Heads heads) fit tells each f =
+    heads_comes t item s heads (heads_lack t (question_of q item (About subject)) heads fit tells) (short_missing t q item subject heads fit tells) f
+answered_comes t q s item (About subject) (answers.Locator locator) fit tells each f = plain_comes t item s (asking_headers locator ∷ []) f (λ _. refl)
+answered_comes t q s item (About subject) (answers.Need need) fit tells each f = need_comes t item s need f
+answered_comes t q s item (About subject) (answers.TxTaken refused) fit tells each f = quiet_comes t item s f
+answered_comes t q s item (About subject) (answers.Taken taken) fit tells each f = taken_comes t item s taken.refused taken.locator f
+answered_comes t q s item (About subject) (answers.Served pieces) fit tells each f = served_comes t item s pieces f
+answered_comes t q s item (About subject) (answers.Following headers) fit tells each f = plain_comes t item s (messages.Headers headers ∷ []) f (λ _. refl)
+answered_comes t q s item (About subject) (answers.Excerpt excerpt) fit tells each f = excerpt_comes t item s excerpt f
+answered_comes t q s item Match (answers.Pairs pairs) fit tells each f = pairs_comes t item s pairs each f
+answered_comes t q s item (Give block) (answers.Taken taken) fit tells each f = given_comes t item s taken.refused taken.locator f
+answered_comes t q s item Wanted (answers.Need need) fit tells each f = wanted_comes t item s need tells.needed tells.lacks f
+answered_comes t q s item Fresh (answers.News news) fit tells each f = news_comes t item s news f
+answered_comes t q s item stage other fit tells each f = record { fetches = f; sought = none_each t.missing; asked = silent t }

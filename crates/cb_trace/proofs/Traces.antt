@@ -1,12 +1,18 @@
 -- A trace, one entry at a time, and its checkpoints.
-use Rattle.std.proofs.Common.{◌≡◌, ℕ, ◌+◌, ◌-◌, ◌<◌, ◌≤◌, Bool, true, false, List, [], ◌∷◌, ◌++◌, Option, refl, sym, ap, subst, ◌∙◌, append_assoc, arith, inl, inr, ◌⊎◌}
-use Rattle.std.specs.Prelude.{◌^◌, min}
+use Rattle.std.proofs.Common.{◌≡◌, ℕ, ◌+◌, ◌-◌, ◌<◌, ◌≤◌, Bool, true, false, List, [], ◌∷◌, ◌++◌, Option, Some, None, Result, Err, refl, sym, ap, subst, ◌∙◌, append_assoc, arith, inl, inr, ◌⊎◌}
+use Rattle.std.specs.Prelude.{◌^◌, ◌||◌, IsOk, is_none, min, nat_lt, not, length}
+use Rattle.std.proofs.lemmas.Bool.{and_parts}
 use Rattle.std.proofs.lemmas.List.Sums.{sum_by_push}
 use Rattle.std.proofs.lemmas.List.{append-nil}
+use Rattle.cb_base.specs.declared.fault.Fault.{Fault}
+use Rattle.cb_compact.specs.Slots.{Unfilled}
+use Rattle.cb_fetch.specs.Fetching.{idle}
 use Rattle.cb_wire.specs.declared.message.Message.{Message}
 use Rattle.cb_journal.specs.declared.question.Question.{Question}
 use Rattle.cb_peer_state.specs.declared.settings.Settings.{Settings}
 use Rattle.cb_peer_state.specs.declared.event.Event.{Event}
+use Rattle.cb_peer_state.specs.declared.event.Event.TheVariants as events
+use Rattle.cb_peer_state.specs.declared.pending.Pending.{Pending}
 use Rattle.cb_trace.specs.declared.trace.TraceEntry.{TraceEntry}
 use Rattle.cb_trace.specs.declared.trace.Counts.{Counts}
 use Rattle.cb_peer_state.specs.Questions.{pending_question}
@@ -17,7 +23,7 @@ use Rattle.cb_peer_state.specs.declared.session_state.SessionState.{SessionState
 use Rattle.cb_peer_state.specs.State.{is_closed, opening}
 use Rattle.cb_peer_laws.proofs.Steps.{AsksIt}
 use Rattle.cb_trace.specs.Fold.{Account, account_of, entry_step, session_of}
-use Rattle.cb_trace.specs.Trace.{AreCounts, AsksPending, Grows, IsTrace, Rests, StandsFor, TraceSteps, TraceView, counts_with, held_of, is_due, next_step}
+use Rattle.cb_trace.specs.Trace.{AreCounts, AsksPending, Grows, IsTrace, LacksBase, NeedsBase, Rests, StandsFor, TraceSteps, TraceView, counts_with, held_of, is_due, next_step}
 use Rattle.cb_trace.proofs.Folds.{EachOpen_more, account_of_more, count_is, counts_more, items_few, told_few}
 use Rattle.cb_trace.proofs.Entries.{entry_asks, entry_ends, entry_full}
 
@@ -178,3 +184,30 @@ rests_kept trace due =
       taken = λ yes_due. absurd (let clash = sym due ∙ yes_due in cc);
       kept = λ _. (refl, refl, refl);
     }
+
+-- ---- a checkpoint without memory
+
+none_from : (pending : Option Pending) → is_none pending ≡ true → pending ≡ None
+none_from None e = refl
+none_from (Some pending) e = absurd (let clash : false ≡ true = e in cc)
+
+due_free : (trace : TraceView) → is_due trace ≡ true → trace.session.pending ≡ None
+due_free trace due = none_from trace.session.pending (and_parts (is_none trace.session.pending) (not (nat_lt (length trace.entries) 65000) || nat_lt 8000000 (held_of trace.entries)) due).0
+
+failed : {X F : Type 0} (r : Result X F) (fault : F) → r ≡ Err fault → IsOk r → ⊥
+failed r fault is ok = absurd (let clash : false ≡ true = subst IsOk is ok in cc)
+
+-- a copy that failed takes memory
+copy_needs : (s : SessionState) (copied : Result SessionState Fault) (fault : Fault) (partial : Option Unfilled) → s.compact.partial ≡ partial → copied ≡ Err fault → s.pending ≡ None
+    → (s.pending ≡ None → s.fetch ≡ idle → s.compact.partial ≡ None → IsOk copied) → NeedsBase s
+copy_needs s copied fault None same is free unpaid = inl (λ idles. failed copied fault is (unpaid free idles same))
+copy_needs s copied fault (Some partial) same is free unpaid = inr (λ none. absurd (let clash : Some partial ≡ None = sym same ∙ none in cc))
+
+pub needs_base : (trace : TraceView) (s : SessionState) (copied : Result SessionState Fault) (fault : Fault) → s ≡ trace.session → is_due trace ≡ true → copied ≡ Err fault
+    → (s.pending ≡ None → s.fetch ≡ idle → s.compact.partial ≡ None → IsOk copied) → NeedsBase trace.session
+needs_base trace s copied fault same due is unpaid =
+    subst NeedsBase same (copy_needs s copied fault s.compact.partial refl is (ap (λ (session : SessionState). session.pending) same ∙ due_free trace due) unpaid)
+
+pub lacks_base : (old between new : TraceView) → between ≡ old → is_due old ≡ true → NeedsBase old.session → Grows between new (record { event = events.NoMemory; starved = false }) → is_closed new.session.state ≡ true → LacksBase old new
+lacks_base old between new same due needs grows closed =
+    record { due = due; needs = needs; grows = subst (λ (trace : TraceView). Grows trace new (record { event = events.NoMemory; starved = false })) same grows; closed = closed }

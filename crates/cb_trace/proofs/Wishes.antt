@@ -24,11 +24,11 @@ use Rattle.cb_peer_state.specs.Replying.{answered}
 use Rattle.cb_peer_state.specs.Session.{Stepped, arrives, closes, for_item, open_step, openings, stays, told}
 use Rattle.cb_peer_state.specs.declared.session_state.SessionState.{SessionState}
 use Rattle.cb_peer_state.specs.State.{freed, is_closed, is_ready}
-use Rattle.cb_peer_laws.proofs.Sending.{None_of}
 use Rattle.cb_trace.specs.declared.trace.TraceEntry.{TraceEntry}
 use Rattle.cb_trace.specs.Fold.{Account, account_of, account_step, entry_step, first_account, sends}
 use Rattle.cb_trace.specs.Whole.{came_to, is_send_headers, knows_send_headers, number_sent}
 use Rattle.cb_trace.proofs.Hears.{Hears, Silent, answered_hears, greets, keeps, readies, stops}
+use Rattle.cb_trace.proofs.Quiet.{NoneOf}
 use Rattle.cb_trace.proofs.Reached.{step_cases}
 
 -- the handshake is done, or the session is over
@@ -98,7 +98,7 @@ entry_tells count s entry = step_cases (Tells s) count s entry (λ _. stays_tell
 number_append : (test : Message → Bool) (xs ys : List Message) → number_sent test (xs ++ ys) ≡ number_sent test xs + number_sent test ys
 number_append test xs ys = ap length (filter-append test xs ys) ∙ length-append (filter test xs) (filter test ys)
 
-none_number : (test : Message → Bool) (sent : List Message) → None_of test sent → number_sent test sent ≡ 0
+none_number : (test : Message → Bool) (sent : List Message) → NoneOf test sent → number_sent test sent ≡ 0
 none_number test [] none = refl
 none_number test (message ∷ sent) none =
     let parts = or_parts (test message) (list_any test sent) none in

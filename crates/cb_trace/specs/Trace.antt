@@ -127,6 +127,11 @@ pub record Rests (old new : TraceView) : Type 0 where
   pub taken : is_due old ≡ true → (new.base ≡ old.session) × (new.before ≡ old.total) × (new.entries ≡ [])
   pub kept : is_due old ≡ false → (new.base ≡ old.base) × (new.before ≡ old.before) × (new.entries ≡ old.entries)
 
+-- The session has blocks in download, or a block that is being rebuilt (BIP 152). Only then its
+-- copy takes memory while no question is open.
+abbrev pub NeedsBase : SessionState → Type 0
+NeedsBase session = (session.fetch ≢ idle) ⊎ (session.compact.partial ≢ None)
+
 -- Room was made for two entries.
 pub record HasRoom (old new : TraceView) : Type 0 where
   pub rests : Rests old new
@@ -140,11 +145,11 @@ pub record RanOut (old new : TraceView) : Type 0 where
   pub closed : is_closed new.session.state ≡ true
   pub room : new.room ≡ 0
 
--- There was no memory for a checkpoint that was due, and `NoMemory` took a place. The session is
--- downloading blocks, so its copy takes memory.
+-- There was no memory for a checkpoint that was due, and `NoMemory` took a place. The session's
+-- copy takes memory.
 pub record LacksBase (old new : TraceView) : Type 0 where
   pub due : is_due old ≡ true
-  pub fetches : old.session.fetch ≢ idle
+  pub needs : NeedsBase old.session
   pub grows : Grows old new (record { event = events.NoMemory; starved = false })
   pub closed : is_closed new.session.state ≡ true
 

@@ -1,7 +1,8 @@
 -- What was sent and answered over a whole trace, in the protocol's words.
-use Rattle.std.specs.Prelude.{◌≡◌, ℕ, pos, Bool, true, false, not, ◌&&◌, ◌||◌, int_lt, List, [], ◌∷◌, ◌++◌, length, filter, filter_map, Option, Some, None}
+use Rattle.std.specs.Prelude.{◌≡◌, ℕ, pos, Bool, true, false, not, ◌&&◌, ◌||◌, int_lt, if◌then◌else◌, List, [], ◌∷◌, ◌++◌, length, filter, filter_map, Option, Some, None}
 use Rattle.cb_base.specs.declared.hash.Hash256.{Hash256}
 use Rattle.cb_block.specs.declared.header.Header.{Header}
+use Rattle.cb_chain.specs.Entries.{block_hash}
 use Rattle.cb_fetch.specs.Fetching.{blocks_in, has}
 use Rattle.cb_hall.specs.Histories.{Reply}
 use Rattle.cb_journal.specs.declared.answer.Answer.{Answer}
@@ -17,6 +18,8 @@ use Rattle.cb_peer_state.specs.declared.event.Event.{Event}
 use Rattle.cb_peer_state.specs.declared.event.Event.TheVariants as events
 use Rattle.cb_peer_state.specs.declared.settings.Settings.{Settings}
 use Rattle.cb_peer_state.specs.declared.session_state.SessionState.{SessionState}
+use Rattle.cb_peer_state.specs.Questions.{is_nil}
+use Rattle.cb_peer_state.specs.Replying.{differ}
 use Rattle.cb_peer_state.specs.State.{is_closed, is_ready}
 use Rattle.cb_trace.specs.declared.trace.TraceEntry.{TraceEntry}
 use Rattle.cb_trace.specs.Fold.{Account, account_step, replies, sends, session_of}
@@ -82,9 +85,36 @@ lacking_of (questions.Headers headers) (answers.Heads heads) = heads.lack
 lacking_of (questions.Want entries) (answers.Need need) = blocks_in need.entries
 lacking_of question answer = []
 
--- The hall listed this block as needed, or as missing.
+-- The block whose header alone was asked about, if the answer lists a missing block. A session asks
+-- so about a compact block (BIP 152).
+abbrev pub missing_in : Question → Answer → List Hash256
+missing_in (questions.Headers (header ∷ [])) (answers.Heads heads) = if is_nil heads.lack then [] else block_hash header ∷ []
+missing_in question answer = []
+
+-- The hall was asked about the header of this block alone, and the block was missing.
+abbrev pub tells_missing : Hash256 → Reply → Bool
+tells_missing hash reply = has (missing_in reply.question reply.answer) hash
+
+-- The hall listed this block as needed or as missing, or it was missing when the hall was asked
+-- about its header alone.
 abbrev pub tells_needed : Hash256 → Reply → Bool
-tells_needed hash reply = has (needed_in reply.question reply.answer) hash
+tells_needed hash reply = has (needed_in reply.question reply.answer) hash || tells_missing hash reply
 
 abbrev pub tells_lacking : Hash256 → Reply → Bool
-tells_lacking hash reply = has (lacking_of reply.question reply.answer) hash
+tells_lacking hash reply = has (lacking_of reply.question reply.answer) hash || tells_missing hash reply
+
+-- ---- compact blocks (BIP 152)
+
+-- How a `sendcmpct` asks for blocks to be announced: as compact blocks, unasked, or not.
+abbrev pub high_in : Message → Option Bool
+high_in (messages.SendCmpct relay) = Some relay.high_bandwidth
+high_in other = None
+
+abbrev pub highs_in : List Message → List Bool
+highs_in sent = filter_map high_in sent
+
+-- Each differs from the one before it.
+abbrev pub AreAlternating : List Bool → Type 0
+AreAlternating [] = Unit {0}
+AreAlternating (first ∷ []) = Unit {0}
+AreAlternating (first ∷ (next ∷ others)) = (differ first next ≡ true) × AreAlternating (next ∷ others)

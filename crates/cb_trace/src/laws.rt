@@ -1,15 +1,18 @@
 //! What holds for every trace. Each law is the contract of a function that does nothing.
-ghost use Rattle.std.specs.Prelude.{◌≡◌, ◌≤◌, true, false, if◌then◌else◌, List, filter_map, length};
+ghost use Rattle.std.specs.Prelude.{◌≡◌, ◌≢◌, ◌≤◌, ◌<◌, ◌%◌, ◌^◌, ℕ, true, false, if◌then◌else◌, List, Some, filter_map, get_or, length};
 ghost use Rattle.std.specs.List.{list_any};
 ghost use Rattle.cb_base.specs.declared.hash.Hash256.{Hash256};
+ghost use Rattle.cb_chain.specs.Entries.{block_hash};
+ghost use Rattle.cb_compact.specs.Slots.{Unfilled};
 ghost use Rattle.cb_fetch.specs.Fetching.{has};
 ghost use Rattle.cb_peer_state.specs.declared.settings.Settings.{Settings};
 ghost use Rattle.cb_peer_state.specs.Questions.{questions_left};
 ghost use Rattle.cb_peer_laws.specs.Laws.{IsReached, asks_for_block};
+ghost use Rattle.cb_talk.specs.Serving.{nonces_from, nonces_in};
 ghost use Rattle.cb_trace.specs.declared.trace.TraceEntry.{TraceEntry};
 ghost use Rattle.cb_trace.specs.Fold.{first_account, inputs_of, replies, sends, session_of};
 ghost use Rattle.cb_trace.specs.Laws.{AnswersPings, EndsPromptly};
-ghost use Rattle.cb_trace.specs.Whole.{SendsWhatFollows, came_to, following, headers_in, is_send_headers, knows_send_headers, number_sent, says_send_headers, tells_lacking, tells_needed};
+ghost use Rattle.cb_trace.specs.Whole.{AreAlternating, SendsWhatFollows, came_to, following, headers_in, highs_in, is_send_headers, knows_send_headers, number_sent, says_send_headers, tells_lacking, tells_missing, tells_needed};
 
 /// If a trace is prompt (each item was answered before the next) and the peer's own end closed it,
 /// the pongs sent are those of the peer's pings, in order (BIP 31).
@@ -18,8 +21,8 @@ pub fn each_ping_is_answered()
         AnswersPings settings entries }
 {}
 
-/// The open question of a session leaves at most four answers to wait for: an item asks no more
-/// questions. The bound stated here, six, isn't tight.
+/// The open question of a session leaves at most six answers to wait for: an item asks no more
+/// questions.
 pub fn few_questions_are_pending()
     ensures { (settings : Settings) (entries : List TraceEntry) →
         questions_left (session_of settings entries).pending ≤ 6 }
@@ -62,7 +65,8 @@ pub fn headers_are_told_where_asked_for()
 {}
 
 /// The hall listed every block in flight, and every block requested from the peer, as needed. It
-/// listed every queued block as missing.
+/// listed every queued block as missing. Any of these may also be the block of a compact block (BIP
+/// 152) that was missing when the hall was asked about its header.
 pub fn blocks_are_fetched_as_told()
     ensures flight { (settings : Settings) (entries : List TraceEntry) (hash : Hash256) →
         has (session_of settings entries).fetch.flight hash ≡ true →
@@ -73,4 +77,30 @@ pub fn blocks_are_fetched_as_told()
     ensures asked { (settings : Settings) (entries : List TraceEntry) (hash : Hash256) →
         list_any (asks_for_block hash) (sends settings entries) ≡ true →
         list_any (tells_needed hash) (replies settings entries) ≡ true }
+{}
+
+/// A block that is being rebuilt from a compact block (BIP 152) was missing when the hall was asked
+/// about its header.
+pub fn a_block_being_rebuilt_was_missing()
+    ensures { (settings : Settings) (entries : List TraceEntry) (partial : Unfilled) →
+        (session_of settings entries).compact.partial ≡ Some partial →
+        list_any (tells_missing (block_hash partial.header)) (replies settings entries) ≡ true }
+{}
+
+/// The compact blocks (BIP 152) that a session sends have nonces one behind another, within 64
+/// bits, from the salt of its settings on. So no two of the first 2^64 have the same nonce.
+pub fn no_nonce_is_used_twice()
+    ensures each { (settings : Settings) (entries : List TraceEntry) →
+        nonces_in (sends settings entries)
+        ≡ nonces_from (settings.salt % 2 ^ 64) (length (nonces_in (sends settings entries))) }
+    ensures once { (settings : Settings) (entries : List TraceEntry) (i j : ℕ) → i < j →
+        j < length (nonces_in (sends settings entries)) → j < 2 ^ 64 →
+        get_or (nonces_in (sends settings entries)) i 0
+        ≢ get_or (nonces_in (sends settings entries)) j 0 }
+{}
+
+/// Each `sendcmpct` (BIP 152) of a session says other than the one before it.
+pub fn bandwidth_wishes_alternate()
+    ensures { (settings : Settings) (entries : List TraceEntry) →
+        AreAlternating (highs_in (sends settings entries)) }
 {}

@@ -89,11 +89,10 @@ impl Model for Trace {
 }
 
 impl Trace {
-    ghost use Rattle.std.specs.Prelude.{◌⊎◌, ◌≢◌, ◌-◌, min, length};
-    ghost use Rattle.cb_fetch.specs.Fetching.{idle};
+    ghost use Rattle.std.specs.Prelude.{◌-◌, min, length};
     ghost use Rattle.cb_peer_state.specs.Session.{openings};
     ghost use Rattle.cb_peer_state.specs.declared.event.Event.TheVariants as events;
-    ghost use Rattle.cb_trace.specs.Trace.{AskedLast, Grows, IsOpen, Readied, Rests, StandsFor, TraceSteps, TraceView, asked_from, base_account, held_of, is_due};
+    ghost use Rattle.cb_trace.specs.Trace.{AskedLast, Grows, IsOpen, NeedsBase, Readied, Rests, StandsFor, TraceSteps, TraceView, asked_from, base_account, held_of, is_due};
 
     /// A trace without entries and with room for one, and the messages that open its session.
     ///
@@ -161,14 +160,14 @@ impl Trace {
     ///
     /// A checkpoint is due if no question is open and there are 65,000 entries or more, or they
     /// hold more than 8,000,000 bytes. A checkpoint allocates only while blocks are being
-    /// downloaded.
+    /// downloaded or a block is being rebuilt.
     pub fn ready(&mut self) -> bool
         requires { IsOpen self.old }
         ensures readied { Readied self.old self.new result }
-        // It takes no memory if there is room already, and no checkpoint is due or no block is
-        // being downloaded.
-        ensures roomy { 2 ≤ self.old.room →
-            (is_due self.old ≡ false) ⊎ (self.old.session.fetch ≡ idle) → result ≡ true }
+        // It takes no memory if there is room already, unless a checkpoint is due and blocks are
+        // being downloaded or rebuilt.
+        ensures roomy { 2 ≤ self.old.room → result ≡ false →
+            (is_due self.old ≡ true) × NeedsBase self.old.session }
     {
         if !self.rest() {
             self.starve();
@@ -198,7 +197,7 @@ impl Trace {
         ensures room { self.old.room ≤ self.new.room }
         ensures same { result ≡ false → self.new ≡ self.old }
         ensures due { result ≡ false → is_due self.old ≡ true }
-        ensures fetches { result ≡ false → self.old.session.fetch ≢ idle }
+        ensures needs { result ≡ false → NeedsBase self.old.session }
     {
         if !self.is_due() {
             return true;

@@ -1,12 +1,14 @@
 //! Answers of a journal, copied. Questions and calls are copied by bench_hall, where all is computed again.
 use crate::shared::{NAME, alone};
 use cb_base::{Fault, Hash256, Shared};
-use cb_block::{SoundBlock, genesis};
+use cb_block::genesis;
 use cb_chain::Hashes;
 use cb_journal::Answer;
 use cb_payload::Listed;
 use cb_pool::{Pool, ShortIds};
-use cb_state::{BoundedBlock, Excerpt, Heads, Inventory, Need, News, Piece, Taken};
+use cb_state::{
+    BoundedBlock, Excerpt, Heads, Inventory, Need, News, Piece, Taken, first_block_meets_rules,
+};
 use std::alloc::Global;
 use std::test::*;
 
@@ -38,16 +40,9 @@ fn taken_block(alloc: Global) -> Result<Answer, Fault> {
     }))
 }
 
-// The block as one that a message can carry.
-fn bounded(block: SoundBlock) -> Result<BoundedBlock, Fault> {
-    if block.block().size() > 4_000_000 {
-        return Err(Fault::Oversize);
-    }
-    Ok(BoundedBlock::new(block))
-}
-
 fn first_block(alloc: Global) -> Result<BoundedBlock, Fault> {
-    bounded(genesis(alloc)?)
+    first_block_meets_rules();
+    Ok(BoundedBlock::new(genesis(alloc)?))
 }
 
 // A block and a transaction that isn't there.

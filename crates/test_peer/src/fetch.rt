@@ -12,6 +12,8 @@ enum Step {
     Want(u8, u8),
     TakeOn(u8, u8),
     Land(u8),
+    /// The second says whether the block is to be asked for now.
+    FallBack(u8, bool),
 }
 
 /// The hash that begins with a number, and has zeros behind it.
@@ -45,6 +47,11 @@ fn take_on(alloc: Global, fetch: &mut Fetch, from: u8, to: u8) -> Result<(), Fau
     fetch.take_on(entries.as_slice())
 }
 
+/// Whether the block falls back, and is to be asked for as the step says.
+fn fall_back(fetch: &mut Fetch, number: u8, asks: bool) -> Result<(), Fault> {
+    if fetch.fall_back(hash(number))? == asks { Ok(()) } else { Err(Fault::WrongCount) }
+}
+
 fn take(alloc: Global, fetch: &mut Fetch, step: Step) -> Result<(), Fault> {
     match step {
         Step::Want(from, to) => want(alloc, fetch, from, to),
@@ -53,6 +60,7 @@ fn take(alloc: Global, fetch: &mut Fetch, step: Step) -> Result<(), Fault> {
             fetch.land(&hash(number));
             Ok(())
         }
+        Step::FallBack(number, asks) => fall_back(fetch, number, asks),
     }
 }
 
@@ -65,9 +73,9 @@ struct Row {
     is_due: bool,
 }
 
-fn are_asked(entries: &[InvEntry], numbers: &[u8]) -> bool {
+fn are_asked(entries: &[InvEntry], kind: u32, numbers: &[u8]) -> bool {
     entries.len() == numbers.len()
-        && entries.iter().zip(numbers.iter()).all(|(entry, number)| entry.kind == 2
+        && entries.iter().zip(numbers.iter()).all(|(entry, number)| entry.kind == kind
             && entry.hash == hash(*number))
 }
 
@@ -77,14 +85,21 @@ fn are_wanted(entries: &[Inventory], numbers: &[u8]) -> bool {
             == Inventory::Block(hash(*number)))
 }
 
+/// Whether these blocks are asked for, whole and as compact ones.
+fn asks_for(alloc: Global, fetch: &Fetch, numbers: &[u8]) -> bool {
+    match (fetch.flight_entries(alloc, false), fetch.flight_entries(alloc, true)) {
+        (Ok(whole), Ok(compact)) => {
+            are_asked(whole.as_slice(), 2, numbers) && are_asked(compact.as_slice(), 4, numbers)
+        }
+        _ => false,
+    }
+}
+
 /// Whether this is what the row says.
 fn stands_so(alloc: Global, fetch: &Fetch, row: Row) -> bool {
     fetch.is_due() == row.is_due
         && fetch.flight().len() == row.flight.len()
-        && match fetch.flight_entries(alloc) {
-            Ok(entries) => are_asked(entries.as_slice(), row.flight),
-            Err(_) => false,
-        }
+        && asks_for(alloc, fetch, row.flight)
         && match fetch.wanted(alloc) {
             Ok(entries) => are_wanted(entries.as_slice(), row.wanted),
             Err(_) => false,
@@ -112,7 +127,7 @@ fn goes_so(alloc: Global, row: Row) -> bool {
 
 #[test]
 fn blocks_are_fetched(rt: HostRuntime) {
-    use Step::{Land, TakeOn, Want};
+    use Step::{FallBack, Land, TakeOn, Want};
     for row in [
         Row {
             steps: &[Want(1, 4), Want(3, 5), Land(2)],
@@ -142,6 +157,25 @@ fn blocks_are_fetched(rt: HostRuntime) {
             steps: &[TakeOn(0, 18)],
             flight: &[0, 1, 2, 3, 4, 5, 6, 7, 8, 9, 10, 11, 12, 13, 14, 15],
             wanted: &[16, 17],
+            is_due: false,
+        },
+        Row {
+            steps: &[TakeOn(1, 3), Want(5, 7), FallBack(5, true), FallBack(1, true)],
+            flight: &[1, 2, 5],
+            wanted: &[5, 6],
+            is_due: false,
+        },
+        Row {
+            steps: &[
+                TakeOn(0, 17),
+                FallBack(16, false),
+                FallBack(3, true),
+                FallBack(20, false),
+                Land(3),
+                FallBack(20, true),
+            ],
+            flight: &[0, 1, 2, 4, 5, 6, 7, 8, 9, 10, 11, 12, 13, 14, 15, 20],
+            wanted: &[16, 20],
             is_due: false,
         },
     ] {

@@ -7,5 +7,8 @@ returns-clause-flight c = λ s reached. (limits_of s reached).flight
 pub returns-clause-wanted : goal.returns-clause-wanted
 returns-clause-wanted c = λ s reached. (limits_of s reached).wanted
 
-pub returns-clause-once : goal.returns-clause-once
-returns-clause-once c = λ s reached. (limits_of s reached).once
+pub returns-clause-flight_once : goal.returns-clause-flight_once
+returns-clause-flight_once c = λ s reached. (limits_of s reached).flight_once
+
+pub returns-clause-wanted_once : goal.returns-clause-wanted_once
+returns-clause-wanted_once c = λ s reached. (limits_of s reached).wanted_once

@@ -1,5 +1,5 @@
-use Rattle.std.proofs.Common.{◌≡◌, ◌≤◌, ◌++◌, drop, take, length, map}
-use Rattle.std.specs.Prelude.{filter, filter_map, fold, not}
+use Rattle.std.proofs.Common.{◌≡◌, ◌≤◌, ◌++◌, drop, length}
+use Rattle.std.specs.Prelude.{filter_map}
 use Rattle.cb_peer_state.specs.Questions.{known}
 use Rattle.cb_peer_receiving.proofs.receiving.all_known.Given as goal
 

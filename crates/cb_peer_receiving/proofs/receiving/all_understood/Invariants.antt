@@ -1,5 +1,4 @@
-use Rattle.std.proofs.Common.{◌≡◌, ◌≤◌, ◌++◌, drop, take, length, map}
-use Rattle.std.specs.Prelude.{filter, filter_map, fold, not}
+use Rattle.std.proofs.Common.{◌≡◌, map, take}
 use Rattle.cb_talk.specs.Inventory.{understood}
 use Rattle.cb_peer_receiving.proofs.receiving.all_understood.Given as goal
 

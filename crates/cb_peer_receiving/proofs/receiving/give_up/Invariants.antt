@@ -1,5 +1,4 @@
-use Rattle.std.proofs.Common.{◌≡◌, ◌≤◌, ◌++◌, drop, take, length, map}
-use Rattle.std.specs.Prelude.{filter, filter_map, fold, not}
+use Rattle.std.proofs.Common.{◌≡◌, take}
 use Rattle.cb_peer_state.specs.Receiving.{given_up}
 use Rattle.cb_peer_receiving.proofs.receiving.give_up.Given as goal
 

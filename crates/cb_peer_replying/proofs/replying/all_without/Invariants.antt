@@ -1,5 +1,5 @@
-use Rattle.std.proofs.Common.{◌≡◌, ◌≤◌, ◌++◌, drop, take, length, map}
-use Rattle.std.specs.Prelude.{filter, filter_map, fold, not}
+use Rattle.std.proofs.Common.{◌≡◌, ◌≤◌, ◌++◌, drop, length}
+use Rattle.std.specs.Prelude.{filter, not}
 use Rattle.cb_chain.specs.Entries.{same}
 use Rattle.cb_peer_replying.proofs.replying.all_without.Given as goal
 

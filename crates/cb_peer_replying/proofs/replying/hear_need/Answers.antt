@@ -1,4 +1,4 @@
-use Rattle.std.proofs.Common.{◌≡◌, ◌≢◌, [], ◌∷◌, List, Option, Some, None, true, ap, sym, subst, ◌∙◌, rules, length, ◌-◌, arith}
+use Rattle.std.proofs.Common.{List, ap, ◌∙◌}
 use Rattle.std.specs.List.{list_any}
 use Rattle.cb_state.specs.declared.inventory.Inventory.{Inventory}
 use Rattle.cb_peer_state.specs.Replying.{is_block}

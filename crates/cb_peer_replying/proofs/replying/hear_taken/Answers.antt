@@ -1,4 +1,4 @@
-use Rattle.std.proofs.Common.{◌≡◌, ◌≢◌, [], ◌∷◌, List, Option, Some, None, true, ap, sym, subst, ◌∙◌, rules, length, ◌-◌, arith}
+use Rattle.std.proofs.Common.{◌≡◌, rules}
 use Rattle.cb_base.specs.declared.fault.Fault.TheVariants.{NoParent}
 use Rattle.cb_peer_state.proofs.Lights.{taken_sent}
 use Rattle.cb_peer_replying.proofs.replying.hear_taken.Goals as goal

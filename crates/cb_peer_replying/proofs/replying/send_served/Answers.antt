@@ -1,5 +1,5 @@
-use Rattle.std.proofs.Common.{◌≡◌, ◌≢◌, [], ◌∷◌, List, Option, Some, None, true, ap, sym, subst, ◌∙◌, rules, length, ◌-◌, arith}
-use Rattle.cb_peer_state.proofs.Lights.{nothing_served}
+use Rattle.std.proofs.Common.{◌≢◌, [], rules}
+use Rattle.cb_peer_replying.proofs.Lights.{nothing_served}
 use Rattle.cb_peer_replying.proofs.replying.send_served.Goals as goal
 
 pub returns-in_err-messages-clause-silent : goal.returns-in_err-messages-clause-silent

@@ -1,4 +1,4 @@
-use Rattle.std.proofs.Common.{◌≡◌, ◌≢◌, [], ◌∷◌, List, Option, Some, None, true, ap, sym, subst, ◌∙◌, rules, length, ◌-◌, arith}
+use Rattle.std.proofs.Common.{◌≡◌, ◌∷◌, List, Some, ap, sym, subst, ◌∙◌, length, ◌-◌, arith}
 use Rattle.std.specs.List.{slice_get}
 use Rattle.cb_base.specs.declared.hash.Hash256.{Hash256}
 use Rattle.cb_block.specs.declared.header.Header.{Header}

@@ -1,5 +1,4 @@
-use Rattle.cb_trace.proofs.Fetches.{in_flight_needed, wanted_lacking}
-use Rattle.cb_trace.proofs.Requested.{asked_needed}
+use Rattle.cb_trace.proofs.Missing.{asked_needed, in_flight_needed, wanted_lacking}
 use Rattle.cb_trace.proofs.laws.blocks_are_fetched_as_told.Goals as goal
 
 pub returns-clause-flight : goal.returns-clause-flight

@@ -1,0 +1,94 @@
+//! How a session handles the messages of compact blocks (BIP 152).
+ghost use Rattle.std.specs.Prelude.{◌≡◌, Option, IfOk, IsOkUnless};
+ghost use Rattle.cb_base.specs.declared.fault.Fault.TheVariants.{Memory};
+ghost use Rattle.cb_wire.specs.declared.item.Item.{Item};
+ghost use Rattle.cb_wire.specs.declared.item.Item.TheVariants.{Good};
+ghost use Rattle.cb_wire.specs.declared.message.Message.TheVariants as messages;
+ghost use Rattle.cb_peer_state.specs.Outcomes.{Makes};
+ghost use Rattle.cb_peer_state.specs.Receiving.{in_ready, short_heard, txs_heard};
+
+use cb_base::Fault;
+use cb_compact::Filled;
+use cb_journal::{Question, Request};
+use cb_payload::{BlockTransactions, BlockTransactionsRequest, HeaderAndShortIds, HeaderList};
+use cb_peer_state::{CloseReason, Reaction, SessionState, Subject};
+use cb_rebuild::{check_places, complete};
+use std::alloc::Global;
+
+/// Handles `cmpctblock`: notes its block as the last heard of from the peer and asks the hall about
+/// its header. If a prefilled transaction has a place past the block's end, the session ends. Fails
+/// only with `Fault::Memory`.
+#[tactic(auto, unfolding(cb_peer_state::specs::Receiving::short_heard))]
+pub(crate) fn hear_short(
+    session: &mut SessionState,
+    alloc: Global,
+    short: &HeaderAndShortIds,
+) -> Result<Reaction, Fault>
+    ensures ok { IfOk result
+        (λ made. Makes (short_heard session.old short.now)
+        (Some (Good (messages.CmpctBlock short.now))) session.new made.messages.items made.next) }
+    ensures memory { IsOkUnless result Memory }
+{
+    if check_places(&short.txs).is_err() {
+        return Ok(session.end_by(alloc, CloseReason::BadMessage));
+    }
+    let mut headers = Vec::with_capacity(alloc, 1)?;
+    headers.push_reserved(short.header);
+    session.marks.heard = Some(short.header.hash());
+    Ok(Reaction::about(
+        alloc,
+        Subject::Headers,
+        Question::Headers(HeaderList::from_few(headers)),
+    ))
+}
+
+/// Handles `getblocktxn`: asks the hall for the transactions at the requested places. Fails only
+/// with `Fault::Memory`.
+#[tactic(auto, unfolding(cb_peer_state::specs::Receiving::in_ready))]
+pub(crate) fn ask_places(
+    session: &SessionState,
+    alloc: Global,
+    request: &BlockTransactionsRequest,
+) -> Result<Reaction, Fault>
+    ensures ok { IfOk result
+        (λ made. Makes (in_ready session.now (messages.GetBlockTxn request.now))
+        (Some (Good (messages.GetBlockTxn request.now))) session.now
+        made.messages.items made.next) }
+    ensures memory { IsOkUnless result Memory }
+{
+    let differences = request.differences.copy(alloc)?;
+    Ok(Reaction::about(
+        alloc,
+        Subject::Places,
+        Question::Serve(Request::Places(request.block, differences)),
+    ))
+}
+
+/// Handles `blocktxn`: completes the block that is being rebuilt and gives it to the hall. If the
+/// completed block isn't sound, it is requested whole. If not as many transactions came as were
+/// missing, the session ends. Transactions of another block are ignored. Fails only with
+/// `Fault::Memory`.
+#[tactic(auto, unfolding(cb_peer_state::specs::Receiving::txs_heard))]
+pub(crate) fn hear_txs(
+    session: &mut SessionState,
+    alloc: Global,
+    given: &BlockTransactions,
+) -> Result<Reaction, Fault>
+    ensures ok { (item : Option Item) → IfOk result
+        (λ made. Makes (txs_heard session.old given.now)
+        item session.new made.messages.items made.next) }
+    ensures memory { IsOkUnless result Memory }
+{
+    if !session.compact.is_partial(&given.block) {
+        return session.end(alloc, Vec::new(alloc));
+    }
+    let Some(partial) = session.compact.partial.take() else {
+        return session.end(alloc, Vec::new(alloc));
+    };
+    match complete(alloc, partial, given) {
+        Ok(Filled::Sound(block)) => session.give(alloc, block),
+        Ok(Filled::Wrong) => session.fall_back(alloc, given.block),
+        Err(fault) if fault == Fault::Memory => Err(fault),
+        Err(_) => Ok(session.end_by(alloc, CloseReason::BadMessage)),
+    }
+}

@@ -1,0 +1,104 @@
+-- Where nothing is sent and nothing is asked but what is new.
+use Rattle.std.proofs.Common.{◌≡◌, ◌≢◌, ℕ, Bool, true, false, cond, List, [], ◌∷◌, ◌++◌, Option, Some, None, refl, sym, ap, subst, ◌∙◌}
+use Rattle.std.specs.Prelude.{MatchOption}
+use Rattle.cb_base.specs.declared.fault.Fault.{Fault}
+use Rattle.cb_base.specs.declared.fault.Fault.TheVariants as faults
+use Rattle.cb_base.specs.declared.hash.Hash256.{Hash256}
+use Rattle.cb_chain.specs.Entries.{block_hash}
+use Rattle.cb_journal.specs.declared.question.Question.TheVariants as questions
+use Rattle.cb_journal.specs.declared.question.Sought.{Sought}
+use Rattle.cb_payload.specs.declared.compact_block.HeaderAndShortIds.{HeaderAndShortIds}
+use Rattle.cb_state.specs.declared.accepting.Heads.{Heads}
+use Rattle.cb_state.specs.declared.serving.Piece.{Piece}
+use Rattle.cb_state.specs.declared.serving.Piece.TheVariants as piece
+use Rattle.cb_state.specs.declared.serving_places.Excerpt.{Excerpt}
+use Rattle.cb_state.specs.declared.serving_places.Excerpt.TheVariants as excerpts
+use Rattle.cb_talk.specs.Announcing.{announcing_block}
+use Rattle.cb_talk.specs.Inventory.{asking_headers}
+use Rattle.cb_talk.specs.Serving.{excerpt_told, sent, served, shorts}
+use Rattle.cb_wire.specs.declared.item.Item.{Item}
+use Rattle.cb_wire.specs.declared.item.Item.TheVariants.{Good, Damaged, Bad}
+use Rattle.cb_wire.specs.declared.message.Message.{Message}
+use Rattle.cb_wire.specs.declared.message.Message.TheVariants as messages
+use Rattle.cb_peer_state.specs.declared.stage.Stage.TheVariants.{Match}
+use Rattle.cb_peer_state.specs.declared.state.CloseReason.TheVariants as reasons
+use Rattle.cb_peer_state.specs.Outcomes.{IsLightOutcome, Makes}
+use Rattle.cb_peer_state.specs.Questions.{is_nil, short_in, sought_for}
+use Rattle.cb_peer_state.specs.Receiving.{Outcome, asks, ended, ends}
+use Rattle.cb_peer_state.specs.Replying.{before_parent, excerpt_answered, given_told, heads_by, heads_for, is_workless, more_headers, served_told, short_told}
+use Rattle.cb_peer_state.specs.Session.{weighs_item}
+use Rattle.cb_peer_state.specs.declared.session_state.SessionState.{SessionState}
+use Rattle.cb_peer_state.specs.State.{landing, next_nonce, with_made}
+use Rattle.cb_peer_state.proofs.Cases.{sent_at_end}
+use Rattle.cb_peer_state.proofs.Lights.{some_sent}
+
+-- a compact block is hashed
+pub short_weighs : (item : Option Item) (short : HeaderAndShortIds) → short_in item ≡ Some short → weighs_item item ≡ true
+short_weighs (Some (Good (messages.CmpctBlock brought))) short is = refl
+short_weighs (Some (Good other)) short is = absurd cc
+short_weighs (Some Damaged) short is = absurd cc
+short_weighs (Some (Bad command fault)) short is = absurd cc
+short_weighs None short is = absurd cc
+
+accepted_light : (s : SessionState) (item : Option Item) (refused : Option Fault) (locator : List Hash256) → refused ≡ None → IsLightOutcome (heads_by s item refused locator) → more_headers item ≡ []
+accepted_light s item None locator none light = sym (sent_at_end s (more_headers item)) ∙ light.0
+accepted_light s item (Some fault) locator none light = absurd cc
+
+orphan_sent : {P : Type 0} (s : SessionState) (item : Option Item) (refused : Option Fault) (locator : List Hash256) → refused ≡ Some faults.NoParent → IsLightOutcome (heads_by s item refused locator) → P
+orphan_sent s item refused locator is light = some_sent s (asking_headers locator) [] (subst (λ (r : Option Fault). IsLightOutcome (heads_by s item r locator)) is light)
+
+-- headers of which none was refused
+pub heads_light : (s : SessionState) (item : Option Item) (heads : Heads) → heads.refused ≡ None → IsLightOutcome (heads_for s item None heads) → more_headers item ≡ []
+heads_light s item heads none light = accepted_light _ item heads.refused heads.locator none light
+
+-- headers with an unknown parent
+pub heads_sent : {P : Type 0} (s : SessionState) (item : Option Item) (heads : Heads) (fault : Fault) → heads.refused ≡ Some fault → fault ≡ faults.NoParent → IsLightOutcome (heads_for s item None heads) → P
+heads_sent s item heads fault is parent light = orphan_sent _ item heads.refused heads.locator (is ∙ ap (λ (f : Fault). Some f) parent) light
+
+-- The header of a compact block whose block is missing leads to a search of the mempool.
+pub short_searched : (s : SessionState) (item : Option Item) (short : HeaderAndShortIds) (heads : Heads) (sent : List Message) (sought : Sought) → is_workless heads.refused ≡ false → is_nil heads.lack ≡ false → short_in item ≡ Some short
+    → sent ≡ before_parent heads.refused heads.locator → sought ≡ sought_for (Some short)
+    → Makes (short_told s (block_hash short.header) heads) item s sent (Some (record { stage = Match; question = questions.Match sought }))
+unfolding short_told
+short_searched s item short heads sent sought works lacks brought same is =
+    let end = ends (landing (block_hash short.header) s) (before_parent heads.refused heads.locator) in
+    let next = asks s (before_parent heads.refused heads.locator) Match in
+    let first : short_told s (block_hash short.header) heads ≡ cond (is_nil heads.lack) end next = ap (λ (b : Bool). cond b (ended reasons.BadBlock s) (cond (is_nil heads.lack) end next)) works in
+    let made : short_told s (block_hash short.header) heads ≡ next = first ∙ ap (λ (b : Bool). cond b end next) lacks in
+    let question : sought ≡ sought_for (short_in item) = is ∙ ap sought_for (sym brought) in
+    subst (λ (outcome : Outcome). Makes outcome item s sent (Some (record { stage = Match; question = questions.Match sought }))) (sym made)
+    (record { after = refl; messages = same; next_is = ap (λ (all : Sought). Some (record { stage = Match; question = questions.Match all })) question })
+
+-- a rebuilt block
+pub given_light : (s : SessionState) (refused : Option Fault) (locator : List Hash256) → IsLightOutcome (given_told s refused locator) → before_parent refused locator ≡ []
+unfolding given_told
+given_light s refused locator light = sym (sent_at_end s (before_parent refused locator)) ∙ light.0
+
+not_empty : (others : List Message) (last : Message) → others ++ last ∷ [] ≢ []
+not_empty [] last = λ e. cc
+not_empty (first ∷ others) last = λ e. cc
+
+none_served : (s : SessionState) (nonce : ℕ) (pieces : List Piece) → IsLightOutcome (ends s (served nonce pieces)) → pieces ≡ []
+none_served s nonce [] light = refl
+none_served s nonce (piece.Tx tx ∷ others) light = some_sent s (messages.Tx tx) _ light
+none_served s nonce (piece.Whole block ∷ others) light = some_sent s (messages.Block block) _ light
+none_served s nonce (piece.Short block ∷ others) light = some_sent s (announcing_block block nonce) _ light
+none_served s nonce (piece.Lacking asked ∷ others) light =
+    absurd (not_empty (sent nonce others) _ (sym (sent_at_end s (served nonce (piece.Lacking asked ∷ others))) ∙ light.0))
+
+-- where nothing is sent nothing was asked for
+pub nothing_served : (s : SessionState) (pieces : List Piece) → IsLightOutcome (served_told s pieces) → pieces ≡ []
+unfolding served_told
+nothing_served s pieces light = none_served (with_made (shorts pieces) s) (next_nonce s) pieces light
+
+-- transactions of a block
+pub excerpt_light : (s : SessionState) (excerpt : Excerpt) → IsLightOutcome (excerpt_answered s excerpt) → excerpt_told excerpt ≡ []
+unfolding excerpt_answered
+excerpt_light s excerpts.Absent light = refl
+excerpt_light s (excerpts.Refused fault) light = refl
+excerpt_light s (excerpts.Part part) light = some_sent s (messages.BlockTxn (record { block = part.hash; txs = part.txs })) [] light
+excerpt_light s (excerpts.Whole block) light = some_sent s (messages.Block block) [] light
+
+pub none_made : (made : Option Message) (sent : List Message) → MatchOption made (sent ≡ []) (λ message. sent ≡ message ∷ []) → sent ≡ [] → made ≡ None
+none_made None sent is none = refl
+none_made (Some message) sent is none = absurd (let e : message ∷ [] ≡ [] = sym is ∙ none in cc)
