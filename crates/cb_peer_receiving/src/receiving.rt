@@ -16,7 +16,7 @@ use cb_base::{Fault, Hash256, Shared};
 use cb_block::{Block, Header, sound_of};
 use cb_fetch::Fetch;
 use cb_journal::{Given, Question, Request};
-use cb_payload::{CompactRelay, Entries, HeaderList, InvEntry, Version};
+use cb_payload::{CompactRelay, Entries, HeaderList, HeadersRequest, InvEntry, Version};
 use cb_peer_state::{
     CloseReason, Reaction, SessionState, Settings, State, Subject, hash_of_last, one_message,
 };
@@ -220,22 +220,8 @@ fn hear_ready(
         }
         Message::Headers(headers) => hear_headers(session, alloc, headers),
         Message::Inv(entries) => hear_inventory(session, alloc, entries),
-        Message::GetData(entries) => {
-            let asked = understood_of(alloc, entries)?;
-            Ok(Reaction::about(
-                alloc,
-                Subject::Items,
-                Question::Serve(Request::Items(asked)),
-            ))
-        }
-        Message::GetHeaders(request) => {
-            let locator = request.locator.copy(alloc)?;
-            Ok(Reaction::about(
-                alloc,
-                Subject::After,
-                Question::Serve(Request::After(locator, request.stop)),
-            ))
-        }
+        Message::GetData(entries) => ask_items(session, alloc, entries),
+        Message::GetHeaders(request) => ask_after(session, alloc, request),
         Message::NotFound(entries) => {
             give_up(&mut session.fetch, entries.as_slice());
             session.end(alloc, Vec::new(alloc))
@@ -296,6 +282,44 @@ fn hear_inventory(
         return session.end(alloc, Vec::new(alloc));
     }
     Ok(Reaction::about(alloc, Subject::Inventory, Question::Want(known)))
+}
+
+/// Handles `getdata`: asks the hall for what it names. Fails only with `Fault::Memory`.
+#[tactic(auto, unfolding(cb_peer_state::specs::Receiving::in_ready))]
+fn ask_items(session: &SessionState, alloc: Global, entries: &Entries) -> Result<Reaction, Fault>
+    ensures ok { IfOk result
+        (λ made. Makes (in_ready session.now (messages.GetData entries.now))
+        (Some (Good (messages.GetData entries.now))) session.now made.messages.items made.next) }
+    ensures memory { IsOkUnless result Memory }
+{
+    let asked = understood_of(alloc, entries)?;
+    Ok(Reaction::about(
+        alloc,
+        Subject::Items,
+        Question::Serve(Request::Items(asked)),
+    ))
+}
+
+/// Handles `getheaders`: asks the hall for the headers after its locator. Fails only with
+/// `Fault::Memory`.
+#[tactic(auto, unfolding(cb_peer_state::specs::Receiving::in_ready))]
+fn ask_after(
+    session: &SessionState,
+    alloc: Global,
+    request: &HeadersRequest,
+) -> Result<Reaction, Fault>
+    ensures ok { IfOk result
+        (λ made. Makes (in_ready session.now (messages.GetHeaders request.now))
+        (Some (Good (messages.GetHeaders request.now))) session.now
+        made.messages.items made.next) }
+    ensures memory { IsOkUnless result Memory }
+{
+    let locator = request.locator.copy(alloc)?;
+    Ok(Reaction::about(
+        alloc,
+        Subject::After,
+        Question::Serve(Request::After(locator, request.stop)),
+    ))
 }
 
 /// Handles `block`. If it isn't sound (no transaction, one of 64 bytes, equal neighbours in its
