@@ -18,6 +18,13 @@ use Rattle.cb_peer_state.specs.State.{is_closed}
 use Rattle.cb_trace.specs.Fold.{first_account, has_kind, inputs_of, replies, sends}
 use Rattle.cb_trace.specs.Prompt.{EachPrompt}
 use Rattle.cb_trace.specs.Trace.{LacksBase, StandsFor, TraceView}
+use Rattle.cb_session.specs.declared.conversation.Conversation.{Conversation}
+
+-- The references that a conversation lends are the same.
+abbrev pub SameReferences : {W H : Type 0} → Conversation W H → Conversation W H → Type 0
+SameReferences old new =
+    (new.trace.ghost_name ≡ old.trace.ghost_name) × (new.writer.ghost_name ≡ old.writer.ghost_name)
+    × (new.hall.ghost_name ≡ old.hall.ghost_name) × (new.badge.ghost_name ≡ old.badge.ghost_name)
 
 -- Where a conversation began: the settings, the hall and the badge, what the sink held, and whether
 -- it had failed.
@@ -43,6 +50,12 @@ pub record Progress (H : Type 0) : Type 0 where
 
 abbrev pub progress : {H : Type 0} → TraceView → H → BadgeState → Option (List ℕ) → Bool → ℕ → Progress H
 progress trace hall badge held failed written = record { trace = trace; hall = hall; badge = badge; held = held; failed = failed; written = written }
+
+-- How far this conversation is, by what its sink holds and whether it has failed.
+abbrev pub at : {W H : Type 0} → (W → Option (List ℕ)) → (W → Bool) → Conversation W H → Progress H
+at contents has_failed talk =
+    progress talk.trace.now talk.hall.now talk.badge.now (contents talk.writer.now)
+    (has_failed talk.writer.now) talk.written
 
 -- Before its last entry, `NoMemory`, the trace had a checkpoint due that takes memory.
 pub record HadNoBase (trace : TraceView) : Type 0 where

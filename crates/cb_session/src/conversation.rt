@@ -9,7 +9,7 @@ ghost use Rattle.cb_peer_state.specs.declared.event.Event.TheVariants as events;
 ghost use Rattle.cb_peer_state.specs.Event.{ends_at_once, is_input, is_no_memory, is_write_fault, kind_of, loses};
 ghost use Rattle.cb_peer_state.specs.State.{is_closed};
 ghost use Rattle.cb_trace.specs.Trace.{IsOpen};
-ghost use Rattle.cb_session.specs.Conversation.{Accounts, AnswerOf, Gave, GaveItem, IsLoss, IsPending, MayAsk, Origin, Sent, Settled, Underway, WritesOn, left_of, open_question, progress};
+ghost use Rattle.cb_session.specs.Conversation.{Accounts, AnswerOf, Gave, GaveItem, IsLoss, IsPending, MayAsk, Origin, SameReferences, Sent, Settled, Underway, WritesOn, at, left_of, open_question, progress};
 
 use cb_base::{Fault, Shared};
 use cb_hall::Badge;
@@ -80,22 +80,13 @@ impl<'a, W: Sink, H: Oracle> Conversation<'a, W, H> {
     /// if memory runs out.
     pub fn give_item(&mut self, alloc: Global, item: Item)
         requires going { IsOpen self.old.trace.now }
-        ensures ends { (self.new.trace.ghost_name ≡ self.old.trace.ghost_name)
-            × (self.new.writer.ghost_name ≡ self.old.writer.ghost_name)
-            × (self.new.hall.ghost_name ≡ self.old.hall.ghost_name)
-            × (self.new.badge.ghost_name ≡ self.old.badge.ghost_name) }
+        ensures ends { SameReferences self.old self.new }
         ensures heeds { WritesOn self.old.trace.now (W.has_failed self.old.writer.now) →
             W.heeds_failure self.old.writer.now self.new.writer.now
             × WritesOn self.new.trace.now (W.has_failed self.new.writer.now) }
         ensures gave { (from : Origin _) (inputs : List Event) →
-            Settled H.told H.refused from
-            (progress self.old.trace.now self.old.hall.now self.old.badge.now
-            (W.contents self.old.writer.now)
-            (W.has_failed self.old.writer.now) self.old.written) inputs false →
-            GaveItem H.told H.refused from
-            (progress self.new.trace.now self.new.hall.now self.new.badge.now
-            (W.contents self.new.writer.now)
-            (W.has_failed self.new.writer.now) self.new.written) inputs item }
+            Settled H.told H.refused from (at W.contents W.has_failed self.old) inputs false →
+            GaveItem H.told H.refused from (at W.contents W.has_failed self.new) inputs item }
     {
         let Some(shared) = share(alloc, item) else {
             self.lose(Event::NoMemory);
@@ -110,24 +101,15 @@ impl<'a, W: Sink, H: Oracle> Conversation<'a, W, H> {
     pub fn give(&mut self, alloc: Global, event: Event)
         requires going { IsOpen self.old.trace.now }
         requires input { is_input (kind_of event) ≡ true }
-        ensures ends { (self.new.trace.ghost_name ≡ self.old.trace.ghost_name)
-            × (self.new.writer.ghost_name ≡ self.old.writer.ghost_name)
-            × (self.new.hall.ghost_name ≡ self.old.hall.ghost_name)
-            × (self.new.badge.ghost_name ≡ self.old.badge.ghost_name) }
+        ensures ends { SameReferences self.old self.new }
         ensures heeds { WritesOn self.old.trace.now (W.has_failed self.old.writer.now) →
             W.heeds_failure self.old.writer.now self.new.writer.now
             × WritesOn self.new.trace.now (W.has_failed self.new.writer.now) }
         ensures ended { ends_at_once event ≡ true →
             is_closed self.new.trace.now.session.state ≡ true }
         ensures gave { (from : Origin _) (inputs : List Event) →
-            Settled H.told H.refused from
-            (progress self.old.trace.now self.old.hall.now self.old.badge.now
-            (W.contents self.old.writer.now)
-            (W.has_failed self.old.writer.now) self.old.written) inputs false →
-            Gave H.told H.refused from
-            (progress self.new.trace.now self.new.hall.now self.new.badge.now
-            (W.contents self.new.writer.now)
-            (W.has_failed self.new.writer.now) self.new.written) inputs event }
+            Settled H.told H.refused from (at W.contents W.has_failed self.old) inputs false →
+            Gave H.told H.refused from (at W.contents W.has_failed self.new) inputs event }
     {
         if !self.trace.ready() {
             return;
@@ -141,10 +123,7 @@ impl<'a, W: Sink, H: Oracle> Conversation<'a, W, H> {
     /// answer. Goes on with the session's next question until none is open.
     pub fn converse(&mut self, alloc: Global, question: Option<Question>)
         requires stands { MayAsk self.old.trace.now question }
-        ensures ends { (self.new.trace.ghost_name ≡ self.old.trace.ghost_name)
-            × (self.new.writer.ghost_name ≡ self.old.writer.ghost_name)
-            × (self.new.hall.ghost_name ≡ self.old.hall.ghost_name)
-            × (self.new.badge.ghost_name ≡ self.old.badge.ghost_name) }
+        ensures ends { SameReferences self.old self.new }
         ensures heeds { WritesOn self.old.trace.now (W.has_failed self.old.writer.now) →
             W.heeds_failure self.old.writer.now self.new.writer.now
             × WritesOn self.new.trace.now (W.has_failed self.new.writer.now) }
@@ -152,14 +131,8 @@ impl<'a, W: Sink, H: Oracle> Conversation<'a, W, H> {
             is_closed self.new.trace.now.session.state ≡ true }
         ensures settled { (from : Origin _) (inputs : List Event) →
             IsPending self.old.trace.now question →
-            Sent H.told H.refused from
-            (progress self.old.trace.now self.old.hall.now self.old.badge.now
-            (W.contents self.old.writer.now)
-            (W.has_failed self.old.writer.now) self.old.written) inputs false →
-            Settled H.told H.refused from
-            (progress self.new.trace.now self.new.hall.now self.new.badge.now
-            (W.contents self.new.writer.now)
-            (W.has_failed self.new.writer.now) self.new.written) inputs false }
+            Sent H.told H.refused from (at W.contents W.has_failed self.old) inputs false →
+            Settled H.told H.refused from (at W.contents W.has_failed self.new) inputs false }
     {
         let mut next = question;
         while let Some(question) = next {
@@ -177,16 +150,15 @@ impl<'a, W: Sink, H: Oracle> Conversation<'a, W, H> {
     /// asked. No message is unwritten while the hall is asked.
     fn ask(&mut self, alloc: Global, question: Question) -> (Vec<BoundedMessage>, Option<Question>)
         requires stands { open_question self.old.trace.now ≡ Some question }
-        ensures ends { (self.new.trace.ghost_name ≡ self.old.trace.ghost_name)
-            × (self.new.writer.ghost_name ≡ self.old.writer.ghost_name)
-            × (self.new.hall.ghost_name ≡ self.old.hall.ghost_name)
-            × (self.new.badge.ghost_name ≡ self.old.badge.ghost_name) }
+        ensures ends { SameReferences self.old self.new }
         ensures sink { self.new.writer.now ≡ self.old.writer.now }
         ensures written { self.new.written ≡ self.old.written }
-        ensures accounts { (from : Origin _) (inputs : List Event) (held : Option
-            (List ℕ)) (failed : Bool) (written : ℕ) →
-            Accounts H.told H.refused from (progress self.old.trace.now self.old.hall.now self.old.badge.now held failed written) inputs [] false false →
-            Underway H.told H.refused from (progress self.new.trace.now self.new.hall.now self.new.badge.now held failed written) inputs (texts result.0.items) false }
+        ensures accounts { (from : Origin _) (inputs : List Event) (held : Option (List ℕ))
+            (failed : Bool) (written : ℕ) → Accounts H.told H.refused from
+            (progress self.old.trace.now self.old.hall.now self.old.badge.now held failed written)
+            inputs [] false false → Underway H.told H.refused from
+            (progress self.new.trace.now self.new.hall.now self.new.badge.now held failed written)
+            inputs (texts result.0.items) false }
         ensures asks { IsPending self.new.trace.now result.1 }
         ensures fewer { left_of self.new.trace.now < left_of self.old.trace.now }
         ensures silent { is_closed self.new.trace.now.session.state ≡ true → result.0.items ≡ [] }
@@ -202,10 +174,7 @@ impl<'a, W: Sink, H: Oracle> Conversation<'a, W, H> {
     /// trace logs that and the session ends.
     pub fn send(&mut self, alloc: Global, messages: &[BoundedMessage])
         requires silent { is_closed self.old.trace.now.session.state ≡ true → messages.now ≡ [] }
-        ensures ends { (self.new.trace.ghost_name ≡ self.old.trace.ghost_name)
-            × (self.new.writer.ghost_name ≡ self.old.writer.ghost_name)
-            × (self.new.hall.ghost_name ≡ self.old.hall.ghost_name)
-            × (self.new.badge.ghost_name ≡ self.old.badge.ghost_name) }
+        ensures ends { SameReferences self.old self.new }
         // Once a write has failed, there is no other write.
         ensures heeds { WritesOn self.old.trace.now (W.has_failed self.old.writer.now) →
             W.heeds_failure self.old.writer.now self.new.writer.now
@@ -238,22 +207,23 @@ impl<'a, W: Sink, H: Oracle> Conversation<'a, W, H> {
     pub fn lose(&mut self, event: Event)
         requires going { IsOpen self.old.trace.now }
         requires loss { IsLoss event }
-        ensures ends { (self.new.trace.ghost_name ≡ self.old.trace.ghost_name)
-            × (self.new.writer.ghost_name ≡ self.old.writer.ghost_name)
-            × (self.new.hall.ghost_name ≡ self.old.hall.ghost_name)
-            × (self.new.badge.ghost_name ≡ self.old.badge.ghost_name) }
+        ensures ends { SameReferences self.old self.new }
         ensures hall { self.new.hall.now ≡ self.old.hall.now }
         ensures badge { self.new.badge.now ≡ self.old.badge.now }
         ensures sink { self.new.writer.now ≡ self.old.writer.now }
         ensures written { self.new.written ≡ self.old.written }
         // The caller shows the cause: a write failed, bytes are missing because memory ran out, or
         // (`unkept`) something from the peer couldn't be kept.
-        ensures accounts { (from : Origin _) (inputs : List Event) (missing : List ℕ) (lost unkept : Bool) (hall : _) (badge : _) (held : Option (List ℕ)) (failed : Bool) (written : ℕ) →
+        ensures accounts { (from : Origin _) (inputs : List Event) (missing : List ℕ)
+            (lost unkept : Bool) (hall : _) (badge : _) (held : Option (List ℕ)) (failed : Bool)
+            (written : ℕ) →
             (is_write_fault (kind_of event) ≡ true → failed ≡ true) →
             (is_no_memory (kind_of event) ≡ true → (missing ≢ []) ⊎ (unkept ≡ true)) →
             Accounts H.told H.refused from
             (progress self.old.trace.now hall badge held failed written) inputs missing lost false →
-            Accounts H.told H.refused from (progress self.new.trace.now hall badge held failed written) inputs missing true unkept }
+            Accounts H.told H.refused from
+            (progress self.new.trace.now hall badge held failed written)
+            inputs missing true unkept }
         ensures closed { is_closed self.new.trace.now.session.state ≡ true }
     {
         if !self.trace.ready() {

@@ -5,7 +5,7 @@ ghost use Rattle.cb_wire.specs.Stream.{Stream};
 ghost use Rattle.cb_peer_state.specs.declared.event.Event.{Event};
 ghost use Rattle.cb_peer_state.specs.State.{is_closed};
 ghost use Rattle.cb_trace.specs.Trace.{IsOpen};
-ghost use Rattle.cb_session.specs.Conversation.{Origin, Settled, WritesOn, progress};
+ghost use Rattle.cb_session.specs.Conversation.{Origin, SameReferences, Settled, WritesOn, at};
 ghost use Rattle.cb_session.specs.Serving.{Pieced, Took, said};
 
 use crate::conversation::Conversation;
@@ -24,23 +24,15 @@ pub(crate) fn hear_piece<'a, W: Sink, H: Oracle>(
     piece: &[u8],
 )
     requires going { IsOpen conversation.old.trace.now }
-    ensures ends { (conversation.new.trace.ghost_name ≡ conversation.old.trace.ghost_name)
-        × (conversation.new.writer.ghost_name ≡ conversation.old.writer.ghost_name)
-        × (conversation.new.hall.ghost_name ≡ conversation.old.hall.ghost_name)
-        × (conversation.new.badge.ghost_name ≡ conversation.old.badge.ghost_name) }
+    ensures ends { SameReferences conversation.old conversation.new }
     ensures heeds { WritesOn conversation.old.trace.now (W.has_failed conversation.old.writer.now) →
         W.heeds_failure conversation.old.writer.now conversation.new.writer.now
         × WritesOn conversation.new.trace.now (W.has_failed conversation.new.writer.now) }
     ensures pieced { (from : Origin _) (bytes : List ℕ) (items : List Item) →
         Stream bytes items assembler.old.rest assembler.old.fault →
-        Settled H.told H.refused from
-        (progress conversation.old.trace.now conversation.old.hall.now conversation.old.badge.now
-        (W.contents conversation.old.writer.now)
-        (W.has_failed conversation.old.writer.now) conversation.old.written) (said items) false →
-        Pieced H.told H.refused from
-        (progress conversation.new.trace.now conversation.new.hall.now conversation.new.badge.now
-        (W.contents conversation.new.writer.now)
-        (W.has_failed conversation.new.writer.now) conversation.new.written)
+        Settled H.told H.refused from (at W.contents W.has_failed conversation.old)
+        (said items) false →
+        Pieced H.told H.refused from (at W.contents W.has_failed conversation.new)
         (bytes ++ piece.now) assembler.new }
 {
     match assembler.feed(piece) {
@@ -66,22 +58,14 @@ fn give_all<'a, W: Sink, H: Oracle>(
     conversation: &mut Conversation<'a, W, H>,
     items: Vec<Item>,
 )
-    ensures ends { (conversation.new.trace.ghost_name ≡ conversation.old.trace.ghost_name)
-        × (conversation.new.writer.ghost_name ≡ conversation.old.writer.ghost_name)
-        × (conversation.new.hall.ghost_name ≡ conversation.old.hall.ghost_name)
-        × (conversation.new.badge.ghost_name ≡ conversation.old.badge.ghost_name) }
+    ensures ends { SameReferences conversation.old conversation.new }
     ensures heeds { WritesOn conversation.old.trace.now (W.has_failed conversation.old.writer.now) →
         W.heeds_failure conversation.old.writer.now conversation.new.writer.now
         × WritesOn conversation.new.trace.now (W.has_failed conversation.new.writer.now) }
     ensures took { (from : Origin _) (inputs : List Event) →
-        Settled H.told H.refused from
-        (progress conversation.old.trace.now conversation.old.hall.now conversation.old.badge.now
-        (W.contents conversation.old.writer.now)
-        (W.has_failed conversation.old.writer.now) conversation.old.written) inputs false →
-        Took H.told H.refused from
-        (progress conversation.new.trace.now conversation.new.hall.now conversation.new.badge.now
-        (W.contents conversation.new.writer.now)
-        (W.has_failed conversation.new.writer.now) conversation.new.written) inputs items.items }
+        Settled H.told H.refused from (at W.contents W.has_failed conversation.old) inputs false →
+        Took H.told H.refused from (at W.contents W.has_failed conversation.new)
+        inputs items.items }
 {
     for item in items {
         if conversation.state().is_closed() {

@@ -1,7 +1,7 @@
 //! Reads a peer's stream to its end, or to the end of the session.
 ghost use Rattle.std.specs.Prelude.{◌≡◌, ◌≢◌, ◌≤◌, ◌↔◌, true, false, IsTrue, List, [], ℕ, Option, None, length};
 ghost use Rattle.cb_peer_state.specs.State.{is_closed};
-ghost use Rattle.cb_session.specs.Conversation.{Origin, WritesOn, progress};
+ghost use Rattle.cb_session.specs.Conversation.{Origin, SameReferences, WritesOn, at};
 ghost use Rattle.cb_session.specs.Serving.{Heard, HeardBy};
 
 use crate::conversation::Conversation;
@@ -78,17 +78,17 @@ impl<'a, R: Source> Reading<'a, R> {
     ) -> ReadEnd
         requires room { 1 ≤ length self.old.buffer.now }
         ensures end { self.new.reader.ghost_name ≡ self.old.reader.ghost_name }
-        ensures ends { (conversation.new.trace.ghost_name ≡ conversation.old.trace.ghost_name)
-            × (conversation.new.writer.ghost_name ≡ conversation.old.writer.ghost_name)
-            × (conversation.new.hall.ghost_name ≡ conversation.old.hall.ghost_name)
-            × (conversation.new.badge.ghost_name ≡ conversation.old.badge.ghost_name) }
+        ensures ends { SameReferences conversation.old conversation.new }
         ensures heeds { WritesOn conversation.old.trace.now
             (W.has_failed conversation.old.writer.now) →
             W.heeds_failure conversation.old.writer.now conversation.new.writer.now
             × WritesOn conversation.new.trace.now (W.has_failed conversation.new.writer.now) }
         ensures heard { (from : Origin _) (input : Option (List ℕ)) →
-            HeardBy H.told H.refused from input (R.remaining self.old.reader.now) (progress conversation.old.trace.now conversation.old.hall.now conversation.old.badge.now (W.contents conversation.old.writer.now) (W.has_failed conversation.old.writer.now) conversation.old.written) self.old.assembler.now 0 →
-            Heard H.told H.refused from input (R.remaining self.new.reader.now) (R.has_failed self.new.reader.now) (progress conversation.new.trace.now conversation.new.hall.now conversation.new.badge.now (W.contents conversation.new.writer.now) (W.has_failed conversation.new.writer.now) conversation.new.written) result }
+            HeardBy H.told H.refused from input (R.remaining self.old.reader.now)
+            (at W.contents W.has_failed conversation.old) self.old.assembler.now 0 →
+            Heard H.told H.refused from input (R.remaining self.new.reader.now)
+            (R.has_failed self.new.reader.now)
+            (at W.contents W.has_failed conversation.new) result }
         ensures stopped { result ≡ ReadEnd.Stopped →
             is_closed conversation.new.trace.now.session.state ≡ true }
         ensures going { result ≢ ReadEnd.Stopped →

@@ -2,7 +2,7 @@ ghost use Rattle.std.specs.Prelude.{◌≡◌, ◌≢◌, ◌≤◌, true, false
 ghost use Rattle.cb_base.specs.declared.fault.Fault.TheVariants.{Memory};
 ghost use Rattle.cb_hall.specs.Histories.{Asks, IsRefused};
 ghost use Rattle.cb_peer_state.specs.State.{is_closed};
-ghost use Rattle.cb_session.specs.Conversation.{Origin, Settled, WritesOn, origin_of, progress};
+ghost use Rattle.cb_session.specs.Conversation.{Origin, SameReferences, Settled, WritesOn, at, origin_of, progress};
 ghost use Rattle.cb_session.specs.Serving.{Heard, Serves};
 
 use crate::conversation::Conversation;
@@ -85,8 +85,8 @@ pub fn serve_by<R: Source, W: Sink, H: Oracle>(
     ensures unasked { OnErr result (hall.new ≡ hall.old) }
     ensures ungranted { OnErr result (badge.new ≡ badge.old) }
 {
-    let (mut trace, messages) = Trace::new(alloc, settings)?;
     let mut buffer = vec![in alloc; 0u8; READ_SIZE]?;
+    let (mut trace, messages) = Trace::new(alloc, settings)?;
     let mut assembler = Assembler::new(alloc);
     let mut reading = Reading::new(reader, buffer.as_mut_slice(), &mut assembler);
     let mut conversation = Conversation::new(&mut trace, writer, hall, badge, 0);
@@ -110,23 +110,15 @@ fn hear_all<'r, 'c, R: Source, W: Sink, H: Oracle>(
     requires new { reading.old.assembler.now ≡ record { rest = []; fault = None } }
     requires room { 1 ≤ length reading.old.buffer.now }
     ensures end { reading.new.reader.ghost_name ≡ reading.old.reader.ghost_name }
-    ensures ends { (conversation.new.trace.ghost_name ≡ conversation.old.trace.ghost_name)
-        × (conversation.new.writer.ghost_name ≡ conversation.old.writer.ghost_name)
-        × (conversation.new.hall.ghost_name ≡ conversation.old.hall.ghost_name)
-        × (conversation.new.badge.ghost_name ≡ conversation.old.badge.ghost_name) }
+    ensures ends { SameReferences conversation.old conversation.new }
     ensures heeds { WritesOn conversation.old.trace.now (W.has_failed conversation.old.writer.now) →
         W.heeds_failure conversation.old.writer.now conversation.new.writer.now
         × WritesOn conversation.new.trace.now (W.has_failed conversation.new.writer.now) }
     ensures serves { (from : Origin _) →
-        Settled H.told H.refused from
-        (progress conversation.old.trace.now conversation.old.hall.now conversation.old.badge.now
-        (W.contents conversation.old.writer.now)
-        (W.has_failed conversation.old.writer.now) conversation.old.written) [] false →
+        Settled H.told H.refused from (at W.contents W.has_failed conversation.old) [] false →
         Serves H.told H.refused from (R.remaining reading.old.reader.now)
         (R.remaining reading.new.reader.now) (R.has_failed reading.new.reader.now)
-        (progress conversation.new.trace.now conversation.new.hall.now conversation.new.badge.now
-        (W.contents conversation.new.writer.now)
-        (W.has_failed conversation.new.writer.now) conversation.new.written) result }
+        (at W.contents W.has_failed conversation.new) result }
 {
     let read = reading.hear(alloc, conversation);
     finish(alloc, read, conversation);
@@ -143,22 +135,15 @@ fn finish<'a, W: Sink, H: Oracle>(
         is_closed conversation.old.trace.now.session.state ≡ true }
     requires going { read ≢ ReadEnd.Stopped →
         is_closed conversation.old.trace.now.session.state ≡ false }
-    ensures ends { (conversation.new.trace.ghost_name ≡ conversation.old.trace.ghost_name)
-        × (conversation.new.writer.ghost_name ≡ conversation.old.writer.ghost_name)
-        × (conversation.new.hall.ghost_name ≡ conversation.old.hall.ghost_name)
-        × (conversation.new.badge.ghost_name ≡ conversation.old.badge.ghost_name) }
+    ensures ends { SameReferences conversation.old conversation.new }
     ensures heeds { WritesOn conversation.old.trace.now (W.has_failed conversation.old.writer.now) →
         W.heeds_failure conversation.old.writer.now conversation.new.writer.now
         × WritesOn conversation.new.trace.now (W.has_failed conversation.new.writer.now) }
     ensures serves { (from : Origin _) (input remaining : Option (List ℕ)) (read_failed : Bool) →
         Heard H.told H.refused from input remaining read_failed
-        (progress conversation.old.trace.now conversation.old.hall.now conversation.old.badge.now
-        (W.contents conversation.old.writer.now)
-        (W.has_failed conversation.old.writer.now) conversation.old.written) read →
+        (at W.contents W.has_failed conversation.old) read →
         Serves H.told H.refused from input remaining read_failed
-        (progress conversation.new.trace.now conversation.new.hall.now conversation.new.badge.now
-        (W.contents conversation.new.writer.now)
-        (W.has_failed conversation.new.writer.now) conversation.new.written) read }
+        (at W.contents W.has_failed conversation.new) read }
 {
     if read.is_stopped() {
         return;

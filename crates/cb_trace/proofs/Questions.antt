@@ -8,10 +8,9 @@ use Rattle.cb_trace.specs.declared.trace.TraceEntry.{TraceEntry}
 use Rattle.cb_trace.specs.declared.trace.Counts.{Counts}
 use Rattle.cb_peer_state.specs.Event.{is_told, kind_of}
 use Rattle.cb_peer_state.specs.Questions.{pending_question}
-use Rattle.cb_peer_state.specs.Session.{Stepped, stays, step_of}
+use Rattle.cb_peer_state.specs.Session.{Stepped, step_of}
 use Rattle.cb_peer_state.specs.declared.session_state.SessionState.{SessionState}
 use Rattle.cb_peer_state.specs.State.{is_closed}
-use Rattle.cb_peer_laws.proofs.Steps.{AsksIt}
 use Rattle.cb_trace.specs.Fold.{Account, EachOpen, account_of, account_step, entry_step, first_account, number_of}
 use Rattle.cb_trace.specs.Trace.{AskedLast, StandsFor, TraceView, asked_at, asked_from, base_account}
 use Rattle.cb_trace.proofs.Folds.{count_is}

@@ -1,5 +1,5 @@
 -- A trace, one entry at a time, and its checkpoints.
-use Rattle.std.proofs.Common.{◌≡◌, ℕ, ◌+◌, ◌-◌, ◌<◌, ◌≤◌, Bool, true, false, List, [], ◌∷◌, ◌++◌, Option, Some, None, Result, Err, refl, sym, ap, subst, ◌∙◌, append_assoc, arith, inl, inr, ◌⊎◌}
+use Rattle.std.proofs.Common.{◌≡◌, ℕ, ◌+◌, ◌-◌, ◌<◌, ◌≤◌, Bool, true, false, List, [], ◌∷◌, ◌++◌, Option, Some, None, Result, Err, refl, sym, ap, subst, ◌∙◌, append_assoc, arith, inl, inr}
 use Rattle.std.specs.Prelude.{◌^◌, ◌||◌, IsOk, is_none, min, nat_lt, not, length}
 use Rattle.std.proofs.lemmas.Bool.{and_parts}
 use Rattle.std.proofs.lemmas.List.Sums.{sum_by_push}
@@ -18,7 +18,7 @@ use Rattle.cb_trace.specs.declared.trace.Counts.{Counts}
 use Rattle.cb_peer_state.specs.Questions.{pending_question}
 use Rattle.cb_peer_state.specs.Event.{ends_at_once, held_by}
 use Rattle.cb_peer_state.specs.Outcomes.{Answers}
-use Rattle.cb_peer_state.specs.Session.{Stepped, is_light, spares, stays, takes_no_memory}
+use Rattle.cb_peer_state.specs.Session.{Stepped, is_light, spares, takes_no_memory}
 use Rattle.cb_peer_state.specs.declared.session_state.SessionState.{SessionState}
 use Rattle.cb_peer_state.specs.State.{is_closed, opening}
 use Rattle.cb_peer_laws.proofs.Steps.{AsksIt}

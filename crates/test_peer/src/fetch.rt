@@ -49,7 +49,11 @@ fn take_on(alloc: Global, fetch: &mut Fetch, from: u8, to: u8) -> Result<(), Fau
 
 /// Whether the block falls back, and is to be asked for as the step says.
 fn fall_back(fetch: &mut Fetch, number: u8, asks: bool) -> Result<(), Fault> {
-    if fetch.fall_back(hash(number))? == asks { Ok(()) } else { Err(Fault::WrongCount) }
+    if fetch.fall_back(hash(number))? == asks {
+        Ok(())
+    } else {
+        Err(Fault::WrongCount)
+    }
 }
 
 fn take(alloc: Global, fetch: &mut Fetch, step: Step) -> Result<(), Fault> {
@@ -87,7 +91,10 @@ fn are_wanted(entries: &[Inventory], numbers: &[u8]) -> bool {
 
 /// Whether these blocks are asked for, whole and as compact ones.
 fn asks_for(alloc: Global, fetch: &Fetch, numbers: &[u8]) -> bool {
-    match (fetch.flight_entries(alloc, false), fetch.flight_entries(alloc, true)) {
+    match (
+        fetch.flight_entries(alloc, false),
+        fetch.flight_entries(alloc, true),
+    ) {
         (Ok(whole), Ok(compact)) => {
             are_asked(whole.as_slice(), 2, numbers) && are_asked(compact.as_slice(), 4, numbers)
         }
@@ -160,7 +167,12 @@ fn blocks_are_fetched(rt: HostRuntime) {
             is_due: false,
         },
         Row {
-            steps: &[TakeOn(1, 3), Want(5, 7), FallBack(5, true), FallBack(1, true)],
+            steps: &[
+                TakeOn(1, 3),
+                Want(5, 7),
+                FallBack(5, true),
+                FallBack(1, true),
+            ],
             flight: &[1, 2, 5],
             wanted: &[5, 6],
             is_due: false,

@@ -1,4 +1,5 @@
-//! Sessions that share a hall: who is asked to announce blocks as compact blocks, and how blocks are announced and asked for.
+//! Sessions that share a hall: who is asked to announce blocks as compact blocks, and how blocks
+//! are announced and asked for.
 ghost use Rattle.std.specs.Prelude.{◌≤◌};
 
 use crate::session::new_hall;
@@ -21,8 +22,7 @@ const SALTED: Settings = Settings {
     salt: 5,
 };
 
-/// A message of a peer, a tick, or a block that the node's own user mines and submits. `Block` and `Header` are those of a block
-/// mined on the tip.
+/// A message of a peer, or a tick. `Block` and `Header` are those of a block mined on the tip.
 #[derive(Clone, Copy)]
 enum Step {
     Version,
@@ -32,14 +32,16 @@ enum Step {
     Block,
     Header,
     Tick,
+    /// A tick, behind a block that the node's own user mined and submitted.
     Mined,
 }
 
 /// At a peer, a step, and what it is sent then: a letter for each message.
 type Row = (usize, Step, &'static [u8]);
 
-/// The letter of a message: `v` version, `k` verack, `h` sendheaders, `g` getheaders, `+` and `-` sendcmpct with 1 and with 0, `i` an
-/// `inv` of a block, `w` and `s` a `getdata` of a block whole and short, a compact block the last digit of its nonce, `?` another.
+/// The letter of a message: `v` version, `k` verack, `h` sendheaders, `g` getheaders, `+` and `-`
+/// sendcmpct with 1 and with 0, `i` an `inv` of a block, `w` and `s` a `getdata` of a block whole
+/// and short, a compact block the last digit of its nonce, `?` another.
 fn letter(message: &Message) -> u8 {
     match message {
         Message::Version(_) => b'v',
@@ -171,7 +173,8 @@ fn event(alloc: Global, hall: &mut Hall, step: Step) -> Result<Event, Fault> {
     }
 }
 
-/// What a session sends at an event, behind others, and what it asks. It sends `!` if it lacks memory.
+/// What a session sends at an event, behind others, and what it asks. It sends `!` if it lacks
+/// memory.
 fn tell(
     alloc: Global,
     session: &mut Session,

@@ -11,6 +11,10 @@ pub send-requires : goal.send-requires
 send-requires g c =
     record { silent = λ closed. not_both _ (first_open c.in_ok-trace.trace c.in_ok-trace.ensures.history) (ap (λ (t : TraceView). is_closed t.session.state) (sym c.new-conversation.ensures.trace) ∙ closed) }
 
+-- nothing was written yet
+pub returns-in_err-trace-clause-heeds : goal.returns-in_err-trace-clause-heeds
+returns-in_err-trace-clause-heeds g c = λ unfailed. g.met.W.Sink.heeds_none _
+
 pub returns-clause-served : goal.returns-clause-served
 returns-clause-served g c =
     let from = origin_of c.args.settings c.args.hall.now c.args.badge.now (g.W.Sink.contents c.args.writer.now) (g.W.Sink.has_failed c.args.writer.now) in

@@ -1,19 +1,19 @@
 use Rattle.std.proofs.Common.{◌≡◌, true, false, List}
 use Rattle.cb_peer_state.specs.declared.event.Event.{Event}
 use Rattle.cb_peer_state.specs.State.{is_closed}
-use Rattle.cb_session.specs.Conversation.{IsPending, MayAsk, Origin, Sent, WritesOn, left_of, progress}
+use Rattle.cb_session.specs.Conversation.{IsPending, MayAsk, Origin, SameReferences, Sent, WritesOn, at, left_of}
 use Rattle.cb_session.proofs.conversation.Conversation.converse.Given as goal
 
 -- what was to be written went out, and nothing is on its way
 abbrev pub invariant-loop-next : goal.invariant-loop-next
 invariant-loop-next g l = record {
-  ends : (l.self.trace.ghost_name ≡ l.fn.self.trace.ghost_name) × (l.self.writer.ghost_name ≡ l.fn.self.writer.ghost_name) × (l.self.hall.ghost_name ≡ l.fn.self.hall.ghost_name) × (l.self.badge.ghost_name ≡ l.fn.self.badge.ghost_name);
+  ends : SameReferences l.fn.self l.self;
   heeds : WritesOn l.fn.self.trace.now (g.W.Sink.has_failed l.fn.self.writer.now) → g.W.Sink.heeds_failure l.fn.self.writer.now l.self.writer.now × WritesOn l.self.trace.now (g.W.Sink.has_failed l.self.writer.now);
   stays : is_closed l.fn.self.trace.now.session.state ≡ true → is_closed l.self.trace.now.session.state ≡ true;
   may : MayAsk l.self.trace.now l.next;
   stands : IsPending l.fn.self.trace.now l.fn.question → IsPending l.self.trace.now l.next;
   sent : (from : Origin g.row.H.Denot) (inputs : List Event) →
-      Sent g.H.Oracle.told g.H.Oracle.refused from (progress l.fn.self.trace.now l.fn.self.hall.now l.fn.self.badge.now (g.W.Sink.contents l.fn.self.writer.now) (g.W.Sink.has_failed l.fn.self.writer.now) l.fn.self.written) inputs false → Sent g.H.Oracle.told g.H.Oracle.refused from (progress l.self.trace.now l.self.hall.now l.self.badge.now (g.W.Sink.contents l.self.writer.now) (g.W.Sink.has_failed l.self.writer.now) l.self.written) inputs false;
+      Sent g.H.Oracle.told g.H.Oracle.refused from (at g.W.Sink.contents g.W.Sink.has_failed l.fn.self) inputs false → Sent g.H.Oracle.told g.H.Oracle.refused from (at g.W.Sink.contents g.W.Sink.has_failed l.self) inputs false;
 }
 
 -- each answer leaves fewer to be waited for

@@ -1,5 +1,5 @@
-use Rattle.std.proofs.Common.{◌≡◌, ◌≤◌, ◌-◌, ◌+◌, [], true, false, Bool, Option, None, IfOk, IsOk, OnErr, subst, sym, ap, refl, ◌∙◌, arith, vec_len}
-use Rattle.std.specs.Prelude.{◌^◌, min, vec_capacity, Result, Ok, Err, ℕ}
+use Rattle.std.proofs.Common.{◌≡◌, ◌≤◌, ◌-◌, [], true, false, None, IfOk, IsOk, OnErr, subst, sym, refl, ◌∙◌, arith, vec_len}
+use Rattle.std.specs.Prelude.{vec_capacity, Result, Ok, Err}
 use Rattle.std.specs.Result.{is_err}
 use Rattle.cb_peer_state.specs.Outcomes.{Answers}
 use Rattle.cb_peer_state.specs.State.{is_closed}
