@@ -37,7 +37,7 @@ from bench.tools.command_line import usage
 from bench.tools.growths import Growths, build, run
 from bench.tools.messages import envelope
 from bench.tools.network import GENESIS
-from bench.tools.programs import built
+from bench.tools.programs import built, written
 from bench.tools.turns import adopt, in_turns, once
 
 # As many transactions of a size as fit in a block, how many of them the mempool lacks, and the sizes of those that are compared.
@@ -189,11 +189,7 @@ class Bench:
         self.library = build(folder)
 
     def write(self, name, *parts):
-        path = os.path.join(self.folder, name)
-        with open(path, "wb") as file:
-            for part in parts:
-                file.write(part)
-        return path
+        return written(os.path.join(self.folder, name), *parts)
 
     def heard(self, data):
         """What the program answers."""

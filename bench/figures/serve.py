@@ -24,7 +24,7 @@ from bench.models.plain_session import Settings
 from bench.tools.command_line import usage
 from bench.tools.messages import envelope, pings, unknown
 from bench.tools.network import GENESIS
-from bench.tools.programs import built
+from bench.tools.programs import built, written
 from bench.tools.turns import HASHED, OPENSSL, adopt, ended, in_turns
 
 HEADERS, A_MESSAGE = 100_000, 2_000
@@ -89,11 +89,7 @@ class Bench:
         print(f"openssl dgst -sha256: {self.rate / 1e6:.0f} MB a second")
 
     def write(self, name, *parts):
-        path = os.path.join(self.folder, name)
-        with open(path, "wb") as file:
-            for part in parts:
-                file.write(part)
-        return path
+        return written(os.path.join(self.folder, name), *parts)
 
     def costs(self, ground, *more):
         """Seconds and memory of a conversation that goes on so behind its beginning."""

@@ -20,6 +20,14 @@ def built(path, crate, top=ROOT):
     return path
 
 
+def written(path, *parts):
+    """Writes these bytes into a file, one part behind the other. The path comes back."""
+    with open(path, "wb") as file:
+        for part in parts:
+            file.write(part)
+    return path
+
+
 def write_stored_run(crate, records, lines):
     """Writes what a program is run on by the gate, and what it has to print then."""
     folder = os.path.join(ROOT, "crates", crate)

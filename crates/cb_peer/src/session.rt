@@ -19,7 +19,8 @@ use std::marker::Model;
 /// question to the hall. The hall is what Bitcoin Core keeps in ChainstateManager and CTxMemPool.
 ///
 /// Contracts see its settings, how far it is, what its peer told about itself, what the two
-/// announced to each other, the blocks that it downloads, and the item whose question is open.
+/// announced to each other, the blocks that it downloads, what it keeps for compact blocks, and the
+/// item whose question is open.
 #[derive(Drop)]
 pub struct Session {
     kept: SessionState,
@@ -120,9 +121,9 @@ impl Session {
         ensures err { OnErr result (self.new ≡ over reasons.Memory self.old) }
         ensures memory { IsOkUnless result Memory }
         ensures calm { takes_no_memory event.now ≡ true → IsOk result }
-        // An answer takes no memory if its item is neither a transaction nor a block, it lists
-        // nothing missing or needed, no message is sent to it, and no question but the one for news
-        // follows.
+        // An answer takes no memory if its item is no transaction, no block and no part of a block,
+        // it lists nothing missing or needed, no message is sent to it, and no question but the one
+        // for news follows.
         ensures silent { spares self.old event.now ≡ true →
             (step_of self.old event.now).messages ≡ [] →
             is_light (step_of self.old event.now).question ≡ true → IsOk result }

@@ -1,4 +1,4 @@
--- What comes of a block that lacks transactions, and of those that were sent for it (BIP 152, BlockTransactions).
+-- Completing a block with the transactions that it lacked (BIP 152, BlockTransactions).
 use Rattle.std.specs.Prelude.{◌==◌, if◌then◌else◌, length, Result, Ok, Err}
 use Rattle.cb_base.specs.declared.fault.Fault.{Fault}
 use Rattle.cb_base.specs.declared.fault.Fault.TheVariants.{WrongCount}
@@ -10,10 +10,10 @@ use Rattle.cb_compact.specs.declared.partial.Filled.TheVariants.{Sound, Wrong}
 use Rattle.cb_payload.specs.declared.block_transactions.BlockTransactions.{BlockTransactions}
 use Rattle.cb_rebuild.specs.Rebuilding.{block_with}
 
--- the block is told where it is sound
+-- The block, if it is sound.
 unfoldable pub judged_of : Block → Filled
 judged_of block = if is_sound_block block then Sound block else Wrong
 
--- As many transactions as are missing stand at those places, in order.
+-- The transactions fill the empty places in order. There must be as many as empty places.
 unfoldable pub completed_of : Unfilled → BlockTransactions → Result Filled Fault
 completed_of partial given = if length given.txs == length (missing 0 partial.slots) then Ok (judged_of (block_with partial given.txs)) else Err WrongCount

@@ -1,4 +1,4 @@
--- A compact block of an honest sender (BIP 152), as the message carries it, and what is rebuilt of it.
+-- The message of an honest sender's compact block (BIP 152), and the result of rebuilding it.
 use Rattle.std.specs.Prelude.{◌≡◌, ℕ, List, [], length, map, slice_get, All, Some, Ok}
 use Rattle.cb_base.specs.DoubleHash.{double_hash}
 use Rattle.cb_block.specs.Blocks.{IsSoundBlock}
@@ -22,8 +22,8 @@ use Rattle.cb_rebuild.specs.Rebuilding.{request_of}
 use Rattle.cb_rebuild.specs.declared.rebuilding.Rebuilt.{Rebuilt}
 use Rattle.cb_rebuild.specs.declared.rebuilding.Rebuilt.TheVariants.{Lacking, Sound, Useless}
 
--- The message is the compact form of a sound block under its nonce, in which the transactions at these places are whole. No two of
--- its ids are equal.
+-- The message is the compact block of a sound block under its nonce. The transactions at these
+-- places are prefilled, and no two short ids are equal.
 pub record IsHonestMessage (block : Block) (places : List ℕ) (message : HeaderAndShortIds) : Type 0 where
   pub sound : IsSoundBlock block
   pub rise : Rise 0 (length block.txs) places
@@ -33,23 +33,23 @@ pub record IsHonestMessage (block : Block) (places : List ℕ) (message : Header
   pub whole : All (λ given. slice_get block.txs given.place ≡ Some given.tx) (placed_from 0 message.txs.prefilled)
   pub different : AreDifferent message.txs.ids
 
--- With the block's transactions at the places that are asked for, whatever else stands in the message, the block is there.
+-- The block's transactions at the requested places complete the block.
 abbrev pub IsCompletedBy : Block → Unfilled → BlockTransactionsRequest → Type 0
 IsCompletedBy block partial request = (given : BlockTransactions) → map (slice_get block.txs) (sums 0 request.differences) ≡ map Some given.txs → completed_of partial given ≡ Ok (filling.Sound block)
 
--- Where no place is unserved it is the block. Else exactly the unserved places are asked for, under the block's hash, and what is
--- sent of them completes the block.
+-- The result is the block, if a pair fills each place. Otherwise exactly the places that no pair
+-- fills are requested, under the block's hash, and the block's transactions there complete it.
 abbrev pub IsRebuiltTo : Block → ℕ → List ℕ → List Pair → Rebuilt → Type 0
 IsRebuiltTo block nonce places pairs (Sound told) = AreUnserved block nonce places pairs [] × (told ≡ block)
 IsRebuiltTo block nonce places pairs (Lacking partial request) = AreUnserved block nonce places pairs (sums 0 request.differences) × (request.block ≡ double_hash (header_text block.header)) × IsCompletedBy block partial request
 IsRebuiltTo block nonce places pairs Useless = ⊥
 
--- what is told of a whole list
+-- The result for a list without empty places.
 abbrev pub told_whole : Filled → Rebuilt
 told_whole (filling.Sound block) = Sound block
 told_whole filling.Wrong = Useless
 
--- what is told of what was placed
+-- The result for what was placed.
 abbrev pub told_of : Placed → Rebuilt
 told_of placing.Repeat = Useless
 told_of (placing.Whole whole) = told_whole whole

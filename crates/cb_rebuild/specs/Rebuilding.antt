@@ -1,5 +1,5 @@
--- What comes of a compact block (BIP 152) and pairs, which are transactions with their short ids: the block, what it lacks with the
--- request for that, or nothing of use.
+-- Rebuilding a block from a compact block (BIP 152) and pairs, which are transactions of the mempool
+-- with their short ids. The result is the block, or an incomplete one with a request, or useless.
 use Rattle.std.specs.Prelude.{ℕ, Bool, true, not, ◌&&◌, if◌then◌else◌, List, [], ◌∷◌}
 use Rattle.cb_base.specs.DoubleHash.{double_hash}
 use Rattle.cb_tx.specs.declared.tx.Tx.{Tx}
@@ -15,32 +15,33 @@ use Rattle.cb_rebuild.specs.Places.{placed_from}
 use Rattle.cb_rebuild.specs.declared.rebuilding.Rebuilt.{Rebuilt}
 use Rattle.cb_rebuild.specs.declared.rebuilding.Rebuilt.TheVariants.{Lacking, Sound, Useless}
 
--- no id stands twice
+-- No two ids are equal.
 abbrev pub are_different : List ℕ → Bool
 are_different [] = true
 are_different (id ∷ others) = not (is_among id others) && are_different others
 
--- the header, and what stands at each place
+-- The block as far as it is known: the header, and the transaction at each place, if any.
 unfoldable pub unfilled_of : HeaderAndShortIds → List Pair → Unfilled
 unfilled_of message pairs = record { header = message.header; slots = slots message.txs.ids (placed_from 0 message.txs.prefilled) pairs }
 
--- the block of what stands at the places, with these transactions, in order, where nothing stands
+-- The block with these transactions at its empty places, in order.
 abbrev pub block_with : Unfilled → List Tx → Block
 block_with partial txs = record { header = partial.header; txs = filled partial.slots txs }
 
--- the block is told where it is sound
+-- The block, if it is sound.
 unfoldable pub whole_of : Block → Rebuilt
 whole_of block = if is_sound_block block then Sound block else Useless
 
--- the request for what is missing: the hash of the header, and the missing places as differences
+-- The request for the missing transactions: the hash of the header, and the empty places as
+-- differences.
 unfoldable pub request_of : Unfilled → BlockTransactionsRequest
 request_of partial = record { block = double_hash (header_text partial.header); differences = differences 0 (missing 0 partial.slots) }
 
--- by the places that are missing
+-- The result, by the empty places.
 abbrev pub told_by : Unfilled → List ℕ → Rebuilt
 told_by partial [] = whole_of (block_with partial [])
 told_by partial (place ∷ others) = Lacking partial (request_of partial)
 
--- Ids that are repeated are of no use. Else it depends on the places that are missing.
+-- Equal ids make the compact block useless. Otherwise the empty places decide.
 unfoldable pub rebuilt_of : HeaderAndShortIds → List Pair → Rebuilt
 rebuilt_of message pairs = if are_different message.txs.ids then told_by (unfilled_of message pairs) (missing 0 (unfilled_of message pairs).slots) else Useless

@@ -1,4 +1,5 @@
--- The compact form in which a block is sent (BIP 152): its first transaction is there whole, and of all others there are short ids.
+-- The compact block that we send of a block (BIP 152): its first transaction is prefilled, and all
+-- others are short ids.
 use Rattle.std.specs.Prelude.{ℕ, List, [], ◌∷◌, map}
 use Rattle.cb_tx.specs.declared.tx.Tx.{Tx}
 use Rattle.cb_block.specs.declared.block.Block.{Block}
@@ -6,12 +7,12 @@ use Rattle.cb_compact.specs.Honest.{id_of}
 use Rattle.cb_payload.specs.declared.compact_block.HeaderAndShortIds.{HeaderAndShortIds}
 use Rattle.cb_payload.specs.declared.prefilled.PrefilledTransaction.{PrefilledTransaction}
 
--- all but the first
+-- All but the first.
 abbrev pub behind_first : {A : Type 0} → List A → List A
 behind_first [] = []
 behind_first (first ∷ others) = others
 
--- the first, whose index is 0
+-- The first, at index 0.
 abbrev pub whole_first : List Tx → List PrefilledTransaction
 whole_first [] = []
 whole_first (first ∷ others) = record { difference = 0; tx = first } ∷ []

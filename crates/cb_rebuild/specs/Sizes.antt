@@ -1,4 +1,4 @@
--- What bounds the number of a block's transactions: each of them has an input, which names an output by a hash of 32 bytes.
+-- Why a block has few transactions: each has an input, which names an output by a hash of 32 bytes.
 use Rattle.std.specs.Prelude.{◌≡◌, ⊤, List, [], ◌∷◌, length}
 use Rattle.cb_tx.specs.declared.tx.Tx.{Tx}
 use Rattle.cb_tx.specs.declared.tx.TxIn.{TxIn}
@@ -7,6 +7,6 @@ abbrev pub BeginsByHash : List TxIn → Type 0
 BeginsByHash [] = ⊤
 BeginsByHash (first ∷ others) = length first.prev.txid.0 ≡ 32
 
--- the first input, if there is one, names its output by 32 bytes
+-- The first input, if there is one, names its output by 32 bytes.
 abbrev pub SpendsByHash : Tx → Type 0
 SpendsByHash tx = BeginsByHash tx.inputs

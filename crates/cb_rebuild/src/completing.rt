@@ -8,16 +8,17 @@ use cb_compact::{Filled, Partial};
 use cb_payload::BlockTransactions;
 use std::alloc::Global;
 
-/// The block with the transactions of a `blocktxn` (BIP 152), in order, at the places that lack one. Each of them is hashed once,
-/// and none is copied. The message's hash isn't looked at.
+/// Completes a block with the transactions of a `blocktxn` (BIP 152): they fill its empty places in
+/// order, and the block is checked. Each of them is hashed once, and none is copied. The message's
+/// block hash isn't compared.
 ///
-/// `Fault::WrongCount` just where they aren't as many as are missing; that takes no memory. Else the only error is
-/// `Fault::Memory`.
+/// Fails with `Fault::WrongCount` if their number isn't that of the empty places, which allocates
+/// nothing, and otherwise only with `Fault::Memory`.
 #[tactic(auto, unfolding(crate::specs::Completing::completed_of))]
 pub fn complete(alloc: Global, partial: Partial, txs: &BlockTransactions) -> Result<Filled, Fault>
     ensures exact { MatchResult result (λ filled. completed_of partial txs.now ≡ Ok filled)
         (λ fault. (fault ≡ Memory) ⊎ (completed_of partial txs.now ≡ Err fault)) }
-    // A wrong count is told without memory.
+    // A wrong count is found without allocating.
     ensures unpaid { (fault : Fault) → completed_of partial txs.now ≡ Err fault →
         result ≡ Err fault }
 {

@@ -1,6 +1,7 @@
-//! What holds of every compact block and its pairs: laws of the definitions that the contracts cite.
+//! What holds for every compact block (BIP 152), whatever the mempool has: laws of the definitions
+//! that the contracts use.
 //!
-//! Each is a function that does nothing and whose contract is the law.
+//! Each law is the contract of a function that does nothing.
 ghost use Rattle.std.specs.Prelude.{◌≡◌, ◌↔◌, ◌≤◌, ℕ, true, List, [], ◌∷◌, length, slice_get, All, Contains, Some, None, Ok};
 ghost use Rattle.cb_base.specs.DoubleHash.{double_hash};
 ghost use Rattle.cb_tx.specs.Text.{IsTx};
@@ -25,7 +26,8 @@ ghost use Rattle.cb_rebuild.specs.Rebuilding.{rebuilt_of};
 ghost use Rattle.cb_rebuild.specs.Shortening.{shortened_of};
 ghost use Rattle.cb_rebuild.specs.declared.rebuilding.Rebuilt.TheVariants.{Lacking, Sound};
 
-/// What is judged, rebuilt and completed is what the relations of cb_compact say, and nothing else.
+/// The computed results of checking, rebuilding and completing a block are exactly those of the
+/// relations of cb_compact.
 pub fn rebuilding_is_placing()
     ensures judged { (block : Block) (told : Filled) →
         IsFilled block.header block.txs told ↔ (told ≡ judged_of block) }
@@ -38,8 +40,10 @@ pub fn rebuilding_is_placing()
         × IsFilled partial.header (filled partial.slots given.txs) told) }
 {}
 
-/// A compact block of an honest sender (BIP 152) is rebuilt: from pairs that are the block's own comes the very block, or exactly the
-/// places that no pair serves are asked for, and the block's transactions there complete it. So it is never useless, and has places.
+/// An honest sender's compact block (BIP 152) is rebuilt. If the pairs that have its short ids hold
+/// the block's own transactions, the result is that block, or the request names exactly the places
+/// that no pair fills, and the block's transactions there complete it. So it is never useless, and
+/// its prefilled transactions have places.
 pub fn an_honest_message_is_rebuilt()
     ensures rebuilt { (block : Block) (places : List ℕ) (message : HeaderAndShortIds)
         (pairs : List Pair) → IsHonestMessage block places message →
@@ -49,8 +53,9 @@ pub fn an_honest_message_is_rebuilt()
         IsHonestMessage block places message → has_places message.txs ≡ true }
 {}
 
-/// Whatever a message and pairs are, and whatever is sent for what they lack: what is told as sound is the block that is sound under
-/// this header, where the two lists of transactions are apart.
+/// A block that comes out as sound is the one sound block under its header, whatever the message,
+/// the pairs and the `blocktxn` are, as long as no two different strings hashed for the two blocks
+/// have one hash.
 pub fn what_is_rebuilt_is_the_block()
     ensures rebuilt { (block told : Block) (message : HeaderAndShortIds) (pairs : List Pair) →
         IsSoundBlock block → message.header ≡ block.header →
@@ -60,8 +65,8 @@ pub fn what_is_rebuilt_is_the_block()
         completed_of partial given ≡ Ok (filling.Sound told) → AreOneIfApart block told }
 {}
 
-/// What lacks transactions has the header of the message. Its request has that header's hash, and asks for each place that is empty
-/// and for no other.
+/// An incomplete block has the header of its message. Its request has that header's hash, and names
+/// each empty place and no other.
 pub fn what_lacks_is_asked_for()
     ensures under { (message : HeaderAndShortIds) (pairs : List Pair) (partial : Unfilled)
         (request : BlockTransactionsRequest) →
@@ -75,14 +80,15 @@ pub fn what_lacks_is_asked_for()
         ↔ (slice_get partial.slots place ≡ Some None) }
 {}
 
-/// The form in which a sound block is sent is an honest sender's, where no two of its ids are equal.
+/// The compact block that we send of a sound block is an honest sender's, if no two of its short ids
+/// are equal.
 pub fn a_shortened_block_is_honest()
     ensures { (block : Block) (nonce : ℕ) → IsSoundBlock block →
         AreDifferent (shortened_of block nonce).txs.ids →
         IsHonestMessage block (0 ∷ []) (shortened_of block nonce) }
 {}
 
-/// A block that meets its rules has at most 16,666 transactions: each has 60 bytes or more.
+/// A block that meets its rules has at most 16,666 transactions, since each has at least 60 bytes.
 pub fn a_block_has_few_txs()
     ensures { (block : Block) → All IsTx block.txs → MeetsBlockRules block →
         length block.txs ≤ 16666 }

@@ -1,4 +1,5 @@
-//! Blocks that are rebuilt from compact ones (BIP 152, version 1), and the compact form in which a block is sent.
+//! Rebuilding a block from a `cmpctblock`, and making a `cmpctblock` of a block (BIP 152, version
+//! 1).
 #![tactic(auto)]
 
 mod completing;

@@ -7,10 +7,11 @@ use cb_compact::Prefilled;
 use cb_payload::CompactTxs;
 use std::alloc::Global;
 
-/// Whether the prefilled transactions of a compact block have places in it (BIP 152): their differences lead to indexes below the
-/// number of all its transactions, short ids and prefilled ones together. It takes no memory.
+/// Checks that the prefilled transactions of a compact block have places in it (BIP 152): each index
+/// to which their differences lead is below the number of short ids and prefilled transactions
+/// together. Allocates nothing.
 ///
-/// The only error is `Fault::BadIndex`, just where one of them reaches that number.
+/// Fails only with `Fault::BadIndex`, exactly if one isn't.
 #[tactic(auto, unfolding(crate::specs::Places::has_places))]
 pub fn check_places(txs: &CompactTxs) -> Result<(), Fault>
     ensures { MatchResult result (λ _. has_places txs.now ≡ true)
@@ -28,7 +29,7 @@ pub fn check_places(txs: &CompactTxs) -> Result<(), Fault>
     Ok(())
 }
 
-/// The prefilled transactions at the places to which their differences lead.
+/// The prefilled transactions with their places. Fails only with `Fault::Memory`.
 #[tactic(auto, unfolding(crate::specs::Places::has_places))]
 pub(crate) fn placed(alloc: Global, txs: &CompactTxs) -> Result<Vec<Prefilled>, Fault>
     requires { has_places txs.now ≡ true }

@@ -14,18 +14,19 @@ use cb_payload::{BlockTransactionsRequest, Differences, HeaderAndShortIds};
 use cb_pool::Pairs;
 use std::alloc::Global;
 
-/// What comes of a compact block.
+/// The result of rebuilding a block from a compact block.
 #[derive(Drop)]
 pub enum Rebuilt {
-    /// The block, which is sound.
+    /// The whole block, which is sound.
     Sound(SoundBlock),
-    /// The block with what is missing, and the request for that.
+    /// The incomplete block, and the request for its missing transactions.
     Lacking(Partial, BlockTransactionsRequest),
-    /// Two places have one short id, or the whole list isn't sound under the header. So the block has to be asked for.
+    /// Two places have the same short id, or the whole list isn't sound under the header. The block
+    /// has to be requested whole.
     Useless,
 }
 
-/// What comes of a whole list.
+/// The result for a list without empty places.
 fn whole(filled: Filled) -> Rebuilt
     ensures { result ≡ told_whole filled }
 {
@@ -35,7 +36,7 @@ fn whole(filled: Filled) -> Rebuilt
     }
 }
 
-/// What is missing, with the request for it.
+/// An incomplete block with its request. Fails only with `Fault::Memory`.
 #[tactic(auto, unfolding(crate::specs::Rebuilding::request_of))]
 fn lacking(alloc: Global, partial: Partial, places: &[u64]) -> Result<Rebuilt, Fault>
     requires exact { places.now ≡ missing 0 partial.slots }
@@ -48,14 +49,16 @@ fn lacking(alloc: Global, partial: Partial, places: &[u64]) -> Result<Rebuilt, F
     Ok(Rebuilt::Lacking(partial, BlockTransactionsRequest { block, differences }))
 }
 
-/// Rebuilds the block of a `cmpctblock` (BIP 152) from its prefilled transactions and pairs with its short ids. The prefilled
-/// transactions are hashed, and those of pairs are neither hashed nor copied.
+/// Rebuilds the block of a `cmpctblock` (BIP 152) from its prefilled transactions and from pairs:
+/// transactions of the mempool with their short ids. Prefilled transactions are hashed; those of
+/// pairs are neither hashed nor copied.
 ///
-/// `Rebuilt::Sound` where no place lacks a transaction and the list is sound under the header, and `Rebuilt::Useless` where it
-/// isn't, or where two ids are equal. Else `Rebuilt::Lacking`, whose request names exactly the places that lack one.
+/// Returns `Rebuilt::Useless` if two ids are equal. If a place is empty, it returns
+/// `Rebuilt::Lacking`, whose request names exactly the empty places. Otherwise it returns
+/// `Rebuilt::Sound` if the list is sound under the header, and else `Rebuilt::Useless`.
 ///
-/// `Fault::BadIndex` just where the prefilled transactions have no places in the block (`check_places`); that takes no memory. Else
-/// the only error is `Fault::Memory`.
+/// Fails with `Fault::BadIndex` exactly if a prefilled transaction has no place (`check_places`),
+/// which allocates nothing, and otherwise only with `Fault::Memory`.
 pub fn rebuild(alloc: Global, message: &HeaderAndShortIds, pairs: &Pairs) -> Result<Rebuilt, Fault>
     ensures rebuilt { IfOk result (λ rebuilt. (has_places message.now.txs ≡ true)
         × (rebuilt ≡ rebuilt_of message.now pairs.now)) }

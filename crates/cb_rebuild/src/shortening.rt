@@ -13,7 +13,7 @@ use cb_payload::{CompactTxs, HeaderAndShortIds, PrefilledTransaction};
 use cb_tx::Tx;
 use std::alloc::Global;
 
-/// The short ids of all txids but the first, in order.
+/// The short ids of all txids but the first, in order. Fails only with `Fault::Memory`.
 fn ids_behind(alloc: Global, key: (u64, u64), txids: &[Hash256]) -> Result<Vec<u64>, Fault>
     ensures same { IfOk result
         (λ ids. ids.items ≡ map (short_id_of key) (behind_first txids.now)) }
@@ -30,7 +30,7 @@ fn ids_behind(alloc: Global, key: (u64, u64), txids: &[Hash256]) -> Result<Vec<u
     Ok(ids)
 }
 
-/// The first transaction, to be carried whole.
+/// The first transaction, prefilled. Fails only with `Fault::Memory`.
 fn first_whole(alloc: Global, txs: &[Shared<Tx>]) -> Result<Vec<PrefilledTransaction>, Fault>
     ensures same { IfOk result (λ prefilled. prefilled.items ≡ whole_first txs.now) }
     ensures memory { IsOkUnless result Memory }
@@ -44,14 +44,14 @@ fn first_whole(alloc: Global, txs: &[Shared<Tx>]) -> Result<Vec<PrefilledTransac
     Ok(prefilled)
 }
 
-/// A hash's bytes, which are 32.
+/// The 32 bytes of a hash.
 fn hash_bytes(hash: &Hash256) -> &[u8]
     ensures { length hash.now.0 ≡ 32 }
 {
     hash.0.as_slice()
 }
 
-/// Looks at the hash in the first input of a transaction, whose type says that it has 32 bytes.
+/// Reads the hash of a transaction's first input, so that the prover knows that it has 32 bytes.
 fn see_hash(tx: &Tx)
     ensures { SpendsByHash tx.now }
 {
@@ -61,7 +61,7 @@ fn see_hash(tx: &Tx)
     }
 }
 
-/// Looks at the first input of each transaction: with its hash each has 60 bytes or more, so they are at most 16,666.
+/// The same for each transaction. So each has at least 60 bytes, and a block at most 16,666 of them.
 fn see_hashes(txs: &[Shared<Tx>])
     ensures { All SpendsByHash txs.now }
 {
@@ -70,10 +70,11 @@ fn see_hashes(txs: &[Shared<Tx>])
     }
 }
 
-/// The form in which a block is sent as a `cmpctblock` (BIP 152): its first transaction is there whole, and of all others there are
-/// short ids under the nonce. No transaction is hashed or copied. Its text fits the payload of a message.
+/// Makes the `cmpctblock` of a block (BIP 152): its first transaction is prefilled, and all others
+/// are short ids under the nonce. No transaction is hashed or copied. It fits in a message: at most
+/// 4,000,000 bytes.
 ///
-/// The only error is `Fault::Memory`.
+/// Fails only with `Fault::Memory`.
 #[tactic(auto, unfolding(crate::specs::Shortening::shortened_of))]
 pub fn shortened(alloc: Global, block: &SoundBlock, nonce: u64) -> Result<HeaderAndShortIds, Fault>
     requires { MeetsBlockRules block.now }

@@ -102,8 +102,8 @@ AsksPending before after asked = (asked ≡ pending_question after) ⊎ ((asked 
 
 -- The trace was given an event, and returned what its session sent and asked. The entry is starved
 -- only if the step takes memory. An answer is never starved if it lists nothing missing or needed,
--- its item is neither a transaction nor a block, nothing is sent to it, and nothing is asked but
--- what is new.
+-- its item is no transaction, no block and no part of a block, nothing is sent to it, and nothing is
+-- asked but what is new.
 pub record TraceSteps (old new : TraceView) (event : Event) (sent : List Message) (asked : Option Question) : Type 0 where
   pub starved : Bool
   pub grows : Grows old new (record { event = event; starved = starved })
