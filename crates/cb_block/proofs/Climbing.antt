@@ -1,6 +1,6 @@
 -- Going up a tree, level by level, and keeping whether a level had equal neighbours.
 use Rattle.std.proofs.Common.{◌≡◌, ◌+◌, ◌*◌, ◌<◌, ◌≤◌, ◌⊎◌, Bool, true, false, List, [], ◌∷◌, length, refl, sym, ap, subst, ◌∙◌, arith, inl, inr}
-use Rattle.std.specs.Prelude.{◌↔◌, IsTrue, slice_index_or}
+use Rattle.std.specs.Prelude.{◌↔◌, ◌||◌, IsTrue, slice_index_or}
 use Rattle.cb_base.specs.declared.hash.Hash256.{Hash256}
 use Rattle.cb_block.specs.MerkleTree.{up, IsLevel, itself, above, HasEqualPair, IsMutated}
 use Rattle.cb_block.proofs.Levels.{level_split, level_top}
@@ -21,7 +21,7 @@ pub record IsClimbing (leaves level : List Hash256) (mutated : Bool) : Type 0 wh
 pub climb_start : (leaves : List Hash256) → 0 < length leaves → IsClimbing leaves leaves false
 climb_start leaves some = record { is_level = itself refl; some = some; seen = λ t. absurd cc; later = λ other l p. inr l }
 
-pub climb_more : (leaves level next : List Hash256) (mutated equal now : Bool) → IsClimbing leaves level mutated → 1 < length level → next ≡ up level
+climb_more : (leaves level next : List Hash256) (mutated equal now : Bool) → IsClimbing leaves level mutated → 1 < length level → next ≡ up level
     → IsTrue equal ↔ HasEqualPair level → ((equal ≡ true) × (now ≡ true)) ⊎ ((equal ≡ false) × (now ≡ mutated)) → IsClimbing leaves next now
 climb_more leaves level next mutated equal now c many is tells (inl h) = record {
   is_level = above level c.is_level many is;
@@ -43,6 +43,17 @@ climb_more leaves level next mutated equal now c many is tells (inr h) = record 
             ]
       ];
 }
+
+by_or : (mutated equal now : Bool) → now ≡ (mutated || equal) → ((equal ≡ true) × (now ≡ true)) ⊎ ((equal ≡ false) × (now ≡ mutated))
+by_or true true now e = inl (refl, e)
+by_or false true now e = inl (refl, e)
+by_or true false now e = inr (refl, e)
+by_or false false now e = inr (refl, e)
+
+-- the level above, where it is known whether the level or one below it had equal neighbours
+pub climb_next : (leaves level next : List Hash256) (mutated equal now : Bool) → IsClimbing leaves level mutated → 1 < length level → next ≡ up level
+    → IsTrue equal ↔ HasEqualPair level → now ≡ (mutated || equal) → IsClimbing leaves next now
+climb_next leaves level next mutated equal now c many is tells either = climb_more leaves level next mutated equal now c many is tells (by_or mutated equal now either)
 
 no_pair : (level : List Hash256) → length level ≤ 1 → HasEqualPair level → ⊥
 no_pair [] le h = h

@@ -3,6 +3,7 @@ pub mod BlockRules
 pub mod Climbing
 pub mod CutTexts
 pub mod Deciding
+pub mod EqualPairs
 pub mod Headers
 pub mod Levels
 pub mod Only

@@ -1,4 +1,4 @@
-ghost use Rattle.std.specs.Prelude.{◌≡◌, ◌≢◌, ℕ, ◌<◌, ◌⊎◌, ◌↔◌, List, length, map, All, Any, IfOk, IfErr, IsErrAnd, IsOkUnless, IsTrue};
+ghost use Rattle.std.specs.Prelude.{◌≡◌, ◌≢◌, ℕ, ◌*◌, ◌/◌, ◌<◌, ◌⊎◌, ◌↔◌, List, [], length, map, take, OnOk, All, Any, IfOk, IfErr, IsErrAnd, IsOkUnless, IsTrue};
 ghost use Rattle.cb_base.specs.declared.fault.Fault.TheVariants.{Empty, Memory, Size64};
 ghost use Rattle.cb_tx.specs.Text.{IsTx, tx_text};
 ghost use Rattle.cb_tx.specs.declared.tx.Tx.{Tx};
@@ -11,6 +11,7 @@ use crate::genesis_tx::first_tx;
 use crate::header::{BITS, Header};
 use crate::merkle::tree;
 use cb_base::{Fault, Hash256, Shared, dsha};
+use cb_lanes::dsha_four;
 use cb_tx::{Tx, write_tx};
 use std::alloc::Global;
 use std::marker::Model;
@@ -88,17 +89,51 @@ fn has_size_64(txs: &[Shared<Tx>]) -> bool
     txs.iter().any(|tx| tx.size() == 64)
 }
 
-/// The txids. Each transaction is written to one reused buffer and hashed once.
+/// Replaces a text by the serialisation of a transaction. Fails only with `Fault::Memory`.
+fn put_text(text: &mut Vec<u8>, tx: &Tx) -> Result<(), Fault>
+    ensures ok { OnOk result (text.new.items ≡ tx_text tx.now) }
+    ensures fits { OnOk result (IsTx tx.now) }
+    ensures memory { IsOkUnless result Memory }
+{
+    text.clear();
+    write_tx(text, tx)
+}
+
+/// Appends the txids of four transactions after another, as many fours as there are. Four buffers
+/// are reused, and their texts are hashed together.
+fn push_fours(alloc: Global, txids: &mut Vec<Hash256>, txs: &[Shared<Tx>]) -> Result<(), Fault>
+    requires { txids.old.items ≡ [] }
+    ensures names { OnOk result
+        (txids.new.items ≡ names (map tx_text (take (length txs.now / 4 * 4) txs.now))) }
+    ensures fits { OnOk result (All IsTx (take (length txs.now / 4 * 4) txs.now)) }
+    ensures memory { IsOkUnless result Memory }
+{
+    let mut first = Vec::new(alloc);
+    let mut second = Vec::new(alloc);
+    let mut third = Vec::new(alloc);
+    let mut fourth = Vec::new(alloc);
+    for i in 0..txs.len() / 4 {
+        put_text(&mut first, &txs[4 * i])?;
+        put_text(&mut second, &txs[4 * i + 1])?;
+        put_text(&mut third, &txs[4 * i + 2])?;
+        put_text(&mut fourth, &txs[4 * i + 3])?;
+        let hashes = dsha_four(&mut first, &mut second, &mut third, &mut fourth)?;
+        txids.extend_from_slice(hashes.as_slice())?;
+    }
+    Ok(())
+}
+
+/// The txids. Four transactions at a time are hashed together, and at most three by themselves.
 fn txids_of(alloc: Global, txs: &[Shared<Tx>]) -> Result<Vec<Hash256>, Fault>
     ensures names { IfOk result (λ txids. txids.items ≡ names (map tx_text txs.now)) }
     ensures fits { IfOk result (λ _. All IsTx txs.now) }
     ensures memory { IsOkUnless result Memory }
 {
     let mut txids = Vec::with_capacity(alloc, txs.len())?;
+    push_fours(alloc, &mut txids, txs)?;
     let mut text = Vec::new(alloc);
-    for tx in txs {
-        text.clear();
-        write_tx(&mut text, tx)?;
+    for i in txs.len() / 4 * 4..txs.len() {
+        put_text(&mut text, &txs[i])?;
         txids.push(dsha(text.as_slice()))?;
     }
     Ok(txids)

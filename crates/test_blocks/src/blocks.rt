@@ -138,8 +138,16 @@ fn has_root(alloc: Global, leaves: &[&str], expected: &str) -> Result<bool, Fail
 // Two hashes and the hash above them.
 const LEVELS: &[(&[&str], &str)] = &[(&[A, B], AB), (&[C, C], CC), (&[AB, CC], ABC)];
 
-// Leaves and their root.
-const ROOTS: &[(&[&str], &str)] = &[(&[A, B, C], ABC), (&[A, B, C, C], ABC), (&[A], A)];
+// The root over eleven leaves.
+const ROOT_OF_11: &str = "b5b736f93078ae0eda96cce01c1df2b67af50e949184c5d7eab139b180f0fdea";
+
+// Leaves and their root. Of eleven leaves four pairs are hashed together, then one, then the last leaf.
+const ROOTS: &[(&[&str], &str)] = &[
+    (&[A, B, C], ABC),
+    (&[A, B, C, C], ABC),
+    (&[A], A),
+    (&[A, B, C, A, C, B, B, A, C, C, A], ROOT_OF_11),
+];
 
 // Blocks under that root, and what is wrong with them.
 const UNDER_ABC: &[(&[&str], Option<Fault>)] = &[

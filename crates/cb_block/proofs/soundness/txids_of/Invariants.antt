@@ -3,5 +3,5 @@ use Rattle.cb_tx.specs.Text.{IsTx, tx_text}
 use Rattle.cb_block.specs.Soundness.{names}
 use Rattle.cb_block.proofs.soundness.txids_of.Given as goal
 
-abbrev pub invariant-loop-tx : goal.invariant-loop-tx
-invariant-loop-tx l = (l.txids.items ≡ names (map tx_text (take l.tx-index l.txs))) × All IsTx (take l.tx-index l.txs)
+abbrev pub invariant-loop-i : goal.invariant-loop-i
+invariant-loop-i l = (l.txids.items ≡ names (map tx_text (take l.i l.txs))) × All IsTx (take l.i l.txs)

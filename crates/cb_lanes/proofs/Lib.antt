@@ -1,0 +1,4 @@
+pub mod LaneLemmas
+pub mod Padded
+mod PaddingRounds
+mod Rotations

@@ -1,0 +1,22 @@
+ghost use Rattle.std.specs.Prelude.{◌≡◌, OnOk, IsOkUnless};
+ghost use Rattle.sha2.specs.Sha256.{padded_message};
+ghost use Rattle.cb_base.specs.declared.fault.Fault.TheVariants.{Memory};
+
+use cb_base::Fault;
+
+/// The zeros of a padding are at most 63.
+const ZEROS: [u8; 64] = [0; 64];
+
+/// Appends the padding of SHA-256 (FIPS 180-4, 5.1.1) to a message: the byte 0x80, zeros, and the
+/// length in bits. The result has whole blocks of 64 bytes. Fails only with `Fault::Memory`.
+pub(crate) fn pad(text: &mut Vec<u8>) -> Result<(), Fault>
+    ensures ok { OnOk result (text.new.items ≡ padded_message text.old.items) }
+    ensures memory { IsOkUnless result Memory }
+{
+    let len = text.len();
+    let bits = (len as u64).wrapping_mul(8);
+    text.push(0x80)?;
+    text.extend_from_slice(&ZEROS[..(119 - len % 64) % 64])?;
+    text.extend_from_slice(&bits.to_be_bytes())?;
+    Ok(())
+}
