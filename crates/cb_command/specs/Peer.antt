@@ -9,7 +9,7 @@ use Rattle.cb_peer_state.specs.declared.state.CloseReason.{CloseReason}
 use Rattle.cb_peer_state.specs.declared.state.CloseReason.TheVariants as reasons
 use Rattle.cb_peer_state.specs.State.{reason_name}
 use Rattle.cb_trace.specs.Trace.{TraceView}
-use Rattle.cb_session.specs.declared.reading.ReadEnd.{ReadEnd}
+use Rattle.cb_io.specs.declared.read_end.ReadEnd.{ReadEnd}
 use Rattle.cb_session.specs.Conversation.{Origin, origin_of, progress}
 use Rattle.cb_session.specs.Serving.{Serves}
 use Rattle.cb_run.specs.declared.ending.Status.{Status}

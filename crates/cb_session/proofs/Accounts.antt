@@ -1,5 +1,5 @@
 -- The account of a conversation, one entry of its trace at a time.
-use Rattle.std.proofs.Common.{◌≡◌, ◌≢◌, ℕ, ◌+◌, ◌-◌, ◌<◌, ◌^◌, min, Bool, true, false, cond, ◌||◌, List, [], ◌∷◌, ◌++◌, Option, Some, None, Result, Ok, Err, refl, sym, ap, subst, ◌∙◌, append_assoc, arith, inl, inr, ◌⊎◌}
+use Rattle.std.proofs.Common.{◌≡◌, ◌≢◌, ℕ, ◌+◌, ◌-◌, ◌<◌, ◌^◌, min, Bool, true, false, cond, ◌||◌, List, [], ◌∷◌, ◌++◌, length, Option, Some, None, Result, Ok, Err, refl, sym, ap, subst, ◌∙◌, append_assoc, arith, inl, inr, ◌⊎◌}
 use Rattle.std.specs.Prelude.{map, filter, fold, IsOk}
 use Rattle.std.proofs.lemmas.List.{append-nil, length-append, map-append}
 use Rattle.std.proofs.lemmas.List.Elements.{filter-append}
@@ -21,17 +21,17 @@ use Rattle.cb_peer_state.specs.declared.event.Event.{Event}
 use Rattle.cb_peer_state.specs.declared.event.Event.TheVariants as events
 use Rattle.cb_trace.specs.declared.trace.TraceEntry.{TraceEntry}
 use Rattle.cb_peer_state.specs.Questions.{fits, questions_left, pending_question}
-use Rattle.cb_peer_state.specs.Event.{Kind, begins, ends_at_once, is_hall_full, is_input, is_no_memory, is_tick, is_write_fault, kind_of, loses}
+use Rattle.cb_peer_state.specs.Event.{Kind, begins, ends_at_once, is_hall_full, is_input, is_no_memory, is_tick, is_told, is_write_fault, kind_of, loses}
 use Rattle.cb_peer_state.specs.Session.{Stepped}
 use Rattle.cb_peer_state.specs.declared.session_state.SessionState.{SessionState}
 use Rattle.cb_peer_state.specs.State.{is_closed}
 use Rattle.cb_peer_laws.proofs.Steps.{no_question, none_pending, some_left}
-use Rattle.cb_trace.specs.Fold.{Account, EachOpen, account_of, account_step, entry_step, first_account, has_kind, inputs_of, replies, replies_to, sends, session_of}
+use Rattle.cb_trace.specs.Fold.{Account, EachOpen, account_of, account_step, entry_step, first_account, has_kind, inputs_of, number_of, replies, replies_to, sends, session_of}
 use Rattle.cb_trace.specs.Trace.{AsksPending, Grows, IsAsBefore, IsOpen, Readied, TraceSteps, TraceView, next_step}
 use Rattle.cb_trace.proofs.Entries.{entry_ends, entry_fewer, entry_over}
-use Rattle.cb_trace.proofs.Folds.{EachPrompt_more, account_of_more}
+use Rattle.cb_trace.proofs.Folds.{EachPrompt_more, account_of_more, number_more}
 use Rattle.cb_trace.proofs.Traces.{next_is}
-use Rattle.cb_session.specs.Conversation.{Accounts, AnswerOf, Gave, IsLoss, Lacked, Origin, Progress, IsAnswered, IsPending, MayAsk, Sent, Settled, Underway, left_of, open_question, progress}
+use Rattle.cb_session.specs.Conversation.{Accounts, AnswerOf, Gave, IsLoss, Lacked, Origin, Progress, IsAnswered, IsPending, MayAsk, Sent, Settled, Underway, input_in, left_of, open_question, progress}
 
 -- what the hall told, call by call
 pub record IsOracle {H : Type 0} (told : H → BadgeState → List Reply → H → BadgeState → Type 0) (refused : H → BadgeState → Fault → Type 0) : Type 0 where
@@ -60,22 +60,23 @@ or_last false true e = refl
 or_last false false e = absurd cc
 
 -- an input is one more input, and nothing else is
-abbrev pub inputs_in : Event → List Event
-inputs_in event = filter (λ e. is_input (kind_of e)) (event ∷ [])
-
-inputs_more : (entries : List TraceEntry) (entry : TraceEntry) → inputs_of (entries ++ entry ∷ []) ≡ inputs_of entries ++ inputs_in entry.event
+inputs_more : (entries : List TraceEntry) (entry : TraceEntry) → inputs_of (entries ++ entry ∷ []) ≡ inputs_of entries ++ input_in entry.event
 inputs_more entries entry =
     ap (filter (λ (e : Event). is_input (kind_of e))) (map-append (λ (e : TraceEntry). e.event) entries (entry ∷ []))
     ∙ filter-append (λ (e : Event). is_input (kind_of e)) (map (λ (e : TraceEntry). e.event) entries) (entry.event ∷ [])
 
-pub no_input : (event : Event) → is_input (kind_of event) ≡ false → inputs_in event ≡ []
+pub no_input : (event : Event) → is_input (kind_of event) ≡ false → input_in event ≡ []
 no_input event e = ap (λ b. cond b (event ∷ []) []) e
 
-pub one_input : (event : Event) → is_input (kind_of event) ≡ true → inputs_in event ≡ event ∷ []
+pub one_input : (event : Event) → is_input (kind_of event) ≡ true → input_in event ≡ event ∷ []
 one_input event e = ap (λ b. cond b (event ∷ []) []) e
 
 pub not_both : {P : Type 0} (b : Bool) → b ≡ false → b ≡ true → P
 not_both b e f = absurd (let clash = sym e ∙ f in cc)
+
+-- a kind that none of some entries has, and one more hasn't
+pub none_more : (test : Kind → Bool) (entries : List TraceEntry) (entry : TraceEntry) → has_kind test entries ≡ false → test (kind_of entry.event) ≡ false → has_kind test (entries ++ entry ∷ []) ≡ false
+none_more test entries entry e f = has_more test entries entry ∙ or_false _ _ e f
 
 -- ---- a session that goes on has lost nothing
 
@@ -158,10 +159,11 @@ open_kept told refused from now inputs unkept going s =
           inputs_are = a.inputs_are;
           prompt = a.prompt;
           replies_are = a.replies_are;
+          each_told = a.each_told;
           write_fault = a.write_fault;
           hall_full = a.hall_full;
           no_memory = λ h. no_shortage told refused from now inputs s.sent.missing s.sent.lost unkept a going h;
-          no_tick = a.no_tick;
+          ticks_are = a.ticks_are;
           losses = a.losses;
         };
         whole = s.sent.whole;
@@ -170,17 +172,17 @@ open_kept told refused from now inputs unkept going s =
       answered = s.answered;
     }
 
--- nothing is missing while the session goes on
-pub open_whole : {H : Type 0} (told : H → BadgeState → List Reply → H → BadgeState → Type 0) (refused : H → BadgeState → Fault → Type 0) (from : Origin H) (now : Progress H) (inputs : List Event)
-    → Sent told refused from now inputs false → IsOpen now.trace → Accounts told refused from now inputs [] false false
-open_whole told refused from now inputs s going =
+-- while the session goes on, only what is to be written later is missing
+pub open_whole : {H : Type 0} (told : H → BadgeState → List Reply → H → BadgeState → Type 0) (refused : H → BadgeState → Fault → Type 0) (from : Origin H) (now : Progress H) (inputs : List Event) (later : List ℕ)
+    → Sent told refused from now inputs later false → IsOpen now.trace → Accounts told refused from now inputs later false false
+open_whole told refused from now inputs later s going =
     let none = not_lost told refused from now inputs s.missing s.lost false s.accounts going in
-    subst (λ b. Accounts told refused from now inputs [] b false) none (subst (λ (ms : List ℕ). Accounts told refused from now inputs ms s.lost false) (s.whole none) s.accounts)
+    subst (λ b. Accounts told refused from now inputs later b false) none (subst (λ (ms : List ℕ). Accounts told refused from now inputs ms s.lost false) (s.whole none) s.accounts)
 
 -- while the session goes on, a sink that has failed had failed before
-pub open_told : {H : Type 0} (told : H → BadgeState → List Reply → H → BadgeState → Type 0) (refused : H → BadgeState → Fault → Type 0) (from : Origin H) (now : Progress H) (inputs : List Event)
-    → Sent told refused from now inputs false → IsOpen now.trace → now.failed ≡ true → from.failed ≡ true
-open_told told refused from now inputs s going failed =
+pub open_told : {H : Type 0} (told : H → BadgeState → List Reply → H → BadgeState → Type 0) (refused : H → BadgeState → Fault → Type 0) (from : Origin H) (now : Progress H) (inputs : List Event) (later : List ℕ)
+    → Sent told refused from now inputs later false → IsOpen now.trace → now.failed ≡ true → from.failed ≡ true
+open_told told refused from now inputs later s going failed =
     elim (s.told_loss failed) [ inl before ↦ before | inr lost ↦ not_both s.lost (not_lost told refused from now inputs s.missing s.lost false s.accounts going) lost ]
 
 -- ---- one entry more
@@ -190,16 +192,33 @@ pub record Changes {H : Type 0} (told : H → BadgeState → List Reply → H �
   pub failed_told : is_write_fault (kind_of event) ≡ true → failed ≡ true
   pub full_told : is_hall_full (kind_of event) ≡ true → refused hall' badge' JournalFull
   pub told_next : told hall badge (replies_to (pending_question trace.session) event) hall' badge'
-  pub no_tick : is_tick (kind_of event) ≡ false
+  pub one_told : length (replies_to (pending_question trace.session) event) ≡ cond (is_told (kind_of event)) 1 0
   pub free : begins (kind_of event) ≡ true → trace.session.pending ≡ None
+
+-- what an entry adds to the ticks, the inputs, the missing bytes, and what was lost
+pub record Adds (trace : TraceView) (entry : TraceEntry) (ticks ticks' : ℕ) (inputs inputs' : List Event) (missing missing' : List ℕ) (lost lost' : Bool) : Type 0 where
+  pub ticks_are : ticks' ≡ ticks + cond (is_tick (kind_of entry.event)) 1 0
+  pub inputs_are : inputs ++ input_in entry.event ≡ inputs'
+  pub missing_are : missing ++ texts (next_step trace entry).messages ≡ missing'
+  pub lost_is : (lost || (loses (kind_of entry.event) || false)) ≡ lost'
+
+-- the account of these entries
+pub record AccountsOf {H : Type 0} (told : H → BadgeState → List Reply → H → BadgeState → Type 0) (refused : H → BadgeState → Fault → Type 0) (from : Origin H) (now : Progress H) (inputs : List Event) (missing : List ℕ) (lost unkept : Bool) (entries : List TraceEntry) : Type 0 where
+  pub accounts : Accounts told refused from now inputs missing lost unkept
+  pub history_is : accounts.history ≡ entries
+
+-- the same origin with so many ticks
+abbrev pub ticked : {H : Type 0} → Origin H → ℕ → Origin H
+ticked from ticks = record from { ticks = ticks }
 
 -- the trace grew by an entry
 pub accounts_grow : {H : Type 0} (told : H → BadgeState → List Reply → H → BadgeState → Type 0) (refused : H → BadgeState → Fault → Type 0) (oracle : IsOracle told refused) (from : Origin H) (trace trace' : TraceView) (hall hall' : H) (badge badge' : BadgeState)
-    (held : Option (List ℕ)) (failed : Bool) (written : ℕ) (inputs : List Event) (missing : List ℕ) (lost unkept : Bool) (entry : TraceEntry) → IsOpen trace
-    → Accounts told refused from (progress trace hall badge held failed written) inputs missing lost false → Grows trace trace' entry → Changes told refused trace failed hall hall' badge badge' entry.event
-    → (is_no_memory (kind_of entry.event) ≡ true → Lacked refused (progress trace' hall' badge' held failed written) (missing ++ texts (next_step trace entry).messages) ⊎ (unkept ≡ true))
-    → Accounts told refused from (progress trace' hall' badge' held failed written) (inputs ++ inputs_in entry.event) (missing ++ texts (next_step trace entry).messages) (lost || (loses (kind_of entry.event) || false)) unkept
-accounts_grow told refused oracle from trace trace' hall hall' badge badge' held failed written inputs missing lost unkept entry going a g c lacked =
+    (held : Option (List ℕ)) (failed : Bool) (written : ℕ) (ticks : ℕ) (inputs inputs' : List Event) (missing missing' : List ℕ) (lost lost' unkept : Bool) (entry : TraceEntry) → IsOpen trace
+    → (a : Accounts told refused from (progress trace hall badge held failed written) inputs missing lost false) → Grows trace trace' entry → Changes told refused trace failed hall hall' badge badge' entry.event
+    → Adds trace entry from.ticks ticks inputs inputs' missing missing' lost lost'
+    → (is_no_memory (kind_of entry.event) ≡ true → Lacked refused (progress trace' hall' badge' held failed written) missing' ⊎ (unkept ≡ true))
+    → AccountsOf told refused (ticked from ticks) (progress trace' hall' badge' held failed written) inputs' missing' lost' unkept (a.history ++ entry ∷ [])
+accounts_grow told refused oracle from trace trace' hall hall' badge badge' held failed written ticks inputs inputs' missing missing' lost lost' unkept entry going a g c adds lacked =
     let h : List TraceEntry = a.history in
     let s : Settings = from.settings in
     let step_is : next_step trace entry ≡ entry_step (account_of s h).count (session_of s h) entry =
@@ -208,58 +227,73 @@ accounts_grow told refused oracle from trace trace' hall hall' badge badge' held
     let sent : List Message = (next_step trace entry).messages in
     let sends_more : sends s (h ++ entry ∷ []) ≡ sends s h ++ sent = ap (λ (x : Account). x.sent) more ∙ ap (λ (m : Stepped). sends s h ++ m.messages) (sym step_is) in
     let session_is : trace.session ≡ session_of s h = a.stands.session ∙ ap (λ (x : Settings). session_of x h) a.settings in
-    let replies_more : replies s (h ++ entry ∷ []) ≡ replies s h ++ replies_to (pending_question trace.session) entry.event =
+    let given : List Reply = replies_to (pending_question trace.session) entry.event in
+    let replies_more : replies s (h ++ entry ∷ []) ≡ replies s h ++ given =
     ap (λ (x : Account). x.replies) more ∙ ap (λ (x : SessionState). replies s h ++ replies_to (pending_question x) entry.event) (sym session_is) in
+    let answers : length (replies s (h ++ entry ∷ [])) ≡ length (replies s h) + length given = ap length replies_more ∙ length-append (replies s h) given in
+    let counted : number_of is_told h ≡ length (replies s h) = a.each_told in
+    let one : length given ≡ cond (is_told (kind_of entry.event)) 1 0 = c.one_told in
+    let beats : number_of is_tick h ≡ from.ticks = a.ticks_are in
+    let ticks_more : ticks ≡ from.ticks + cond (is_tick (kind_of entry.event)) 1 0 = adds.ticks_are in
     record {
-      settings = g.settings ∙ a.settings;
-      history = h ++ entry ∷ [];
-      stands = g.history h a.stands;
-      wrote = record {
-        sent = a.wrote.sent;
-        parts =
-            ap texts sends_more ∙ flat_map-append text (sends s h) sent
-            ∙ ap (λ (x : List ℕ). x ++ texts sent) a.wrote.parts ∙ append_assoc a.wrote.sent missing (texts sent);
-        appended = a.wrote.appended;
-        count = a.wrote.count;
+      accounts = record {
+        settings = g.settings ∙ a.settings;
+        history = h ++ entry ∷ [];
+        stands = g.history h a.stands;
+        wrote = record {
+          sent = a.wrote.sent;
+          parts =
+              ap texts sends_more ∙ flat_map-append text (sends s h) sent
+              ∙ ap (λ (x : List ℕ). x ++ texts sent) a.wrote.parts ∙ append_assoc a.wrote.sent missing (texts sent)
+              ∙ ap (λ (x : List ℕ). a.wrote.sent ++ x) adds.missing_are;
+          appended = a.wrote.appended;
+          count = a.wrote.count;
+        };
+        inputs_are = inputs_more h entry ∙ ap (λ (x : List Event). x ++ input_in entry.event) a.inputs_are ∙ adds.inputs_are;
+        prompt = EachPrompt_more s h entry a.prompt (λ b. ap (λ (x : SessionState). x.pending) (sym session_is) ∙ c.free b);
+        replies_are =
+            subst (λ (rs : List Reply). told from.hall from.badge rs hall' badge') (sym replies_more)
+            (oracle.next from.hall hall hall' from.badge badge badge' (replies s h) given a.replies_are c.told_next);
+        each_told = omega (arith, number_more is_told h entry, counted, one, answers);
+        write_fault = λ x. elim (or_true _ _ (sym (has_more is_write_fault h entry) ∙ x)) [ inl y ↦ a.write_fault y | inr y ↦ c.failed_told y ];
+        hall_full =
+            λ x. elim (or_true _ _ (sym (has_more is_hall_full h entry) ∙ x)) [
+              | inl y ↦ oracle.stays hall hall' badge badge' given c.told_next (a.hall_full y)
+              | inr y ↦ c.full_told y
+            ];
+        no_memory =
+            λ x. elim (or_true _ _ (sym (has_more is_no_memory h entry) ∙ x)) [
+              | inl y ↦ no_shortage told refused from (progress trace hall badge held failed written) inputs missing lost false a going y
+              | inr y ↦ lacked y
+            ];
+        ticks_are = omega (arith, number_more is_tick h entry, beats, ticks_more);
+        losses = has_more loses h entry ∙ ap (λ b. b || (loses (kind_of entry.event) || false)) a.losses ∙ adds.lost_is;
       };
-      inputs_are = inputs_more h entry ∙ ap (λ (x : List Event). x ++ inputs_in entry.event) a.inputs_are;
-      prompt = EachPrompt_more s h entry a.prompt (λ b. ap (λ (x : SessionState). x.pending) (sym session_is) ∙ c.free b);
-      replies_are =
-          subst (λ (rs : List Reply). told from.hall from.badge rs hall' badge') (sym replies_more)
-          (oracle.next from.hall hall hall' from.badge badge badge' (replies s h) (replies_to (pending_question trace.session) entry.event) a.replies_are c.told_next);
-      write_fault = λ x. elim (or_true _ _ (sym (has_more is_write_fault h entry) ∙ x)) [ inl y ↦ a.write_fault y | inr y ↦ c.failed_told y ];
-      hall_full =
-          λ x. elim (or_true _ _ (sym (has_more is_hall_full h entry) ∙ x)) [
-            | inl y ↦ oracle.stays hall hall' badge badge' (replies_to (pending_question trace.session) entry.event) c.told_next (a.hall_full y)
-            | inr y ↦ c.full_told y
-          ];
-      no_memory =
-          λ x. elim (or_true _ _ (sym (has_more is_no_memory h entry) ∙ x)) [
-            | inl y ↦ no_shortage told refused from (progress trace hall badge held failed written) inputs missing lost false a going y
-            | inr y ↦ lacked y
-          ];
-      no_tick = has_more is_tick h entry ∙ or_false _ _ a.no_tick c.no_tick;
-      losses = has_more loses h entry ∙ ap (λ b. b || (loses (kind_of entry.event) || false)) a.losses;
+      history_is = refl;
     }
 
 -- the trace rested, and stands for the same history
 pub accounts_rest : {H : Type 0} (told : H → BadgeState → List Reply → H → BadgeState → Type 0) (refused : H → BadgeState → Fault → Type 0) (from : Origin H) (trace trace' : TraceView) (hall : H) (badge : BadgeState)
     (held : Option (List ℕ)) (failed : Bool) (written : ℕ) (inputs : List Event) (missing : List ℕ) (lost : Bool) → IsOpen trace → IsAsBefore trace trace'
-    → Accounts told refused from (progress trace hall badge held failed written) inputs missing lost false → Accounts told refused from (progress trace' hall badge held failed written) inputs missing lost false
+    → (a : Accounts told refused from (progress trace hall badge held failed written) inputs missing lost false) → AccountsOf told refused from (progress trace' hall badge held failed written) inputs missing lost false a.history
 accounts_rest told refused from trace trace' hall badge held failed written inputs missing lost going r a =
     record {
-      settings = r.settings ∙ a.settings;
-      history = a.history;
-      stands = r.history a.history a.stands;
-      wrote = a.wrote;
-      inputs_are = a.inputs_are;
-      prompt = a.prompt;
-      replies_are = a.replies_are;
-      write_fault = a.write_fault;
-      hall_full = a.hall_full;
-      no_memory = λ h. no_shortage told refused from (progress trace hall badge held failed written) inputs missing lost false a going h;
-      no_tick = a.no_tick;
-      losses = a.losses;
+      accounts = record {
+        settings = r.settings ∙ a.settings;
+        history = a.history;
+        stands = r.history a.history a.stands;
+        wrote = a.wrote;
+        inputs_are = a.inputs_are;
+        prompt = a.prompt;
+        replies_are = a.replies_are;
+        each_told = a.each_told;
+        write_fault = a.write_fault;
+        hall_full = a.hall_full;
+        no_memory = λ h. no_shortage told refused from (progress trace hall badge held failed written) inputs missing lost false a going h;
+        ticks_are = a.ticks_are;
+        losses = a.losses;
+      };
+      history_is = refl;
     }
 
 as_it_is : (trace : TraceView) → IsAsBefore trace trace
@@ -280,15 +314,15 @@ ended_more trace trace' entry going g ends = ap (λ (s : SessionState). is_close
 
 -- ---- an event that loses messages
 
-loss_plain : (event : Event) → loses (kind_of event) ≡ true → (is_input (kind_of event) ≡ false) × (is_tick (kind_of event) ≡ false) × (begins (kind_of event) ≡ false) × (is_hall_full (kind_of event) ≡ false)
+pub loss_plain : (event : Event) → loses (kind_of event) ≡ true → (is_input (kind_of event) ≡ false) × (is_tick (kind_of event) ≡ false) × (begins (kind_of event) ≡ false) × (is_hall_full (kind_of event) ≡ false) × (is_told (kind_of event) ≡ false)
 loss_plain (events.Said item) e = absurd cc
 loss_plain (events.Broken fault) e = absurd cc
 loss_plain events.Tick e = absurd cc
 loss_plain (events.Told answer) e = absurd cc
 loss_plain events.ReaderEnd e = absurd cc
-loss_plain events.NoMemory e = (refl, refl, refl, refl)
+loss_plain events.NoMemory e = (refl, refl, refl, refl, refl)
 loss_plain events.HallFull e = absurd cc
-loss_plain events.WriteFault e = (refl, refl, refl, refl)
+loss_plain events.WriteFault e = (refl, refl, refl, refl, refl)
 
 loss_replies : (pending : Option Question) (event : Event) → loses (kind_of event) ≡ true → replies_to pending event ≡ []
 loss_replies pending (events.Said item) e = absurd cc
@@ -302,43 +336,71 @@ loss_replies pending events.HallFull e = absurd cc
 loss_replies None events.WriteFault e = refl
 loss_replies (Some question) events.WriteFault e = refl
 
+-- an event that is no tick adds none
+pub same_ticks : (n : ℕ) (b : Bool) → b ≡ false → n ≡ n + cond b 1 0
+same_ticks n false e = omega arith
+same_ticks n true e = absurd cc
+
+-- what isn't the hall's answer is no reply
+pub no_answer : (given : List Reply) (b : Bool) → given ≡ [] → b ≡ false → length given ≡ cond b 1 0
+no_answer [] false e f = refl
+no_answer [] true e f = absurd cc
+no_answer (reply ∷ given) b e f = absurd cc
+
+-- an event that is no input adds none
+pub same_inputs : (inputs : List Event) (event : Event) → is_input (kind_of event) ≡ false → inputs ++ input_in event ≡ inputs
+same_inputs inputs event e = ap (λ (is : List Event). inputs ++ is) (no_input event e) ∙ append-nil inputs
+
+-- a silent step adds no bytes
+pub same_missing : (missing : List ℕ) (sent : List Message) → sent ≡ [] → missing ++ texts sent ≡ missing
+same_missing missing sent none = ap (λ (ms : List Message). missing ++ texts ms) none ∙ append-nil missing
+
 -- a trace grew by an event by which messages are lost
 pub accounts_lost : {H : Type 0} (told : H → BadgeState → List Reply → H → BadgeState → Type 0) (refused : H → BadgeState → Fault → Type 0) (oracle : IsOracle told refused) (from : Origin H) (trace mid trace' : TraceView) (hall : H) (badge : BadgeState)
     (held : Option (List ℕ)) (failed : Bool) (written : ℕ) (inputs : List Event) (missing : List ℕ) (lost unkept : Bool) (entry : TraceEntry)
     → IsOpen trace → IsAsBefore trace mid → Grows mid trace' entry → IsLoss entry.event → (is_write_fault (kind_of entry.event) ≡ true → failed ≡ true)
     → (is_no_memory (kind_of entry.event) ≡ true → Lacked refused (progress trace' hall badge held failed written) missing ⊎ (unkept ≡ true))
-    → Accounts told refused from (progress trace hall badge held failed written) inputs missing lost false → Accounts told refused from (progress trace' hall badge held failed written) inputs missing true unkept
+    → (a : Accounts told refused from (progress trace hall badge held failed written) inputs missing lost false)
+    → AccountsOf told refused from (progress trace' hall badge held failed written) inputs missing true unkept (a.history ++ entry ∷ [])
 accounts_lost told refused oracle from trace mid trace' hall badge held failed written inputs missing lost unkept entry going r g l write lacked a =
     let going' = rest_open trace mid r going in
     let b = accounts_rest told refused from trace mid hall badge held failed written inputs missing lost going r a in
     let plain = loss_plain entry.event l.loses_messages in
-    let silent : (next_step mid entry).messages ≡ [] = silent_more mid trace' entry going' g (ended_more mid trace' entry going' g l.ends) in
+    let none = loss_replies (pending_question mid.session) entry.event l.loses_messages in
     let changes : Changes told refused mid failed hall hall badge badge entry.event =
     record {
       failed_told = write;
       full_told = λ e. not_both (is_hall_full (kind_of entry.event)) plain.3 e;
-      told_next = subst (λ (rs : List Reply). told hall badge rs hall badge) (sym (loss_replies (pending_question mid.session) entry.event l.loses_messages)) (oracle.none hall badge);
-      no_tick = plain.1;
+      told_next = subst (λ (rs : List Reply). told hall badge rs hall badge) (sym none) (oracle.none hall badge);
+      one_told = no_answer _ _ none plain.4;
       free = λ e. not_both (begins (kind_of entry.event)) plain.2 e;
     } in
-    let none : missing ++ texts (next_step mid entry).messages ≡ missing = ap (λ (ms : List Message). missing ++ texts ms) silent ∙ append-nil missing in
-    let grown = accounts_grow told refused oracle from mid trace' hall hall badge badge held failed written inputs missing lost unkept entry going' b g changes
-    (λ e. subst (λ (ms : List ℕ). Lacked refused (progress trace' hall badge held failed written) ms ⊎ (unkept ≡ true)) (sym none) (lacked e)) in
-    subst (λ b. Accounts told refused from (progress trace' hall badge held failed written) inputs missing b unkept) (or_last lost (loses (kind_of entry.event)) l.loses_messages)
-    (subst (λ (ms : List ℕ). Accounts told refused from (progress trace' hall badge held failed written) inputs ms (lost || (loses (kind_of entry.event) || false)) unkept) none
-    (subst (λ (is : List Event). Accounts told refused from (progress trace' hall badge held failed written) is (missing ++ texts (next_step mid entry).messages) (lost || (loses (kind_of entry.event) || false)) unkept) (ap (λ (is : List Event). inputs ++ is) (no_input entry.event plain.0) ∙ append-nil inputs) grown))
+    let adds : Adds mid entry from.ticks from.ticks inputs inputs missing missing lost true =
+    record {
+      ticks_are = same_ticks from.ticks (is_tick (kind_of entry.event)) plain.1;
+      inputs_are = same_inputs inputs entry.event plain.0;
+      missing_are = same_missing missing _ (silent_more mid trace' entry going' g (ended_more mid trace' entry going' g l.ends));
+      lost_is = or_last lost (loses (kind_of entry.event)) l.loses_messages;
+    } in
+    subst (λ (h : List TraceEntry). AccountsOf told refused from (progress trace' hall badge held failed written) inputs missing true unkept (h ++ entry ∷ [])) b.history_is
+    (accounts_grow told refused oracle from mid trace' hall hall badge badge held failed written from.ticks inputs inputs missing missing lost true unkept entry going' b.accounts g changes adds lacked)
 
 pub no_memory_loss : IsLoss events.NoMemory
 no_memory_loss = record { loses_messages = refl; ends = refl }
 
+-- want of memory as an entry
+abbrev pub ran_out : TraceEntry
+ran_out = record { event = events.NoMemory; starved = false }
+
 -- a trace that ended for want of memory
 pub accounts_ran : {H : Type 0} (told : H → BadgeState → List Reply → H → BadgeState → Type 0) (refused : H → BadgeState → Fault → Type 0) (oracle : IsOracle told refused) (from : Origin H) (trace trace' : TraceView) (hall : H) (badge : BadgeState)
     (held : Option (List ℕ)) (failed : Bool) (written : ℕ) (inputs : List Event) (missing : List ℕ) (lost unkept : Bool)
-    → IsOpen trace → Readied trace trace' false → Accounts told refused from (progress trace hall badge held failed written) inputs missing lost false → Accounts told refused from (progress trace' hall badge held failed written) inputs missing true unkept
+    → IsOpen trace → Readied trace trace' false → (a : Accounts told refused from (progress trace hall badge held failed written) inputs missing lost false)
+    → AccountsOf told refused from (progress trace' hall badge held failed written) inputs missing true unkept (a.history ++ ran_out ∷ [])
 accounts_ran told refused oracle from trace trace' hall badge held failed written inputs missing lost unkept going (inl r) a =
-    accounts_lost told refused oracle from trace r.between trace' hall badge held failed written inputs missing lost unkept (record { event = events.NoMemory; starved = false }) going r.rests.same r.grows no_memory_loss (λ e. absurd cc) (λ _. inl (inl (inl r.room))) a
+    accounts_lost told refused oracle from trace r.between trace' hall badge held failed written inputs missing lost unkept ran_out going r.rests.same r.grows no_memory_loss (λ e. absurd cc) (λ _. inl (inl (inl r.room))) a
 accounts_ran told refused oracle from trace trace' hall badge held failed written inputs missing lost unkept going (inr l) a =
-    accounts_lost told refused oracle from trace trace trace' hall badge held failed written inputs missing lost unkept (record { event = events.NoMemory; starved = false }) going (as_it_is trace) l.grows no_memory_loss (λ e. absurd cc)
+    accounts_lost told refused oracle from trace trace trace' hall badge held failed written inputs missing lost unkept ran_out going (as_it_is trace) l.grows no_memory_loss (λ e. absurd cc)
     (λ _. inl (inl (inr record { before = trace; lacks = l }))) a
 
 -- it is over
@@ -363,7 +425,7 @@ answer_changes told refused trace failed hall hall' badge badge' question (event
       failed_told = λ e. absurd cc;
       full_told = λ e. absurd cc;
       told_next = subst (λ (rs : List Reply). told hall badge rs hall' badge') (sym (reply_is (pending_question trace.session) question answer stands)) a.0;
-      no_tick = refl;
+      one_told = ap length (reply_is (pending_question trace.session) question answer stands);
       free = λ e. absurd cc;
     }
 answer_changes told refused trace failed hall hall' badge badge' question events.HallFull stands a =
@@ -371,7 +433,7 @@ answer_changes told refused trace failed hall hall' badge badge' question events
       failed_told = λ e. absurd cc;
       full_told = λ e. a.1;
       told_next = subst (λ (rs : List Reply). told hall badge rs hall' badge') (sym (no_reply (pending_question trace.session)).0) a.0;
-      no_tick = refl;
+      one_told = ap length (no_reply (pending_question trace.session)).0;
       free = λ e. absurd cc;
     }
 answer_changes told refused trace failed hall hall' badge badge' question events.NoMemory stands a =
@@ -379,7 +441,7 @@ answer_changes told refused trace failed hall hall' badge badge' question events
       failed_told = λ e. absurd cc;
       full_told = λ e. absurd cc;
       told_next = subst (λ (rs : List Reply). told hall badge rs hall' badge') (sym (no_reply (pending_question trace.session)).1) a.0;
-      no_tick = refl;
+      one_told = ap length (no_reply (pending_question trace.session)).1;
       free = λ e. absurd cc;
     }
 answer_changes told refused trace failed hall hall' badge badge' question (events.Said item) stands a = absurd a
@@ -388,16 +450,16 @@ answer_changes told refused trace failed hall hall' badge badge' question events
 answer_changes told refused trace failed hall hall' badge badge' question events.ReaderEnd stands a = absurd a
 answer_changes told refused trace failed hall hall' badge badge' question events.WriteFault stands a = absurd a
 
-answer_no_input : {H : Type 0} (told : H → BadgeState → List Reply → H → BadgeState → Type 0) (refused : H → BadgeState → Fault → Type 0) (hall hall' : H) (badge badge' : BadgeState) (question : Question) (event : Event)
-    → AnswerOf told refused hall badge hall' badge' question event → is_input (kind_of event) ≡ false
-answer_no_input told refused hall hall' badge badge' question (events.Told answer) a = refl
-answer_no_input told refused hall hall' badge badge' question events.HallFull a = refl
-answer_no_input told refused hall hall' badge badge' question events.NoMemory a = refl
-answer_no_input told refused hall hall' badge badge' question (events.Said item) a = absurd a
-answer_no_input told refused hall hall' badge badge' question (events.Broken fault) a = absurd a
-answer_no_input told refused hall hall' badge badge' question events.Tick a = absurd a
-answer_no_input told refused hall hall' badge badge' question events.ReaderEnd a = absurd a
-answer_no_input told refused hall hall' badge badge' question events.WriteFault a = absurd a
+answer_plain : {H : Type 0} (told : H → BadgeState → List Reply → H → BadgeState → Type 0) (refused : H → BadgeState → Fault → Type 0) (hall hall' : H) (badge badge' : BadgeState) (question : Question) (event : Event)
+    → AnswerOf told refused hall badge hall' badge' question event → (is_input (kind_of event) ≡ false) × (is_tick (kind_of event) ≡ false)
+answer_plain told refused hall hall' badge badge' question (events.Told answer) a = (refl, refl)
+answer_plain told refused hall hall' badge badge' question events.HallFull a = (refl, refl)
+answer_plain told refused hall hall' badge badge' question events.NoMemory a = (refl, refl)
+answer_plain told refused hall hall' badge badge' question (events.Said item) a = absurd a
+answer_plain told refused hall hall' badge badge' question (events.Broken fault) a = absurd a
+answer_plain told refused hall hall' badge badge' question events.Tick a = absurd a
+answer_plain told refused hall hall' badge badge' question events.ReaderEnd a = absurd a
+answer_plain told refused hall hall' badge badge' question events.WriteFault a = absurd a
 
 -- the hall refused it for want of memory
 answer_lacked : {H : Type 0} (told : H → BadgeState → List Reply → H → BadgeState → Type 0) (refused : H → BadgeState → Fault → Type 0) (hall hall' : H) (badge badge' : BadgeState) (question : Question) (event : Event)
@@ -419,15 +481,17 @@ pub accounts_asked : {H : Type 0} (told : H → BadgeState → List Reply → H 
 accounts_asked told refused oracle from trace mid trace' hall hall' badge badge' held failed written inputs question event sent asked going r stands answer t a =
     let b = accounts_rest told refused from trace mid hall badge held failed written inputs [] false going r a in
     let stands' : pending_question mid.session ≡ Some question = ap pending_question r.session ∙ stands in
-    let grown = accounts_grow told refused oracle from mid trace' hall hall' badge badge' held failed written inputs [] false false (record { event = event; starved = t.starved }) (rest_open trace mid r going) b t.grows
-    (answer_changes told refused mid failed hall hall' badge badge' question event stands' answer) (λ e. inl (inr (inl (answer_lacked told refused hall hall' badge badge' question event answer e)))) in
+    let plain = answer_plain told refused hall hall' badge badge' question event answer in
+    let adds : Adds mid (record { event = event; starved = t.starved }) from.ticks from.ticks inputs inputs [] (texts sent) false (loses (kind_of event) || false) =
     record {
-      lost = loses (kind_of event) || false;
-      accounts =
-          subst (λ (ms : List Message). Accounts told refused from (progress trace' hall' badge' held failed written) inputs (texts ms) (loses (kind_of event) || false) false) (sym t.messages)
-          (subst (λ (is : List Event). Accounts told refused from (progress trace' hall' badge' held failed written) is (texts (next_step mid (record { event = event; starved = t.starved })).messages) (loses (kind_of event) || false) false)
-          (ap (λ (is : List Event). inputs ++ is) (no_input event (answer_no_input told refused hall hall' badge badge' question event answer)) ∙ append-nil inputs) grown);
-    }
+      ticks_are = same_ticks from.ticks (is_tick (kind_of event)) plain.1;
+      inputs_are = same_inputs inputs event plain.0;
+      missing_are = ap texts (sym t.messages);
+      lost_is = refl;
+    } in
+    let grown = accounts_grow told refused oracle from mid trace' hall hall' badge badge' held failed written from.ticks inputs inputs [] (texts sent) false (loses (kind_of event) || false) false (record { event = event; starved = t.starved }) (rest_open trace mid r going) b.accounts t.grows
+    (answer_changes told refused mid failed hall hall' badge badge' question event stands' answer) adds (λ e. inl (inr (inl (answer_lacked told refused hall hall' badge badge' question event answer e)))) in
+    record { lost = loses (kind_of event) || false; accounts = grown.accounts }
 
 -- ---- what is left to be answered
 
@@ -513,6 +577,12 @@ may_ask before after trace asked (inr same) kept question some going = absurd (l
 pub may_ask_on : (trace : TraceView) (asked : Option Question) → IsPending trace asked → MayAsk trace asked
 may_ask_on trace asked is question some going = sym (is going) ∙ some
 
+-- what may be asked may be asked where the trace is as it was, if it goes on
+pub may_ask_kept : (trace trace' : TraceView) (asked : Option Question) → (is_closed trace'.session.state ≡ false → trace' ≡ trace) → MayAsk trace asked → MayAsk trace' asked
+may_ask_kept trace trace' asked kept may question some going =
+    let same : trace' ≡ trace = kept going in
+    ap (λ (t : TraceView). pending_question t.session) same ∙ may question some (ap (λ (t : TraceView). is_closed t.session.state) (sym same) ∙ going)
+
 -- what is open goes on to where the trace is as it was, if it goes on
 pub pending_on : (trace trace' : TraceView) (asked : Option Question) → (is_closed trace'.session.state ≡ false → trace' ≡ trace) → IsPending trace asked → IsPending trace' asked
 pending_on trace trace' asked kept is going =
@@ -528,43 +598,51 @@ silent_step trace trace' event sent asked going t closed = t.messages ∙ silent
 counted_more : (x y : List ℕ) (n k m : ℕ) → n ≡ counted x → k ≡ counted y → m ≡ min (n + k) (2 ^ 64 - 1) → m ≡ counted (x ++ y)
 counted_more x y n k m a b e = omega (arith, length-append x y)
 
--- where nothing was to be written, what lacked memory is still so
-lacked_still : {H : Type 0} (refused : H → BadgeState → Fault → Type 0) (trace : TraceView) (hall : H) (badge : BadgeState) (held held' : Option (List ℕ)) (failed failed' : Bool) (written written' : ℕ) (text missing : List ℕ) → text ≡ []
-    → Lacked refused (progress trace hall badge held failed written) text ⊎ (false ≡ true) → Lacked refused (progress trace hall badge held' failed' written') missing ⊎ (false ≡ true)
-lacked_still refused trace hall badge held held' failed failed' written written' text missing none (inl (inl place)) = inl (inl place)
-lacked_still refused trace hall badge held held' failed failed' written written' text missing none (inl (inr (inl call))) = inl (inr (inl call))
-lacked_still refused trace hall badge held held' failed failed' written written' text missing none (inl (inr (inr some))) = absurd (some none)
-lacked_still refused trace hall badge held held' failed failed' written written' text missing none (inr e) = inr e
+append_right : {T : Type 0} (xs ys : List T) → xs ++ ys ≡ [] → ys ≡ []
+append_right [] ys e = e
+append_right (x ∷ xs) ys e = absurd cc
 
--- some of what was to be written went out
+-- where nothing was to be written but what follows, what lacked memory is still so
+lacked_still : {H : Type 0} (refused : H → BadgeState → Fault → Type 0) (trace : TraceView) (hall : H) (badge : BadgeState) (held held' : Option (List ℕ)) (failed failed' : Bool) (written written' : ℕ) (text rest following : List ℕ) → text ≡ []
+    → Lacked refused (progress trace hall badge held failed written) (text ++ following) ⊎ (false ≡ true) → Lacked refused (progress trace hall badge held' failed' written') (rest ++ following) ⊎ (false ≡ true)
+lacked_still refused trace hall badge held held' failed failed' written written' text rest following none (inl (inl place)) = inl (inl place)
+lacked_still refused trace hall badge held held' failed failed' written written' text rest following none (inl (inr (inl call))) = inl (inr (inl call))
+lacked_still refused trace hall badge held held' failed failed' written written' text rest following none (inl (inr (inr some))) =
+    inl (inr (inr (λ e. some (ap (λ (x : List ℕ). x ++ following) none ∙ append_right rest following e))))
+lacked_still refused trace hall badge held held' failed failed' written written' text rest following none (inr e) = inr e
+
+-- some of what was to be written went out, before what follows it
 pub accounts_wrote : {H : Type 0} (told : H → BadgeState → List Reply → H → BadgeState → Type 0) (refused : H → BadgeState → Fault → Type 0) (from : Origin H) (trace : TraceView) (hall : H) (badge : BadgeState)
-    (held held' : Option (List ℕ)) (failed failed' : Bool) (written written' n : ℕ) (inputs : List Event) (text missing : List ℕ) (lost : Bool)
-    → (is_closed trace.session.state ≡ true → text ≡ []) → Wrote held held' text n missing → written' ≡ min (written + n) (2 ^ 64 - 1) → (failed ≡ true → failed' ≡ true)
-    → Accounts told refused from (progress trace hall badge held failed written) inputs text lost false → Accounts told refused from (progress trace hall badge held' failed' written') inputs missing lost false
-accounts_wrote told refused from trace hall badge held held' failed failed' written written' n inputs text missing lost silent w count stays a =
+    (held held' : Option (List ℕ)) (failed failed' : Bool) (written written' n : ℕ) (inputs : List Event) (text rest following : List ℕ) (lost : Bool)
+    → (is_closed trace.session.state ≡ true → text ≡ []) → Wrote held held' text n rest → written' ≡ min (written + n) (2 ^ 64 - 1) → (failed ≡ true → failed' ≡ true)
+    → Accounts told refused from (progress trace hall badge held failed written) inputs (text ++ following) lost false → Accounts told refused from (progress trace hall badge held' failed' written') inputs (rest ++ following) lost false
+accounts_wrote told refused from trace hall badge held held' failed failed' written written' n inputs text rest following lost silent w count stays a =
     record {
       settings = a.settings;
       history = a.history;
       stands = a.stands;
       wrote = record {
         sent = a.wrote.sent ++ w.sent;
-        parts = a.wrote.parts ∙ ap (λ (x : List ℕ). a.wrote.sent ++ x) w.parts ∙ sym (append_assoc a.wrote.sent w.sent missing);
+        parts =
+            a.wrote.parts ∙ ap (λ (x : List ℕ). a.wrote.sent ++ (x ++ following)) w.parts
+            ∙ ap (λ (x : List ℕ). a.wrote.sent ++ x) (append_assoc w.sent rest following) ∙ sym (append_assoc a.wrote.sent w.sent (rest ++ following));
         appended = Appends-then from.held held held' a.wrote.sent w.sent a.wrote.appended w.appended;
         count = counted_more a.wrote.sent w.sent written n written' a.wrote.count w.count count;
       };
       inputs_are = a.inputs_are;
       prompt = a.prompt;
       replies_are = a.replies_are;
+      each_told = a.each_told;
       write_fault = λ h. stays (a.write_fault h);
       hall_full = a.hall_full;
       no_memory =
-          let by_state : (b : Bool) → is_closed trace.session.state ≡ b → has_kind is_no_memory a.history ≡ true → Lacked refused (progress trace hall badge held' failed' written') missing ⊎ (false ≡ true) =
+          let by_state : (b : Bool) → is_closed trace.session.state ≡ b → has_kind is_no_memory a.history ≡ true → Lacked refused (progress trace hall badge held' failed' written') (rest ++ following) ⊎ (false ≡ true) =
           elim [
-            | true ↦ λ over h. lacked_still refused trace hall badge held held' failed failed' written written' text missing (silent over) (a.no_memory h)
-            | false ↦ λ going h. no_shortage told refused from (progress trace hall badge held failed written) inputs text lost false a going h
+            | true ↦ λ over h. lacked_still refused trace hall badge held held' failed failed' written written' text rest following (silent over) (a.no_memory h)
+            | false ↦ λ going h. no_shortage told refused from (progress trace hall badge held failed written) inputs (text ++ following) lost false a going h
           ] in
           by_state (is_closed trace.session.state) refl;
-      no_tick = a.no_tick;
+      ticks_are = a.ticks_are;
       losses = a.losses;
     }
 
@@ -598,6 +676,10 @@ whole_missing messages old new written part zero some none =
     let nothing : part.wrote.sent ≡ [] = counted_none part.wrote.sent (sym zero ∙ part.wrote.count) in
     texts_some messages some (part.wrote.parts ∙ ap (λ (x : List ℕ). x ++ part.missing) nothing ∙ none)
 
+-- and with what follows them
+pub front_some : {T : Type 0} (xs ys : List T) → xs ≢ [] → xs ++ ys ≢ []
+front_some xs ys some e = some (append_left xs ys e)
+
 -- ---- giving an input
 
 -- there was no room for an input
@@ -613,58 +695,18 @@ gave_none told refused from now inputs missing event a closed =
       which = inr (refl, closed);
     }
 
--- an input is no answer, no tick, and says nothing of the sink or the hall
-record IsPlain (event : Event) : Type 0 where
-  no_tick : is_tick (kind_of event) ≡ false
-  no_write : is_write_fault (kind_of event) ≡ false
-  no_hall : is_hall_full (kind_of event) ≡ false
-  no_shortage : is_no_memory (kind_of event) ≡ false
-  replies_none : (pending : Option Question) → replies_to pending event ≡ []
-
-input_plain : (event : Event) → is_input (kind_of event) ≡ true → IsPlain event
-input_plain (events.Said item) e = record { no_tick = refl; no_write = refl; no_hall = refl; no_shortage = refl; replies_none = elim [ None ↦ refl | Some q ↦ refl ] }
-input_plain (events.Broken fault) e = record { no_tick = refl; no_write = refl; no_hall = refl; no_shortage = refl; replies_none = elim [ None ↦ refl | Some q ↦ refl ] }
-input_plain events.Tick e = absurd cc
-input_plain (events.Told answer) e = absurd cc
-input_plain events.ReaderEnd e = record { no_tick = refl; no_write = refl; no_hall = refl; no_shortage = refl; replies_none = elim [ None ↦ refl | Some q ↦ refl ] }
-input_plain events.NoMemory e = absurd cc
-input_plain events.HallFull e = absurd cc
-input_plain events.WriteFault e = absurd cc
-
--- an input was given, and its messages are on their way
-pub accounts_input : {H : Type 0} (told : H → BadgeState → List Reply → H → BadgeState → Type 0) (refused : H → BadgeState → Fault → Type 0) (oracle : IsOracle told refused) (from : Origin H) (trace mid trace' : TraceView) (hall : H) (badge : BadgeState)
-    (held : Option (List ℕ)) (failed : Bool) (written : ℕ) (inputs : List Event) (event : Event) (sent : List Message) (asked : Option Question)
-    → IsOpen trace → IsAsBefore trace mid → is_input (kind_of event) ≡ true → TraceSteps mid trace' event sent asked
-    → Settled told refused from (progress trace hall badge held failed written) inputs false → Underway told refused from (progress trace' hall badge held failed written) (inputs ++ event ∷ []) (texts sent) false
-accounts_input told refused oracle from trace mid trace' hall badge held failed written inputs event sent asked going r input t s =
-    let p = input_plain event input in
-    let a = open_whole told refused from (progress trace hall badge held failed written) inputs s.sent going in
-    let b = accounts_rest told refused from trace mid hall badge held failed written inputs [] false going r a in
-    let free : mid.session.pending ≡ None = ap (λ (x : SessionState). x.pending) r.session ∙ s.answered going in
-    let changes : Changes told refused mid failed hall hall badge badge event =
-    record {
-      failed_told = λ h. not_both (is_write_fault (kind_of event)) p.no_write h;
-      full_told = λ h. not_both (is_hall_full (kind_of event)) p.no_hall h;
-      told_next = subst (λ (rs : List Reply). told hall badge rs hall badge) (sym (p.replies_none (pending_question mid.session))) (oracle.none hall badge);
-      no_tick = p.no_tick;
-      free = λ h. free;
-    } in
-    let grown = accounts_grow told refused oracle from mid trace' hall hall badge badge held failed written inputs [] false false (record { event = event; starved = t.starved }) (rest_open trace mid r going) b t.grows changes
-    (λ e. not_both (is_no_memory (kind_of event)) p.no_shortage e) in
-    record {
-      lost = loses (kind_of event) || false;
-      accounts =
-          subst (λ (ms : List Message). Accounts told refused from (progress trace' hall badge held failed written) (inputs ++ event ∷ []) (texts ms) (loses (kind_of event) || false) false) (sym t.messages)
-          (subst (λ (is : List Event). Accounts told refused from (progress trace' hall badge held failed written) (inputs ++ is) (texts (next_step mid (record { event = event; starved = t.starved })).messages) (loses (kind_of event) || false) false) (one_input event input) grown);
-    }
-
 -- ---- one conversation
 
 -- messages were on their way, and went out or were lost
-pub sent_ok : {H : Type 0} (told : H → BadgeState → List Reply → H → BadgeState → Type 0) (refused : H → BadgeState → Fault → Type 0) (from : Origin H) (now : Progress H) (inputs : List Event) (lost : Bool)
-    → Accounts told refused from now inputs [] lost false → (now.failed ≡ true → from.failed ≡ true) → Sent told refused from now inputs false
-sent_ok told refused from now inputs lost a before = record { missing = []; lost = lost; accounts = a; whole = λ h. refl; told_loss = λ h. inl (before h) }
+pub sent_ok : {H : Type 0} (told : H → BadgeState → List Reply → H → BadgeState → Type 0) (refused : H → BadgeState → Fault → Type 0) (from : Origin H) (now : Progress H) (inputs : List Event) (missing later : List ℕ) (lost : Bool)
+    → Accounts told refused from now inputs missing lost false → missing ≡ later → (now.failed ≡ true → from.failed ≡ true) → Sent told refused from now inputs later false
+sent_ok told refused from now inputs missing later lost a e before = record { missing = missing; lost = lost; accounts = a; whole = λ h. e; told_loss = λ h. inl (before h) }
 
-pub sent_lost : {H : Type 0} (told : H → BadgeState → List Reply → H → BadgeState → Type 0) (refused : H → BadgeState → Fault → Type 0) (from : Origin H) (now : Progress H) (inputs : List Event) (missing : List ℕ) (unkept : Bool)
-    → Accounts told refused from now inputs missing true unkept → Sent told refused from now inputs unkept
-sent_lost told refused from now inputs missing unkept a = record { missing = missing; lost = true; accounts = a; whole = λ h. absurd (let clash : true ≡ false = h in cc); told_loss = λ h. inr refl }
+pub sent_lost : {H : Type 0} (told : H → BadgeState → List Reply → H → BadgeState → Type 0) (refused : H → BadgeState → Fault → Type 0) (from : Origin H) (now : Progress H) (inputs : List Event) (missing later : List ℕ) (unkept : Bool)
+    → Accounts told refused from now inputs missing true unkept → Sent told refused from now inputs later unkept
+sent_lost told refused from now inputs missing later unkept a = record { missing = missing; lost = true; accounts = a; whole = λ h. absurd (let clash : true ≡ false = h in cc); told_loss = λ h. inr refl }
+
+-- with nothing that follows
+pub underway_nil : {H : Type 0} (told : H → BadgeState → List Reply → H → BadgeState → Type 0) (refused : H → BadgeState → Fault → Type 0) (from : Origin H) (now : Progress H) (inputs : List Event) (missing : List ℕ) (unkept : Bool)
+    → Underway told refused from now inputs missing unkept → Underway told refused from now inputs (missing ++ []) unkept
+underway_nil told refused from now inputs missing unkept u = subst (λ (ms : List ℕ). Underway told refused from now inputs ms unkept) (sym (append-nil missing)) u

@@ -17,11 +17,11 @@ use Rattle.cb_peer_state.specs.State.{is_closed}
 use Rattle.cb_trace.specs.Fold.{account_of, session_of}
 use Rattle.cb_trace.specs.Prompt.{NonePending}
 use Rattle.cb_trace.specs.Trace.{StandsFor, TraceView}
-use Rattle.cb_session.specs.declared.reading.ReadEnd.{ReadEnd}
-use Rattle.cb_session.specs.declared.reading.ReadEnd.TheVariants as ends
-use Rattle.cb_session.specs.Conversation.{Gave, IsAnswered, Origin, Progress, Settled, Underway, origin_of, progress}
+use Rattle.cb_io.specs.declared.read_end.ReadEnd.{ReadEnd}
+use Rattle.cb_io.specs.declared.read_end.ReadEnd.TheVariants as ends
+use Rattle.cb_session.specs.Conversation.{Gave, IsAnswered, Origin, Progress, Settled, origin_of, progress}
 use Rattle.cb_session.specs.Serving.{Heard, HeardBy, IsInOrder, Serves, broken, end_mark, queue, said}
-use Rattle.cb_session.proofs.Accounts.{IsOracle, open_kept}
+use Rattle.cb_session.proofs.Accounts.{AccountsOf, IsOracle, open_kept}
 use Rattle.cb_session.proofs.Inputs.{in_order_ended, in_order_stopped}
 
 -- ---- the end
@@ -106,14 +106,13 @@ serves_at {H = H} told refused from input input' remaining remaining' read_faile
 
 -- ---- the beginning
 
--- a trace with no entries, whose opening messages are on their way
-pub underway_first : {H : Type 0} (told : H → BadgeState → List Reply → H → BadgeState → Type 0) (refused : H → BadgeState → Fault → Type 0) (oracle : IsOracle told refused) (settings : Settings) (trace : TraceView) (hall : H) (badge : BadgeState)
+-- a trace with no entries, whose opening messages are still to be written
+pub accounts_first : {H : Type 0} (told : H → BadgeState → List Reply → H → BadgeState → Type 0) (refused : H → BadgeState → Fault → Type 0) (oracle : IsOracle told refused) (settings : Settings) (trace : TraceView) (hall : H) (badge : BadgeState)
     (held : Option (List ℕ)) (failed : Bool) (messages : List Message) → trace.settings ≡ settings → StandsFor trace [] → messages ≡ openings settings
-    → Underway told refused (origin_of settings hall badge held failed) (progress trace hall badge held failed 0) [] (texts messages) false
+    → AccountsOf told refused (origin_of settings hall badge held failed) (progress trace hall badge held failed 0) [] (texts messages) false false []
 unfolding account_of
-underway_first told refused oracle settings trace hall badge held failed messages s stands m =
+accounts_first told refused oracle settings trace hall badge held failed messages s stands m =
     record {
-      lost = false;
       accounts = record {
         settings = s;
         history = [];
@@ -122,12 +121,14 @@ underway_first told refused oracle settings trace hall badge held failed message
         inputs_are = refl;
         prompt = tt;
         replies_are = oracle.none hall badge;
+        each_told = refl;
         write_fault = λ h. absurd cc;
         hall_full = λ h. absurd cc;
         no_memory = λ h. absurd cc;
-        no_tick = refl;
+        ticks_are = refl;
         losses = refl;
       };
+      history_is = refl;
     }
 
 -- nothing is pending in a trace with no entries

@@ -27,8 +27,8 @@ use Rattle.cb_peer_state.specs.Event.{is_input, is_reader_end, kind_of}
 use Rattle.cb_peer_state.specs.State.{is_closed}
 use Rattle.cb_trace.specs.Fold.{Account, EachOpen, account_of, account_step, first_account, inputs_of, session_of}
 use Rattle.cb_trace.proofs.Entries.{entry_bye}
-use Rattle.cb_session.specs.declared.reading.ReadEnd.{ReadEnd}
-use Rattle.cb_session.specs.declared.reading.ReadEnd.TheVariants as ends
+use Rattle.cb_io.specs.declared.read_end.ReadEnd.{ReadEnd}
+use Rattle.cb_io.specs.declared.read_end.ReadEnd.TheVariants as ends
 use Rattle.cb_session.specs.Conversation.{Accounts, Gave, GaveItem, Origin, Progress, Settled}
 use Rattle.cb_session.specs.Serving.{EndsSo, Heard, HeardBy, IsInOrder, Pieced, Took, broken, end_mark, has_end, queue, said}
 use Rattle.cb_session.proofs.Accounts.{ok_err, open_kept, sent_lost}
@@ -251,7 +251,7 @@ pieced_refused told refused from now bytes piece rest assembled items stream som
 -- an end by which messages are lost settles what is missing
 pub settled_lost : {H : Type 0} (told : H → BadgeState → List Reply → H → BadgeState → Type 0) (refused : H → BadgeState → Fault → Type 0) (from : Origin H) (now : Progress H) (inputs : List Event) (missing : List ℕ) (unkept : Bool) → Accounts told refused from now inputs missing true unkept → is_closed now.trace.session.state ≡ true → Settled told refused from now inputs unkept
 settled_lost told refused from now inputs missing unkept a closed =
-    record { sent = sent_lost told refused from now inputs missing unkept a; answered = λ h. absurd (let clash = sym h ∙ closed in cc) }
+    record { sent = sent_lost told refused from now inputs missing [] unkept a; answered = λ h. absurd (let clash = sym h ∙ closed in cc) }
 
 -- ---- reading
 

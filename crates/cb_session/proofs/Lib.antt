@@ -1,3 +1,4 @@
 pub mod Accounts
 pub mod Ending
 pub mod Inputs
+pub mod Standing

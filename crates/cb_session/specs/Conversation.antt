@@ -1,5 +1,5 @@
 -- A conversation: what came in, what went out, and what was asked and answered, at any moment.
-use Rattle.std.specs.Prelude.{◌≡◌, ◌≢◌, ℕ, ◌⊎◌, Bool, true, false, List, [], ◌∷◌, ◌++◌, Option, None, Some, if◌then◌else◌}
+use Rattle.std.specs.Prelude.{◌≡◌, ◌≢◌, ℕ, ◌+◌, ◌-◌, ◌^◌, min, ◌⊎◌, Bool, true, false, List, [], ◌∷◌, ◌++◌, length, Option, None, Some, if◌then◌else◌}
 use Rattle.cb_base.specs.declared.fault.Fault.{Fault}
 use Rattle.cb_base.specs.declared.fault.Fault.TheVariants.{JournalFull, Memory}
 use Rattle.cb_wire.specs.declared.item.Item.{Item}
@@ -13,9 +13,9 @@ use Rattle.cb_peer_state.specs.declared.event.Event.{Event}
 use Rattle.cb_peer_state.specs.declared.event.Event.TheVariants as events
 use Rattle.cb_trace.specs.declared.trace.TraceEntry.{TraceEntry}
 use Rattle.cb_peer_state.specs.Questions.{fits, questions_left, pending_question}
-use Rattle.cb_peer_state.specs.Event.{ends_at_once, is_hall_full, is_no_memory, is_tick, is_write_fault, kind_of, loses}
+use Rattle.cb_peer_state.specs.Event.{ends_at_once, is_hall_full, is_input, is_no_memory, is_tick, is_told, is_write_fault, kind_of, loses}
 use Rattle.cb_peer_state.specs.State.{is_closed}
-use Rattle.cb_trace.specs.Fold.{first_account, has_kind, inputs_of, replies, sends}
+use Rattle.cb_trace.specs.Fold.{first_account, has_kind, inputs_of, number_of, replies, sends}
 use Rattle.cb_trace.specs.Prompt.{EachPrompt}
 use Rattle.cb_trace.specs.Trace.{LacksBase, StandsFor, TraceView}
 use Rattle.cb_session.specs.declared.conversation.Conversation.{Conversation}
@@ -27,16 +27,34 @@ SameReferences old new =
     × (new.hall.ghost_name ≡ old.hall.ghost_name) × (new.badge.ghost_name ≡ old.badge.ghost_name)
 
 -- Where a conversation began: the settings, the hall and the badge, what the sink held, and whether
--- it had failed.
+-- it had failed. And how many ticks the session was given since.
 pub record Origin (H : Type 0) : Type 0 where
   pub settings : Settings
   pub hall : H
   pub badge : BadgeState
   pub held : Option (List ℕ)
   pub failed : Bool
+  pub ticks : ℕ
 
+-- A conversation that began here and was given no tick.
 abbrev pub origin_of : {H : Type 0} → Settings → H → BadgeState → Option (List ℕ) → Bool → Origin H
-origin_of settings hall badge held failed = record { settings = settings; hall = hall; badge = badge; held = held; failed = failed }
+origin_of settings hall badge held failed = record { settings = settings; hall = hall; badge = badge; held = held; failed = failed; ticks = 0 }
+
+-- The session was given one more tick.
+abbrev pub with_tick : {H : Type 0} → Origin H → Origin H
+with_tick from = record from { ticks = from.ticks + 1 }
+
+-- The session was given one more event, which is counted if it is a tick.
+abbrev pub with_event : {H : Type 0} → Origin H → Event → Origin H
+with_event from event = if is_tick (kind_of event) then with_tick from else from
+
+-- The event as a list of inputs, which is empty if it is none.
+abbrev pub input_in : Event → List Event
+input_in event = if is_input (kind_of event) then event ∷ [] else []
+
+-- The number after so many more, as a u64 that stops at its maximum.
+abbrev pub number_after : ℕ → ℕ → ℕ
+number_after number more = min (number + more) (2 ^ 64 - 1)
 
 -- How far a conversation is: the trace, the hall and the badge, what the sink holds, whether it has
 -- failed, and the number of bytes written.
@@ -86,11 +104,13 @@ pub record Accounts {H : Type 0} (told : H → BadgeState → List Reply → H �
   pub prompt : EachPrompt (first_account from.settings) history
   -- The hall granted the questions of the fold and gave its replies.
   pub replies_are : told from.hall from.badge (replies from.settings history) now.hall now.badge
+  -- Each answer that was given to the session is the reply to a question.
+  pub each_told : number_of is_told history ≡ length (replies from.settings history)
   -- Each cause is true.
   pub write_fault : has_kind is_write_fault history ≡ true → now.failed ≡ true
   pub hall_full : has_kind is_hall_full history ≡ true → refused now.hall now.badge JournalFull
   pub no_memory : has_kind is_no_memory history ≡ true → Lacked refused now missing ⊎ (unkept ≡ true)
-  pub no_tick : has_kind is_tick history ≡ false
+  pub ticks_are : number_of is_tick history ≡ from.ticks
   pub losses : has_kind loses history ≡ lost
 
 -- The account while messages are still to be written.
@@ -98,13 +118,13 @@ pub record Underway {H : Type 0} (told : H → BadgeState → List Reply → H �
   pub lost : Bool
   pub accounts : Accounts told refused from now inputs missing lost unkept
 
--- The account with no message still to be written: everything sent was written, unless a write
--- failed or memory ran out.
-pub record Sent {H : Type 0} (told : H → BadgeState → List Reply → H → BadgeState → Type 0) (refused : H → BadgeState → Fault → Type 0) (from : Origin H) (now : Progress H) (inputs : List Event) (unkept : Bool) : Type 0 where
+-- The account with only these bytes (`later`) still to be written: everything else that was sent
+-- was written, unless a write failed or memory ran out.
+pub record Sent {H : Type 0} (told : H → BadgeState → List Reply → H → BadgeState → Type 0) (refused : H → BadgeState → Fault → Type 0) (from : Origin H) (now : Progress H) (inputs : List Event) (later : List ℕ) (unkept : Bool) : Type 0 where
   pub missing : List ℕ
   pub lost : Bool
   pub accounts : Accounts told refused from now inputs missing lost unkept
-  pub whole : lost ≡ false → missing ≡ []
+  pub whole : lost ≡ false → missing ≡ later
   -- A failed write was logged, and ended the session.
   pub told_loss : now.failed ≡ true → (from.failed ≡ true) ⊎ (lost ≡ true)
 
@@ -114,7 +134,14 @@ IsAnswered trace = is_closed trace.session.state ≡ false → trace.session.pen
 
 -- The account with no message still to be written and no question open.
 pub record Settled {H : Type 0} (told : H → BadgeState → List Reply → H → BadgeState → Type 0) (refused : H → BadgeState → Fault → Type 0) (from : Origin H) (now : Progress H) (inputs : List Event) (unkept : Bool) : Type 0 where
-  pub sent : Sent told refused from now inputs unkept
+  pub sent : Sent told refused from now inputs [] unkept
+  pub answered : IsAnswered now.trace
+
+-- The account between two inputs: no question is open, and only these bytes (`held_back`) are still
+-- to be written. While there are any, the hall has answered nothing.
+pub record Stands {H : Type 0} (told : H → BadgeState → List Reply → H → BadgeState → Type 0) (refused : H → BadgeState → Fault → Type 0) (from : Origin H) (now : Progress H) (inputs : List Event) (held_back : List ℕ) (unkept : Bool) : Type 0 where
+  pub sent : Sent told refused from now inputs held_back unkept
+  pub unasked : held_back ≢ [] → has_kind is_told sent.accounts.history ≡ false
   pub answered : IsAnswered now.trace
 
 -- An input was given. Or there was no room for it, and the session ended.

@@ -17,8 +17,8 @@ use Rattle.cb_peer_state.specs.Event.{is_reader_end}
 use Rattle.cb_peer_state.specs.State.{is_closed}
 use Rattle.cb_trace.specs.Fold.{EachOpen, first_account, inputs_of, session_of}
 use Rattle.cb_trace.specs.Prompt.{IsPrompt}
-use Rattle.cb_session.specs.declared.reading.ReadEnd.{ReadEnd}
-use Rattle.cb_session.specs.declared.reading.ReadEnd.TheVariants as ends
+use Rattle.cb_io.specs.declared.read_end.ReadEnd.{ReadEnd}
+use Rattle.cb_io.specs.declared.read_end.ReadEnd.TheVariants as ends
 use Rattle.cb_session.specs.Conversation.{Origin, Progress, Settled}
 
 -- ---- what is to be processed

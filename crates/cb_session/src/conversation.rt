@@ -1,15 +1,15 @@
 //! Handles a connection's events one at a time: gives them to the session, writes what the session
 //! sends, and asks the hall what the session asks.
-ghost use Rattle.std.specs.Prelude.{◌≡◌, ◌≢◌, ◌⊎◌, ◌<◌, ◌≤◌, ◌++◌, true, false, Bool, List, ℕ, [], Option, Some, None, IfSome, if◌then◌else◌};
+ghost use Rattle.std.specs.Prelude.{◌≡◌, ◌≢◌, ◌⊎◌, ◌<◌, ◌≤◌, ◌++◌, true, false, Bool, List, ℕ, [], length, Option, Some, None, IfSome, if◌then◌else◌};
 ghost use Rattle.cb_wire.specs.Stream.{texts};
 ghost use Rattle.cb_wire.specs.declared.item.Item.{Item};
 ghost use Rattle.cb_io.specs.Writing.{IsOfSink};
 ghost use Rattle.cb_peer_state.specs.declared.event.Event.{Event};
 ghost use Rattle.cb_peer_state.specs.declared.event.Event.TheVariants as events;
-ghost use Rattle.cb_peer_state.specs.Event.{ends_at_once, is_input, is_no_memory, is_write_fault, kind_of, loses};
+ghost use Rattle.cb_peer_state.specs.Event.{begins, ends_at_once, is_input, is_no_memory, is_write_fault, kind_of, loses};
 ghost use Rattle.cb_peer_state.specs.State.{is_closed};
 ghost use Rattle.cb_trace.specs.Trace.{IsOpen};
-ghost use Rattle.cb_session.specs.Conversation.{Accounts, AnswerOf, Gave, GaveItem, IsLoss, IsPending, MayAsk, Origin, SameReferences, Sent, Settled, Underway, WritesOn, at, left_of, open_question, progress};
+ghost use Rattle.cb_session.specs.Conversation.{Accounts, AnswerOf, Gave, GaveItem, IsLoss, IsPending, MayAsk, Origin, SameReferences, Sent, Settled, Stands, Underway, WritesOn, at, input_in, left_of, number_after, open_question, progress, with_event};
 
 use cb_base::{Fault, Shared};
 use cb_hall::Badge;
@@ -21,7 +21,8 @@ use cb_wire::{BoundedMessage, Item};
 use std::alloc::Global;
 
 /// One connection's conversation: the trace (the session and the log of its events), the sink for
-/// its messages, the hall and the badge under which it is asked, and the number of bytes written.
+/// its messages, the hall and the badge under which it is asked, the number of bytes written, and
+/// the number of messages written.
 ///
 /// The hall is what Bitcoin Core keeps in ChainstateManager and CTxMemPool. The badge is the
 /// connection's permit to ask it.
@@ -32,10 +33,11 @@ pub struct Conversation<'a, W, H> {
     hall: &'a mut H,
     badge: &'a mut Badge,
     written: u64,
+    messages: u64,
 }
 
 impl<'a, W: Sink, H: Oracle> Conversation<'a, W, H> {
-    /// A conversation over these, with `written` bytes already written.
+    /// A conversation over these, with `written` bytes already written. Messages are counted from 0.
     pub fn new(
         trace: &'a mut Trace,
         writer: &'a mut W,
@@ -52,6 +54,7 @@ impl<'a, W: Sink, H: Oracle> Conversation<'a, W, H> {
         ensures hall { result.hall.now ≡ hall.old }
         ensures badge { result.badge.now ≡ badge.old }
         ensures written { result.written ≡ written }
+        ensures messages { result.messages ≡ 0 }
     {
         Conversation {
             trace,
@@ -59,6 +62,7 @@ impl<'a, W: Sink, H: Oracle> Conversation<'a, W, H> {
             hall,
             badge,
             written,
+            messages: 0,
         }
     }
 
@@ -74,6 +78,14 @@ impl<'a, W: Sink, H: Oracle> Conversation<'a, W, H> {
         ensures { result ≡ self.now.written }
     {
         self.written
+    }
+
+    /// The number of messages written since the conversation was made; `u64::MAX` if that is more.
+    /// The messages of a write that ended early aren't counted.
+    pub fn messages(&self) -> u64
+        ensures { result ≡ self.now.messages }
+    {
+        self.messages
     }
 
     /// Gives the session an item, and handles all the questions that it leads to. The session ends
@@ -114,8 +126,76 @@ impl<'a, W: Sink, H: Oracle> Conversation<'a, W, H> {
         if !self.trace.ready() {
             return;
         }
+        let _none = self.begin(alloc, event, Vec::new(alloc));
+    }
+
+    /// Gives the session an event that begins something new: input from the peer, or a tick. The
+    /// trace has room, so the event is always logged. Then writes what was held back of the
+    /// messages that opened the session, writes what the session sends, and asks the hall what it
+    /// asks, until no question is open.
+    ///
+    /// Returns the messages that are still held back: all of them if the event closes the session,
+    /// since nothing is written then, and otherwise none.
+    pub fn begin(
+        &mut self,
+        alloc: Global,
+        event: Event,
+        held_back: Vec<BoundedMessage>,
+    ) -> Vec<BoundedMessage>
+        requires going { IsOpen self.old.trace.now }
+        requires room { 2 ≤ self.old.trace.now.room }
+        requires begins { begins (kind_of event) ≡ true }
+        ensures ends { SameReferences self.old self.new }
+        ensures heeds { WritesOn self.old.trace.now (W.has_failed self.old.writer.now) →
+            W.heeds_failure self.old.writer.now self.new.writer.now
+            × WritesOn self.new.trace.now (W.has_failed self.new.writer.now) }
+        ensures ended { ends_at_once event ≡ true →
+            is_closed self.new.trace.now.session.state ≡ true }
+        ensures stands { (from : Origin _) (inputs : List Event) →
+            Stands H.told H.refused from (at W.contents W.has_failed self.old) inputs
+            (texts held_back.items) false →
+            Stands H.told H.refused (with_event from event)
+            (at W.contents W.has_failed self.new) (inputs ++ input_in event)
+            (texts result.items) false }
+        // Nothing is held back while the session isn't over.
+        ensures none { IsOpen self.new.trace.now → result.items ≡ [] }
+        ensures back { (result.items ≡ held_back.items) ⊎ (result.items ≡ []) }
+    {
         let (sent, question) = self.trace.step(event);
-        self.send(alloc, sent.as_slice());
+        if self.state().is_closed() {
+            return held_back;
+        }
+        self.follow_up(alloc, held_back.as_slice(), sent.as_slice(), question);
+        Vec::new(alloc)
+    }
+
+    /// Writes what was held back, writes the messages of a step, and asks the hall the open
+    /// question, until none is open. Stops if a write fails or memory runs out.
+    fn follow_up(
+        &mut self,
+        alloc: Global,
+        held_back: &[BoundedMessage],
+        sent: &[BoundedMessage],
+        question: Option<Question>,
+    )
+        requires going { IsOpen self.old.trace.now }
+        requires stands { MayAsk self.old.trace.now question }
+        ensures ends { SameReferences self.old self.new }
+        ensures heeds { WritesOn self.old.trace.now (W.has_failed self.old.writer.now) →
+            W.heeds_failure self.old.writer.now self.new.writer.now
+            × WritesOn self.new.trace.now (W.has_failed self.new.writer.now) }
+        ensures settled { (from : Origin _) (inputs : List Event) →
+            IsPending self.old.trace.now question →
+            (W.has_failed self.old.writer.now ≡ true → from.failed ≡ true) →
+            Underway H.told H.refused from (at W.contents W.has_failed self.old) inputs
+            (texts held_back.now ++ texts sent.now) false →
+            Settled H.told H.refused from (at W.contents W.has_failed self.new) inputs false }
+    {
+        self.send(alloc, held_back);
+        if self.state().is_closed() {
+            return;
+        }
+        self.send(alloc, sent);
         self.converse(alloc, question);
     }
 
@@ -131,7 +211,7 @@ impl<'a, W: Sink, H: Oracle> Conversation<'a, W, H> {
             is_closed self.new.trace.now.session.state ≡ true }
         ensures settled { (from : Origin _) (inputs : List Event) →
             IsPending self.old.trace.now question →
-            Sent H.told H.refused from (at W.contents W.has_failed self.old) inputs false →
+            Sent H.told H.refused from (at W.contents W.has_failed self.old) inputs [] false →
             Settled H.told H.refused from (at W.contents W.has_failed self.new) inputs false }
     {
         let mut next = question;
@@ -170,8 +250,8 @@ impl<'a, W: Sink, H: Oracle> Conversation<'a, W, H> {
         self.trace.step(event)
     }
 
-    /// Writes the messages of a step, all in one write. If the write fails or memory runs out, the
-    /// trace logs that and the session ends.
+    /// Writes the messages of a step, all in one write, and counts them then. If the write fails or
+    /// memory runs out, the trace logs that and the session ends, and none of them is counted.
     pub fn send(&mut self, alloc: Global, messages: &[BoundedMessage])
         requires silent { is_closed self.old.trace.now.session.state ≡ true → messages.now ≡ [] }
         ensures ends { SameReferences self.old self.new }
@@ -181,20 +261,31 @@ impl<'a, W: Sink, H: Oracle> Conversation<'a, W, H> {
             × WritesOn self.new.trace.now (W.has_failed self.new.writer.now) }
         ensures hall { self.new.hall.now ≡ self.old.hall.now }
         ensures badge { self.new.badge.now ≡ self.old.badge.now }
-        ensures accounts { (from : Origin _) (inputs : List Event) (hall : _) (badge : _) →
+        // Other bytes may follow (`following`). They are then still to be written (`later`), unless
+        // the trace logged a loss.
+        ensures accounts { (from : Origin _) (inputs : List Event) (following later : List ℕ)
+            (hall : _) (badge : _) →
             Underway H.told H.refused from
             (progress self.old.trace.now hall badge (W.contents self.old.writer.now)
-            (W.has_failed self.old.writer.now) self.old.written) inputs (texts messages.now) false →
+            (W.has_failed self.old.writer.now) self.old.written) inputs
+            (texts messages.now ++ following) false →
+            (self.new.trace.now ≡ self.old.trace.now → later ≡ following) →
             (W.has_failed self.old.writer.now ≡ true → from.failed ≡ true) →
             Sent H.told H.refused from
             (progress self.new.trace.now hall badge (W.contents self.new.writer.now)
-            (W.has_failed self.new.writer.now) self.new.written) inputs false }
+            (W.has_failed self.new.writer.now) self.new.written) inputs later false }
         ensures kept { IsOpen self.new.trace.now → self.new.trace.now ≡ self.old.trace.now }
+        // The messages are counted, unless the session is over.
+        ensures counted { IsOpen self.new.trace.now →
+            self.new.messages ≡ number_after self.old.messages (length messages.now) }
         ensures stays { is_closed self.old.trace.now.session.state ≡ true →
             is_closed self.new.trace.now.session.state ≡ true }
     {
         match write_out(alloc, self.writer, messages) {
-            Ok(taken) => self.written = self.written.saturating_add(taken),
+            Ok(taken) => {
+                self.written = self.written.saturating_add(taken);
+                self.messages = self.messages.saturating_add(messages.len() as u64);
+            }
             Err(end) => {
                 self.written = self.written.saturating_add(end.written);
                 self.lose(lost_by(end.fault));
@@ -224,6 +315,13 @@ impl<'a, W: Sink, H: Oracle> Conversation<'a, W, H> {
             Accounts H.told H.refused from
             (progress self.new.trace.now hall badge held failed written)
             inputs missing true unkept }
+        // What is held back stays so.
+        ensures stands { (from : Origin _) (inputs : List Event) (held_back : List ℕ) →
+            is_write_fault (kind_of event) ≡ false →
+            Stands H.told H.refused from (at W.contents W.has_failed self.old) inputs
+            held_back false →
+            Stands H.told H.refused from (at W.contents W.has_failed self.new) inputs
+            held_back true }
         ensures closed { is_closed self.new.trace.now.session.state ≡ true }
     {
         if !self.trace.ready() {

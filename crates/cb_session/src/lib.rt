@@ -5,14 +5,16 @@
 
 mod conversation;
 mod hearing;
+mod parts;
 mod reading;
 mod serving;
 
 pub use cb_hall::{Badge, Hall};
-pub use cb_io::{In, Out, Sink, SinkFailure, Source, WriteEnd, WriteFault, write_out};
+pub use cb_io::{In, Out, ReadEnd, Sink, SinkFailure, Source, WriteEnd, WriteFault, write_out};
 pub use cb_journal::{Answer, Entry, Question};
 pub use cb_peer::{CloseReason, Event, Pending, Session, Settings, Stage, State, Subject};
 pub use cb_trace::{Counts, Oracle, Trace, TraceEntry};
 pub use conversation::Conversation;
-pub use reading::{ReadEnd, Reading};
+pub use parts::{Begun, begin_by, lose_by};
+pub use reading::Reading;
 pub use serving::{Served, serve, serve_by};

@@ -1,45 +1,18 @@
 //! Reads a peer's stream to its end, or to the end of the session.
-ghost use Rattle.std.specs.Prelude.{◌≡◌, ◌≢◌, ◌≤◌, ◌↔◌, true, false, IsTrue, List, [], ℕ, Option, None, length};
+ghost use Rattle.std.specs.Prelude.{◌≡◌, ◌≢◌, ◌≤◌, true, false, List, [], ℕ, Option, None, length};
 ghost use Rattle.cb_peer_state.specs.State.{is_closed};
 ghost use Rattle.cb_session.specs.Conversation.{Origin, SameReferences, WritesOn, at};
 ghost use Rattle.cb_session.specs.Serving.{Heard, HeardBy};
 
 use crate::conversation::Conversation;
 use crate::hearing::hear_piece;
-use cb_io::{Sink, Source};
+use cb_io::{ReadEnd, Sink, Source};
 use cb_trace::Oracle;
 use cb_wire::Assembler;
 use std::alloc::Global;
 
 /// The most reads of one source.
 const TURNS: u64 = 1 << 40;
-
-/// Why reading a stream ended.
-#[derive(Clone, Copy, PartialEq, Eq)]
-pub enum ReadEnd {
-    /// The source ended.
-    Eof,
-    /// A read failed.
-    Fault,
-    /// 2^40 reads were made.
-    Turns,
-    /// The session was over first.
-    Stopped,
-}
-
-impl ReadEnd {
-    /// Whether the session was over before reading ended by itself.
-    pub fn is_stopped(&self) -> bool
-        ensures { IsTrue result ↔ (self.now ≡ ReadEnd.Stopped) }
-    {
-        match self {
-            ReadEnd::Stopped => true,
-            ReadEnd::Eof => false,
-            ReadEnd::Fault => false,
-            ReadEnd::Turns => false,
-        }
-    }
-}
 
 /// What a peer's stream is read with: its source, the buffer for its bytes, and the assembler,
 /// which keeps the incomplete message at the end.

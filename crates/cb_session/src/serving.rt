@@ -6,10 +6,10 @@ ghost use Rattle.cb_session.specs.Conversation.{Origin, SameReferences, Settled,
 ghost use Rattle.cb_session.specs.Serving.{Heard, Serves};
 
 use crate::conversation::Conversation;
-use crate::reading::{ReadEnd, Reading};
+use crate::reading::Reading;
 use cb_base::Fault;
 use cb_hall::{Badge, Hall};
-use cb_io::{Sink, Source};
+use cb_io::{ReadEnd, Sink, Source};
 use cb_peer::{Event, Settings};
 use cb_trace::{Oracle, Trace};
 use cb_wire::Assembler;

@@ -52,7 +52,7 @@ one_if : (b : Bool) (entry : TraceEntry) → length (cond b (entry ∷ []) []) �
 one_if true entry = refl
 one_if false entry = refl
 
-number_more : (test : Kind → Bool) (entries : List TraceEntry) (entry : TraceEntry) → number_of test entries + cond (test (kind_of entry.event)) 1 0 ≡ number_of test (entries ++ entry ∷ [])
+pub number_more : (test : Kind → Bool) (entries : List TraceEntry) (entry : TraceEntry) → number_of test entries + cond (test (kind_of entry.event)) 1 0 ≡ number_of test (entries ++ entry ∷ [])
 number_more test entries entry =
     let parts = ap length (filter-append (λ (e : TraceEntry). test (kind_of e.event)) entries (entry ∷ [])) in
     let sum = length-append (filter (λ (e : TraceEntry). test (kind_of e.event)) entries) (filter (λ (e : TraceEntry). test (kind_of e.event)) (entry ∷ [])) in

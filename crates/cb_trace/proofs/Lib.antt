@@ -4,6 +4,8 @@ pub mod Fetches
 pub mod Fitting
 pub mod Folds
 pub mod Followed
+pub mod Granting
+pub mod Handed
 pub mod Hears
 pub mod LawLemmas
 pub mod Missing

@@ -43,7 +43,7 @@ pub kept : (P : Account → Type 0) → ((account : Account) (entry : TraceEntry
 unfolding account_of
 kept P keeps settings entries p = kept_fold P keeps (first_account settings) entries p
 
-entry_reached : (count : ℕ) (s : SessionState) (entry : TraceEntry) → IsReached s → IsReached (entry_step count s entry).session
+pub entry_reached : (count : ℕ) (s : SessionState) (entry : TraceEntry) → IsReached s → IsReached (entry_step count s entry).session
 entry_reached count s entry reached =
     step_cases (λ made. IsReached made.session) count s entry (λ _. reached) (λ why _. stops s why reached)
     (λ going. subst (λ (made : Stepped). IsReached made.session) (open_is s entry.event going) (steps s entry.event reached))

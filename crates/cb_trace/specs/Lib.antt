@@ -1,4 +1,6 @@
+pub mod Blocks
 pub mod Fold
+pub mod Granting
 pub mod Laws
 pub mod Prompt
 pub mod Trace

@@ -1,15 +1,18 @@
 //! What holds for every trace. Each law is the contract of a function that does nothing.
-ghost use Rattle.std.specs.Prelude.{◌≡◌, ◌≢◌, ◌≤◌, ◌<◌, ◌%◌, ◌^◌, ℕ, true, false, if◌then◌else◌, List, Some, filter_map, get_or, length};
+ghost use Rattle.std.specs.Prelude.{◌≡◌, ◌≢◌, ◌≤◌, ◌<◌, ◌%◌, ◌^◌, ℕ, true, false, if◌then◌else◌, All, List, Some, filter_map, get_or, length};
 ghost use Rattle.std.specs.List.{list_any};
 ghost use Rattle.cb_base.specs.declared.hash.Hash256.{Hash256};
 ghost use Rattle.cb_chain.specs.Entries.{block_hash};
 ghost use Rattle.cb_compact.specs.Slots.{Unfilled};
 ghost use Rattle.cb_fetch.specs.Fetching.{has};
+ghost use Rattle.cb_journal.specs.declared.question.Given.{Given};
+ghost use Rattle.cb_journal.specs.declared.question.Question.TheVariants as questions;
 ghost use Rattle.cb_peer_state.specs.declared.settings.Settings.{Settings};
-ghost use Rattle.cb_peer_state.specs.Questions.{questions_left};
+ghost use Rattle.cb_peer_state.specs.Questions.{pending_question, questions_left};
 ghost use Rattle.cb_peer_laws.specs.Laws.{IsReached, asks_for_block};
 ghost use Rattle.cb_talk.specs.Serving.{nonces_from, nonces_in};
 ghost use Rattle.cb_trace.specs.declared.trace.TraceEntry.{TraceEntry};
+ghost use Rattle.cb_trace.specs.Blocks.{IsOnlySound, blocks_given};
 ghost use Rattle.cb_trace.specs.Fold.{first_account, inputs_of, replies, sends, session_of};
 ghost use Rattle.cb_trace.specs.Laws.{AnswersPings, EndsPromptly};
 ghost use Rattle.cb_trace.specs.Whole.{AreAlternating, SendsWhatFollows, came_to, following, headers_in, highs_in, is_send_headers, knows_send_headers, number_sent, says_send_headers, tells_lacking, tells_missing, tells_needed};
@@ -77,6 +80,17 @@ pub fn blocks_are_fetched_as_told()
     ensures asked { (settings : Settings) (entries : List TraceEntry) (hash : Hash256) →
         list_any (asks_for_block hash) (sends settings entries) ≡ true →
         list_any (tells_needed hash) (replies settings entries) ≡ true }
+{}
+
+/// Every block that a session gave the hall is sound, and so is the block of its open question. Its
+/// transactions are the only list that is sound under its header, unless hashes collide
+/// (`AreApart`; CVE-2012-2459, CVE-2017-12842).
+pub fn each_block_given_is_the_only_sound_list()
+    ensures given { (settings : Settings) (entries : List TraceEntry) →
+        All IsOnlySound (blocks_given settings entries) }
+    ensures pending { (settings : Settings) (entries : List TraceEntry) (given : Given) →
+        pending_question (session_of settings entries) ≡ Some (questions.GiveBlock given) →
+        IsOnlySound given.block }
 {}
 
 /// A block that is being rebuilt from a compact block (BIP 152) was missing when the hall was asked

@@ -1,4 +1,4 @@
-ghost use Rattle.std.specs.Prelude.{◌≡◌, ◌⊎◌, ◌++◌, ◌∷◌, [], true, List, IfOk, IfErr, OnErr};
+ghost use Rattle.std.specs.Prelude.{◌≡◌, ◌+◌, ◌⊎◌, ◌++◌, ◌∷◌, [], true, List, length, IfOk, IfErr, OnErr};
 ghost use Rattle.cb_base.specs.declared.fault.Fault.{Fault};
 ghost use Rattle.cb_base.specs.declared.fault.Fault.TheVariants.{Memory, JournalFull};
 ghost use Rattle.cb_hall.specs.Badge.{BadgeState};
@@ -43,6 +43,15 @@ pub trait Oracle {
 
     /// An oracle that grants no more questions never grants one again.
     ghost full_stays: { (a b : Self) (x y : BadgeState) (replies : List Reply) → told a x replies b y → refused a x JournalFull → refused b y JournalFull };
+
+    /// The badge counts the replies.
+    ghost counts: { (a b : Self) (x y : BadgeState) (replies : List Reply) → told a x replies b y → y.count ≡ x.count + length replies };
+
+    /// The badge stays that of its connection.
+    ghost same_connection: { (a b : Self) (x y : BadgeState) (replies : List Reply) → told a x replies b y → y.connection ≡ x.connection };
+
+    /// A badge that was marked full stays marked.
+    ghost mark_stays: { (a b : Self) (x y : BadgeState) (replies : List Reply) → told a x replies b y → x.full ≡ true → y.full ≡ true };
 }
 
 impl Oracle for Hall {
@@ -61,4 +70,10 @@ impl Oracle for Hall {
     ghost told_then = { λ a b c x y z first next h k. asks_then a b c x y z first next h k };
 
     ghost full_stays = { λ a b x y replies h k. full_stays a b x y replies h k };
+
+    ghost counts = { λ a b x y replies h. h.count };
+
+    ghost same_connection = { λ a b x y replies h. h.connection };
+
+    ghost mark_stays = { λ a b x y replies h k. h.marked k };
 }

@@ -13,9 +13,11 @@ use std::test::*;
 /// How a conversation went.
 #[derive(Clone, Copy, PartialEq, Eq)]
 struct Talk {
-    /// What was written after the item, and in all.
+    /// How many bytes were written after the item, and in all.
     first: u64,
     all: u64,
+    /// How many messages were written in all.
+    messages: u64,
     end: ReadEnd,
     state: State,
 }
@@ -65,11 +67,13 @@ fn converse<W: Sink>(
     let first = conversation.written();
     let end = hear(alloc, &mut reader, &mut conversation);
     let all = conversation.written();
+    let messages = conversation.messages();
     lose(&mut conversation);
     let state = conversation.state();
     Talk {
         first,
         all,
+        messages,
         end,
         state,
     }
@@ -123,6 +127,7 @@ fn a_conversation_takes_an_item_and_then_a_stream(rt: HostRuntime) {
     let expected = Talk {
         first: 1032,
         all: 1096,
+        messages: 3,
         end: ReadEnd::Eof,
         state: State::Closed(CloseReason::Memory),
     };

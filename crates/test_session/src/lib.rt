@@ -8,6 +8,8 @@ mod conversation;
 #[cfg(test)]
 mod io;
 #[cfg(test)]
+mod parts;
+#[cfg(test)]
 mod session;
 #[cfg(test)]
 mod shared;

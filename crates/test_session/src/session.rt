@@ -365,38 +365,46 @@ enum Third {
     Kicked,
 }
 
-/// Gives leave twice, and no more.
+/// A hall that answers twice, and no more.
 #[derive(Drop)]
 struct TwoAnswers {
+    hall: Hall,
     granted: u32,
     third: Third,
 }
 
 impl Oracle for TwoAnswers {
-    ghost told = { λ old had replies new has. ⊤ };
+    ghost use Rattle.cb_trace.specs.Granting.{HasCounted};
+    ghost use Rattle.cb_trace.proofs.Granting.{counted_none, counted_then};
+
+    ghost told = { λ old had replies new has. HasCounted had has replies };
 
     ghost refused = { λ hall badge fault. ⊤ };
 
-    fn ask(&mut self, _badge: &mut Badge, question: Question) -> Result<Answer, Fault> {
-        if self.granted >= 2 {
-            return match self.third {
-                Third::Full => Err(Fault::JournalFull),
-                Third::Starved => Err(Fault::Memory),
-                Third::Kicked => Ok(Answer::Kicked),
-            };
+    fn ask(&mut self, badge: &mut Badge, question: Question) -> Result<Answer, Fault> {
+        if self.granted < 2 {
+            self.granted += 1;
+        } else {
+            match self.third {
+                Third::Full => return Err(Fault::JournalFull),
+                Third::Starved => return Err(Fault::Memory),
+                Third::Kicked => self.hall.kick(0)?,
+            }
         }
-        let Question::Admit = question else {
-            return Ok(Answer::Kicked);
-        };
-        self.granted += 1;
-        Ok(Answer::Go)
+        self.hall.ask(badge, question)
     }
 
-    ghost told_none = { λ hall badge. tt };
+    ghost told_none = { λ hall badge. counted_none badge };
 
-    ghost told_then = { λ a b c x y z first next h k. tt };
+    ghost told_then = { λ a b c x y z first next h k. counted_then x y z first next h k };
 
     ghost full_stays = { λ a b x y replies h k. tt };
+
+    ghost counts = { λ a b x y replies h. h.count };
+
+    ghost same_connection = { λ a b x y replies h. h.connection };
+
+    ghost mark_stays = { λ a b x y replies h k. h.marked k };
 }
 
 /// What serving a connection that brings these bytes comes to.
@@ -415,10 +423,15 @@ fn serve_by_two(
 fn ended_by(
     alloc: Global,
     third: Third,
+    hall: Hall,
     badges: &mut [Badge],
     given: &[u8],
 ) -> Option<(State, u64)> {
-    let mut two = TwoAnswers { granted: 0, third };
+    let mut two = TwoAnswers {
+        hall,
+        granted: 0,
+        third,
+    };
     let badge = badges.first_mut()?;
     match serve_by_two(alloc, &mut two, badge, given) {
         Ok(served) => Some((served.trace.state(), served.written)),
@@ -432,8 +445,8 @@ fn ended(alloc: Global, third: Third) -> Option<(State, u64)> {
         return None;
     };
     match new_hall(alloc, 1) {
-        Ok((_hall, mut badges)) => {
-            ended_by(alloc, third, badges.as_mut_slice(), pings.as_slice())
+        Ok((hall, mut badges)) => {
+            ended_by(alloc, third, hall, badges.as_mut_slice(), pings.as_slice())
         }
         Err(_) => None,
     }

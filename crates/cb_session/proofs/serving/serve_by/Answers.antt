@@ -1,9 +1,9 @@
-use Rattle.std.proofs.Common.{[], ap, sym, ◌∙◌}
+use Rattle.std.proofs.Common.{[], ap, false, refl, sym, ◌∙◌}
 use Rattle.cb_session.specs.Conversation.{origin_of}
 use Rattle.cb_trace.specs.Trace.{TraceView}
 use Rattle.cb_peer_state.specs.State.{is_closed}
-use Rattle.cb_session.proofs.Accounts.{not_both}
-use Rattle.cb_session.proofs.Ending.{first_free, first_open, serves_at, underway_first}
+use Rattle.cb_session.proofs.Accounts.{not_both, underway_nil}
+use Rattle.cb_session.proofs.Ending.{accounts_first, first_free, first_open, serves_at}
 use Rattle.cb_session.proofs.serving.serve_by.Goals as goal
 
 -- a session begins open
@@ -18,10 +18,11 @@ returns-in_err-trace-clause-heeds g c = λ unfailed. g.met.W.Sink.heeds_none _
 pub returns-clause-served : goal.returns-clause-served
 returns-clause-served g c =
     let from = origin_of c.args.settings c.args.hall.now c.args.badge.now (g.W.Sink.contents c.args.writer.now) (g.W.Sink.has_failed c.args.writer.now) in
-    let first = underway_first g.H.Oracle.told g.H.Oracle.refused (record { none = g.met.H.Oracle.told_none; next = g.met.H.Oracle.told_then; stays = g.met.H.Oracle.full_stays }) c.args.settings c.in_ok-trace.trace c.args.hall.now c.args.badge.now (g.W.Sink.contents c.args.writer.now) (g.W.Sink.has_failed c.args.writer.now)
+    let first = accounts_first g.H.Oracle.told g.H.Oracle.refused (record { none = g.met.H.Oracle.told_none; next = g.met.H.Oracle.told_then; stays = g.met.H.Oracle.full_stays }) c.args.settings c.in_ok-trace.trace c.args.hall.now c.args.badge.now (g.W.Sink.contents c.args.writer.now) (g.W.Sink.has_failed c.args.writer.now)
     c.as_slice.result.now c.in_ok-trace.ensures.settings c.in_ok-trace.ensures.history (c.as_slice.ensures.value ∙ c.in_ok-trace.ensures.messages) in
-    let opened = c.send.ensures.accounts from [] c.args.hall.now c.args.badge.now
-    (rw (c.new-conversation.ensures.trace, c.new-conversation.ensures.writer, c.new-conversation.ensures.written) first) (rw c.new-conversation.ensures.writer (λ h. h)) in
+    let opened = c.send.ensures.accounts from [] [] [] c.args.hall.now c.args.badge.now
+    (rw (c.new-conversation.ensures.trace, c.new-conversation.ensures.writer, c.new-conversation.ensures.written)
+    (underway_nil g.H.Oracle.told g.H.Oracle.refused from _ [] _ false (record { lost = false; accounts = first.accounts }))) (λ _. refl) (rw c.new-conversation.ensures.writer (λ h. h)) in
     let served = c.hear_all-read.ensures.serves from
     (record {
       sent = rw (c.send.ensures.hall, c.send.ensures.badge, c.new-conversation.ensures.hall, c.new-conversation.ensures.badge) opened;

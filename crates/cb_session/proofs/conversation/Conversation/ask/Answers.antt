@@ -12,8 +12,8 @@ returns-then-not-ready-clause-accounts g c =
       lost = true;
       accounts =
           subst (λ (ms : List Message). Accounts g.H.Oracle.told g.H.Oracle.refused from (progress c.ready.new.self c.args.self.now.hall.now c.args.self.now.badge.now held failed written) inputs (texts ms) true false) (sym c.new.ensures.items)
-          (accounts_ran g.H.Oracle.told g.H.Oracle.refused (record { none = g.met.H.Oracle.told_none; next = g.met.H.Oracle.told_then; stays = g.met.H.Oracle.full_stays }) from c.args.self.now.trace.now c.ready.new.self c.args.self.now.hall.now c.args.self.now.badge.now held failed written inputs [] _ false
-          (question_open c.args.self.now.trace.now c.args.question c.requires.stands).0 c.if-not-ready.ensures.readied a);
+          ((accounts_ran g.H.Oracle.told g.H.Oracle.refused (record { none = g.met.H.Oracle.told_none; next = g.met.H.Oracle.told_then; stays = g.met.H.Oracle.full_stays }) from c.args.self.now.trace.now c.ready.new.self c.args.self.now.hall.now c.args.self.now.badge.now held failed written inputs [] _ false
+          (question_open c.args.self.now.trace.now c.args.question c.requires.stands).0 c.if-not-ready.ensures.readied a).accounts);
     }
 
 pub returns-then-not-ready-clause-asks : goal.returns-then-not-ready-clause-asks

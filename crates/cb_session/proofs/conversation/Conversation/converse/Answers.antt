@@ -1,6 +1,6 @@
-use Rattle.std.proofs.Common.{ap, sym, ◌∙◌}
+use Rattle.std.proofs.Common.{[], ap, false, refl, sym, ◌∙◌}
 use Rattle.cb_peer_state.specs.State.{is_closed}
-use Rattle.cb_session.proofs.Accounts.{may_ask_on, not_both, open_question_is, open_told, open_whole, pending_on}
+use Rattle.cb_session.proofs.Accounts.{may_ask_on, not_both, open_question_is, open_told, open_whole, pending_on, underway_nil}
 use Rattle.cb_session.proofs.conversation.Conversation.converse.Goals as goal
 
 pub ask-messages-requires : goal.ask-messages-requires
@@ -31,7 +31,9 @@ loop-next-preserved g c =
           λ from inputs s.
           let sent = c.loop-next.invariant.sent from inputs s in
           rw (c.send.ensures.hall, c.send.ensures.badge)
-          (c.send.ensures.accounts from inputs _ _
-          (rw (c.ask-messages.ensures.sink, c.ask-messages.ensures.written, c.as_slice.ensures.value) (c.ask-messages.ensures.accounts from inputs _ _ _ (open_whole g.H.Oracle.told g.H.Oracle.refused from _ inputs sent going)))
-          (rw c.ask-messages.ensures.sink (open_told g.H.Oracle.told g.H.Oracle.refused from _ inputs sent going)));
+          (c.send.ensures.accounts from inputs [] [] _ _
+          (rw (c.ask-messages.ensures.sink, c.ask-messages.ensures.written, c.as_slice.ensures.value)
+          (underway_nil g.H.Oracle.told g.H.Oracle.refused from _ inputs _ false (c.ask-messages.ensures.accounts from inputs _ _ _ (open_whole g.H.Oracle.told g.H.Oracle.refused from _ inputs [] sent going))))
+          (λ _. refl)
+          (rw c.ask-messages.ensures.sink (open_told g.H.Oracle.told g.H.Oracle.refused from _ inputs [] sent going)));
     }

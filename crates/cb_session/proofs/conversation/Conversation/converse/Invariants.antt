@@ -1,4 +1,4 @@
-use Rattle.std.proofs.Common.{◌≡◌, true, false, List}
+use Rattle.std.proofs.Common.{◌≡◌, true, false, List, []}
 use Rattle.cb_peer_state.specs.declared.event.Event.{Event}
 use Rattle.cb_peer_state.specs.State.{is_closed}
 use Rattle.cb_session.specs.Conversation.{IsPending, MayAsk, Origin, SameReferences, Sent, WritesOn, at, left_of}
@@ -13,7 +13,7 @@ invariant-loop-next g l = record {
   may : MayAsk l.self.trace.now l.next;
   stands : IsPending l.fn.self.trace.now l.fn.question → IsPending l.self.trace.now l.next;
   sent : (from : Origin g.row.H.Denot) (inputs : List Event) →
-      Sent g.H.Oracle.told g.H.Oracle.refused from (at g.W.Sink.contents g.W.Sink.has_failed l.fn.self) inputs false → Sent g.H.Oracle.told g.H.Oracle.refused from (at g.W.Sink.contents g.W.Sink.has_failed l.self) inputs false;
+      Sent g.H.Oracle.told g.H.Oracle.refused from (at g.W.Sink.contents g.W.Sink.has_failed l.fn.self) inputs [] false → Sent g.H.Oracle.told g.H.Oracle.refused from (at g.W.Sink.contents g.W.Sink.has_failed l.self) inputs [] false;
 }
 
 -- each answer leaves fewer to be waited for
