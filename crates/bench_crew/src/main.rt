@@ -3,21 +3,24 @@
 //! printed. Each line of the input is a run.
 #![tactic(auto)]
 
+ghost use Rattle.std.specs.Prelude.{◌≡◌, ◌≤◌, length};
 ghost use Rattle.cb_crew.specs.Crew.{AreHandlersOf, AreOpeningSeats};
 ghost use Rattle.bench_crew.specs.Settings.{IsWithin};
 
+mod numbers;
 mod plain;
 mod settings;
 mod tally;
 mod work;
 
+use crate::numbers::{Numbers, all_readers};
 use crate::plain::{run_loop, run_mutex, tally_of};
 use crate::settings::{Mode, Settings, read_settings};
 use crate::tally::Served;
 use crate::work::HashWork;
 use cb_base::Fault;
 use cb_crew::{Crew, Desk, Fresh, NewCrew};
-use cb_service::{Orders, Readers, Refusal, Signals, Staff, serve_peers};
+use cb_service::{Nothing, Orders, Refusal, Signals, Staff, serve_peers};
 use std::alloc::Global;
 use std::io::{ErrorKind, Read};
 use std::marker::Sync;
@@ -25,16 +28,6 @@ use std::process::ExitCode;
 use std::sync::Wait;
 use std::thread::Threads;
 use std::time::{Clock, Instant};
-
-/// The works of each peer's later connections. The peer's reader opens these connections one after
-/// another.
-fn later_works(alloc: Global, settings: &Settings) -> Result<Vec<Vec<Fresh<HashWork>>>, Fault> {
-    let mut all = Vec::with_capacity(alloc, usize::from(settings.peers))?;
-    for peer in 0..settings.peers {
-        all.push(HashWork::later(alloc, peer, settings.connections, settings.rounds)?)?;
-    }
-    Ok(all)
-}
 
 /// Serves all items by a crew. Returns what was served in each connection.
 fn run_crew<R: Threads + Wait + Clock + Sync>(
@@ -45,10 +38,10 @@ fn run_crew<R: Threads + Wait + Clock + Sync>(
     requires { IsWithin settings.now }
 {
     let signals = Signals::new(alloc, settings.peers)?;
-    let later = later_works(alloc, settings)?;
+    let readers = all_readers(alloc, settings)?;
     let works = HashWork::first(alloc, settings.peers, settings.rounds)?;
     match Crew::new(rt, alloc, works, settings.handlers, settings.capacity) {
-        Ok(made) => match serve_crew(rt, alloc, settings, &signals, made, later) {
+        Ok(made) => match serve_crew(rt, alloc, settings.budget, &signals, made, readers) {
             Ok(desks) => Ok(tallies_of(alloc, desks.as_slice())?),
             Err(refusal) => Err(refusal),
         },
@@ -57,32 +50,30 @@ fn run_crew<R: Threads + Wait + Clock + Sync>(
 }
 
 /// Serves a new crew to its end.
-fn serve_crew<R: Threads + Wait + Clock + Sync>(
+fn serve_crew<R: Threads + Wait + Sync>(
     rt: &R,
     alloc: Global,
-    settings: &Settings,
+    budget: u32,
     signals: &Signals,
     made: NewCrew<HashWork>,
-    later: Vec<Vec<Fresh<HashWork>>>,
+    readers: Vec<Numbers<Fresh<HashWork>>>,
 ) -> Result<Vec<Desk<HashWork>>, Refusal>
-    requires settings { IsWithin settings.now }
+    requires budget { (1 ≤ budget) × (budget ≤ 64) }
     requires seats { AreOpeningSeats made.crew made.readers.items }
+    requires readers { length readers.items ≡ length made.crew.inboxes }
     requires handlers { AreHandlersOf made.crew made.handlers.items }
 {
     let orders = Orders {
-        items: settings.items,
-        budget: settings.budget,
-        pause: settings.pause,
+        budget,
+        hook: Nothing,
     };
     let crew = made.crew;
     let staff = Staff {
-        readers: Readers {
-            seats: made.readers,
-            later,
-        },
+        seats: made.readers,
+        readers,
         handlers: made.handlers,
     };
-    serve_peers(rt, alloc, &crew, signals, orders, staff)
+    serve_peers(rt, alloc, &crew, signals, &orders, staff)
 }
 
 /// What each work of each peer keeps, in the order of peers and connections.

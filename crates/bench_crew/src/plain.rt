@@ -1,7 +1,7 @@
+use crate::numbers::item_at;
 use crate::settings::Settings;
 use crate::tally::{Served, Tally};
 use cb_base::Fault;
-use cb_service::item_at;
 use std::alloc::Global;
 use std::collections::VecDeque;
 use std::marker::Sync;

@@ -20,7 +20,7 @@ pub struct HashWork {
 
 impl HashWork {
     /// A fresh work for a connection of this peer. It hashes each item so many rounds.
-    fn fresh(peer: u16, rounds: u32) -> Fresh<HashWork>
+    pub fn fresh(peer: u16, rounds: u32) -> Fresh<HashWork>
         ensures { (result.peer ≡ peer) × (result.rounds ≡ rounds) }
     {
         Fresh::new(HashWork {
@@ -29,20 +29,6 @@ impl HashWork {
             tally: Tally::new(),
             ended: false,
         })
-    }
-
-    /// The works of a peer's connections after the first.
-    pub fn later(
-        alloc: Global,
-        peer: u16,
-        connections: u16,
-        rounds: u32,
-    ) -> Result<Vec<Fresh<HashWork>>, Fault> {
-        let mut works = Vec::new(alloc);
-        for _ in 1..connections {
-            works.push(HashWork::fresh(peer, rounds))?;
-        }
-        Ok(works)
     }
 
     /// The works of the first connections of so many peers, in their order.

@@ -5,6 +5,31 @@ use crate::signals::Signals;
 use cb_crew::{Crew, Handler, Turn, Work};
 use std::sync::Wait;
 
+/// What a handler's thread does after each of its turns. The desk was given back by then. A tick
+/// can close a work, so something may have happened in a turn that took nothing, too. The reader of
+/// a peer from whose inbox marks were taken is woken after this call.
+pub trait AfterTurn {
+    /// Does what is to be done after this turn.
+    fn after_turn<R: Wait>(&self, rt: &R, turn: Turn);
+}
+
+/// Nothing is done after a turn.
+#[derive(Clone, Copy)]
+pub struct Nothing;
+
+impl AfterTurn for Nothing {
+    fn after_turn<R: Wait>(&self, _rt: &R, _turn: Turn) {}
+}
+
+/// What handlers are told to do.
+#[derive(Clone, Copy, Drop)]
+pub struct Orders<H> {
+    /// How many marks a handler takes in a turn at most, 1 to 64.
+    pub budget: u32,
+    /// What is done after each turn.
+    pub hook: H,
+}
+
 /// How many milliseconds a handler's sleep lasts at most: the first one, and any later one.
 const SHORTEST_SLEEP: u64 = 10;
 
@@ -73,26 +98,29 @@ impl Vigil {
 
 /// What a handler's thread does. It makes turns until it is told to stop and a round is in vain, or
 /// it has made all its turns. It then returns its handler, after getting up, so that no reader
-/// rings for it any more.
+/// rings for it any more. After each turn it calls the hook.
 ///
 /// So what is still queued when the last reader returns is shared by all handlers. It isn't left to
 /// the one thread that finishes the crew.
-pub fn handle<W: Work, R: Wait>(
+pub fn handle<W: Work, H: AfterTurn, R: Wait>(
     rt: &R,
     crew: &Crew<W>,
     mut handler: Handler<W>,
     signals: &Signals,
-    budget: u32,
+    orders: &Orders<H>,
 ) -> Handler<W>
     requires crew { IsHandlerOf crew.now handler }
-    requires budget { (1 ≤ budget) × (budget ≤ 64) }
+    requires budget { (1 ≤ orders.now.budget) × (orders.now.budget ≤ 64) }
     ensures crew { IsHandlerOf crew.now result }
     ensures room { result.room ≡ handler.room }
 {
+    let budget = orders.budget;
     let mut vigil = Vigil::new();
     for _ in rt.forever() {
         let stopped = signals.is_stopped();
-        match handler.turn(rt, crew, budget) {
+        let turn = handler.turn(rt, crew, budget);
+        orders.hook.after_turn(rt, turn);
+        match turn {
             Turn::Served(peer, _, _) => {
                 signals.make_room(peer);
                 vigil.served(signals);

@@ -82,15 +82,17 @@ impl Signals {
         self.lying.fetch_sub(1, Ordering::SeqCst);
     }
 
-    /// Wakes a peer's reader if it waits, since its inbox has room.
+    /// Wakes a peer's reader if it waits: its inbox has room, or it is to look at a stop flag of its
+    /// own.
     pub fn make_room(&self, peer: u16) {
         if let Some(reader) = self.readers.get(usize::from(peer)) {
             reader.unpark();
         }
     }
 
-    /// The reader of a peer waits until its inbox has room. It doesn't wait if `make_room` was
-    /// called since its last wait.
+    /// The reader of a peer waits until `make_room` is called for this peer, or `stop`. It doesn't
+    /// wait if one of them was called since its last wait. So it looks at `is_stopped` before each
+    /// wait, and at a stop flag of its own if it has one. Who sets that flag calls `make_room`.
     pub fn wait_for_room<R: Wait>(&self, rt: &R, peer: u16) {
         if let Some(reader) = self.readers.get(usize::from(peer)) {
             reader.park(rt);

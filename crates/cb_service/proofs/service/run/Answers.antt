@@ -1,7 +1,7 @@
-use Rattle.std.proofs.Common.{◌≡◌, ◌<◌, length, vec_len, arith}
+use Rattle.std.proofs.Common.{◌≡◌, ◌<◌, vec_len, sym, ap, subst, ◌∙◌, arith}
 use Rattle.cb_crew.specs.Crew.{HasPlace, IsHandlerOf, inbox_of}
-use Rattle.cb_service.specs.Service.{handler_of, crew_of, inbox_for}
-use Rattle.cb_service.proofs.Threads.{sides_back, handlers_back}
+use Rattle.cb_service.specs.Service.{crew_of, handler_of, inbox_for}
+use Rattle.cb_service.proofs.Threads.{handlers_back, sides_back}
 use Rattle.cb_service.proofs.service.run.Goals as goal
 
 pub returns : goal.returns

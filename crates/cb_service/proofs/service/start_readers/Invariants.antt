@@ -1,10 +1,15 @@
-use Rattle.std.proofs.Common.{◌≡◌, ◌≤◌, length, map, take, drop}
-use Rattle.cb_inbox.specs.Seat.{opening_seat}
+use Rattle.std.proofs.Common.{◌≡◌, ◌≤◌, length, vec_capacity}
+use Rattle.std.specs.Iterator.Adapters.{zip_first, zip_second}
+use Rattle.std.specs.Vec.Iter.{into_iter_items}
 use Rattle.cb_service.specs.Service.{inbox_for}
-use Rattle.cb_service.proofs.Threads.{seats_of}
+use Rattle.cb_service.proofs.Threads.{IsStarting}
 use Rattle.cb_service.proofs.service.start_readers.Given as goal
 
 abbrev pub invariant-loop-seat : goal.invariant-loop-seat
-invariant-loop-seat g l =
-    (map inbox_for l.threads.items ≡ take l.peer l.crew.inboxes)
-    × (l.seat-iterator.rest.items ≡ seats_of opening_seat (drop l.peer l.crew.inboxes))
+invariant-loop-seat g l = record {
+  can : (goal.iterator-loop-seat g).can_next l.seat-iterator;
+  finite : (goal.iterator-loop-seat g).is_finite l.seat-iterator;
+  room : length l.crew.inboxes ≤ vec_capacity l.threads;
+  count : length l.threads.items ≡ l.peer;
+  starting : IsStarting inbox_for l.crew.inboxes l.peer l.threads.items (into_iter_items (zip_first l.seat-iterator)) (into_iter_items (zip_second l.seat-iterator));
+}

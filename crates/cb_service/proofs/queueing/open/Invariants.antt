@@ -1,5 +1,5 @@
-use Rattle.std.proofs.Common.{◌≡◌, ◌≤◌, ◌^◌, length}
-use Rattle.cb_service.proofs.reading.open.Given as goal
+use Rattle.std.proofs.Common.{◌≡◌}
+use Rattle.cb_service.proofs.queueing.open.Given as goal
 
 abbrev pub invariant-loop : goal.invariant-loop
 invariant-loop g l = (l.seat ≡ l.fn.seat) × (l.opening ≡ l.fn.opening)

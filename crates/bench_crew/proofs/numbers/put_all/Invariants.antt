@@ -1,0 +1,5 @@
+use Rattle.std.proofs.Common.{◌≡◌, ◌<◌, ◌^◌, length}
+use Rattle.bench_crew.proofs.numbers.put_all.Given as goal
+
+abbrev pub invariant-loop-place : goal.invariant-loop-place
+invariant-loop-place g l = (l.seat.inbox ≡ l.inbox.name) × (length l.seat.queued < 2 ^ 48)

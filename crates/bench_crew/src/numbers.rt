@@ -1,0 +1,155 @@
+ghost use Rattle.std.specs.Prelude.{◌≡◌, ◌<◌, ◌^◌, length, IfOk};
+ghost use Rattle.cb_crew.specs.Crew.{HasPlace, inbox_of};
+ghost use Rattle.cb_service.specs.Service.{HoldsSide};
+
+use crate::settings::Settings;
+use crate::work::HashWork;
+use cb_base::Fault;
+use cb_crew::{Fresh, ReaderSide};
+use cb_inbox::{Inbox, Opening, ReaderSeat};
+use cb_service::{Beginning, Reader, Signals, end, open, put};
+use std::alloc::Global;
+use std::sync::Wait;
+use std::thread::Parker;
+use std::time::Duration;
+
+/// The item with this place in a connection of a peer. All items of a run differ.
+pub fn item_at(peer: u16, connection: u16, place: u32) -> u64 {
+    u64::from(peer) << 48 | u64::from(connection) << 32 | u64::from(place)
+}
+
+/// What the reader of a peer does. It queues so many items in each connection and ends it. It opens
+/// each next connection with the next of `later`. It returns early if something can't be queued.
+#[derive(Drop)]
+pub struct Numbers<O: Opening + Drop> {
+    /// How many items each connection has.
+    items: u32,
+    /// How many milliseconds the reader waits before it queues its first item.
+    pause: u32,
+    /// What begins the connections after the first.
+    later: Vec<Beginning<O>>,
+}
+
+/// The readers of all peers, in their order. Fails only with `Fault::Memory`.
+pub fn all_readers(
+    alloc: Global,
+    settings: &Settings,
+) -> Result<Vec<Numbers<Fresh<HashWork>>>, Fault>
+    ensures { IfOk result (λ readers. length readers.items ≡ settings.now.peers) }
+{
+    let mut readers = Vec::new(alloc);
+    for peer in 0..settings.peers {
+        readers.push(Numbers {
+            items: settings.items,
+            pause: settings.pause,
+            later: later_works(alloc, settings, peer)?,
+        })?;
+    }
+    Ok(readers)
+}
+
+/// The works of a peer's connections after the first.
+fn later_works(
+    alloc: Global,
+    settings: &Settings,
+    peer: u16,
+) -> Result<Vec<Beginning<Fresh<HashWork>>>, Fault> {
+    let mut works = Vec::new(alloc);
+    for _ in 1..settings.connections {
+        works.push(Beginning::new(HashWork::fresh(peer, settings.rounds)))?;
+    }
+    Ok(works)
+}
+
+impl<O: Opening + Drop> Reader<u64, O> for Numbers<O> {
+    fn read<R: Wait>(
+        self,
+        rt: &R,
+        inbox: &Inbox<u64, O>,
+        side: &mut Option<ReaderSide<u64, O>>,
+        signals: &Signals,
+    )
+        requires side { HoldsSide inbox.now.name side.old }
+        ensures side { HoldsSide inbox.now.name side.new }
+    {
+        let Some(held) = side.take() else {
+            unreachable!()
+        };
+        *side = Some(match held {
+            ReaderSide::Live(seat) => {
+                wait(rt, self.pause);
+                read_all(rt, inbox, seat, signals, self.items, self.later)
+            }
+            ReaderSide::Ended(seat) => ReaderSide::Ended(seat),
+        });
+    }
+}
+
+/// Waits so many milliseconds. Nothing wakes it before, but the system may.
+fn wait<R: Wait>(rt: &R, milliseconds: u32) {
+    if milliseconds > 0 {
+        Parker::new().park_timeout(rt, Duration::from_millis(u64::from(milliseconds)));
+    }
+}
+
+/// Queues so many items in each connection and ends it. Returns early if something can't be queued.
+fn read_all<O: Opening + Drop, R: Wait>(
+    rt: &R,
+    inbox: &Inbox<u64, O>,
+    seat: ReaderSeat<u64, O>,
+    signals: &Signals,
+    items: u32,
+    later: Vec<Beginning<O>>,
+) -> ReaderSide<u64, O>
+    requires inbox { seat.inbox ≡ inbox.now.name }
+    requires place { length seat.queued < 2 ^ 48 }
+    ensures inbox { inbox_of result ≡ inbox.now.name }
+    ensures place { HasPlace result }
+{
+    let mut seat = seat;
+    let mut connection = 0u16;
+    for work in later {
+        if !put_all(rt, inbox, &mut seat, signals, connection, items) {
+            return ReaderSide::Live(seat);
+        }
+        let ended = match end(rt, inbox, seat, signals) {
+            Ok(ended) => ended,
+            Err(back) => return ReaderSide::Live(back),
+        };
+        seat = match open(rt, inbox, ended, signals, work.into_opening()) {
+            Ok(opened) => opened,
+            Err(back) => return ReaderSide::Ended(back),
+        };
+        connection = connection.saturating_add(1);
+    }
+    if !put_all(rt, inbox, &mut seat, signals, connection, items) {
+        return ReaderSide::Live(seat);
+    }
+    match end(rt, inbox, seat, signals) {
+        Ok(ended) => ReaderSide::Ended(ended),
+        Err(back) => ReaderSide::Live(back),
+    }
+}
+
+/// Queues so many items of a connection. Returns false if not all of them could be queued.
+fn put_all<O: Opening + Drop, R: Wait>(
+    rt: &R,
+    inbox: &Inbox<u64, O>,
+    seat: &mut ReaderSeat<u64, O>,
+    signals: &Signals,
+    connection: u16,
+    items: u32,
+) -> bool
+    requires inbox { seat.old.inbox ≡ inbox.now.name }
+    requires place { length seat.old.queued < 2 ^ 48 }
+    ensures inbox { seat.new.inbox ≡ inbox.now.name }
+    ensures place { length seat.new.queued < 2 ^ 48 }
+{
+    for place in 0..items {
+        let item = item_at(inbox.peer(), connection, place);
+        if !put(rt, inbox, seat, signals, item) {
+            return false;
+        }
+    }
+    true
+}

@@ -1,5 +1,0 @@
-use Rattle.std.proofs.Common.{◌≡◌, ◌<◌, ◌^◌, length}
-use Rattle.cb_service.proofs.reading.read.Given as goal
-
-abbrev pub invariant-loop-work : goal.invariant-loop-work
-invariant-loop-work g l = (l.seat.inbox ≡ l.inbox.name) × (length l.seat.queued < 2 ^ 41)

@@ -1,0 +1,76 @@
+ghost use Rattle.std.specs.Prelude.{◌≡◌, ◌≤◌, List, [], length, vec_capacity};
+ghost use Rattle.cb_crew.specs.Desk.{DeskState};
+ghost use Rattle.cb_crew.specs.Turn.{HandlerState};
+ghost use Rattle.cb_crew.specs.Crew.{AreHandlersOf, CrewState, HasPlace, IsHandlerOf, inbox_of};
+ghost use Rattle.cb_service.specs.Service.{HandBack, crew_of, handler_of, inbox_for};
+
+use cb_crew::{Crew, Fresh, Handler, ReaderSide, Work};
+use cb_inbox::Inbox;
+use std::snapshot::Snapshot;
+use std::thread::{Promise, PromisedHandle, Threads};
+
+/// A promise: a handler's thread returns a handler of this crew, whose list has as much room as
+/// before.
+#[derive(Drop)]
+pub struct OfCrew<W: Work> {
+    pub(crate) crew: Snapshot<Crew<W>>,
+    pub(crate) handler: Snapshot<Handler<W>>,
+}
+
+impl<W: Work> Promise<Handler<W>> for OfCrew<W> {
+    ghost kept_by = { λ promise handler. IsHandlerOf promise.crew.value handler × (handler.room ≡ promise.handler.value.room) };
+}
+
+/// A promise: a reader's thread returns a side of this inbox. A live side has room for its end mark.
+#[derive(Drop)]
+pub struct OfReader<W: Work> {
+    pub(crate) inbox: Snapshot<Inbox<W::Item, Fresh<W>>>,
+}
+
+impl<W: Work> Promise<ReaderSide<W::Item, Fresh<W>>> for OfReader<W> {
+    ghost kept_by = { λ promise side. (inbox_of side ≡ promise.inbox.value.name) × HasPlace side };
+}
+
+/// A handler's thread.
+pub type Handling<W> = PromisedHandle<Handler<W>, OfCrew<W>>;
+
+/// A reader's thread.
+pub type Reading<W> = PromisedHandle<ReaderSide<<W as Work>::Item, Fresh<W>>, OfReader<W>>;
+
+/// Waits until a handler's thread returns, and returns its handler.
+pub fn join_handler<W: Work, R: Threads>(rt: &R, thread: Handling<W>) -> Handler<W>
+    ensures crew { IsHandlerOf (crew_of thread) result }
+    ensures room { result.room ≡ (handler_of thread).room }
+{
+    thread.join(rt)
+}
+
+/// Waits until all these threads return. Returns their handlers in the order of the threads, in the
+/// given empty list. It takes no memory: the list must have room.
+///
+/// If the threads are those of all handlers of a crew, with the crew's first handler first, then
+/// `Crew::finish` takes these handlers.
+pub fn join_handlers<W: Work, R: Threads>(
+    rt: &R,
+    threads: Vec<Handling<W>>,
+    handlers: Vec<Handler<W>>,
+) -> Vec<Handler<W>>
+    requires room { (handlers.items ≡ []) × (length threads.items ≤ vec_capacity handlers) }
+    ensures { (crew : CrewState) (before : List (HandlerState (DeskState W W.Item))) →
+        HandBack crew threads.items before → AreHandlersOf crew before →
+        AreHandlersOf crew result.items }
+{
+    let mut handlers = handlers;
+    for thread in threads {
+        handlers.push_reserved(join_handler(rt, thread));
+    }
+    handlers
+}
+
+/// Waits until a reader's thread returns, and returns the reader's side.
+pub fn join_reader<W: Work, R: Threads>(rt: &R, thread: Reading<W>) -> ReaderSide<W::Item, Fresh<W>>
+    ensures inbox { inbox_of result ≡ (inbox_for thread).name }
+    ensures place { HasPlace result }
+{
+    thread.join(rt)
+}
