@@ -1,0 +1,4 @@
+pub mod Keeping
+pub mod Serving
+pub mod Starting
+pub mod Ticking

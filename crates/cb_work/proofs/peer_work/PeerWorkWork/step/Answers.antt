@@ -1,0 +1,13 @@
+use Rattle.std.proofs.Common.{◌++◌, ◌∷◌, []}
+use Rattle.cb_work.proofs.Ticking.{ticked_on}
+use Rattle.cb_work.proofs.peer_work.PeerWorkWork.step.Goals as goal
+
+pub returns-clause-given : goal.returns-clause-given
+returns-clause-given g c = λ items given. (given.0, c.count.ensures.serves _ _ (c.give.ensures.serves items given.0 given.1))
+
+pub returns-clause-ticked : goal.returns-clause-ticked
+returns-clause-ticked g c =
+    λ at t.
+    ticked_on g.H.Oracle.told g.H.Oracle.refused g.S.Sink.contents g.S.Sink.has_failed g.F.Flags.looks c.args.self.now c.count.new.self at (λ items. items ++ c.args.item ∷ []) c.requires.open
+    (λ answers looked. c.count.ensures.same.looked answers (c.give.ensures.same.looked answers looked))
+    (λ items ticks s. c.count.ensures.serves _ _ (c.give.ensures.serves items ticks s)) t

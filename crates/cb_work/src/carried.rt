@@ -1,0 +1,135 @@
+use crate::traffic::BlockPath;
+use cb_base::Hash256;
+use cb_crew::Given;
+use cb_journal::Answer;
+use cb_peer::Event;
+use cb_reader::Input;
+use cb_trace::TraceEntry;
+use cb_wire::{Item, Message};
+
+/// What an item carries that leads to a block.
+#[derive(Clone, Copy)]
+enum Content {
+    /// A `block` with this hash.
+    Block(Hash256),
+    /// A `cmpctblock` of the block with this hash.
+    CompactBlock(Hash256),
+    /// A `blocktxn`.
+    Transactions,
+    /// Nothing of a block.
+    Other,
+}
+
+/// What is counted of an item. It is noted before the item is given to the session.
+#[derive(Clone, Copy)]
+pub(crate) struct Carried {
+    /// The number of messages: 0 or 1.
+    pub messages: u64,
+    /// The number of payload bytes.
+    pub payload: u64,
+    content: Content,
+}
+
+impl Carried {
+    /// What is counted of a work's next input.
+    pub fn of(given: &Given<Input>) -> Carried {
+        match given {
+            Given::Item(input) => Carried {
+                messages: u64::from(matches!(input, Input::Said(_))),
+                payload: input.payload_len(),
+                content: content_of(input),
+            },
+            Given::End => Carried::nothing(),
+        }
+    }
+
+    /// What is counted where no item came.
+    pub fn nothing() -> Carried {
+        Carried {
+            messages: 0,
+            payload: 0,
+            content: Content::Other,
+        }
+    }
+}
+
+/// What an input carries that leads to a block.
+fn content_of(input: &Input) -> Content {
+    let Input::Said(item) = input else {
+        return Content::Other;
+    };
+    let item: &Item = item;
+    let Item::Good(message) = item else {
+        return Content::Other;
+    };
+    match message.message() {
+        Message::Block(block) => Content::Block(block.header.hash()),
+        Message::CmpctBlock(compact) => Content::CompactBlock(compact.header.hash()),
+        Message::BlockTxn(_) => Content::Transactions,
+        _ => Content::Other,
+    }
+}
+
+/// Which block is awaited after its `cmpctblock`: the latest one that the session couldn't hand to
+/// the hall at once.
+#[derive(Clone, Copy)]
+pub(crate) struct Rebuilding {
+    block: Option<Hash256>,
+}
+
+impl Rebuilding {
+    /// No block is awaited.
+    pub fn nothing() -> Rebuilding {
+        Rebuilding { block: None }
+    }
+
+    /// How a block came, if the step of this item handed one to the hall. `entries` are the trace's
+    /// entries after the step.
+    pub fn path(&mut self, carried: &Carried, entries: &[TraceEntry]) -> Option<BlockPath> {
+        match carried.content {
+            Content::Block(hash) => {
+                let awaited = self.ends(hash);
+                let path = if awaited {
+                    BlockPath::Fallback
+                } else {
+                    BlockPath::Full
+                };
+                taken(entries).then_some(path)
+            }
+            Content::CompactBlock(hash) => {
+                let taken = taken(entries);
+                self.block = if taken { None } else { Some(hash) };
+                taken.then_some(BlockPath::Compact)
+            }
+            Content::Transactions => {
+                let taken = taken(entries);
+                if taken {
+                    self.block = None;
+                }
+                taken.then_some(BlockPath::Completed)
+            }
+            Content::Other => None,
+        }
+    }
+
+    /// Whether this block was awaited. It is no more.
+    fn ends(&mut self, hash: Hash256) -> bool {
+        let awaited = self.block == Some(hash);
+        if awaited {
+            self.block = None;
+        }
+        awaited
+    }
+}
+
+/// Whether the hall took a block since the trace's last input.
+fn taken(entries: &[TraceEntry]) -> bool {
+    for entry in entries.iter().rev() {
+        match &entry.event {
+            Event::Told(Answer::Taken(_)) => return true,
+            Event::Told(_) | Event::NoMemory | Event::HallFull | Event::WriteFault => {}
+            Event::Said(_) | Event::Broken(_) | Event::Tick | Event::ReaderEnd => return false,
+        }
+    }
+    false
+}

@@ -1,0 +1,27 @@
+//! A peer's session as the work of a crew's desk: the work of one connection, which gives its
+//! session what the peer sent, asks the hall behind its lock, and writes what the session sends.
+//! The hall is what Bitcoin Core keeps in ChainstateManager and CTxMemPool.
+#![tactic(auto)]
+
+mod carried;
+mod flags;
+mod outlet;
+mod peer_work;
+mod shared_hall;
+mod signals;
+#[cfg(test)]
+mod tests;
+mod traffic;
+
+pub use cb_crew::{Given, Work};
+pub use cb_hall::{Badge, Hall};
+pub use cb_io::Sink;
+pub use cb_peer::Settings;
+pub use cb_reader::Input;
+pub use cb_trace::{Oracle, Trace};
+pub use flags::Flags;
+pub use outlet::Outlet;
+pub use peer_work::{NotStarted, PeerWork};
+pub use shared_hall::SharedHall;
+pub use signals::{PeerFlags, Signals};
+pub use traffic::{BlockPath, Totals, Traffic};

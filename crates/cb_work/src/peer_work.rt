@@ -1,0 +1,356 @@
+ghost use Rattle.std.specs.Prelude.{◌≡◌, ◌≤◌, ◌++◌, ◌∷◌, true, false, Bool, List, ℕ, [], IfOk, IfErr};
+ghost use Rattle.cb_base.specs.declared.fault.Fault.TheVariants.{Memory};
+ghost use Rattle.cb_crew.specs.declared.work.Given.{Given};
+ghost use Rattle.cb_crew.specs.declared.work.Given.TheVariants as given;
+ghost use Rattle.cb_crew.specs.Work.{IsEnd, IsFresh};
+ghost use Rattle.cb_reader.specs.declared.input.Input.{Input};
+ghost use Rattle.cb_reader.specs.declared.input.Input.TheVariants as inputs;
+ghost use Rattle.cb_peer_state.specs.Event.{begins, ends_at_once, kind_of};
+ghost use Rattle.cb_peer_state.specs.State.{is_closed};
+ghost use Rattle.cb_work.specs.PeerWork.{HoldsNothing, IsPrimed, IsSamePeer, Serves, ServesNext, ServesOn, WasGiven, WasTicked, is_over, label_of};
+
+use crate::carried::{Carried, Rebuilding};
+use crate::flags::Flags;
+use crate::outlet::Outlet;
+use crate::traffic::Traffic;
+use cb_base::Fault;
+use cb_crew::{Given, Work};
+use cb_hall::Badge;
+use cb_io::Sink;
+use cb_peer::{Event, Settings};
+use cb_reader::Input;
+use cb_session::{begin_by, lose_by};
+use cb_state::Connection;
+use cb_trace::{Oracle, Trace};
+use cb_wire::BoundedMessage;
+use std::alloc::Global;
+use std::marker::Model;
+use std::mem;
+use std::sync::Wait;
+
+/// The work of one connection: the trace of its session, the badge under which it asks the hall,
+/// its slot's sink, and its flags. The hall is what Bitcoin Core keeps in ChainstateManager and
+/// CTxMemPool; the badge is the connection's permit to ask it.
+///
+/// A work is made before its connection is. The messages that its session opens with are held back
+/// until the first tick that is due or the first item, and go out before its first question.
+#[derive(Drop)]
+pub struct PeerWork<S: Sink + Drop, H: Oracle + Drop, F: Flags> {
+    alloc: Global,
+    trace: Trace,
+    badge: Badge,
+    outlet: Outlet<S>,
+    hall: H,
+    flags: F,
+    written: u64,
+    unsent: Vec<BoundedMessage>,
+    /// How many messages were written that the flags weren't told of yet.
+    untold: u64,
+    rebuilding: Rebuilding,
+}
+
+impl<S: Sink + Drop, H: Oracle + Drop, F: Flags> Model for PeerWork<S, H, F> {
+    ghost use Rattle.cb_work.specs.PeerWork.{IsPeerWork, WorkState, work_state};
+
+    ghost Value = { WorkState S H F };
+
+    ghost view = { λ work. work_state work.trace work.badge work.outlet.slot work.outlet.sink work.hall work.flags work.written work.unsent.items };
+
+    ghost invariant = { λ work. IsPeerWork H.told H.refused S.contents S.has_failed F.is_stopped (work_state work.trace work.badge work.outlet.slot work.outlet.sink work.hall work.flags work.written work.unsent.items) };
+}
+
+/// A work that couldn't be made. What it was to be made of comes back.
+#[derive(Drop)]
+pub struct NotStarted<S: Drop, H: Drop, F: Drop> {
+    /// The badge.
+    pub badge: Badge,
+    /// The slot's sink.
+    pub outlet: Outlet<S>,
+    /// The hall.
+    pub hall: H,
+    /// The flags.
+    pub flags: F,
+    /// `Fault::Memory`.
+    pub cause: Fault,
+}
+
+impl<S: Sink + Drop, H: Oracle + Drop, F: Flags> PeerWork<S, H, F> {
+    /// The work of a connection that isn't made yet. Nothing was asked under its badge. The sink is
+    /// its peer's slot's, and holds nothing.
+    ///
+    /// Fails only with `Fault::Memory`, and gives all back.
+    pub fn new(
+        alloc: Global,
+        settings: Settings,
+        badge: Badge,
+        outlet: Outlet<S>,
+        hall: H,
+        flags: F,
+    ) -> Result<PeerWork<S, H, F>, NotStarted<S, H, F>>
+        requires badge { (badge.count ≡ 0) × (badge.full ≡ false) }
+        requires slot { outlet.slot ≡ badge.connection.peer }
+        requires empty { HoldsNothing (S.contents outlet.sink) }
+        requires unfailed { S.has_failed outlet.sink ≡ false }
+        requires looks { F.looks flags [] }
+        ensures fresh { IfOk result
+            (λ work. IsFresh (WasGiven H.told H.refused S.contents S.has_failed)
+            (WasTicked H.told H.refused S.contents S.has_failed F.looks) is_over work) }
+        ensures settings { IfOk result (λ work. work.trace.settings ≡ settings) }
+        ensures badge { IfOk result (λ work. work.badge ≡ badge) }
+        ensures outlet { IfOk result
+            (λ work. (work.slot ≡ outlet.slot) × (work.sink ≡ outlet.sink)) }
+        ensures hall { IfOk result (λ work. work.hall ≡ hall) }
+        ensures back { IfErr result
+            (λ parts. (parts.badge ≡ badge) × (parts.outlet ≡ outlet) × (parts.hall ≡ hall)
+            × (parts.flags ≡ flags)) }
+        ensures memory { IfErr result (λ parts. parts.cause ≡ Memory) }
+    {
+        match Trace::new(alloc, settings) {
+            Ok((trace, unsent)) => Ok(PeerWork {
+                alloc,
+                trace,
+                badge,
+                outlet,
+                hall,
+                flags,
+                written: 0,
+                unsent,
+                untold: 0,
+                rebuilding: Rebuilding::nothing(),
+            }),
+            Err(cause) => Err(NotStarted {
+                badge,
+                outlet,
+                hall,
+                flags,
+                cause,
+            }),
+        }
+    }
+
+    /// The trace of the session.
+    pub fn trace(&self) -> &Trace
+        ensures { result.now ≡ self.now.trace }
+    {
+        &self.trace
+    }
+
+    /// The connection that is served.
+    pub fn connection(&self) -> Connection
+        ensures { result ≡ self.now.badge.connection }
+    {
+        self.badge.connection()
+    }
+
+    /// The badge under which the session asks.
+    pub fn badge(&self) -> &Badge
+        ensures { result.now ≡ self.now.badge }
+    {
+        &self.badge
+    }
+
+    /// The slot's number.
+    pub fn slot(&self) -> u16
+        ensures { result ≡ self.now.slot }
+    {
+        self.outlet.slot()
+    }
+
+    /// What the session's messages are written into.
+    pub fn sink(&self) -> &S
+        ensures { result.now ≡ self.now.sink }
+    {
+        self.outlet.sink()
+    }
+
+    /// The flags.
+    pub fn flags(&self) -> &F
+        ensures { result.now ≡ self.now.flags }
+    {
+        &self.flags
+    }
+
+    /// The number of bytes written; `u64::MAX` if that is more.
+    pub fn written(&self) -> u64
+        ensures { result ≡ self.now.written }
+    {
+        self.written
+    }
+
+    /// A fact for the prover: what the work was given, and what it made of that (`Serves`). Its
+    /// sink is its peer's slot's. If its session is over, the stop flag is set. Its session was
+    /// given as many answers as its badge counts.
+    pub fn served(&self)
+        ensures serves { (items : List (Given Input)) × (ticks : ℕ)
+            × Serves H.told H.refused S.contents S.has_failed self.now items ticks }
+        ensures slot { self.now.slot ≡ self.now.badge.connection.peer }
+        ensures stopped { is_over self.now ≡ true → F.is_stopped self.now.flags ≡ true }
+        ensures counted { self.now.trace.total.told ≡ self.now.badge.count }
+    {
+        // No effect when it runs: it tells the prover what the type keeps.
+        let _ = &self.trace;
+    }
+
+    /// Makes room for the next event. If that fails, the session is over, and the result is false.
+    fn make_room(&mut self) -> bool
+        requires going { is_over self.old ≡ false }
+        ensures ready { result ≡ true → IsPrimed self.new }
+        ensures closed { result ≡ false → is_over self.new ≡ true }
+        ensures same { IsSamePeer F.looks self.old self.new }
+        ensures serves { ServesOn H.told H.refused S.contents S.has_failed self.old self.new }
+    {
+        let ready = self.trace.ready();
+        stop_if_over(&self.trace, &mut self.flags);
+        ready
+    }
+
+    /// Gives the session an event that begins something new: input from the peer, or a tick. Writes
+    /// what is held back and what the session sends, and asks the hall what it asks, until no
+    /// question is open.
+    fn begin(&mut self, event: Event)
+        requires primed { IsPrimed self.old }
+        requires begins { begins (kind_of event) ≡ true }
+        ensures ended { ends_at_once event ≡ true → is_over self.new ≡ true }
+        ensures same { IsSamePeer F.looks self.old self.new }
+        ensures serves { ServesNext H.told H.refused S.contents S.has_failed self.old event self.new }
+    {
+        let unsent = mem::replace(&mut self.unsent, Vec::new(self.alloc));
+        let begun = begin_by(
+            self.alloc,
+            &mut self.trace,
+            &mut self.outlet.sink,
+            &mut self.hall,
+            &mut self.badge,
+            &mut self.written,
+            unsent,
+            event,
+        );
+        self.unsent = begun.unsent;
+        self.untold = self.untold.saturating_add(begun.messages);
+        stop_if_over(&self.trace, &mut self.flags);
+    }
+
+    /// Ends the session: memory ran out for what the peer sent.
+    fn lose(&mut self)
+        requires going { is_over self.old ≡ false }
+        ensures ended { is_over self.new ≡ true }
+        ensures same { IsSamePeer F.looks self.old self.new }
+        ensures serves { (items : List (Given Input)) (ticks : ℕ) →
+            Serves H.told H.refused S.contents S.has_failed self.old items ticks →
+            Serves H.told H.refused S.contents S.has_failed self.new
+            (items ++ given.Item inputs.NoMemory ∷ []) ticks }
+    {
+        lose_by(
+            &mut self.trace,
+            &mut self.outlet.sink,
+            &mut self.hall,
+            &mut self.badge,
+            self.written,
+        );
+        stop_if_over(&self.trace, &mut self.flags);
+    }
+
+    /// Gives the session the next item, or the end.
+    fn give(&mut self, item: Given<Input>)
+        requires primed { IsPrimed self.old }
+        ensures ended { IsEnd item → is_over self.new ≡ true }
+        ensures same { IsSamePeer F.looks self.old self.new }
+        ensures serves { (items : List (Given Input)) (ticks : ℕ) →
+            Serves H.told H.refused S.contents S.has_failed self.old items ticks →
+            Serves H.told H.refused S.contents S.has_failed self.new (items ++ item ∷ []) ticks }
+    {
+        match item {
+            Given::Item(Input::Said(item)) => self.begin(Event::Said(item)),
+            Given::Item(Input::Broken(fault)) => self.begin(Event::Broken(fault)),
+            Given::Item(Input::NoMemory) => self.lose(),
+            Given::End => self.begin(Event::ReaderEnd),
+        }
+    }
+
+    /// Counts what a step moved, which began with so many bytes written.
+    fn count(&mut self, carried: Carried, written: u64)
+        ensures over { is_over self.new ≡ is_over self.old }
+        ensures same { IsSamePeer F.looks self.old self.new }
+        ensures serves { ServesOn H.told H.refused S.contents S.has_failed self.old self.new }
+    {
+        let block = self.rebuilding.path(&carried, self.trace.entries());
+        self.flags.tell(&Traffic {
+            messages: carried.messages,
+            payload: carried.payload,
+            written: self.written.saturating_sub(written),
+            sent: mem::replace(&mut self.untold, 0),
+            block,
+        });
+    }
+}
+
+impl<S: Sink + Drop, H: Oracle + Drop, F: Flags> Work for PeerWork<S, H, F> {
+    type Item = Input;
+
+    ghost given = { λ work items. WasGiven H.told H.refused S.contents S.has_failed work items };
+
+    ghost ticked = { λ work at. WasTicked H.told H.refused S.contents S.has_failed F.looks work at };
+
+    ghost primed = { λ work. IsPrimed work };
+
+    ghost is_closed = { λ work. is_over work };
+
+    ghost label = { λ work. label_of work.badge.connection };
+
+    fn whose(&self) -> u64 {
+        let connection = self.badge.connection();
+        let peer = u64::from(connection.peer);
+        connection
+            .generation
+            .wrapping_mul(65_536)
+            .wrapping_add(peer)
+    }
+
+    fn closed(&self) -> bool {
+        self.trace.state().is_closed()
+    }
+
+    fn ready(&mut self) -> bool {
+        self.make_room()
+    }
+
+    fn step<R: Wait>(&mut self, _rt: &R, item: Given<Input>)
+        requires open { is_over self.old ≡ false }
+        requires primed { IsPrimed self.old }
+        ensures given { (items : List (Given Input)) →
+            WasGiven H.told H.refused S.contents S.has_failed self.old items →
+            WasGiven H.told H.refused S.contents S.has_failed self.new (items ++ item ∷ []) }
+        ensures end { IsEnd item → is_over self.new ≡ true }
+        ensures label { label_of self.new.badge.connection ≡ label_of self.old.badge.connection }
+        ensures ticked { (at : List ℕ) →
+            WasTicked H.told H.refused S.contents S.has_failed F.looks self.old at →
+            WasTicked H.told H.refused S.contents S.has_failed F.looks self.new at }
+    {
+        let carried = Carried::of(&item);
+        let written = self.written;
+        self.give(item);
+        self.count(carried, written);
+    }
+
+    fn tick<R: Wait>(&mut self, _rt: &R) {
+        if !self.flags.take_tick() {
+            return;
+        }
+        if !self.make_room() {
+            return;
+        }
+        let written = self.written;
+        self.begin(Event::Tick);
+        self.count(Carried::nothing(), written);
+    }
+}
+
+/// Sets the stop flag if the session is over.
+fn stop_if_over<F: Flags>(trace: &Trace, flags: &mut F)
+    ensures stopped { is_closed trace.now.session.state ≡ true → F.is_stopped flags.new ≡ true }
+    ensures looked { (answers : List Bool) → F.looks flags.old answers → F.looks flags.new answers }
+{
+    if trace.state().is_closed() {
+        flags.stop();
+    }
+}

@@ -1,0 +1,55 @@
+use cb_base::{Fault, Shared};
+use cb_hall::{Badge, Hall};
+use cb_journal::{Answer, Question};
+use cb_trace::Oracle;
+use std::sync::{Mutex, Wait};
+
+/// The hall behind its lock, which each connection's work holds. A question waits for the lock, and
+/// the lock is let go after each call.
+///
+/// No clause can name the hall between two calls, since others call it too. So what is told here
+/// speaks of the badge alone.
+#[derive(Drop)]
+pub struct SharedHall<R: Drop> {
+    rt: R,
+    hall: Shared<Mutex<Hall>>,
+}
+
+impl<R: Wait + Drop> SharedHall<R> {
+    /// A way to this hall. It waits for the lock by `rt`.
+    pub fn new(rt: R, hall: Shared<Mutex<Hall>>) -> SharedHall<R> {
+        SharedHall { rt, hall }
+    }
+
+    /// The hall with its lock.
+    pub fn hall(&self) -> &Mutex<Hall> {
+        &self.hall
+    }
+}
+
+impl<R: Wait + Drop> Oracle for SharedHall<R> {
+    ghost use Rattle.cb_trace.specs.Granting.{HasCounted};
+    ghost use Rattle.cb_trace.proofs.Granting.{counted_none, counted_then};
+    ghost use Rattle.cb_work.specs.SharedHall.{IsMarked};
+
+    ghost told = { λ old had replies new has. HasCounted had has replies };
+
+    ghost refused = { λ hall badge fault. IsMarked badge fault };
+
+    fn ask(&mut self, badge: &mut Badge, question: Question) -> Result<Answer, Fault> {
+        let mut guard = self.hall.lock(&self.rt);
+        guard.ask(badge, question)
+    }
+
+    ghost told_none = { λ a x. counted_none x };
+
+    ghost told_then = { λ a b c x y z first next h k. counted_then x y z first next h k };
+
+    ghost full_stays = { λ a b x y replies h k. h.marked k };
+
+    ghost counts = { λ a b x y replies h. h.count };
+
+    ghost same_connection = { λ a b x y replies h. h.connection };
+
+    ghost mark_stays = { λ a b x y replies h k. h.marked k };
+}

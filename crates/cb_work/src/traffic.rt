@@ -1,0 +1,49 @@
+/// How a block came that was handed to the hall.
+#[derive(Clone, Copy, Debug, PartialEq, Eq)]
+pub enum BlockPath {
+    /// As a `block`.
+    Full,
+    /// As a `cmpctblock` (BIP 152) from which the block could be rebuilt at once.
+    Compact,
+    /// As a `cmpctblock` and a `blocktxn` with the transactions that were missing.
+    Completed,
+    /// As a `block`, asked for in full because the block couldn't be rebuilt from its
+    /// `cmpctblock`.
+    Fallback,
+}
+
+/// What one step of a connection moved.
+#[derive(Clone, Copy, Debug, PartialEq, Eq)]
+pub struct Traffic {
+    /// The number of messages read: 0 or 1.
+    pub messages: u64,
+    /// The number of payload bytes of the item, which has left the inbox.
+    pub payload: u64,
+    /// The number of bytes written.
+    pub written: u64,
+    /// The number of messages written.
+    pub sent: u64,
+    /// How a block came, if the step handed one to the hall.
+    pub block: Option<BlockPath>,
+}
+
+/// What one connection moved so far. Each number stops at no bound: it wraps at 2^64.
+#[derive(Clone, Copy, Debug, PartialEq, Eq)]
+pub struct Totals {
+    /// Messages read.
+    pub messages: u64,
+    /// Payload bytes of the messages read.
+    pub payload: u64,
+    /// Bytes written.
+    pub written: u64,
+    /// Messages written.
+    pub sent: u64,
+    /// Blocks that came as a `block`.
+    pub full: u64,
+    /// Blocks that were rebuilt from a `cmpctblock` at once.
+    pub compact: u64,
+    /// Blocks that were rebuilt from a `cmpctblock` and a `blocktxn`.
+    pub completed: u64,
+    /// Blocks that came as a `block` because they couldn't be rebuilt.
+    pub fallback: u64,
+}
