@@ -1,0 +1,201 @@
+#!/usr/bin/env python3
+"""Plays generated conversations of many peers at once through bench_peers, and looks at what it makes of them:
+python3 bench/looks/peers.py [RUNS] [SEED] [PROGRAM]
+
+It needs the built program (crates/bench_peers/out/bench_peers, as ./build --all leaves it), a C compiler as `cc`, and python3, and
+takes a minute or two. The conversations are those of bench/looks/conversations.py.
+
+Without words 20 runs from seed 1: 32 peers of 5 connections each, whose readers kick other peers and make ticks due, and 4 handlers.
+The inboxes hold one mark in half of the runs and 256 in the others. A new session that is given a trace's events again has to come to
+the same state, to ask the same, and to send what was written: the program tells so of each trace.
+
+Then conversations of one peer, which have to be answered as the plain session answers (bench/models/plain_session.py). So a session of
+the crew writes what `cbrelay serve` writes where no other peer is there.
+
+Then each growth of memory is refused in turn, in a run of one peer on one thread. Each run has to end with status 4, or wholly as with
+ample memory where it could do without that growth. What was written until then is a beginning of the full answer.
+"""
+
+import os
+import random
+import subprocess
+import sys
+import tempfile
+from concurrent.futures import ThreadPoolExecutor
+from pathlib import Path
+from typing import NamedTuple
+
+if not __package__:  # called as a file
+    sys.path.insert(0, str(Path(__file__).resolve().parents[2]))
+
+from bench.tools import growths, relay_rows
+from bench.tools.command_line import usage
+from bench.tools.conversation_drawing import Conversation, Relay
+from bench.tools.messages import pings
+from bench.tools.programs import built
+
+RUNS, PEERS, CONNECTIONS, HANDLERS, CAPACITIES = 20, 32, 5, 4, (1, 256)
+# How many conversations are drawn for all runs, and how many are played by one peer alone.
+DRAWN, ALONE = 240, 60
+# How often a reader kicks a peer, or makes a tick of each peer due, before a connection.
+KICKS, TICKS = 0.15, 0.3
+# How a session ends if memory ran out.
+STARVED = {"Memory", "WriteFault"}
+# Runs in which growths are refused have no inbox that is full.
+ROOMY = 1024
+
+
+class Told(NamedTuple):
+    """The line of one connection."""
+
+    peer: str
+    generation: str
+    why: str
+    written: bytes
+
+
+def connection_of(line):
+    """What a connection's line tells, or None for another line."""
+    words = line.split()
+    if len(words) < 12 or words[0] != "peer":
+        return None
+    return Told(words[1], words[3], words[5], bytes.fromhex(words[12]) if len(words) > 12 else b"")
+
+
+def connections_of(output):
+    """What the whole lines of an output tell of connections."""
+    lines = output.decode("ascii").split("\n")[:-1]
+    return [told for told in map(connection_of, lines) if told]
+
+
+def drawn(seed):
+    return (Relay if seed % 2 else Conversation)(seed)
+
+
+def peer_line(peer, stream):
+    return f"peer {peer} {stream.hex()}\n"
+
+
+def run(program, text, timeout=300):
+    return subprocess.run([program], input=text.encode("ascii"), capture_output=True, timeout=timeout)
+
+
+# ---- many peers
+
+
+def script_of(rng, spoken):
+    """What many peers send, one connection after another, and whom their readers kick."""
+    lines = []
+    for connection in range(CONNECTIONS):
+        for peer in range(PEERS):
+            if connection and rng.random() < KICKS:
+                lines.append(f"kick {peer} {rng.randrange(PEERS)}\n")
+            if connection and rng.random() < TICKS:
+                lines.append(f"tick {peer}\n")
+            lines.append(peer_line(peer, rng.choice(spoken).stream))
+    return "".join(lines)
+
+
+def summary_of(ran):
+    """The numbers of a run's last line by their names."""
+    words = ran.stdout.decode("ascii").split()[-14:]
+    return {name: int(number) for name, number in zip(words[::2], words[1::2])} if len(words) == 14 else {}
+
+
+def play_many(program, seed, spoken):
+    """Plays a run of many peers. What is wrong with it, if something is, and its numbers."""
+    capacity = CAPACITIES[seed % len(CAPACITIES)]
+    ran = run(program, script_of(random.Random(seed), spoken) + f"run {HANDLERS} {capacity}\n")
+    told = summary_of(ran)
+    right = ran.returncode == 0 and told.get("connections") == told.get("alike") == PEERS * CONNECTIONS and told.get("unlike") == 0
+    return None if right else f"seed {seed}, capacity {capacity}: status {ran.returncode}, {ran.stdout!r}, {ran.stderr!r}", told
+
+
+def look_at_many(program, runs, seed, spoken):
+    failures, totals = [], {}
+    for number in range(seed, seed + runs):
+        failure, told = play_many(program, number, spoken)
+        failures += [failure] if failure else []
+        for name in ("connections", "entries", "written", "alike"):
+            totals[name] = totals.get(name, 0) + told.get(name, 0)
+    told = ", ".join(f"{number} {name}" for name, number in totals.items())
+    print(f"peers: {runs} runs of {PEERS} peers: {told}; {len(failures)} failures")
+    return failures
+
+
+# ---- one peer
+
+
+def play_alone(program, spoken):
+    """How the crew answers a conversation otherwise than the plain session, if it does."""
+    ran = run(program, peer_line(0, spoken.stream) + f"run {HANDLERS} 256 verbose\n")
+    told = connections_of(ran.stdout)
+    if ran.returncode != 0 or [(one.why, one.written) for one in told] != [(spoken.why, spoken.answered)]:
+        return f"alone: status {ran.returncode}, {[one.why for one in told]} for {spoken.why}, {ran.stderr!r}"
+    return None
+
+
+def look_at_one(program, spoken):
+    with ThreadPoolExecutor(os.cpu_count()) as lanes:
+        failures = [failure for failure in lanes.map(lambda one: play_alone(program, one), spoken) if failure]
+    print(f"peers: {len(spoken)} conversations of one peer: {len(spoken) - len(failures)} answered as by the plain session, {len(failures)} not")
+    return failures
+
+
+# ---- growths refused in turn
+
+
+def is_beginning(told, ample):
+    """Whether connections are told as with ample memory, up to the first for which memory ran out; it wrote a beginning."""
+    for one, full in zip(told, ample):
+        if one.why in STARVED:
+            return (one.peer, one.generation) == (full.peer, full.generation) and full.written.startswith(one.written)
+        if one != full:
+            return False
+    return len(told) <= len(ample)
+
+
+def refuse_in_turn(program, name, streams, library):
+    """Refuses each growth of a run of one peer in turn. The runs that ended otherwise than they should."""
+    data = ("".join(peer_line(0, stream) for stream in streams) + f"turn {ROOMY} verbose\n").encode("ascii")
+    ample, most = growths.run([program], data, library, 0)
+    whole = connections_of(ample.stdout)
+    if ample.returncode != 0 or len(whole) != len(streams):
+        return [f"{name}: status {ample.returncode} with ample memory, {ample.stdout!r}"]
+    refused, failures = 0, []
+    for place in range(1, most.count + 1):
+        ran, _ = growths.run([program], data, library, place)
+        if ran.returncode == 4 and is_beginning(connections_of(ran.stdout), whole):
+            refused += 1
+        elif not growths.is_same(ran, ample):
+            failures.append(f"{name}: growth {place} refused: status {ran.returncode}, {ran.stdout[-300:]!r}, {ran.stderr!r}")
+    print(f"peers: {name}: {most.count} growths refused in turn: {refused} ended the run, {most.count - refused - len(failures)} were done without, "
+          f"{len(failures)} failures")
+    return failures
+
+
+def look_at_growths(program):
+    # A relay of compact blocks both ways, in two connections, and pings before an item that can't be read.
+    relayed = relay_rows.relay().said()
+    with tempfile.TemporaryDirectory() as folder:
+        library = growths.build(folder)
+        return (refuse_in_turn(program, "a relay and another connection", [relayed, relayed[:400]], library)
+                + refuse_in_turn(program, "pings, and a bad stream", [pings(3) + bytes(24)], library))
+
+
+def main():
+    reader = usage(__doc__, runs="how many runs of many peers", seed="the seed of the first", program="the program, if not crates/bench_peers/out/bench_peers")
+    words = reader.parse_args()
+    program = built(words.program, "bench_peers")
+    with ThreadPoolExecutor(os.cpu_count()) as lanes:
+        spoken = list(lanes.map(drawn, range(1, 1 + DRAWN)))
+    failures = look_at_many(program, int(words.runs or RUNS), int(words.seed or 1), spoken)
+    failures += look_at_one(program, spoken[:ALONE])
+    failures += look_at_growths(program)
+    for failure in failures[:10]:
+        print(f"peers: {failure}")
+    return 1 if failures else 0
+
+
+if __name__ == "__main__":
+    sys.exit(main())
