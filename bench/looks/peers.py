@@ -2,7 +2,7 @@
 """Plays generated conversations of many peers at once through bench_peers, and looks at what it makes of them:
 python3 bench/looks/peers.py [RUNS] [SEED] [PROGRAM]
 
-It needs the built program (crates/bench_peers/out/bench_peers, as ./build --all leaves it), a C compiler as `cc`, and python3, and
+It needs the built program (crates/bench_peers/out/bench_peers, as ./build --all leaves it) and python3, and
 takes a minute or two. The conversations are those of bench/looks/conversations.py.
 
 Without words 20 runs from seed 1: 32 peers of 5 connections each, whose readers kick other peers and make ticks due, and 4 handlers.
@@ -11,16 +11,12 @@ the same state, to ask the same, and to send what was written: the program tells
 
 Then conversations of one peer, which have to be answered as the plain session answers (bench/models/plain_session.py). So a session of
 the crew writes what `cbrelay serve` writes where no other peer is there.
-
-Then each growth of memory is refused in turn, in a run of one peer on one thread. Each run has to end with status 4, or wholly as with
-ample memory where it could do without that growth. What was written until then is a beginning of the full answer.
 """
 
 import os
 import random
 import subprocess
 import sys
-import tempfile
 from concurrent.futures import ThreadPoolExecutor
 from pathlib import Path
 from typing import NamedTuple
@@ -28,10 +24,8 @@ from typing import NamedTuple
 if not __package__:  # called as a file
     sys.path.insert(0, str(Path(__file__).resolve().parents[2]))
 
-from bench.tools import growths, relay_rows
 from bench.tools.command_line import usage
 from bench.tools.conversation_drawing import Conversation, Relay
-from bench.tools.messages import pings
 from bench.tools.programs import built
 
 RUNS, PEERS, CONNECTIONS, HANDLERS, CAPACITIES = 20, 32, 5, 4, (1, 256)
@@ -39,10 +33,6 @@ RUNS, PEERS, CONNECTIONS, HANDLERS, CAPACITIES = 20, 32, 5, 4, (1, 256)
 DRAWN, ALONE = 240, 60
 # How often a reader kicks a peer, or makes a tick of each peer due, before a connection.
 KICKS, TICKS = 0.15, 0.3
-# How a session ends if memory ran out.
-STARVED = {"Memory", "WriteFault"}
-# Runs in which growths are refused have no inbox that is full.
-ROOMY = 1024
 
 
 class Told(NamedTuple):
@@ -142,47 +132,6 @@ def look_at_one(program, spoken):
     return failures
 
 
-# ---- growths refused in turn
-
-
-def is_beginning(told, ample):
-    """Whether connections are told as with ample memory, up to the first for which memory ran out; it wrote a beginning."""
-    for one, full in zip(told, ample):
-        if one.why in STARVED:
-            return (one.peer, one.generation) == (full.peer, full.generation) and full.written.startswith(one.written)
-        if one != full:
-            return False
-    return len(told) <= len(ample)
-
-
-def refuse_in_turn(program, name, streams, library):
-    """Refuses each growth of a run of one peer in turn. The runs that ended otherwise than they should."""
-    data = ("".join(peer_line(0, stream) for stream in streams) + f"turn {ROOMY} verbose\n").encode("ascii")
-    ample, most = growths.run([program], data, library, 0)
-    whole = connections_of(ample.stdout)
-    if ample.returncode != 0 or len(whole) != len(streams):
-        return [f"{name}: status {ample.returncode} with ample memory, {ample.stdout!r}"]
-    refused, failures = 0, []
-    for place in range(1, most.count + 1):
-        ran, _ = growths.run([program], data, library, place)
-        if ran.returncode == 4 and is_beginning(connections_of(ran.stdout), whole):
-            refused += 1
-        elif not growths.is_same(ran, ample):
-            failures.append(f"{name}: growth {place} refused: status {ran.returncode}, {ran.stdout[-300:]!r}, {ran.stderr!r}")
-    print(f"peers: {name}: {most.count} growths refused in turn: {refused} ended the run, {most.count - refused - len(failures)} were done without, "
-          f"{len(failures)} failures")
-    return failures
-
-
-def look_at_growths(program):
-    # A relay of compact blocks both ways, in two connections, and pings before an item that can't be read.
-    relayed = relay_rows.relay().said()
-    with tempfile.TemporaryDirectory() as folder:
-        library = growths.build(folder)
-        return (refuse_in_turn(program, "a relay and another connection", [relayed, relayed[:400]], library)
-                + refuse_in_turn(program, "pings, and a bad stream", [pings(3) + bytes(24)], library))
-
-
 def main():
     reader = usage(__doc__, runs="how many runs of many peers", seed="the seed of the first", program="the program, if not crates/bench_peers/out/bench_peers")
     words = reader.parse_args()
@@ -191,7 +140,6 @@ def main():
         spoken = list(lanes.map(drawn, range(1, 1 + DRAWN)))
     failures = look_at_many(program, int(words.runs or RUNS), int(words.seed or 1), spoken)
     failures += look_at_one(program, spoken[:ALONE])
-    failures += look_at_growths(program)
     for failure in failures[:10]:
         print(f"peers: {failure}")
     return 1 if failures else 0

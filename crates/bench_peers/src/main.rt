@@ -13,7 +13,6 @@ mod replaying;
 mod running;
 mod script;
 mod telling;
-mod turns;
 mod works;
 
 use crate::running::play;

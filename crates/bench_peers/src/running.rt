@@ -6,7 +6,6 @@ use crate::arriving::Redials;
 use crate::latest::Latest;
 use crate::script::{PeerScript, RunOrders, Script};
 use crate::telling::tell_desks;
-use crate::turns::serve_in_turn;
 use crate::works::{BenchHall, BenchWork, new_work};
 use cb_base::{Fault, Shared};
 use cb_crew::{Crew, Desk, Fresh, NewCrew, Work};
@@ -20,23 +19,23 @@ use std::sync::{Mutex, Wait};
 use std::thread::Threads;
 
 /// How many marks a handler takes in a turn at most.
-pub const BUDGET: u32 = 64;
+const BUDGET: u32 = 64;
 
 /// A peer's reader.
-pub type BenchReader<'a, R> = PeerReader<In<&'a [u8]>, Redials<'a, R>>;
+type BenchReader<'a, R> = PeerReader<In<&'a [u8]>, Redials<'a, R>>;
 
 /// What the threads of a run share.
 #[derive(Drop)]
-pub struct Common {
-    pub hall: BenchHall,
-    pub latest: Shared<Latest>,
-    pub backlogs: Shared<Backlogs>,
-    pub signals: Signals,
+struct Common {
+    hall: BenchHall,
+    latest: Shared<Latest>,
+    backlogs: Shared<Backlogs>,
+    signals: Signals,
 }
 
 /// The works of the peers' first connections and the peers' readers, in the order of the peers.
 #[derive(Drop)]
-pub struct Cast<'a, R: Wait + Copy + Drop> {
+struct Cast<'a, R: Wait + Copy + Drop> {
     works: Vec<Fresh<BenchWork<R>>>,
     readers: Vec<BenchReader<'a, R>>,
 }
@@ -186,16 +185,11 @@ fn serve<'a, R: Threads + Wait + Sync + Send + Copy + Drop + 'static>(
     let Cast { works, readers } = cast;
     let count = readers.len();
     // Each peer has a work and a reader.
-    if count < 1 || count > 64 || works.len() != count || (orders.in_turn && count != 1) {
+    if count < 1 || count > 64 || works.len() != count {
         return Err(Refusal::Thread);
     }
-    let handlers = if orders.in_turn { 1 } else { orders.handlers };
-    let made = man(rt, alloc, works, handlers, orders.capacity)?;
-    if orders.in_turn {
-        serve_in_turn(rt, alloc, common, made, readers)
-    } else {
-        serve_by_threads(rt, alloc, common, made, readers)
-    }
+    let made = man(rt, alloc, works, orders.handlers, orders.capacity)?;
+    serve_by_threads(rt, alloc, common, made, readers)
 }
 
 /// A crew with these works.

@@ -54,8 +54,6 @@ pub struct RunOrders {
     pub handlers: u16,
     /// How many marks an inbox holds.
     pub capacity: usize,
-    /// Whether all is done in turn on one thread.
-    pub in_turn: bool,
     /// Whether each connection is told.
     pub verbose: bool,
 }
@@ -90,8 +88,7 @@ impl Script {
     ///   new peer has the next number, from 0 to 63.
     /// - `kick P Q`: peer P's reader kicks peer Q before it begins its next connection.
     /// - `tick P`: peer P's reader makes a tick of each peer due before its next connection.
-    /// - `run HANDLERS CAPACITY [verbose]`: plays all lines so far by threads.
-    /// - `turn CAPACITY [verbose]`: plays them on one thread. There is one peer.
+    /// - `run HANDLERS CAPACITY [verbose]`: plays all lines so far.
     ///
     /// Fails only with `Fault::Memory`.
     pub fn read(&mut self, line: &str) -> Result<Line, Fault> {
@@ -106,7 +103,6 @@ impl Script {
             },
             Some("tick") => self.note(number(first), Step::Tick)?,
             Some("run") => return Ok(self.run(number(first), number(second), third)),
-            Some("turn") => return Ok(self.turn(number(first), second)),
             _ => false,
         };
         Ok(if noted { Line::Noted } else { Line::Unreadable })
@@ -146,20 +142,6 @@ impl Script {
             (Some(handlers), Some(capacity)) if !self.peers.is_empty() => Line::Run(RunOrders {
                 handlers,
                 capacity: usize::from(capacity),
-                in_turn: false,
-                verbose: verbose == Some("verbose"),
-            }),
-            _ => Line::Unreadable,
-        }
-    }
-
-    /// A run on one thread.
-    fn turn(&self, capacity: Option<u16>, verbose: Option<&str>) -> Line {
-        match capacity {
-            Some(capacity) if self.peers.len() == 1 => Line::Run(RunOrders {
-                handlers: 1,
-                capacity: usize::from(capacity),
-                in_turn: true,
                 verbose: verbose == Some("verbose"),
             }),
             _ => Line::Unreadable,
