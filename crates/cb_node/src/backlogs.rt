@@ -21,7 +21,7 @@ struct Backlog {
 /// have more queued than one connection's words tell. Its reader adds what its earlier connections
 /// left, until a handler has taken the mark that opened the latest one.
 ///
-/// No clause speaks of these numbers, since other threads change them; tests do.
+/// No clause speaks of these numbers, since other threads change them.
 #[derive(Drop)]
 pub struct Backlogs {
     peers: Vec<Backlog>,

@@ -24,8 +24,8 @@ pub const MOST_BYTES: u64 = 8_000_000;
 /// is full. Handlers wake it after each turn that took something from the inbox. It gives an input
 /// back if the connection or all threads are told to stop.
 ///
-/// Contracts tell what it queues and in which order. What it waits for, and how many bytes lie
-/// queued, is only tested: other threads change that.
+/// Contracts tell what it queues and in which order. They don't tell what it waits for, nor how
+/// many bytes lie queued: other threads change that.
 #[derive(Drop)]
 pub struct InboxSeat<'a, O: Opening + Drop> {
     inbox: &'a Inbox<Input, O>,

@@ -6,8 +6,8 @@ use cb_work::Signals as Words;
 
 /// Tells a connection's reader to stop: the connection is over, or all threads are told to return.
 ///
-/// That the answer comes from these two flags is only tested. A contract can't tell what an atomic
-/// flag holds, since any thread may set it.
+/// No contract tells that the answer comes from these two flags. It can't tell what an atomic flag
+/// holds, since any thread may set it.
 #[derive(Drop)]
 pub struct ConnectionStop<'a> {
     words: &'a Words,
