@@ -4,11 +4,11 @@
 #![tactic(auto)]
 
 mod carried;
+mod connection_status;
 mod flags;
 mod outlet;
 mod peer_work;
 mod shared_hall;
-mod signals;
 #[cfg(test)]
 mod tests;
 mod traffic;
@@ -19,9 +19,9 @@ pub use cb_io::Sink;
 pub use cb_peer::Settings;
 pub use cb_reader::Input;
 pub use cb_trace::{Oracle, Trace};
+pub use connection_status::{ConnectionStatus, PeerFlags};
 pub use flags::Flags;
 pub use outlet::Outlet;
 pub use peer_work::{NotStarted, PeerWork};
 pub use shared_hall::SharedHall;
-pub use signals::{PeerFlags, Signals};
 pub use traffic::{BlockPath, Totals, Traffic};

@@ -3,8 +3,8 @@
 ghost use Rattle.std.specs.Prelude.{◌≡◌, false};
 
 use crate::{
-    Badge, BlockPath, Flags, Given, Hall, Input, Outlet, PeerFlags, PeerWork, Settings, SharedHall,
-    Signals, Totals, Traffic, Work,
+    Badge, BlockPath, ConnectionStatus, Flags, Given, Hall, Input, Outlet, PeerFlags, PeerWork,
+    Settings, SharedHall, Totals, Traffic, Work,
 };
 use cb_base::Shared;
 use cb_io::Out;
@@ -62,10 +62,10 @@ fn outcome_of<R: Wait + Drop>(work: &MemoryWork<R>) -> Outcome {
         state: work.trace().state(),
         items: total.items,
         written: work.written(),
-        sent: work.flags().signals().totals().sent,
+        sent: work.flags().status().totals().sent,
         told: total.told,
         counted: work.badge().count(),
-        stopped: work.flags().signals().is_stopped(),
+        stopped: work.flags().status().is_stopped(),
     }
 }
 
@@ -115,8 +115,8 @@ fn new_work<R: Wait + Drop>(
         return None;
     }
     let outlet = Outlet::new(badge.connection().peer, Out::new(Vec::new(alloc)));
-    let signals = Shared::new(alloc, Signals::new()).ok()?;
-    let flags = PeerFlags::new(signals);
+    let status = Shared::new(alloc, ConnectionStatus::new()).ok()?;
+    let flags = PeerFlags::new(status);
     PeerWork::new(
         alloc,
         settings,
@@ -203,13 +203,13 @@ fn tick<R: Wait + Drop>(rt: &R, work: &mut MemoryWork<R>) {
 fn three_turns<R: Wait + Drop>(rt: &R, work: &mut MemoryWork<R>) -> Ticked {
     tick(rt, work);
     let first = work.written();
-    work.flags().signals().set_tick();
+    work.flags().status().set_tick();
     tick(rt, work);
     tick(rt, work);
     Ticked {
         first,
         written: work.written(),
-        sent: work.flags().signals().totals().sent,
+        sent: work.flags().status().totals().sent,
         looked: work.flags().looked(),
         found: work.flags().found(),
     }
@@ -243,8 +243,8 @@ fn the_opening_message_waits_for_the_first_tick(rt: HostRuntime) {
 /// Whether a step is counted that took 4 of 10 queued bytes, wrote 7 in two messages and brought a
 /// compact block.
 fn is_counted(alloc: Global) -> Option<bool> {
-    let mut flags = PeerFlags::new(Shared::new(alloc, Signals::new()).ok()?);
-    flags.signals().add_queued(10);
+    let mut flags = PeerFlags::new(Shared::new(alloc, ConnectionStatus::new()).ok()?);
+    flags.status().add_queued(10);
     flags.tell(&Traffic {
         messages: 1,
         payload: 4,
@@ -262,7 +262,7 @@ fn is_counted(alloc: Global) -> Option<bool> {
         completed: 0,
         fallback: 0,
     };
-    Some(flags.signals().queued() == 6 && flags.signals().totals() == expected)
+    Some(flags.status().queued() == 6 && flags.status().totals() == expected)
 }
 
 #[test]

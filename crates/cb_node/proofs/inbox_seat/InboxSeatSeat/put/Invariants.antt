@@ -1,5 +1,0 @@
-use Rattle.std.proofs.Common.{◌≡◌}
-use Rattle.cb_node.proofs.inbox_seat.InboxSeatSeat.put.Given as goal
-
-abbrev pub invariant-loop : goal.invariant-loop
-invariant-loop g l = (l.self ≡ l.fn.self) × (l.input ≡ l.fn.input)

@@ -1,0 +1,104 @@
+ghost use Rattle.std.specs.Prelude.{◌≡◌, ◌<◌, ◌^◌, Bool, false, length};
+ghost use Rattle.cb_crew.specs.Crew.{inbox_of};
+ghost use Rattle.cb_service.specs.Service.{queued_by};
+ghost use Rattle.cb_peers.specs.Reading.{HasRead};
+
+use crate::backlogs::Backlogs;
+use crate::inbox_seat::InboxSeat;
+use crate::stopping::ConnectionStop;
+use cb_crew::ReaderSide;
+use cb_inbox::{Inbox, Opening, ReaderSeat};
+use cb_reader::{Input, ReadEnd, Seat, Source, Stop, read_loop};
+use cb_service::{Signals, end};
+use cb_work::ConnectionStatus;
+use std::alloc::Global;
+use std::sync::Wait;
+
+/// How a reader left a connection.
+#[derive(Drop)]
+pub struct Left<O: Opening + Drop> {
+    /// The side of the inbox.
+    pub side: ReaderSide<Input, O>,
+    /// How many marks the side queued, over all connections.
+    pub count: u64,
+    /// Why reading ended.
+    pub why: ReadEnd,
+}
+
+/// Reads a connection, and queues what its stream spells in the peer's inbox. Reading ends at the
+/// stream's end or fault, or once it is stopped. Then the connection is ended.
+///
+/// The side that comes back is live only if all threads are told to return, or if it queued 2^40
+/// marks. It queued fewer than 2^48.
+///
+/// It may wait, for bytes and for room.
+pub fn read_connection<R: Wait, S: Source, P: Stop, O: Opening + Drop>(
+    rt: &R,
+    alloc: Global,
+    source: &mut S,
+    stop: &mut P,
+    status: &ConnectionStatus,
+    inbox: &Inbox<Input, O>,
+    seat: ReaderSeat<Input, O>,
+    signals: &Signals,
+    backlogs: &Backlogs,
+) -> Left<O>
+    requires inbox { seat.inbox ≡ inbox.now.name }
+    requires place { length seat.queued < 2 ^ 48 }
+    ensures inbox { inbox_of result.side ≡ inbox.now.name }
+    ensures count { result.count ≡ length (queued_by result.side) }
+    ensures few { result.count < 2 ^ 48 }
+    ensures reads { HasRead (S.remaining source.old) (S.remaining source.new)
+        (S.has_failed source.old) (S.has_failed source.new) (P.has_stopped stop.old)
+        (P.has_stopped stop.new) result.why seat.queued (queued_by result.side) }
+{
+    let mut seat = InboxSeat::new(inbox, seat, status, signals, backlogs);
+    let why = read_loop(rt, alloc, source, &mut seat, stop);
+    let count = seat.count();
+    match seat.into_side() {
+        ReaderSide::Ended(ended) => Left {
+            side: ReaderSide::Ended(ended),
+            count,
+            why,
+        },
+        ReaderSide::Live(seat) => match end(rt, inbox, seat, signals) {
+            Ok(ended) => Left {
+                side: ReaderSide::Ended(ended),
+                count: count + 1,
+                why,
+            },
+            Err(back) => Left {
+                side: ReaderSide::Live(back),
+                count,
+                why,
+            },
+        },
+    }
+}
+
+/// The same as `read_connection`, stopped by the connection's and the threads' own flags
+/// (`ConnectionStop`).
+pub fn read_until_told<R: Wait, S: Source, O: Opening + Drop>(
+    rt: &R,
+    alloc: Global,
+    source: &mut S,
+    status: &ConnectionStatus,
+    inbox: &Inbox<Input, O>,
+    seat: ReaderSeat<Input, O>,
+    signals: &Signals,
+    backlogs: &Backlogs,
+) -> Left<O>
+    requires inbox { seat.inbox ≡ inbox.now.name }
+    requires place { length seat.queued < 2 ^ 48 }
+    ensures inbox { inbox_of result.side ≡ inbox.now.name }
+    ensures count { result.count ≡ length (queued_by result.side) }
+    ensures few { result.count < 2 ^ 48 }
+    ensures reads { (stopped : Bool) × HasRead (S.remaining source.old) (S.remaining source.new)
+        (S.has_failed source.old) (S.has_failed source.new) false stopped result.why seat.queued
+        (queued_by result.side) }
+{
+    let mut stop = ConnectionStop::new(status, signals);
+    read_connection(
+        rt, alloc, source, &mut stop, status, inbox, seat, signals, backlogs,
+    )
+}

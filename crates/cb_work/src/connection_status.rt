@@ -1,0 +1,189 @@
+ghost use Rattle.std.specs.Prelude.{◌≡◌, false, []};
+ghost use Rattle.cb_work.specs.Flags.{HasLooked};
+
+use crate::flags::Flags;
+use crate::traffic::{BlockPath, Totals, Traffic};
+use cb_base::Shared;
+use std::sync::atomic::{AtomicBool, AtomicU64, Ordering};
+
+/// What the threads of one connection share. A handler's thread serves the connection's
+/// work, a reader's thread queues what the peer sends, and the node sets ticks and looks at the
+/// numbers.
+#[derive(Drop)]
+pub struct ConnectionStatus {
+    tick: AtomicBool,
+    stop: AtomicBool,
+    /// How many payload bytes lie in the connection's inbox.
+    queued: AtomicU64,
+    messages: AtomicU64,
+    payload: AtomicU64,
+    written: AtomicU64,
+    sent: AtomicU64,
+    full: AtomicU64,
+    compact: AtomicU64,
+    completed: AtomicU64,
+    fallback: AtomicU64,
+}
+
+impl ConnectionStatus {
+    /// The status of a connection that has moved nothing. No flag is set.
+    pub fn new() -> ConnectionStatus {
+        ConnectionStatus {
+            tick: AtomicBool::new(false),
+            stop: AtomicBool::new(false),
+            queued: AtomicU64::new(0),
+            messages: AtomicU64::new(0),
+            payload: AtomicU64::new(0),
+            written: AtomicU64::new(0),
+            sent: AtomicU64::new(0),
+            full: AtomicU64::new(0),
+            compact: AtomicU64::new(0),
+            completed: AtomicU64::new(0),
+            fallback: AtomicU64::new(0),
+        }
+    }
+
+    /// Makes a tick due.
+    pub fn set_tick(&self) {
+        self.tick.store(true, Ordering::SeqCst);
+    }
+
+    /// Whether a tick was due. None is due afterwards.
+    fn take_tick(&self) -> bool {
+        self.tick.swap(false, Ordering::SeqCst)
+    }
+
+    /// Tells the connection's reader to stop.
+    pub fn stop(&self) {
+        self.stop.store(true, Ordering::SeqCst);
+    }
+
+    /// Whether the connection's reader is told to stop.
+    pub fn is_stopped(&self) -> bool {
+        self.stop.load(Ordering::SeqCst)
+    }
+
+    /// Counts payload bytes that are about to be queued. Who queues an item calls it before, so
+    /// that the number never falls below 0.
+    pub fn add_queued(&self, bytes: u64) {
+        self.queued.fetch_add(bytes, Ordering::SeqCst);
+    }
+
+    /// Takes off payload bytes that weren't queued after all.
+    pub fn take_queued(&self, bytes: u64) {
+        self.queued.fetch_sub(bytes, Ordering::SeqCst);
+    }
+
+    /// How many payload bytes lie in the inbox.
+    pub fn queued(&self) -> u64 {
+        self.queued.load(Ordering::SeqCst)
+    }
+
+    /// What the connection moved so far.
+    pub fn totals(&self) -> Totals {
+        Totals {
+            messages: self.messages.load(Ordering::SeqCst),
+            payload: self.payload.load(Ordering::SeqCst),
+            written: self.written.load(Ordering::SeqCst),
+            sent: self.sent.load(Ordering::SeqCst),
+            full: self.full.load(Ordering::SeqCst),
+            compact: self.compact.load(Ordering::SeqCst),
+            completed: self.completed.load(Ordering::SeqCst),
+            fallback: self.fallback.load(Ordering::SeqCst),
+        }
+    }
+
+    /// Counts what one step moved. The item's payload lies in the inbox no more.
+    fn count(&self, traffic: &Traffic) {
+        self.queued.fetch_sub(traffic.payload, Ordering::SeqCst);
+        self.messages.fetch_add(traffic.messages, Ordering::SeqCst);
+        self.payload.fetch_add(traffic.payload, Ordering::SeqCst);
+        self.written.fetch_add(traffic.written, Ordering::SeqCst);
+        self.sent.fetch_add(traffic.sent, Ordering::SeqCst);
+        if let Some(path) = traffic.block {
+            self.blocks(path).fetch_add(1, Ordering::SeqCst);
+        }
+    }
+
+    /// The number of blocks that came this way.
+    fn blocks(&self, path: BlockPath) -> &AtomicU64 {
+        match path {
+            BlockPath::Full => &self.full,
+            BlockPath::Compact => &self.compact,
+            BlockPath::Completed => &self.completed,
+            BlockPath::Fallback => &self.fallback,
+        }
+    }
+}
+
+/// The flags of a connection over a status that other threads hold too.
+///
+/// An atomic word tells a contract nothing of its content, since any thread may change it. So the
+/// flags keep beside it how often the tick flag was looked at, how often it was set, and whether
+/// the stop flag was set here.
+#[derive(Drop)]
+pub struct PeerFlags {
+    status: Shared<ConnectionStatus>,
+    looked: u64,
+    found: u64,
+    stopped: bool,
+}
+
+impl PeerFlags {
+    /// The flags over this status, which weren't looked at yet.
+    pub fn new(status: Shared<ConnectionStatus>) -> PeerFlags
+        ensures looks { HasLooked result.looked result.found [] }
+        ensures stopped { result.stopped ≡ false }
+    {
+        PeerFlags {
+            status,
+            looked: 0,
+            found: 0,
+            stopped: false,
+        }
+    }
+
+    /// The status.
+    pub fn status(&self) -> &ConnectionStatus {
+        &self.status
+    }
+
+    /// How often the tick flag was looked at; `u64::MAX` if that is more.
+    pub fn looked(&self) -> u64
+        ensures { result ≡ self.now.looked }
+    {
+        self.looked
+    }
+
+    /// How often it was set then; `u64::MAX` if that is more.
+    pub fn found(&self) -> u64
+        ensures { result ≡ self.now.found }
+    {
+        self.found
+    }
+}
+
+impl Flags for PeerFlags {
+    ghost use Rattle.cb_work.specs.Flags.{HasLooked};
+
+    // The two numbers are those of the answers.
+    ghost looks = { λ flags answers. HasLooked flags.looked flags.found answers };
+
+    ghost is_stopped = { λ flags. flags.stopped };
+
+    fn take_tick(&mut self) -> bool {
+        let due = self.status.take_tick();
+        self.looked = self.looked.saturating_add(1);
+        self.found = self.found.saturating_add(u64::from(due));
+        due
+    }
+
+    fn stop(&mut self) {
+        self.status.stop();
+        self.stopped = true;
+    }
+
+    fn tell(&mut self, traffic: &Traffic) {
+        self.status.count(traffic);
+    }
+}
