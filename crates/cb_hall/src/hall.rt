@@ -171,6 +171,13 @@ impl Hall {
         self.journal.entries()
     }
 
+    /// The journal: the state before its entries, the entries, and the state after them.
+    pub fn record(&self) -> &Journal
+        ensures { result.now ≡ self.now }
+    {
+        &self.journal
+    }
+
     /// What was known of all connections before the journal's entries. The counts are those of the
     /// questions granted before them.
     pub fn kept(&self) -> &Connections
