@@ -1,9 +1,10 @@
 -- What was read of a connection, as its seat is left.
-use Rattle.std.proofs.Common.{◌≡◌, ℕ, Bool, false, List, [], ◌∷◌, ◌++◌, length, take, drop, Option, refl, sym, ap, subst, ◌∙◌}
+use Rattle.std.proofs.Common.{◌≡◌, ℕ, ◌+◌, ◌≤◌, Bool, true, false, List, [], ◌∷◌, ◌++◌, length, take, drop, Option, refl, sym, ap, subst, ◌∙◌, arith}
 use Rattle.std.specs.List.{flat_map}
-use Rattle.std.proofs.lemmas.List.{append-nil, append_assoc, append_cancel_left, take-append-drop}
+use Rattle.std.proofs.lemmas.List.{append-nil, append_assoc, append_cancel_left, length-append, take-append-drop}
 use Rattle.std.proofs.lemmas.Grind.{flat_map-append}
 use Rattle.cb_inbox.specs.declared.queued.Queued.{Queued}
+use Rattle.cb_inbox.specs.Queued.{has_ended}
 use Rattle.cb_crew.specs.Work.{brought_by, openings_of}
 use Rattle.cb_io.specs.declared.read_end.ReadEnd.{ReadEnd}
 use Rattle.cb_reader.specs.declared.input.Input.{Input}
@@ -29,14 +30,16 @@ opened_now before old stopped nothing live marks =
 pub left_by : {O : Type 0} {input remaining : Option (List ℕ)} {b f s t : Bool} {why : ReadEnd} (before : List (Queued Input O)) (old new : SeatView O) (after more : List (Queued Input O))
     → put_in old ≡ [] → before_in old ≡ before → is_ended old.side ≡ false → marks_of old.side ≡ before → IsSameSeat old new
     → Reads input remaining b f (now_of old s) (now_of new t) why → after ≡ marks_of new.side ++ more → openings_of more ≡ [] → flat_map input_in more ≡ []
+    → (is_ended new.side ≡ true → has_ended after ≡ true)
     → HasRead input remaining b f s t why before after
-left_by {O} {input} {remaining} {b} {f} {s} {t} {why} before old new after more nothing was live marks same reads is quiet none =
+left_by {O} {input} {remaining} {b} {f} {s} {t} {why} before old new after more nothing was live marks same reads is quiet none last =
     let all = marks_of new.side in
     let here = drop new.first all in
     let parts : all ≡ before ++ here = sym (take-append-drop new.first all) ∙ ap (λ xs. xs ++ here) (same.before ∙ was) in
     let kept : openings_of before ++ openings_of here ≡ openings_of before ++ [] =
     sym (flat_map-append brought_by before here) ∙ sym (ap openings_of parts) ∙ same.openings ∙ ap openings_of marks ∙ sym (append-nil (openings_of before)) in
     let unopened : openings_of here ≡ [] = append_cancel_left (openings_of before) (openings_of here) [] kept in
+    let long : length after ≡ length all + length more = ap length is ∙ length-append all more in
     record {
       marks = here ++ more;
       grown = is ∙ ap (λ xs. xs ++ more) parts ∙ append_assoc before here more;
@@ -45,4 +48,6 @@ left_by {O} {input} {remaining} {b} {f} {s} {t} {why} before old new after more 
       stopped_is = refl;
       reads = subst (λ n. Reads input remaining b f n (now_of new t) why) (opened_now before old s nothing live marks) reads;
       put = flat_map-append input_in here more ∙ ap (λ xs. put_in new ++ xs) none ∙ append-nil (put_in new);
+      queued_all = omega (arith, long);
+      ended_last = last;
     }

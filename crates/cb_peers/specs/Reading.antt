@@ -1,9 +1,10 @@
 -- What a peer's reader queues of its connections.
-use Rattle.std.specs.Prelude.{◌≡◌, ℕ, ◌⊎◌, Bool, false, List, [], ◌∷◌, ◌++◌, length, Option}
+use Rattle.std.specs.Prelude.{◌≡◌, ℕ, ◌≤◌, ◌⊎◌, Bool, true, false, List, [], ◌∷◌, ◌++◌, length, Option}
 use Rattle.std.specs.List.{flat_map}
 use Rattle.cb_wire.specs.declared.item.Item.{Item}
 use Rattle.cb_inbox.specs.declared.queued.Queued.{Queued}
 use Rattle.cb_inbox.specs.declared.queued.Queued.TheVariants as queued
+use Rattle.cb_inbox.specs.Queued.{has_ended}
 use Rattle.cb_crew.specs.Work.{openings_of}
 use Rattle.cb_io.specs.declared.read_end.ReadEnd.{ReadEnd}
 use Rattle.cb_reader.specs.declared.input.Input.{Input}
@@ -27,6 +28,9 @@ pub record HasRead {O : Type 0} (input remaining : Option (List ℕ)) (failed_be
   pub stopped_is : now.stopped ≡ stopped
   pub reads : Reads input remaining failed_before failed (opened (length before) stopped_before) now why
   pub put : flat_map input_in marks ≡ now.queued
+  -- The seat counts no mark that wasn't queued. If reading ended the connection, its end mark is last.
+  pub queued_all : now.counted ≤ length after
+  pub ended_last : now.ended ≡ true → has_ended after ≡ true
 
 -- These are marks of one connection. Their inputs are the first ones of those that some bytes
 -- spell, in order and each once.

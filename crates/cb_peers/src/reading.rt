@@ -56,11 +56,15 @@ pub fn read_connection<R: Wait, S: Source, P: Stop, O: Opening + Drop>(
     let why = read_loop(rt, alloc, source, &mut seat, stop);
     let count = seat.count();
     match seat.into_side() {
-        ReaderSide::Ended(ended) => Left {
-            side: ReaderSide::Ended(ended),
-            count,
-            why,
-        },
+        ReaderSide::Ended(ended) => {
+            // No effect when it runs: it tells the prover that the last mark is an end mark.
+            ended.reached();
+            Left {
+                side: ReaderSide::Ended(ended),
+                count,
+                why,
+            }
+        }
         ReaderSide::Live(seat) => match end(rt, inbox, seat, signals) {
             Ok(ended) => Left {
                 side: ReaderSide::Ended(ended),
