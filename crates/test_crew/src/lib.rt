@@ -10,6 +10,8 @@ mod inbox;
 #[cfg(test)]
 mod lister;
 #[cfg(test)]
+mod outliving;
+#[cfg(test)]
 mod ring;
 #[cfg(test)]
 mod service;
