@@ -11,6 +11,7 @@ from bench.tools.programs import path_of
 COUNTER = r"""
 #include <stddef.h>
 #include <stdlib.h>
+#include <sys/syscall.h>
 #include <unistd.h>
 
 extern void *__libc_malloc(size_t);
@@ -35,8 +36,17 @@ void *malloc(size_t size) { return is_refused(size) ? NULL : __libc_malloc(size)
 void *realloc(void *old, size_t size) { return is_refused(size) ? NULL : __libc_realloc(old, size); }
 
 __attribute__((destructor)) static void tell(void) {
+    static int is_told = 0;
     long told[] = {made, bytes};
-    (void)!write(9, told, sizeof told);
+    if (!is_told) (void)!write(9, told, sizeof told);
+    is_told = 1;
+}
+
+/* A program with threads ends so, and runs no destructor. */
+void _exit(int status) {
+    tell();
+    syscall(SYS_exit_group, status);
+    __builtin_unreachable();
 }
 """
 
