@@ -61,11 +61,26 @@ def module_of(file):
 
 
 def owner_of(header):
-    """Returns how the prover names the impl with this header: `Type`, or type, trait and the trait's arguments together, as `FaultFromAllocError`."""
-    header = re.sub(r"\bwhere\b.*", "", re.sub(r"^\s*<[^>]*>", "", header))
-    trait, _, type_name = header.rpartition(" for ")
+    """Returns how the prover names the impl with this header: `Type`, or type, trait and the trait's arguments together, as `FaultFromAllocError`.
+
+    The impl's own parameters are left out, as `O` of `impl<O> Reader<Input, O> for Lines`, which is `LinesReaderInput`.
+    """
+    parameters, header = parted(header)
+    trait, _, type_name = re.sub(r"\bwhere\b.*", "", header).rpartition(" for ")
     words = [*re.findall(r"\w+", re.sub(r"<.*", "", type_name))[-1:], *re.findall(r"\w+", re.sub(r"'\w+|\w+::", "", trait))]
-    return "".join(words)
+    return "".join(it for it in words if it not in parameters)
+
+
+def parted(header):
+    """Returns the names of an impl's own parameters, and its header behind them."""
+    header, depth, names = header.lstrip(), 0, set()
+    for place, sign in enumerate(header):
+        depth += {"<": 1, ">": -1}.get(sign, 0)
+        if not depth:
+            return names, header[place + 1 :] if place else header
+        if depth == 1 and sign in "<," and (name := re.match(r"\s*(?:const\s+)?(\w+)", header[place + 1 :])):
+            names.add(name[1])
+    return names, header
 
 
 @functools.cache
