@@ -18,9 +18,10 @@ use crate::serve::serve_peer;
 use cb_decode::decode;
 use cb_io::{Sink, Source};
 use cb_run::{Halt, Status, write_all};
+use cb_run_nodes::{Host, RunOrders, Sizes, run_nodes};
 use cb_sim::simulate;
-use clap::Command;
 use clap::error::ErrorKind;
+use clap::{Arg, ArgAction, ArgMatches, Command, value_parser};
 use std::alloc::{AllocError, Global};
 
 /// The command that a command line names.
@@ -33,6 +34,8 @@ pub enum Task {
     /// `sim`: run the pure core of the crew, which is the threads that share the peers' work, one
     /// line for each act.
     Sim,
+    /// `run`: play a script of nodes that are joined over loopback.
+    Run(RunOrders),
 }
 
 /// The version that `--version` prints.
@@ -46,19 +49,41 @@ test network (regtest).
 Exit status:
   0  all was done
   1  the command line was refused, or help or the version was asked for
-  2  sim: an act was refused
-  3  the input has a fault, or a read or a write failed
+  2  sim: an act was refused; run: a node refused what it was given
+  3  the input has a fault, or a read or a write failed; run: also a slot, a socket, a wait or an audit
   4  memory ran out
 
+Examples:
+  echo fabfb5da76657261636b000000000000000000005df6e0e2 | cbrelay decode
+  printf 'link 0 1\nmine 0\nwait\n' | cbrelay run --nodes 2 --handlers 1";
+
+/// The text that `run --help` prints below the options.
+const RUN_USE: &str = "\
+Nodes have the numbers 0 to N-1. Standard input is a script; each line is one of
+
+  link A B      node A connects to node B
+  tx A HEX      node A is given a transaction
+  block A HEX   node A is given a block
+  mine A        node A mines a block
+  kick A SLOT   node A kicks the peer in a slot; slots 0 to 31 are of peers that
+                connected to it, slots 32 to 63 of those it connected to
+  wait          ticks until all nodes have one tip, at most 2,000
+  checkpoint A  node A drops its log of calls
+
+What was refused or failed is printed with the line's number. At the end each node
+prints its height, its tip, its mempool's size, and whether its log and the traces of
+its connections tell one history.
+
 Example:
-  echo fabfb5da76657261636b000000000000000000005df6e0e2 | cbrelay decode";
+  printf 'link 0 1\\nmine 0\\nwait\\n' | cbrelay run --nodes 2 --handlers 1";
 
 /// Runs the command that the words name, and returns the exit status, the code of a `Status`.
 ///
 /// The first word is the program's name. All input is read from `reader`. Output goes to `writer`.
 /// Messages about the command line, and about a failed read or write, go to `errors`; `serve` also
 /// prints there why its session ended.
-pub fn command<R: Source, W: Sink, E: Sink>(
+pub fn command<N: Host, R: Source, W: Sink, E: Sink>(
+    rt: N,
     alloc: Global,
     words: Vec<String>,
     reader: &mut R,
@@ -110,6 +135,7 @@ pub fn command<R: Source, W: Sink, E: Sink>(
         Ok(Task::Decode) => settle(code_of(decode(alloc, reader, writer)), errors),
         Ok(Task::Serve) => answer_peer(alloc, reader, writer, errors),
         Ok(Task::Sim) => settle(simulate(alloc, reader, writer), errors),
+        Ok(Task::Run(orders)) => settle(run_nodes(rt, alloc, orders, reader, writer), errors),
         Err(error) => settle_refusal(alloc, &error, errors),
     }
 }
@@ -189,13 +215,41 @@ fn command_line<'a>(alloc: Global) -> Result<Command<'a>, AllocError>
     let decode = Command::new(alloc, "decode").about("Print the items of a stream of hex pieces");
     let serve = Command::new(alloc, "serve").about("Answer a peer: its bytes in, ours out");
     let sim = Command::new(alloc, "sim").about("Run the crew's core, a line for each act");
+    let run = run_line(alloc)?;
     Command::new(alloc, "cbrelay")
         .about("Answers one Bitcoin peer on standard input, and decodes messages (regtest)")
         .version(VERSION)
         .after_help(USE)
         .subcommand(decode)?
         .subcommand(serve)?
-        .subcommand(sim)
+        .subcommand(sim)?
+        .subcommand(run)
+}
+
+/// The command line that `run` accepts.
+fn run_line<'a>(alloc: Global) -> Result<Command<'a>, AllocError> {
+    let nodes = Arg::new(alloc, "nodes")
+        .long("nodes")
+        .value_name("N")
+        .help("How many nodes there are, 1 to 8")
+        .required(true)
+        .value_parser(value_parser!(u16).range(1..=8));
+    let handlers = Arg::new(alloc, "handlers")
+        .long("handlers")
+        .value_name("H")
+        .help("How many threads serve a node's peers, 1 to 16")
+        .required(true)
+        .value_parser(value_parser!(u16).range(1..=16));
+    let stats = Arg::new(alloc, "stats")
+        .long("stats")
+        .help("Also print what each connection moved")
+        .action(ArgAction::SetTrue);
+    Command::new(alloc, "run")
+        .about("Play a script of nodes that are joined over loopback")
+        .after_help(RUN_USE)
+        .arg(nodes)?
+        .arg(handlers)?
+        .arg(stats)
 }
 
 /// The task that the words name; `decode` if they name none. Fails if clap refuses the words or
@@ -208,12 +262,36 @@ fn task_of(alloc: Global, words: &[String]) -> Result<Task, clap::Error>
 {
     let line = command_line(alloc)?;
     match line.try_get_matches_from(words) {
-        Ok(matches) => Ok(task_named(matches.subcommand_name())),
+        Ok(matches) => Ok(task_matched(&matches)),
         Err(error) => Err(error),
     }
 }
 
-/// The task of the command that was named; `decode` if none was.
+/// The task that was matched; `decode` if none was.
+fn task_matched(matches: &ArgMatches) -> Task {
+    match matches.subcommand_matches("run") {
+        Some(run) => Task::Run(orders_of(run)),
+        None => task_named(matches.subcommand_name()),
+    }
+}
+
+/// What `run` is asked for.
+fn orders_of(run: &ArgMatches) -> RunOrders {
+    RunOrders {
+        sizes: Sizes {
+            nodes: size_of(run, "nodes", 8),
+            handlers: size_of(run, "handlers", 16),
+        },
+        stats: run.get_flag("stats"),
+    }
+}
+
+/// A number from 1 to `most`. Clap has seen to it that it is there, and so large.
+fn size_of(run: &ArgMatches, name: &str, most: u16) -> u16 {
+    run.get_one::<u16>(name).unwrap_or(1).clamp(1, most)
+}
+
+/// The task of the command that was named, if it isn't `run`; `decode` if none was.
 fn task_named(name: Option<&str>) -> Task
     ensures { result ≡ task_named (option_map (λ text. text.now) name.entry) }
 {

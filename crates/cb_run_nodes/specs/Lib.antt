@@ -1,0 +1,3 @@
+pub mod Playing
+pub mod ScriptLine
+pub mod Summary
