@@ -1,3 +1,1 @@
-pub mod Playing
-pub mod ScriptLine
 pub mod Summary

@@ -1,12 +1,12 @@
 -- What is printed at the end of a run.
-use Rattle.std.specs.Prelude.{◌≡◌, ℕ, Bool, false, ◌||◌, not, if◌then◌else◌, ◌⊎◌, ⊤, List, [], ◌∷◌, ◌++◌, map, reverse, codes, Option, Some, None}
+use Rattle.std.specs.Prelude.{◌≡◌, ℕ, Bool, false, if◌then◌else◌, ◌⊎◌, ⊤, List, [], ◌∷◌, ◌++◌, map, reverse, codes, Option, Some, None}
 use Rattle.std.specs.Fmt.{decimal}
 use Rattle.std.specs.List.{flat_map, range_with_len}
 use Rattle.std.specs.Str.Lines.{lines}
 use Rattle.hex.specs.Hex.{encode_lower}
-use Rattle.cb_run_nodes.specs.declared.outcome.Tally.{Tally}
+use Rattle.cb_script.specs.declared.outcome.Tally.{Tally}
 use Rattle.cb_run_nodes.specs.declared.report.NodeReport.{NodeReport}
-use Rattle.cb_run_nodes.specs.Playing.{PlaysLines, PlaysUpTo, good, status_of}
+use Rattle.cb_script.specs.Playing.{PlaysLines, PlaysUpTo, good, status_of, tally_audited}
 
 abbrev pub verdict : Bool → List ℕ
 verdict agrees = if agrees then codes "yes" else codes "no"
@@ -22,10 +22,6 @@ reports_text reports = flat_map report_text reports
 -- there is one for each of so many nodes, in their order
 abbrev pub AreOfAll : ℕ → List NodeReport → Type 0
 AreOfAll nodes reports = map (λ report. report.node) reports ≡ range_with_len 0 nodes
-
--- after the audit of a node
-abbrev pub tally_audited : Tally → Bool → Tally
-tally_audited tally agrees = record tally { failed = tally.failed || not agrees }
 
 -- after the audits of all nodes
 abbrev pub tally_reported : Tally → List NodeReport → Tally

@@ -1,16 +1,13 @@
 //! The nodes of a run, with their sockets and threads.
 ghost use Rattle.std.specs.Prelude.{◌≡◌, ◌≢◌, ◌≤◌, ◌<◌, IfOk, OnOk, IsOkUnless, vec_capacity, vec_len};
 ghost use Rattle.cb_base.specs.declared.fault.Fault.TheVariants.{Memory};
-ghost use Rattle.cb_run_nodes.specs.Playing.{CanEnd};
-ghost use Rattle.cb_run_nodes.specs.ScriptLine.{IsAmong};
+ghost use Rattle.cb_script.specs.Playing.{CanEnd};
 
-use crate::line::Line;
-use crate::network::Network;
-use crate::outcome::Outcome;
 use cb_base::{Fault, Shared};
 use cb_block::{Block, sound};
 use cb_journal::{Answer, Local};
 use cb_node::{Node, NodeEnd, NodeFault, NodeSettings};
+use cb_script::{Line, Network, Outcome};
 use std::alloc::Global;
 use std::marker::{Copy, Send};
 use std::net::{Net, TcpListener, TcpStream};

@@ -1,9 +1,10 @@
 ghost use Rattle.std.specs.Prelude.{◌≡◌, ◌++◌, OnOk, IsOkUnless, string_bytes};
 ghost use Rattle.cb_base.specs.declared.fault.Fault.TheVariants.{Memory};
-ghost use Rattle.cb_run_nodes.specs.Summary.{report_text, reports_text};
+ghost use Rattle.cb_run_nodes.specs.Summary.{report_text, reports_text, tally_reported};
 
 use cb_base::Fault;
 use cb_hall::Look;
+use cb_script::Tally;
 use std::alloc::Global;
 
 /// What is printed of a node at the end of a run.
@@ -49,4 +50,15 @@ pub fn print_reports(
         report.print(alloc, out)?;
     }
     Ok(())
+}
+
+/// A run's tally after the audits of all nodes.
+pub fn tally_reported(tally: Tally, reports: &[NodeReport]) -> Tally
+    ensures { result ≡ tally_reported tally reports.now }
+{
+    let mut all = tally;
+    for report in reports {
+        all = all.audited(report.agrees);
+    }
+    all
 }

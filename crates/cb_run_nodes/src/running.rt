@@ -4,18 +4,17 @@ ghost use Rattle.std.specs.Io.KnownBytes.{Appends};
 ghost use Rattle.cb_run.specs.declared.ending.Halt.TheVariants.{Memory, WriteFailed};
 ghost use Rattle.cb_run.specs.Ending.{HasCause};
 ghost use Rattle.cb_run_nodes.specs.declared.report.NodeReport.{NodeReport};
-ghost use Rattle.cb_run_nodes.specs.Playing.{status_of};
+ghost use Rattle.cb_script.specs.Playing.{status_of};
 ghost use Rattle.cb_run_nodes.specs.Summary.{AreOfAll, RunsKnown, not_started_text, reports_text, tally_reported};
 
 use crate::nodes::{Host, Nodes, Sizes};
-use crate::outcome::Tally;
-use crate::playing::{Played, play};
-use crate::report::{NodeReport, print_reports};
+use crate::report::{NodeReport, print_reports, tally_reported};
 use crate::stats::print_stats;
 use cb_desks::{Split, audit_desks};
 use cb_io::{Sink, Source};
 use cb_node::{NodeEnd, NodeFault};
 use cb_run::{Halt, Status, write_all};
+use cb_script::{Played, Tally, play};
 use std::alloc::Global;
 use std::sync::Wait;
 
@@ -101,7 +100,7 @@ fn conclude<N: Wait + Drop, W: Sink>(
     if stats {
         print_stats(alloc, ends, writer)?;
     }
-    Ok(tally.reported(reports.as_slice()).status())
+    Ok(tally_reported(tally, reports.as_slice()).status())
 }
 
 /// Prints the lines of all nodes.

@@ -1,9 +1,7 @@
 ghost use Rattle.std.specs.Prelude.{◌≡◌, ◌++◌, OnOk, IsOkUnless, string_bytes};
 ghost use Rattle.cb_base.specs.declared.fault.Fault.TheVariants.{Memory};
-ghost use Rattle.cb_run_nodes.specs.Playing.{good, outcome_text, status_of, tally_after};
-ghost use Rattle.cb_run_nodes.specs.Summary.{tally_audited, tally_reported};
+ghost use Rattle.cb_script.specs.Playing.{good, outcome_text, status_of, tally_after, tally_audited};
 
-use crate::report::NodeReport;
 use cb_base::Fault;
 
 /// What became of a line that could be read.
@@ -78,24 +76,13 @@ impl Tally {
     }
 
     /// After the audit of a node.
-    fn audited(self, agrees: bool) -> Tally
+    pub fn audited(self, agrees: bool) -> Tally
         ensures { result ≡ tally_audited self agrees }
     {
         Tally {
             refused: self.refused,
             failed: self.failed || !agrees,
         }
-    }
-
-    /// After the audits of all nodes.
-    pub fn reported(self, reports: &[NodeReport]) -> Tally
-        ensures { result ≡ tally_reported self reports.now }
-    {
-        let mut tally = self;
-        for report in reports {
-            tally = tally.audited(report.agrees);
-        }
-        tally
     }
 
     /// The exit status of a run that ends now: 3 if something failed, else 2 if something was

@@ -7,8 +7,8 @@ use Rattle.cb_wire.specs.declared.message.Message.{Message}
 use Rattle.cb_wire.specs.declared.message.Message.TheVariants as messages
 use Rattle.cb_wire.specs.Grammar.{message_at}
 use Rattle.cb_run.specs.Words.{cut_of, number_in}
-use Rattle.cb_run_nodes.specs.declared.line.Line.{Line}
-use Rattle.cb_run_nodes.specs.declared.line.Line.TheVariants.{Link, Tx, Block, Mine, Kick, Wait, Checkpoint}
+use Rattle.cb_script.specs.declared.line.Line.{Line}
+use Rattle.cb_script.specs.declared.line.Line.TheVariants.{Link, Tx, Block, Mine, Kick, Wait, Checkpoint}
 
 -- the message with this name whose payload is written in hex
 abbrev pub message_of : List ℕ → List ℕ → Option Message

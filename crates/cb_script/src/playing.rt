@@ -3,7 +3,7 @@ ghost use Rattle.std.specs.Prelude.{◌≡◌, ◌⊎◌, true, IfOk, IfErr, OnO
 ghost use Rattle.std.specs.Io.KnownBytes.{Appends};
 ghost use Rattle.cb_run.specs.declared.ending.Halt.TheVariants.{Memory, WriteFailed};
 ghost use Rattle.cb_run.specs.Ending.{HasCause};
-ghost use Rattle.cb_run_nodes.specs.Playing.{PlaysKnown, outcome_text, unreadable_text};
+ghost use Rattle.cb_script.specs.Playing.{PlaysKnown, outcome_text, unreadable_text};
 
 use crate::line::read_line;
 use crate::network::Network;

@@ -7,7 +7,7 @@ ghost use Rattle.cb_payload.specs.RoundTrip.{Gives};
 ghost use Rattle.cb_wire.specs.Command.{IsCommand};
 ghost use Rattle.cb_wire.specs.declared.message.Message.{Message};
 ghost use Rattle.cb_run.specs.Words.{number_in};
-ghost use Rattle.cb_run_nodes.specs.ScriptLine.{IsAmong, Reads, addressed_in, block_named, line_in, line_named, message_of, two_in, tx_named};
+ghost use Rattle.cb_script.specs.ScriptLine.{IsAmong, Reads, addressed_in, block_named, line_in, line_named, message_of, two_in, tx_named};
 
 use cb_base::{Fault, Shared};
 use cb_block::Block;

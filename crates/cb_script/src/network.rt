@@ -6,8 +6,8 @@ use cb_base::Fault;
 pub trait Network {
     ghost use Rattle.std.specs.Prelude.{◌≡◌, ℕ, IfOk, IsOkUnless};
     ghost use Rattle.cb_base.specs.declared.fault.Fault.TheVariants.{Memory};
-    ghost use Rattle.cb_run_nodes.specs.Playing.{CanEnd};
-    ghost use Rattle.cb_run_nodes.specs.ScriptLine.{IsAmong};
+    ghost use Rattle.cb_script.specs.Playing.{CanEnd};
+    ghost use Rattle.cb_script.specs.ScriptLine.{IsAmong};
 
     /// How many nodes there are.
     ghost size: { Self → ℕ };

@@ -1,16 +1,16 @@
 -- What is printed while a script is played.
-use Rattle.std.specs.Prelude.{◌≡◌, ℕ, ◌+◌, Bool, true, false, if◌then◌else◌, ◌⊎◌, ⊤, List, [], ◌∷◌, ◌++◌, length, codes, Option, Some, None}
+use Rattle.std.specs.Prelude.{◌≡◌, ◌≢◌, ℕ, ◌+◌, Bool, true, false, ◌||◌, not, if◌then◌else◌, ⊤, List, [], ◌∷◌, ◌++◌, length, codes, Option, Some, None}
 use Rattle.std.specs.Fmt.{decimal}
 use Rattle.std.specs.Str.Lines.{lines}
 use Rattle.cb_base.specs.Fault.{fault_text}
-use Rattle.cb_run_nodes.specs.declared.line.Line.{Line}
-use Rattle.cb_run_nodes.specs.declared.line.Line.TheVariants.{Wait}
-use Rattle.cb_run_nodes.specs.declared.outcome.Outcome.{Outcome}
-use Rattle.cb_run_nodes.specs.declared.outcome.Outcome.TheVariants.{Done, Refused, NoSlot, Io, NotSettled}
-use Rattle.cb_run_nodes.specs.declared.outcome.Tally.{Tally}
-use Rattle.cb_run_nodes.specs.declared.playing.Played.{Played}
-use Rattle.cb_run_nodes.specs.declared.playing.Played.TheVariants.{Whole, Unreadable}
-use Rattle.cb_run_nodes.specs.ScriptLine.{Reads}
+use Rattle.cb_script.specs.declared.line.Line.{Line}
+use Rattle.cb_script.specs.declared.line.Line.TheVariants.{Wait}
+use Rattle.cb_script.specs.declared.outcome.Outcome.{Outcome}
+use Rattle.cb_script.specs.declared.outcome.Outcome.TheVariants.{Done, Refused, NoSlot, Io, NotSettled}
+use Rattle.cb_script.specs.declared.outcome.Tally.{Tally}
+use Rattle.cb_script.specs.declared.playing.Played.{Played}
+use Rattle.cb_script.specs.declared.playing.Played.TheVariants.{Whole, Unreadable}
+use Rattle.cb_script.specs.ScriptLine.{Reads}
 
 -- a line's number, and what is told of it
 abbrev pub numbered : ℕ → List ℕ → List ℕ
@@ -28,11 +28,14 @@ outcome_text number NotSettled = numbered number (codes "not settled")
 abbrev pub unreadable_text : ℕ → List ℕ
 unreadable_text number = numbered number (codes "unreadable")
 
--- only a `wait` can end with nodes that didn't settle, and it ends no other way but well
+-- Any line may be done. Only a `wait` can end with nodes that didn't settle, and nothing else can
+-- become of it.
 abbrev pub CanEnd : Line → Outcome → Type 0
 CanEnd line Done = ⊤
+CanEnd line (Refused fault) = line ≢ Wait
+CanEnd line NoSlot = line ≢ Wait
+CanEnd line Io = line ≢ Wait
 CanEnd line NotSettled = line ≡ Wait
-CanEnd line other = line ≡ Wait → ⊥
 
 -- all went well so far
 abbrev pub good : Tally
@@ -45,6 +48,10 @@ tally_after tally (Refused fault) = record tally { refused = true }
 tally_after tally NoSlot = record tally { failed = true }
 tally_after tally Io = record tally { failed = true }
 tally_after tally NotSettled = record tally { failed = true }
+
+-- after the audit of a node
+abbrev pub tally_audited : Tally → Bool → Tally
+tally_audited tally agrees = record tally { failed = tally.failed || not agrees }
 
 -- the exit status: 3 if something failed, else 2 if something was refused
 abbrev pub status_of : Tally → ℕ
