@@ -10,7 +10,6 @@ second. COUNT is 20 where none is given. The status is 0 where all came out so.
 Then eight nodes with 16 handlers each wait for a while: a second of that must cost at most 30 milliseconds of the processor.
 """
 
-import os
 import random
 import subprocess
 import sys
@@ -22,16 +21,13 @@ if not __package__:  # called as a file
 
 from bench.tools.command_line import usage
 from bench.tools.node_scripts import Play, complaints, edges
+from bench.tools.node_talk import NodeTalk, command
 from bench.tools.programs import built
 
 COUNT, SEED, SECONDS = 20, 1, 120
 HANDLERS = (1, 2, 16)
 # How long nodes wait to be measured, after how long, and how many milliseconds a second of that may cost.
 IDLE, REST, MOST = 5, 3, 30
-
-
-def command(program, nodes, handlers, *words):
-    return [program, "run", "--nodes", str(nodes), "--handlers", str(handlers), *words]
 
 
 def play_all(program, count, seed):
@@ -48,24 +44,18 @@ def play_all(program, count, seed):
     return failed
 
 
-def processor_ms(pid):
-    """How many milliseconds of the processor a process has taken."""
-    with open(f"/proc/{pid}/stat", encoding="ascii") as file:
-        fields = file.read().rpartition(")")[2].split()
-    return (int(fields[11]) + int(fields[12])) * 1_000 / os.sysconf("SC_CLK_TCK")
-
-
 def idle_ms(program):
     """How many milliseconds of the processor a second costs in which eight linked nodes wait."""
-    lines = [f"link {first} {second}\n" for first, second in edges(random.Random(SEED), "ring", 8)] + ["mine 0\n", "wait\n"]
-    with subprocess.Popen(command(program, 8, 16), stdin=subprocess.PIPE, stdout=subprocess.PIPE) as nodes:
-        nodes.stdin.write("".join(lines).encode())
-        nodes.stdin.flush()
+    with NodeTalk(program, 8, 16) as nodes:
+        for first, second in edges(random.Random(SEED), "ring", 8):
+            nodes.say(f"link {first} {second}")
+        nodes.say("mine 0")
+        nodes.say("wait")
         time.sleep(REST)
-        before = processor_ms(nodes.pid)
+        before = nodes.processor_ms()
         time.sleep(IDLE)
-        cost = (processor_ms(nodes.pid) - before) / IDLE
-        nodes.communicate(timeout=SECONDS)
+        cost = (nodes.processor_ms() - before) / IDLE
+        nodes.finish()
     return cost
 
 

@@ -456,7 +456,7 @@ pub not_before : (a b : Connection) → IsBefore a b → IsBefore b a → ⊥
 not_before a b h k = before_not a a (before_trans a b a h k) refl
 
 pub told_not : {P : Type 0} (b : Bool) → (P → b ≡ true) → b ≡ false → P → ⊥
-told_not b yes is p = (let never : true ≡ false = sym (yes p) ∙ is in absurd (cc))
+told_not b if_so is p = (let never : true ≡ false = sym (if_so p) ∙ is in absurd (cc))
 
 pub one_found : (found : Option Difference) (difference other : Difference) (c : Connection) → found ≡ Some difference → (IsBefore difference.connection c → ⊥) → found ≡ Some other → IsBefore other.connection c → ⊥
 one_found found difference other c is not same before =

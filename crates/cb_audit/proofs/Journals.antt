@@ -120,6 +120,17 @@ compares_other kept audited old new (Kick c) said before after steps not same = 
 compares_other kept audited old new (Opened c) said before after steps not same = compares_same kept audited old new (Opened c) said before after steps (λ _. refl) same
 compares_other kept audited old new (Submitted l) said before after steps not same = compares_same kept audited old new (Submitted l) said before after steps (λ _. refl) same
 
+-- by what the code matched
+pub compares_heard : (kept : Slots) (audited : List AuditedTrace) (old new : ReplicaState) (entry : Entry) (c : Connection) (q : Question) (said : Option Answer) (answer : Answer) (before after : Heard) → Steps old entry said new
+    → entry ≡ Asked c q → said ≡ Some answer
+    → ((seen : Seen) → IsHeard kept audited seen before.places.items before.stranger
+      → IsHeard kept audited (seen_more seen c (record { question = Some q; answer = answer })) after.places.items after.stranger)
+    → Compares kept audited old entry new before after
+compares_heard kept audited old new entry c q said answer before after steps is told more =
+    subst (λ (e : Entry). Compares kept audited old e new before after) (sym is)
+    (compares_asked kept audited old new c q answer before after
+    (subst (λ (e : Entry). Steps old e (Some answer) new) is (subst (λ (t : Option Answer). Steps old entry t new) told steps)) more)
+
 -- ---- the journal
 
 -- so far, with what is still to come

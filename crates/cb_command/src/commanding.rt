@@ -1,6 +1,6 @@
 //! The command line and its commands.
 
-ghost use Rattle.std.specs.Prelude.{◌≡◌, ◌⊎◌, ℕ, true, false, IsErrOf, List, [], ◌∷◌, codes, map, option_map, string_bytes, IfOk, IfErr, MatchResult};
+ghost use Rattle.std.specs.Prelude.{◌≡◌, ◌⊎◌, ◌≤◌, ℕ, true, false, IsErrOf, List, [], ◌∷◌, codes, map, option_map, string_bytes, IfOk, IfErr, MatchResult};
 ghost use Rattle.std.specs.Io.KnownBytes.{Appends};
 ghost use Rattle.cb_peer_state.specs.declared.state.CloseReason.{CloseReason};
 ghost use Rattle.cb_peer_state.specs.declared.state.CloseReason.TheVariants as reasons;
@@ -10,8 +10,10 @@ ghost use Rattle.cb_command.specs.Command.{PrintsReport, EndsEarly, Halts, Refus
 ghost use Rattle.cb_run.specs.Ending.{halt_status, halt_line};
 ghost use Rattle.cb_command.specs.Peer.{WasServed};
 ghost use Rattle.cb_sim.specs.SimInput.{SimulatesKnown};
-ghost use Rattle.cb_command.specs.Words.{AreRefused, ByTask, program, task_in, task_named};
-ghost use Rattle.clap.specs.Words.{FailsBy, app_of, fault_of, kind_of, takes};
+ghost use Rattle.cb_command.specs.Words.{AreRefused, AreWithin, ByTask, IsWithin, flag, program, run_line, sized, task_in, task_named};
+ghost use Rattle.cb_run_nodes.specs.Summary.{RunsKnown};
+ghost use Rattle.cb_run_nodes.specs.declared.running.RunOrders.{RunOrders};
+ghost use Rattle.clap.specs.Words.{FailsBy, app_of, fault_of, kind_of, rule_of, takes};
 ghost use Rattle.clap.specs.declared.error.kind.ErrorKind.TheVariants.{OutOfMemory};
 
 use crate::serve::serve_peer;
@@ -55,7 +57,7 @@ Exit status:
 
 Examples:
   echo fabfb5da76657261636b000000000000000000005df6e0e2 | cbrelay decode
-  printf 'link 0 1\nmine 0\nwait\n' | cbrelay run --nodes 2 --handlers 1";
+  printf 'link 0 1\\nmine 0\\nwait\\n' | cbrelay run --nodes 2 --handlers 1";
 
 /// The text that `run --help` prints below the options.
 const RUN_USE: &str = "\
@@ -104,7 +106,8 @@ pub fn command<N: Host, R: Source, W: Sink, E: Sink>(
         (E.has_failed errors.new) result Memory × (reader.new ≡ reader.old)
         × (writer.new ≡ writer.old))
         ⊎ ((fault_of program (map string_bytes words.items) ≡ [])
-        × ByTask (task_in (map string_bytes words.items))
+        × ((orders : RunOrders) × AreWithin orders
+        × ByTask (task_in orders (map string_bytes words.items))
         ((PrintsReport (R.remaining reader.old) (W.contents writer.old)
         (W.contents writer.new) result × (errors.new ≡ errors.old))
         ⊎ Halts (R.remaining reader.old) (R.has_failed reader.new) (W.has_failed writer.new)
@@ -119,17 +122,26 @@ pub fn command<N: Host, R: Source, W: Sink, E: Sink>(
         ((SimulatesKnown (R.remaining reader.old) (W.contents writer.old)
         (W.contents writer.new) result × (errors.new ≡ errors.old))
         ⊎ Halts (R.remaining reader.old) (R.has_failed reader.new) (W.has_failed writer.new)
-        (E.contents errors.old) (E.contents errors.new) (E.has_failed errors.new) result))) }
+        (E.contents errors.old) (E.contents errors.new) (E.has_failed errors.new) result)
+        ((RunsKnown orders.sizes.nodes orders.stats (R.remaining reader.old)
+        (W.contents writer.old) (W.contents writer.new) result × (errors.new ≡ errors.old))
+        ⊎ Halts (R.remaining reader.old) (R.has_failed reader.new) (W.has_failed writer.new)
+        (E.contents errors.old) (E.contents errors.new) (E.has_failed errors.new) result)))) }
     // The words and their commands.
-    ensures named { (name : List ℕ) →
-        (task_in (name ∷ []) ≡ Task.Decode) × (task_in (name ∷ codes "decode" ∷ []) ≡ Task.Decode)
-        × (task_in (name ∷ codes "serve" ∷ []) ≡ Task.Serve)
-        × (task_in (name ∷ codes "sim" ∷ []) ≡ Task.Sim) }
+    ensures named { (orders : RunOrders) (name : List ℕ) →
+        (task_in orders (name ∷ []) ≡ Task.Decode)
+        × (task_in orders (name ∷ codes "decode" ∷ []) ≡ Task.Decode)
+        × (task_in orders (name ∷ codes "serve" ∷ []) ≡ Task.Serve)
+        × (task_in orders (name ∷ codes "sim" ∷ []) ≡ Task.Sim)
+        × (task_in orders (name ∷ codes "run" ∷ codes "--nodes" ∷ codes "8" ∷ codes "--handlers"
+        ∷ codes "16" ∷ []) ≡ Task.Run orders) }
     // Clap accepts these words.
     ensures taken { (name : List ℕ) →
         (takes program (name ∷ []) ≡ true) × (takes program (name ∷ codes "decode" ∷ []) ≡ true)
         × (takes program (name ∷ codes "serve" ∷ []) ≡ true)
-        × (takes program (name ∷ codes "sim" ∷ []) ≡ true) }
+        × (takes program (name ∷ codes "sim" ∷ []) ≡ true)
+        × (takes program (name ∷ codes "run" ∷ codes "--nodes" ∷ codes "8" ∷ codes "--handlers"
+        ∷ codes "16" ∷ []) ≡ true) }
 {
     match task_of(alloc, words.as_slice()) {
         Ok(Task::Decode) => settle(code_of(decode(alloc, reader, writer)), errors),
@@ -227,77 +239,112 @@ fn command_line<'a>(alloc: Global) -> Result<Command<'a>, AllocError>
 }
 
 /// The command line that `run` accepts.
-fn run_line<'a>(alloc: Global) -> Result<Command<'a>, AllocError> {
-    let nodes = Arg::new(alloc, "nodes")
+fn run_line<'a>(alloc: Global) -> Result<Command<'a>, AllocError>
+    ensures { IfOk result (λ line. app_of line ≡ run_line) }
+{
+    Command::new(alloc, "run")
+        .about("Play a script of nodes that are joined over loopback")
+        .after_help(RUN_USE)
+        .arg(nodes_arg(alloc))?
+        .arg(handlers_arg(alloc))?
+        .arg(stats_arg(alloc))
+}
+
+/// The option `--nodes`.
+fn nodes_arg<'a>(alloc: Global) -> Arg<'a>
+    ensures rule { rule_of result ≡ sized (codes "nodes") 8 }
+    ensures local { result.global ≡ false }
+{
+    Arg::new(alloc, "nodes")
         .long("nodes")
         .value_name("N")
         .help("How many nodes there are, 1 to 8")
         .required(true)
-        .value_parser(value_parser!(u16).range(1..=8));
-    let handlers = Arg::new(alloc, "handlers")
+        .value_parser(value_parser!(u16).range(1..=8))
+}
+
+/// The option `--handlers`.
+fn handlers_arg<'a>(alloc: Global) -> Arg<'a>
+    ensures rule { rule_of result ≡ sized (codes "handlers") 16 }
+    ensures local { result.global ≡ false }
+{
+    Arg::new(alloc, "handlers")
         .long("handlers")
         .value_name("H")
         .help("How many threads serve a node's peers, 1 to 16")
         .required(true)
-        .value_parser(value_parser!(u16).range(1..=16));
-    let stats = Arg::new(alloc, "stats")
+        .value_parser(value_parser!(u16).range(1..=16))
+}
+
+/// The flag `--stats`.
+fn stats_arg<'a>(alloc: Global) -> Arg<'a>
+    ensures rule { rule_of result ≡ flag (codes "stats") }
+    ensures local { result.global ≡ false }
+{
+    Arg::new(alloc, "stats")
         .long("stats")
         .help("Also print what each connection moved")
-        .action(ArgAction::SetTrue);
-    Command::new(alloc, "run")
-        .about("Play a script of nodes that are joined over loopback")
-        .after_help(RUN_USE)
-        .arg(nodes)?
-        .arg(handlers)?
-        .arg(stats)
+        .action(ArgAction::SetTrue)
 }
 
 /// The task that the words name; `decode` if they name none. Fails if clap refuses the words or
 /// asks to print help or the version, or if memory runs out.
 fn task_of(alloc: Global, words: &[String]) -> Result<Task, clap::Error>
-    ensures task { IfOk result (λ task. task ≡ task_in (map string_bytes words.now)) }
+    ensures task { IfOk result (λ task. (orders : RunOrders) × AreWithin orders
+        × (task ≡ task_in orders (map string_bytes words.now))) }
+    ensures within { IfOk result (λ task. IsWithin task) }
     ensures kinds { FailsBy (fault_of program (map string_bytes words.now)) result }
     ensures passes { IfErr result
         (λ error. takes program (map string_bytes words.now) ≡ true → kind_of error ≡ OutOfMemory) }
 {
     let line = command_line(alloc)?;
     match line.try_get_matches_from(words) {
-        Ok(matches) => Ok(task_matched(&matches)),
+        Ok(matches) => Ok(task_named(matches.subcommand_name(), orders_of(&matches))),
         Err(error) => Err(error),
     }
 }
 
-/// The task that was matched; `decode` if none was.
-fn task_matched(matches: &ArgMatches) -> Task {
+/// What `run` is asked for; the least if it isn't the command.
+fn orders_of(matches: &ArgMatches) -> RunOrders
+    ensures { AreWithin result }
+{
     match matches.subcommand_matches("run") {
-        Some(run) => Task::Run(orders_of(run)),
-        None => task_named(matches.subcommand_name()),
-    }
-}
-
-/// What `run` is asked for.
-fn orders_of(run: &ArgMatches) -> RunOrders {
-    RunOrders {
-        sizes: Sizes {
-            nodes: size_of(run, "nodes", 8),
-            handlers: size_of(run, "handlers", 16),
+        Some(run) => RunOrders {
+            sizes: Sizes {
+                nodes: size_of(run, "nodes", 8),
+                handlers: size_of(run, "handlers", 16),
+            },
+            stats: run.get_flag("stats"),
         },
-        stats: run.get_flag("stats"),
+        None => RunOrders {
+            sizes: Sizes {
+                nodes: 1,
+                handlers: 1,
+            },
+            stats: false,
+        },
     }
 }
 
-/// A number from 1 to `most`. Clap has seen to it that it is there, and so large.
-fn size_of(run: &ArgMatches, name: &str, most: u16) -> u16 {
+/// The number from 1 to `most` that an option of `run` has. Clap has seen to it that it is there
+/// and in this range.
+fn size_of(run: &ArgMatches, name: &str, most: u16) -> u16
+    requires { 1 ≤ most }
+    ensures { (1 ≤ result) × (result ≤ most) }
+{
     run.get_one::<u16>(name).unwrap_or(1).clamp(1, most)
 }
 
-/// The task of the command that was named, if it isn't `run`; `decode` if none was.
-fn task_named(name: Option<&str>) -> Task
-    ensures { result ≡ task_named (option_map (λ text. text.now) name.entry) }
+/// The task of the command that was named, with these orders for `run`; `decode` if none was.
+fn task_named(name: Option<&str>, orders: RunOrders) -> Task
+    requires { AreWithin orders }
+    ensures named { result ≡ task_named orders (option_map (λ text. text.now) name.entry) }
+    ensures within { IsWithin result }
 {
     match name {
         Some("serve") => Task::Serve,
         Some("sim") => Task::Sim,
+        Some("run") => Task::Run(orders),
         Some(_) | None => Task::Decode,
     }
 }

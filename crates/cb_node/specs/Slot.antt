@@ -88,12 +88,16 @@ LastsIf waits (side.Live seat) = Unit {0}
 LastsIf waits (side.Ended seat) = waits ≡ false
 
 -- The slot has its side of this inbox, or the thread of a connection that doesn't wait has it.
-abbrev pub IsSeatingOf : {O : Type 0} → TableId → Bool → Option (Seating O) → Type 0
+abbrev pub IsSeatingOf : {W M : Type 0} → TableId → Bool → Option (Seating W M) → Type 0
 IsSeatingOf name waits (Some (seating.Kept left)) = HasLeft name left × LastsIf waits left.side
 IsSeatingOf name waits (Some (seating.Lent thread)) = ((inbox_for thread).name ≡ name) × (waits ≡ false)
 IsSeatingOf name waits None = ⊥
 
+-- Nothing was asked under the badge.
+abbrev pub IsNew : BadgeState → Type 0
+IsNew badge = (badge.count ≡ 0) × (badge.full ≡ false)
+
 -- Nothing was asked under the badge, if there is one.
 abbrev pub IsUnspent : Option BadgeState → Type 0
 IsUnspent None = Unit {0}
-IsUnspent (Some badge) = (badge.count ≡ 0) × (badge.full ≡ false)
+IsUnspent (Some badge) = IsNew badge

@@ -25,9 +25,9 @@ pub fn standings_of<W: Work<Item = Input>>(
 ) -> Result<Vec<Standing>, AllocError>
     ensures { IfOk result (λ all. map is_used all.items ≡ uses_of slots.now) }
 {
-    let mut all = Vec::with_capacity(alloc, slots.len())?;
+    let mut all = Vec::new(alloc);
     for slot in slots {
-        all.push_reserved(slot.standing());
+        all.push(slot.standing())?;
     }
     Ok(all)
 }

@@ -1,6 +1,7 @@
-ghost use Rattle.std.specs.Prelude.{◌≡◌, ◌⊎◌, ◌↔◌, ◌≤◌, None, Some, [], length, map, vec_capacity, All, IfErr, IfOk, IfSome, OnErr, OnOk, Ok, Err};
+ghost use Rattle.std.specs.Prelude.{◌≡◌, ◌⊎◌, ◌↔◌, ◌<◌, ◌≤◌, false, None, Some, [], length, map, vec_capacity, All, IfErr, IfOk, IfSome, OnErr, OnOk, Ok, Err};
 ghost use Rattle.cb_base.specs.declared.fault.Fault.TheVariants as faults;
-ghost use Rattle.cb_node.specs.declared.fault.NodeFault.TheVariants.{Hall, Io, Memory, NoSlot};
+ghost use Rattle.cb_node.specs.declared.fault.NodeFault.TheVariants.{Io, Memory, NoSlot};
+ghost use Rattle.cb_node.specs.declared.fault.NodeFault.TheVariants as told;
 ghost use Rattle.cb_crew.specs.Crew.{HasPlace, inbox_of};
 ghost use Rattle.cb_node.specs.Choosing.{HasNone};
 ghost use Rattle.cb_node.specs.Slot.{names_in};
@@ -113,8 +114,8 @@ impl<R: Net<Listener = TcpListener, Stream = TcpStream> + Threads + Wait + Copy 
     /// Waits for a peer and serves it by an inbound slot, whose number is returned.
     ///
     /// Fails with the first of these that applies; no slot is used then:
-    /// - `NodeFault::NoSlot` if no slot can serve it. A peer that waits to be accepted is refused
-    ///   then: its connection is closed.
+    /// - `NodeFault::NoSlot` if no slot can serve it. A peer that waits to be accepted still waits
+    ///   then (`turn_away`).
     /// - `NodeFault::Io` if the node doesn't listen, a socket fails or no thread can be started;
     /// - what the hall refuses, and `NodeFault::Memory`.
     pub fn accept(&mut self) -> Result<u16, NodeFault>
@@ -127,7 +128,6 @@ impl<R: Net<Listener = TcpListener, Stream = TcpStream> + Threads + Wait + Copy 
     {
         let end = self.service.settings.inbound;
         if !self.service.has_slot(self.slots.as_slice(), 0, end)? {
-            self.turn_away();
             return Err(NodeFault::NoSlot);
         }
         let stream = match &self.listening {
@@ -154,7 +154,6 @@ impl<R: Net<Listener = TcpListener, Stream = TcpStream> + Threads + Wait + Copy 
     {
         let end = self.service.settings.inbound;
         if !self.service.has_slot(self.slots.as_slice(), 0, end)? {
-            self.turn_away();
             return Err(NodeFault::NoSlot);
         }
         let polled = match &self.listening {
@@ -206,10 +205,17 @@ impl<R: Net<Listener = TcpListener, Stream = TcpStream> + Threads + Wait + Copy 
         Ok(number)
     }
 
-    /// Closes the connection of a peer that waits to be accepted, if there is one.
-    fn turn_away(&self) {
-        if let Some(listening) = &self.listening {
-            let _ = listening.poll();
+    /// Closes the connection of a peer that waits to be accepted. Returns whether one waited. A node
+    /// whose slots are all busy so refuses peers.
+    ///
+    /// Fails with `NodeFault::Io` if the node doesn't listen or a socket fails.
+    pub fn turn_away(&self) -> Result<bool, NodeFault>
+        ensures deaf { self.now.listens ≡ None → result ≡ Err Io }
+        ensures kinds { IfErr result (λ fault. fault ≡ Io) }
+    {
+        match &self.listening {
+            Some(listening) => Ok(listening.poll()?.is_some()),
+            None => Err(NodeFault::Io),
         }
     }
 
@@ -218,7 +224,7 @@ impl<R: Net<Listener = TcpListener, Stream = TcpStream> + Threads + Wait + Copy 
     ///
     /// Fails with `Fault::JournalFull` of the hall, and with `NodeFault::Memory`.
     pub fn submit(&self, local: Local) -> Result<Answer, NodeFault>
-        ensures { IfErr result (λ fault. (fault ≡ Hall faults.JournalFull) ⊎ (fault ≡ Memory)) }
+        ensures { IfErr result (λ fault. (fault ≡ told.Hall faults.JournalFull) ⊎ (fault ≡ Memory)) }
     {
         let mut hall = self.service.hall.lock(&self.service.rt);
         Ok(hall.submit(local)?)
@@ -239,7 +245,7 @@ impl<R: Net<Listener = TcpListener, Stream = TcpStream> + Threads + Wait + Copy 
     pub fn kick(&self, slot: u16) -> Result<(), NodeFault>
         ensures no_slot { (result ≡ Err NoSlot) ↔ (length self.now.used ≤ slot) }
         ensures kinds { IfErr result
-            (λ fault. (fault ≡ NoSlot) ⊎ (fault ≡ Hall faults.JournalFull) ⊎ (fault ≡ Memory)) }
+            (λ fault. (fault ≡ NoSlot) ⊎ (fault ≡ told.Hall faults.JournalFull) ⊎ (fault ≡ Memory)) }
     {
         let Some(kicked) = self.slots.get(usize::from(slot)) else {
             return Err(NodeFault::NoSlot);
@@ -252,7 +258,7 @@ impl<R: Net<Listener = TcpListener, Stream = TcpStream> + Threads + Wait + Copy 
     /// Kicks a slot's latest connection in the hall.
     fn kick_in_hall(&self, slot: u16) -> Result<(), NodeFault>
         requires { slot < 64 }
-        ensures { IfErr result (λ fault. (fault ≡ Hall faults.JournalFull) ⊎ (fault ≡ Memory)) }
+        ensures { IfErr result (λ fault. (fault ≡ told.Hall faults.JournalFull) ⊎ (fault ≡ Memory)) }
     {
         let mut hall = self.service.hall.lock(&self.service.rt);
         Ok(hall.kick(slot)?)

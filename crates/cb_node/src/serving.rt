@@ -1,7 +1,7 @@
 ghost use Rattle.std.specs.Prelude.{◌≡◌, ◌≢◌, ◌<◌, ◌≤◌, true, false, length, IfErr, IfOk, OnErr, Ok, Err};
 ghost use Rattle.cb_node.specs.declared.fault.NodeFault.TheVariants.{Memory, NoSlot};
 ghost use Rattle.cb_node.specs.Choosing.{HasNone};
-ghost use Rattle.cb_node.specs.Slot.{AreAlike, AreAlikeBut, AreSlotsOf, IsInboxOf, WaitsAt, uses_of};
+ghost use Rattle.cb_node.specs.Slot.{AreAlike, AreAlikeBut, AreSlotsOf, IsInboxOf, IsNew, WaitsAt, uses_of};
 ghost use Rattle.cb_node.specs.Node.{IsChosen};
 
 use crate::choosing::{Standing, lowest, standings_of};
@@ -98,15 +98,12 @@ impl<R: Threads + Wait + Copy + Send + Drop + 'static> Service<R> {
             let _ = slots[usize::from(number)].waits();
             return Ok(number);
         }
-        let mut from = first;
-        for _ in first..end {
-            let Some(number) = lowest(standings.as_slice(), Standing::Left, from, end) else {
-                return Err(NodeFault::NoSlot);
-            };
-            if self.ready(&mut slots[usize::from(number)], number)? {
+        for number in first..end {
+            if standings.get(usize::from(number)) == Some(&Standing::Left)
+                && self.ready(&mut slots[usize::from(number)], number)?
+            {
                 return Ok(number);
             }
-            from = number + 1;
         }
         Err(NodeFault::NoSlot)
     }
@@ -161,7 +158,7 @@ impl<R: Threads + Wait + Copy + Send + Drop + 'static> Service<R> {
     /// Opens a slot's next connection in the hall.
     fn open_in_hall(&self, number: u16) -> Result<Badge, Fault>
         requires { number < 64 }
-        ensures badge { IfOk result (λ badge. (badge.count ≡ 0) × (badge.full ≡ false)) }
+        ensures badge { IfOk result IsNew }
     {
         let mut hall = self.hall.lock(&self.rt);
         hall.open(number)

@@ -1,9 +1,7 @@
 ghost use Rattle.std.specs.Prelude.{◌≡◌, ◌+◌, ◌≤◌, length, map, All, IfOk};
-ghost use Rattle.cb_hall.specs.Badge.{AreBadges};
-ghost use Rattle.cb_crew.specs.Work.{IsFresh};
 ghost use Rattle.cb_crew.specs.Crew.{AreHandlersOf, AreOpeningSeats, IsHandlerOf};
 ghost use Rattle.cb_service.specs.Service.{crew_of, handler_of};
-ghost use Rattle.cb_node.specs.Slot.{AreSlotsOf, new_slot};
+ghost use Rattle.cb_node.specs.Slot.{AreSlotsOf, IsNew, new_slot};
 ghost use Rattle.cb_node.specs.Node.{AreThreadsOf, IsNewNode};
 
 use crate::fault::NodeFault;
@@ -38,7 +36,7 @@ const BUDGET: u32 = 64;
 /// The works of a node's slots and what their threads share, in the order of the slots.
 #[derive(Drop)]
 struct Works<R: Wait + Drop> {
-    works: Vec<NodeWork<R>>,
+    works: Vec<Fresh<NodeWork<R>>>,
     links: Vec<Shared<Link>>,
 }
 
@@ -106,8 +104,12 @@ fn parts_of<R: Threads + Wait + Copy + Send + Drop + 'static>(
         works,
         links: of_slots,
     } = first_works(rt, alloc, &settings, badges, &hall)?;
-    let made = new_crew(&rt, alloc, works, settings.handlers)?;
-    let slots = slots_of(&rt, alloc, &made.crew, made.readers, of_slots, &links)?;
+    let NewCrew {
+        crew,
+        readers,
+        handlers,
+    } = new_crew(&rt, alloc, works, settings.handlers)?;
+    let slots = slots_of(&rt, alloc, &crew, readers, of_slots, &links)?;
     Ok(Parts {
         service: Service {
             rt,
@@ -115,29 +117,32 @@ fn parts_of<R: Threads + Wait + Copy + Send + Drop + 'static>(
             settings,
             write_milliseconds: WRITE_MILLISECONDS,
             hall,
-            common: common_of(alloc, made.crew)?,
+            common: common_of(alloc, crew)?,
             links,
         },
         slots,
-        handlers: made.handlers,
+        handlers,
     })
 }
 
-/// A crew with these works.
+/// A crew with these works. Fails only with `Fault::Memory`.
 fn new_crew<W: Work, R: Wait>(
     rt: &R,
     alloc: Global,
-    works: Vec<W>,
+    fresh: Vec<Fresh<W>>,
     handlers: u16,
 ) -> Result<NewCrew<W>, Fault>
-    requires works { (1 ≤ length works.items) × (length works.items ≤ 64)
-        × All (IsFresh W.given W.ticked W.is_closed) works.items }
+    requires works { (1 ≤ length fresh.items) × (length fresh.items ≤ 64) }
     requires handlers { (1 ≤ handlers) × (handlers ≤ 16) }
-    ensures crew { IfOk result (λ made. (length made.crew.inboxes ≡ length works.items)
+    ensures crew { IfOk result (λ made. (length made.crew.inboxes ≡ length fresh.items)
         × (made.crew.handlers ≡ handlers)) }
     ensures seats { IfOk result (λ made. AreOpeningSeats made.crew made.readers.items) }
     ensures handlers { IfOk result (λ made. AreHandlersOf made.crew made.handlers.items) }
 {
+    let mut works = Vec::new(alloc);
+    for one in fresh {
+        works.push(one.into_work())?;
+    }
     match Crew::new(rt, alloc, works, handlers, CAPACITY) {
         Ok(made) => Ok(made),
         Err((_, fault)) => Err(fault),
@@ -164,8 +169,9 @@ fn first_works<R: Wait + Copy + Drop>(
     badges: Vec<Badge>,
     hall: &Shared<Mutex<Hall>>,
 ) -> Result<Works<R>, Fault>
-    requires { AreBadges (length badges.items) badges.items }
-    ensures { IfOk result (λ made. length made.works.items ≡ length badges.items) }
+    requires { All IsNew badges.items }
+    ensures works { IfOk result (λ made. length made.works.items ≡ length badges.items) }
+    ensures links { IfOk result (λ made. length made.links.items ≡ length badges.items) }
 {
     let mut works = Vec::new(alloc);
     let mut links = Vec::new(alloc);
@@ -173,7 +179,7 @@ fn first_works<R: Wait + Copy + Drop>(
         let settings = session_settings(settings, badge.connection().peer);
         match next_connection(rt, alloc, settings, badge, hall) {
             Ok(Next { work, link }) => {
-                works.push(work.into_work())?;
+                works.push(work)?;
                 links.push(link)?;
             }
             Err(refused) => return Err(refused.cause),

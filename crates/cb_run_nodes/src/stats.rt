@@ -8,7 +8,7 @@ use cb_base::Fault;
 use cb_crew::Desk;
 use cb_io::Sink;
 use cb_node::{NodeEnd, NodeWork};
-use cb_peer_state::State;
+use cb_peer_state::{CloseReason, State};
 use cb_run::{Halt, write_all};
 use cb_work::Totals;
 use std::alloc::Global;
@@ -68,8 +68,7 @@ fn print_desk<N: Wait + Drop>(
     print_work(node, desk.work(), out)
 }
 
-/// Appends the line of a connection, unless nothing was written or read. Fails only with
-/// `Fault::Memory`.
+/// Appends the line of a connection, unless it was never used. Fails only with `Fault::Memory`.
 fn print_work<N: Wait + Drop>(
     node: usize,
     work: &NodeWork<N>,
@@ -78,13 +77,14 @@ fn print_work<N: Wait + Drop>(
     ensures { IsOkUnless result faults.Memory }
 {
     let totals = work.flags().status().totals();
-    if totals.messages == 0 && totals.written == 0 {
+    let state = work.trace().state();
+    if totals.messages == 0 && totals.written == 0 && state == State::Closed(CloseReason::Bye) {
         return Ok(());
     }
     let connection = work.connection();
     let (slot, generation) = (connection.peer, connection.generation);
     write!(out, "node {node} slot {slot} connection {generation} ")?;
-    print_totals(work.trace().state(), &totals, out)
+    print_totals(state, &totals, out)
 }
 
 /// Appends why a connection was closed and what it moved. Fails only with `Fault::Memory`.

@@ -26,7 +26,7 @@ outcome_text number NotSettled = numbered number (codes "not settled")
 
 -- what is printed for a line that can't be read
 abbrev pub unreadable_text : ℕ → List ℕ
-unreadable_text number = numbered number (codes "unreadable")
+unreadable_text number = decimal number ++ codes " unreadable\n"
 
 -- Any line may be done. Only a `wait` can end with nodes that didn't settle, and nothing else can
 -- become of it.

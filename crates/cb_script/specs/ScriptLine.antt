@@ -3,6 +3,8 @@ use Rattle.std.specs.Prelude.{◌≡◌, ℕ, ◌^◌, ◌<◌, if◌then◌else
 use Rattle.std.specs.Result.{result_ok}
 use Rattle.std.specs.Str.{bytes_eq, IsUtf8}
 use Rattle.hex.specs.Hex.{decode_of}
+use Rattle.cb_tx.specs.declared.tx.Tx as transactions
+use Rattle.cb_block.specs.declared.block.Block as blocks
 use Rattle.cb_wire.specs.declared.message.Message.{Message}
 use Rattle.cb_wire.specs.declared.message.Message.TheVariants as messages
 use Rattle.cb_wire.specs.Grammar.{message_at}
@@ -14,15 +16,14 @@ use Rattle.cb_script.specs.declared.line.Line.TheVariants.{Link, Tx, Block, Mine
 abbrev pub message_of : List ℕ → List ℕ → Option Message
 message_of name text = option_and_then (λ payload. result_ok (message_at name payload)) (result_ok (decode_of text))
 
--- a transaction's line, if that is what the message is
-abbrev pub tx_line : ℕ → Option Message → Option Line
-tx_line node (Some (messages.Tx tx)) = Some (Tx node tx)
-tx_line node other = None
+-- the transaction of a `tx`, and the block of a `block`
+abbrev pub the_tx : Message → Option transactions.Tx
+the_tx (messages.Tx tx) = Some tx
+the_tx other = None
 
--- a block's line, if that is what the message is
-abbrev pub block_line : ℕ → Option Message → Option Line
-block_line node (Some (messages.Block block)) = Some (Block node block)
-block_line node other = None
+abbrev pub the_block : Message → Option blocks.Block
+the_block (messages.Block block) = Some block
+the_block other = None
 
 -- the line of two numbers, below these limits
 abbrev pub two_in : (ℕ → ℕ → Line) → ℕ → ℕ → List ℕ → Option Line
@@ -35,10 +36,10 @@ addressed_in nodes rest = option_and_then (λ words. option_map (λ node. (node,
 
 -- what stands behind `tx` and behind `block`
 abbrev pub tx_named : ℕ → List ℕ → Option Line
-tx_named nodes rest = option_and_then (λ given. tx_line given.0 (message_of (codes "tx") given.1)) (addressed_in nodes rest)
+tx_named nodes rest = option_and_then (λ given. option_map (λ tx. Tx given.0 tx) (option_and_then the_tx (message_of (codes "tx") given.1))) (addressed_in nodes rest)
 
 abbrev pub block_named : ℕ → List ℕ → Option Line
-block_named nodes rest = option_and_then (λ given. block_line given.0 (message_of (codes "block") given.1)) (addressed_in nodes rest)
+block_named nodes rest = option_and_then (λ given. option_map (λ block. Block given.0 block) (option_and_then the_block (message_of (codes "block") given.1))) (addressed_in nodes rest)
 
 -- The line with this name and what stands behind it, for so many nodes. Nodes and slots are decimal
 -- numbers, slots below 2^16.

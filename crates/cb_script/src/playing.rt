@@ -1,11 +1,12 @@
 //! Playing a script, line by line.
-ghost use Rattle.std.specs.Prelude.{◌≡◌, ◌⊎◌, true, IfOk, IfErr, OnOk};
+ghost use Rattle.std.specs.Prelude.{◌≡◌, ◌⊎◌, true, IfOk, IfErr, IfSome, IsOkUnless, OnOk};
 ghost use Rattle.std.specs.Io.KnownBytes.{Appends};
 ghost use Rattle.cb_run.specs.declared.ending.Halt.TheVariants.{Memory, WriteFailed};
 ghost use Rattle.cb_run.specs.Ending.{HasCause};
-ghost use Rattle.cb_script.specs.Playing.{PlaysKnown, outcome_text, unreadable_text};
+ghost use Rattle.cb_script.specs.Playing.{CanEnd, PlaysKnown, outcome_text, unreadable_text};
+ghost use Rattle.cb_script.specs.ScriptLine.{IsAmong, Reads};
 
-use crate::line::read_line;
+use crate::line::{Line, read_line};
 use crate::network::Network;
 use crate::outcome::{Outcome, Tally};
 use cb_io::{Sink, Source};
@@ -47,16 +48,45 @@ pub fn play<N: Network, R: Source, W: Sink>(
         if !lines.advance(reader)? {
             return Ok(Played::Whole(tally));
         }
-        let read = read_line(alloc, lines.line(), nodes).map_err(Halt::of_memory)?;
-        let Some(line) = read else {
-            print_unreadable(alloc, number, writer)?;
-            return Ok(Played::Unreadable);
-        };
-        let outcome = network.obey(line).map_err(Halt::of_memory)?;
-        print_outcome(alloc, number, outcome, writer)?;
-        tally = tally.after(outcome);
+        let read = line_at(alloc, &lines, nodes)?;
+        match read {
+            Some(line) => {
+                let outcome = obeyed(network, line)?;
+                print_outcome(alloc, number, outcome, writer)?;
+                tally = tally.after(outcome);
+            }
+            None => {
+                print_unreadable(alloc, number, writer)?;
+                return Ok(Played::Unreadable);
+            }
+        }
     }
     Err(Halt::TooManyLines)
+}
+
+/// Reads the current line. Fails only with `Halt::Memory`.
+fn line_at(alloc: Global, lines: &LineReader, nodes: u16) -> Result<Option<Line>, Halt>
+    ensures exact { IfOk result (λ read. Reads nodes lines.now.line read) }
+    ensures among { IfOk result (λ read. IfSome read (λ line. IsAmong nodes line)) }
+    ensures memory { IsOkUnless result Memory }
+{
+    match read_line(alloc, lines.line(), nodes) {
+        Ok(read) => Ok(read),
+        Err(_) => Err(Halt::Memory),
+    }
+}
+
+/// Does what a line says. Fails only with `Halt::Memory`.
+fn obeyed<N: Network>(network: &mut N, line: Line) -> Result<Outcome, Halt>
+    requires among { IsAmong (N.size network.old) line }
+    ensures size { N.size network.new ≡ N.size network.old }
+    ensures ends { IfOk result (λ outcome. CanEnd line outcome) }
+    ensures memory { IsOkUnless result Memory }
+{
+    match network.obey(line) {
+        Ok(outcome) => Ok(outcome),
+        Err(_) => Err(Halt::Memory),
+    }
 }
 
 /// Prints what became of the line with this number.
