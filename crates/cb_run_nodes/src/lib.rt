@@ -5,8 +5,6 @@ mod nodes;
 mod report;
 mod running;
 mod stats;
-#[cfg(test)]
-mod tests;
 
 pub use nodes::{Host, Nodes, Sizes};
 pub use report::NodeReport;

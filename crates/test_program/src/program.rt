@@ -26,14 +26,15 @@ fn words_of(alloc: Global, word: &str) -> Result<Vec<String>, AllocError> {
 }
 
 /// The status of a run of the program. It says nothing of what is read and written, so that its caller's states stay small.
-fn status_of(
+fn status_of<N: Host>(
+    rt: N,
     alloc: Global,
     words: Vec<String>,
     reader: &mut In<&[u8]>,
     writer: &mut Out<Vec<u8>>,
     errors: &mut Out<Vec<u8>>,
 ) -> u8 {
-    command(alloc, words, reader, writer, errors)
+    command(rt, alloc, words, reader, writer, errors)
 }
 
 /// Whether the program comes to what the run says, with these words.
