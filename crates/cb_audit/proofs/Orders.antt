@@ -182,7 +182,7 @@ pub order_denied : (audited : List AuditedTrace) (n : ℕ) (former last : Audite
 order_denied audited n former last a b before some_place within is own ea eb if_so not order =
     order_not audited n former last some_place within is own
     (λ h.
-      (let never : true ≡ false = sym (if_so (subst (λ (c : Connection). IsBefore c b) (sym ea) (subst (IsBefore former.connection) (sym eb) h))) ∙ not in absurd (cc)))
+    (let never : true ≡ false = sym (if_so (subst (λ (c : Connection). IsBefore c b) (sym ea) (subst (IsBefore former.connection) (sym eb) h))) ∙ not in absurd (cc)))
     order
 
 -- ---- a binary search

@@ -1,7 +1,7 @@
 -- What is printed at the end of a run.
-use Rattle.std.specs.Prelude.{◌≡◌, ℕ, Bool, false, if◌then◌else◌, ◌⊎◌, ⊤, List, [], ◌∷◌, ◌++◌, map, reverse, codes, Option, Some, None}
+use Rattle.std.specs.Prelude.{◌≡◌, ℕ, Bool, false, if◌then◌else◌, ◌⊎◌, ⊤, List, [], ◌++◌, map, reverse, codes, Option, Some, None}
 use Rattle.std.specs.Fmt.{decimal}
-use Rattle.std.specs.List.{flat_map, range_with_len}
+use Rattle.std.specs.List.{flat_map, list_all, range_with_len}
 use Rattle.std.specs.Str.Lines.{lines}
 use Rattle.hex.specs.Hex.{encode_lower}
 use Rattle.cb_script.specs.declared.outcome.Tally.{Tally}
@@ -25,8 +25,7 @@ AreOfAll nodes reports = map (λ report. report.node) reports ≡ range_with_len
 
 -- after the audits of all nodes
 abbrev pub tally_reported : Tally → List NodeReport → Tally
-tally_reported tally [] = tally
-tally_reported tally (report ∷ more) = tally_reported (tally_audited tally report.agrees) more
+tally_reported tally reports = tally_audited tally (list_all (λ report. report.agrees) reports)
 
 -- All lines were played, and each node is reported. What each connection moved follows only if it is
 -- asked for.

@@ -66,46 +66,27 @@ impl<R: Host> Nodes<R> {
         ensures count { IfOk result (λ nodes. vec_len nodes.list ≡ sizes.nodes) }
     {
         let count = usize::from(sizes.nodes);
-        let mut nodes = Nodes {
-            rt,
-            alloc,
-            list: Vec::with_capacity(alloc, count).map_err(|_| NodeFault::Memory)?,
-            ends: Vec::with_capacity(alloc, count).map_err(|_| NodeFault::Memory)?,
-        };
-        match nodes.start_all(sizes) {
-            Ok(()) => Ok(nodes),
+        let mut list = Vec::with_capacity(alloc, count).map_err(|_| NodeFault::Memory)?;
+        let ends = Vec::with_capacity(alloc, count).map_err(|_| NodeFault::Memory)?;
+        match start_all(rt, alloc, sizes, &mut list) {
+            Ok(()) => Ok(Nodes {
+                rt,
+                alloc,
+                list,
+                ends,
+            }),
             Err(fault) => {
-                drop(nodes.finish());
+                drop(finish_all(list, ends));
                 Err(fault)
             }
         }
-    }
-
-    /// Starts one node after another.
-    fn start_all(&mut self, sizes: Sizes) -> Result<(), NodeFault>
-        requires handlers { (1 ≤ sizes.handlers) × (sizes.handlers ≤ 16) }
-        requires none { vec_len self.old.list ≡ 0 }
-        requires room { (sizes.nodes ≤ vec_capacity self.old.list)
-            × (sizes.nodes ≤ vec_capacity self.old.ends) }
-        ensures count { OnOk result (vec_len self.new.list ≡ sizes.nodes) }
-    {
-        for number in 0..sizes.nodes {
-            let settings = settings_of(number, sizes.handlers);
-            let node = Node::start(self.rt, self.alloc, settings)?;
-            self.list.push_reserved(node);
-        }
-        Ok(())
     }
 
     /// Ends all nodes. Returns what is left of them, in their order.
     pub fn finish(self) -> Vec<NodeEnd<R>>
         ensures count { vec_len result ≡ vec_len self.list }
     {
-        let mut ends = self.ends;
-        for node in self.list {
-            ends.push_reserved(node.finish());
-        }
-        ends
+        finish_all(self.list, self.ends)
     }
 
     /// Connects a node to another one, or to itself.
@@ -172,6 +153,39 @@ impl<R: Host> Network for Nodes<R> {
             Line::Checkpoint(number) => outcome_of(self.list[usize::from(number)].checkpoint()),
         }
     }
+}
+
+/// Starts one node after another. The list must be empty, with room for all.
+fn start_all<R: Host>(
+    rt: R,
+    alloc: Global,
+    sizes: Sizes,
+    list: &mut Vec<Node<R>>,
+) -> Result<(), NodeFault>
+    requires handlers { (1 ≤ sizes.handlers) × (sizes.handlers ≤ 16) }
+    requires none { vec_len list.old ≡ 0 }
+    requires room { sizes.nodes ≤ vec_capacity list.old }
+    ensures count { OnOk result (vec_len list.new ≡ sizes.nodes) }
+    ensures few { vec_len list.new ≤ sizes.nodes }
+{
+    for number in 0..sizes.nodes {
+        let settings = settings_of(number, sizes.handlers);
+        list.push_reserved(Node::start(rt, alloc, settings)?);
+    }
+    Ok(())
+}
+
+/// Ends nodes. What is left of them goes to an empty list that has room for it.
+fn finish_all<R: Host>(list: Vec<Node<R>>, ends: Vec<NodeEnd<R>>) -> Vec<NodeEnd<R>>
+    requires none { vec_len ends ≡ 0 }
+    requires room { vec_len list ≤ vec_capacity ends }
+    ensures count { vec_len result ≡ vec_len list }
+{
+    let mut all = ends;
+    for node in list {
+        all.push_reserved(node.finish());
+    }
+    all
 }
 
 /// Gives a node a transaction or a block. Fails also if the hall refuses it.

@@ -56,9 +56,5 @@ pub fn print_reports(
 pub fn tally_reported(tally: Tally, reports: &[NodeReport]) -> Tally
     ensures { result ≡ tally_reported tally reports.now }
 {
-    let mut all = tally;
-    for report in reports {
-        all = all.audited(report.agrees);
-    }
-    all
+    tally.audited(reports.iter().all(|report| report.agrees))
 }

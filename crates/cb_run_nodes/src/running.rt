@@ -10,9 +10,11 @@ ghost use Rattle.cb_run_nodes.specs.Summary.{AreOfAll, RunsKnown, not_started_te
 use crate::nodes::{Host, Nodes, Sizes};
 use crate::report::{NodeReport, print_reports, tally_reported};
 use crate::stats::print_stats;
-use cb_desks::{Split, audit_desks};
+use cb_crew::Desk;
+use cb_desks::{Split, are_in_order, audit, traces};
+use cb_hall::Hall;
 use cb_io::{Sink, Source};
-use cb_node::{NodeEnd, NodeFault};
+use cb_node::{NodeEnd, NodeFault, NodeWork};
 use cb_run::{Halt, Status, write_all};
 use cb_script::{Played, Tally, play};
 use std::alloc::Global;
@@ -131,7 +133,8 @@ fn reports_of<N: Wait + Drop>(
 {
     let mut reports = Vec::new(alloc);
     for node in 0..ends.len() {
-        reports.push(report_of(rt, alloc, node as u16, &ends[node])?)?;
+        let report = report_of(rt, alloc, node as u16, &ends[node])?;
+        reports.push(report)?;
     }
     Ok(reports)
 }
@@ -147,14 +150,32 @@ fn report_of<N: Wait + Drop>(
     ensures memory { IsOkUnless result Memory }
 {
     let hall = end.hall.lock(rt);
-    let agrees = match audit_desks(alloc, &*hall, end.desks.as_slice()) {
-        Ok(()) => true,
-        Err(Split::Memory) => return Err(Halt::Memory),
-        Err(_) => false,
-    };
+    let agrees = agrees(alloc, &*hall, end.desks.as_slice())?;
     Ok(NodeReport {
         node,
         look: hall.look(),
         agrees,
     })
+}
+
+/// Whether a hall's journal and the traces of its connections tell one history. Fails only with
+/// `Halt::Memory`.
+fn agrees<N: Wait + Drop>(
+    alloc: Global,
+    hall: &Hall,
+    desks: &[Desk<NodeWork<N>>],
+) -> Result<bool, Halt>
+    ensures { IsOkUnless result Memory }
+{
+    let Ok(list) = traces(alloc, desks) else {
+        return Err(Halt::Memory);
+    };
+    if !are_in_order(list.as_slice()) {
+        return Ok(false);
+    }
+    match audit(alloc, hall, list.as_slice()) {
+        Ok(()) => Ok(true),
+        Err(Split::Memory) => Err(Halt::Memory),
+        Err(_) => Ok(false),
+    }
 }

@@ -11,7 +11,7 @@ pub loop-entry-init : goal.loop-entry-init
 loop-entry-init c =
     let journal = c.args.journal.now in
     let kept_is : c.connections-kept.result.now ≡ journal.base.connections =
-        c.connections-kept.ensures.connections ∙ ap (λ (replica : ReplicaState). replica.connections) c.base-base.ensures in
+    c.connections-kept.ensures.connections ∙ ap (λ (replica : ReplicaState). replica.connections) c.base-base.ensures in
     so_far_first journal.base.connections c.args.audited.now journal.base c.in_ok-replica.replica journal.latest journal.entries c.entries-entry-items.result.now c.in_ok-heard.heard.places.items c.in_ok-heard.heard.stranger
     c.entries-entry-items.ensures.past c.entries-entry-items.ensures.entries (c.in_ok-replica.ensures.same ∙ c.base-base.ensures)
     (subst (λ (slots : Slots). IsHeard slots c.args.audited.now (λ _. []) c.in_ok-heard.heard.places.items c.in_ok-heard.heard.stranger) kept_is c.in_ok-heard.ensures.first)
@@ -45,7 +45,7 @@ returns-clause-exact c =
     let places = c.loop-entry.heard.places.items in
     let stranger = c.loop-entry.heard.stranger in
     let kept_is : c.connections-kept.result.now ≡ journal.base.connections =
-        c.connections-kept.ensures.connections ∙ ap (λ (replica : ReplicaState). replica.connections) c.base-base.ensures in
+    c.connections-kept.ensures.connections ∙ ap (λ (replica : ReplicaState). replica.connections) c.base-base.ensures in
     answered journal c.args.audited.now places stranger journal.base.entries c.first_difference.result
     (so_far_end journal.base.connections c.args.audited.now journal.base c.loop-entry.replica journal.latest journal.entries c.entries-entry-items.result.now c.loop-entry.entry-index places stranger c.loop-entry.invariant
     c.loop-entry-test.false)
@@ -54,5 +54,5 @@ returns-clause-exact c =
     c.requires.few c.entries-entry-items.ensures.bounded.0
     (subst
     (λ (slots : Slots).
-      (seen : Seen) → AreFew slots c.args.audited.now seen → IsHeard slots c.args.audited.now seen places stranger → IsSplit slots c.args.audited.now seen c.first_difference.result)
+    (seen : Seen) → AreFew slots c.args.audited.now seen → IsHeard slots c.args.audited.now seen places stranger → IsSplit slots c.args.audited.now seen c.first_difference.result)
     kept_is c.first_difference.ensures)
