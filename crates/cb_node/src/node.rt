@@ -1,25 +1,21 @@
-ghost use Rattle.std.specs.Prelude.{◌≡◌, ◌⊎◌, ◌↔◌, ◌<◌, ◌≤◌, false, None, Some, [], length, map, vec_capacity, All, IfErr, IfOk, IfSome, OnErr, OnOk, Ok, Err};
+ghost use Rattle.std.specs.Prelude.{◌≡◌, ◌⊎◌, ◌↔◌, ◌<◌, ◌≤◌, false, None, Some, length, IfErr, IfOk, IfSome, OnErr, Ok, Err};
 ghost use Rattle.cb_base.specs.declared.fault.Fault.TheVariants as faults;
-ghost use Rattle.cb_node.specs.declared.fault.NodeFault.TheVariants.{Io, Memory, NoSlot};
-ghost use Rattle.cb_node.specs.declared.fault.NodeFault.TheVariants as told;
-ghost use Rattle.cb_crew.specs.Crew.{HasPlace, inbox_of};
-ghost use Rattle.cb_node.specs.Choosing.{HasNone};
-ghost use Rattle.cb_node.specs.Slot.{names_in};
-ghost use Rattle.cb_node.specs.Node.{HasFinished, IsChosen, with_listens, with_used};
+ghost use Rattle.cb_slots.specs.declared.fault.NodeFault.TheVariants.{Io, Memory, NoSlot};
+ghost use Rattle.cb_slots.specs.declared.fault.NodeFault.TheVariants as told;
+ghost use Rattle.cb_slots.specs.Choosing.{HasNone, IsChosen};
+ghost use Rattle.cb_node.specs.Node.{HasFinished, with_listens, with_used};
 
-use crate::fault::NodeFault;
-use crate::listening::Listening;
 use crate::opening::NodeWork;
 use crate::serving::Service;
-use crate::slot::{Report, Slot};
 use cb_base::Shared;
 use cb_block::SoundBlock;
-use cb_crew::{Desk, Fresh, Handler, ReaderSide, Work};
+use cb_crew::{Desk, Fresh, Handler, ReaderSide};
 use cb_hall::{Hall, Look};
 use cb_journal::{Answer, Local};
 use cb_peers::finish_peers;
 use cb_reader::Input;
 use cb_service::{Handling, join_handlers};
+use cb_slots::{Listening, NodeFault, Report, Slot, sides_of};
 use std::marker::{Copy, Model, Send};
 use std::net::{IpAddr, Ipv4Addr, Net, SocketAddr, TcpListener, TcpStream};
 use std::sync::{Mutex, Wait};
@@ -62,8 +58,8 @@ pub struct Node<R: Wait + Drop> {
 
 impl<R: Wait + Drop> Model for Node<R> {
     ghost use Rattle.std.specs.Prelude.{◌≡◌, ◌≤◌, [], length, vec_capacity};
-    ghost use Rattle.cb_node.specs.Slot.{AreSlotsOf};
-    ghost use Rattle.cb_node.specs.Node.{AreThreadsOf, NodeState, node_state};
+    ghost use Rattle.cb_slots.specs.Slot.{AreSlotsOf, AreThreadsOf};
+    ghost use Rattle.cb_node.specs.Node.{NodeState, node_state};
 
     ghost Value = { NodeState };
 
@@ -72,7 +68,15 @@ impl<R: Wait + Drop> Model for Node<R> {
     ghost invariant = { λ node. AreSlotsOf node.service.common.crew node.slots.items × (node.service.settings.inbound ≤ length node.slots.items) × (length node.slots.items ≤ 64) × AreThreadsOf node.service.common.crew node.handling.items × (node.handlers.items ≡ []) × (length node.handling.items ≤ vec_capacity node.handlers) × (node.sides.items ≡ []) × (length node.slots.items ≤ vec_capacity node.sides) };
 }
 
-impl<R: Net<Listener = TcpListener, Stream = TcpStream> + Threads + Wait + Copy + Send + Drop + 'static> Node<R> {
+impl<
+    R: Net<Listener = TcpListener, Stream = TcpStream>
+        + Threads
+        + Wait
+        + Copy
+        + Send
+        + Drop
+        + 'static,
+> Node<R> {
     /// Listens on the loopback address, and returns the port. A node that listens already returns
     /// its port.
     pub fn listen(&mut self) -> Result<u16, NodeFault> {
@@ -134,7 +138,8 @@ impl<R: Net<Listener = TcpListener, Stream = TcpStream> + Threads + Wait + Copy 
             Some(listening) => listening.accept(&self.service.rt)?,
             None => return Err(NodeFault::Io),
         };
-        self.service.begin(self.slots.as_mut_slice(), 0, end, stream)
+        self.service
+            .begin(self.slots.as_mut_slice(), 0, end, stream)
     }
 
     /// Serves a peer that waits to be accepted by an inbound slot, whose number is returned.
@@ -161,7 +166,10 @@ impl<R: Net<Listener = TcpListener, Stream = TcpStream> + Threads + Wait + Copy 
             None => return Err(NodeFault::Io),
         };
         match polled {
-            Some(stream) => Ok(Some(self.service.begin(self.slots.as_mut_slice(), 0, end, stream)?)),
+            Some(stream) => Ok(Some(
+                self.service
+                    .begin(self.slots.as_mut_slice(), 0, end, stream)?,
+            )),
             None => Ok(None),
         }
     }
@@ -198,7 +206,9 @@ impl<R: Net<Listener = TcpListener, Stream = TcpStream> + Threads + Wait + Copy 
         }
         let timeout = Duration::from_secs(CONNECT_SECONDS);
         let stream = TcpStream::connect_timeout(&self.service.rt, &address, timeout)?;
-        let number = self.service.begin(self.slots.as_mut_slice(), first, end, stream)?;
+        let number = self
+            .service
+            .begin(self.slots.as_mut_slice(), first, end, stream)?;
         if let Some(slot) = self.slots.get(usize::from(number)) {
             slot.tick(&self.service.common.signals);
         }
@@ -331,22 +341,4 @@ impl<R: Net<Listener = TcpListener, Stream = TcpStream> + Threads + Wait + Copy 
 /// This port of the loopback address.
 fn loopback(port: u16) -> SocketAddr {
     SocketAddr::new(IpAddr::V4(Ipv4Addr::LOCALHOST), port)
-}
-
-/// The sides of these slots, in the given empty list. Waits for the threads of readers. It takes no
-/// memory: the list must have room.
-fn sides_of<W: Work<Item = Input>, R: Threads>(
-    rt: &R,
-    slots: Vec<Slot<W>>,
-    sides: Vec<ReaderSide<Input, Fresh<W>>>,
-) -> Vec<ReaderSide<Input, Fresh<W>>>
-    requires room { (sides.items ≡ []) × (length slots.items ≤ vec_capacity sides) }
-    ensures inboxes { map inbox_of result.items ≡ names_in slots.items }
-    ensures places { All HasPlace result.items }
-{
-    let mut sides = sides;
-    for slot in slots {
-        sides.push_reserved(slot.into_side(rt));
-    }
-    sides
 }

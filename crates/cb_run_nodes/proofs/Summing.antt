@@ -3,8 +3,9 @@ use Rattle.std.proofs.Common.{◌≡◌, ℕ, Bool, false, List, [], ◌∷◌, 
 use Rattle.std.specs.Io.KnownBytes.{Appends}
 use Rattle.std.specs.Str.Lines.{lines}
 use Rattle.cb_script.specs.declared.outcome.Tally.{Tally}
-use Rattle.cb_script.specs.declared.playing.Played.TheVariants.{Whole, Unreadable}
-use Rattle.cb_script.specs.Playing.{PlaysKnown, status_of}
+use Rattle.cb_run_nodes.specs.declared.playing.Played.TheVariants.{Whole, Unreadable}
+use Rattle.cb_run_nodes.specs.Playing.{PlaysKnown}
+use Rattle.cb_script.specs.Outcomes.{status_of}
 use Rattle.cb_run_nodes.specs.declared.report.NodeReport.{NodeReport}
 use Rattle.cb_run_nodes.specs.Summary.{AreOfAll, RunsKnown, RunsToTheEnd, not_started_text, reports_text, tally_reported}
 

@@ -2,10 +2,12 @@
 #![tactic(auto)]
 
 mod nodes;
+mod playing;
 mod report;
 mod running;
 mod stats;
 
 pub use nodes::{Host, Nodes, Sizes};
+pub use playing::{Played, play};
 pub use report::NodeReport;
 pub use running::{RunOrders, run_nodes};

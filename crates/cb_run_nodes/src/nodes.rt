@@ -1,13 +1,14 @@
 //! The nodes of a run, with their sockets and threads.
 ghost use Rattle.std.specs.Prelude.{◌≡◌, ◌≢◌, ◌≤◌, ◌<◌, IfOk, OnOk, IsOkUnless, vec_capacity, vec_len};
 ghost use Rattle.cb_base.specs.declared.fault.Fault.TheVariants.{Memory};
-ghost use Rattle.cb_script.specs.Playing.{CanEnd};
+ghost use Rattle.cb_script.specs.Outcomes.{CanEnd};
+ghost use Rattle.cb_script.specs.ScriptLine.{IsAmong};
 
 use cb_base::{Fault, Shared};
 use cb_block::{Block, sound};
 use cb_journal::{Answer, Local};
 use cb_node::{Node, NodeEnd, NodeFault, NodeSettings};
-use cb_script::{Line, Network, Outcome};
+use cb_script::{Line, Outcome};
 use std::alloc::Global;
 use std::marker::{Copy, Send};
 use std::net::{Net, TcpListener, TcpStream};
@@ -36,15 +37,26 @@ pub struct Sizes {
 }
 
 /// What a run needs of its surroundings: sockets, threads, waiting and the clock.
-pub trait Host:
-    Net<Listener = TcpListener, Stream = TcpStream> + Threads + Wait + Clock + Copy + Send + Drop + 'static
-{
-}
+pub trait Host: Net<Listener = TcpListener, Stream = TcpStream>
+    + Threads
+    + Wait
+    + Clock
+    + Copy
+    + Send
+    + Drop
+    + 'static {}
 
-impl<R> Host for R where
-    R: Net<Listener = TcpListener, Stream = TcpStream> + Threads + Wait + Clock + Copy + Send + Drop + 'static
-{
-}
+impl<R> Host for R
+where
+    R: Net<Listener = TcpListener, Stream = TcpStream>
+        + Threads
+        + Wait
+        + Clock
+        + Copy
+        + Send
+        + Drop
+        + 'static,
+{}
 
 /// The nodes of a run.
 #[derive(Drop)]
@@ -87,6 +99,28 @@ impl<R: Host> Nodes<R> {
         ensures count { vec_len result ≡ vec_len self.list }
     {
         finish_all(self.list, self.ends)
+    }
+
+    /// Does what a line says. Fails only with `Fault::Memory`.
+    pub fn obey(&mut self, line: Line) -> Result<Outcome, Fault>
+        requires among { IsAmong (vec_len self.old.list) line }
+        ensures count { vec_len self.new.list ≡ vec_len self.old.list }
+        ensures ends { IfOk result (λ outcome. CanEnd line outcome) }
+        ensures memory { IsOkUnless result Memory }
+    {
+        match line {
+            Line::Link(first, second) => outcome_of(self.link(first, second)),
+            Line::Tx(number, tx) => {
+                outcome_of(submit(&self.list[usize::from(number)], Local::Tx(tx)))
+            }
+            Line::Block(number, block) => {
+                give_block(self.alloc, &self.list[usize::from(number)], block)
+            }
+            Line::Mine(number) => mine(&self.list[usize::from(number)], number as u8),
+            Line::Kick(number, slot) => outcome_of(self.list[usize::from(number)].kick(slot)),
+            Line::Wait => Ok(self.settle()),
+            Line::Checkpoint(number) => outcome_of(self.list[usize::from(number)].checkpoint()),
+        }
     }
 
     /// Connects a node to another one, or to itself.
@@ -132,26 +166,6 @@ impl<R: Host> Nodes<R> {
             tip = Some(other);
         }
         true
-    }
-}
-
-impl<R: Host> Network for Nodes<R> {
-    ghost size = { λ nodes. vec_len nodes.list };
-
-    fn obey(&mut self, line: Line) -> Result<Outcome, Fault> {
-        match line {
-            Line::Link(first, second) => outcome_of(self.link(first, second)),
-            Line::Tx(number, tx) => {
-                outcome_of(submit(&self.list[usize::from(number)], Local::Tx(tx)))
-            }
-            Line::Block(number, block) => {
-                give_block(self.alloc, &self.list[usize::from(number)], block)
-            }
-            Line::Mine(number) => mine(&self.list[usize::from(number)], number as u8),
-            Line::Kick(number, slot) => outcome_of(self.list[usize::from(number)].kick(slot)),
-            Line::Wait => Ok(self.settle()),
-            Line::Checkpoint(number) => outcome_of(self.list[usize::from(number)].checkpoint()),
-        }
     }
 }
 

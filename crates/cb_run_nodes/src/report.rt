@@ -37,11 +37,7 @@ impl NodeReport {
 }
 
 /// Appends the lines of nodes, in their order. Fails only with `Fault::Memory`.
-pub fn print_reports(
-    alloc: Global,
-    reports: &[NodeReport],
-    out: &mut String,
-) -> Result<(), Fault>
+pub fn print_reports(alloc: Global, reports: &[NodeReport], out: &mut String) -> Result<(), Fault>
     ensures text { OnOk result
         (string_bytes out.new ≡ string_bytes out.old ++ reports_text reports.now) }
     ensures memory { IsOkUnless result Memory }

@@ -4,10 +4,11 @@ ghost use Rattle.std.specs.Io.KnownBytes.{Appends};
 ghost use Rattle.cb_run.specs.declared.ending.Halt.TheVariants.{Memory, WriteFailed};
 ghost use Rattle.cb_run.specs.Ending.{HasCause};
 ghost use Rattle.cb_run_nodes.specs.declared.report.NodeReport.{NodeReport};
-ghost use Rattle.cb_script.specs.Playing.{status_of};
+ghost use Rattle.cb_script.specs.Outcomes.{status_of};
 ghost use Rattle.cb_run_nodes.specs.Summary.{AreOfAll, RunsKnown, not_started_text, reports_text, tally_reported};
 
 use crate::nodes::{Host, Nodes, Sizes};
+use crate::playing::{Played, play};
 use crate::report::{NodeReport, print_reports, tally_reported};
 use crate::stats::print_stats;
 use cb_crew::Desk;
@@ -16,7 +17,7 @@ use cb_hall::Hall;
 use cb_io::{Sink, Source};
 use cb_node::{NodeEnd, NodeFault, NodeWork};
 use cb_run::{Halt, Status, write_all};
-use cb_script::{Played, Tally, play};
+use cb_script::Tally;
 use std::alloc::Global;
 use std::sync::Wait;
 
@@ -106,11 +107,7 @@ fn conclude<N: Wait + Drop, W: Sink>(
 }
 
 /// Prints the lines of all nodes.
-fn tell_reports<W: Sink>(
-    alloc: Global,
-    reports: &[NodeReport],
-    writer: &mut W,
-) -> Result<(), Halt>
+fn tell_reports<W: Sink>(alloc: Global, reports: &[NodeReport], writer: &mut W) -> Result<(), Halt>
     ensures text { OnOk result
         (Appends (W.contents writer.old) (W.contents writer.new) (reports_text reports.now)) }
     ensures err { IfErr result

@@ -1,15 +1,10 @@
-//! Scripts for nodes: how their lines are read, and what is printed while they are played. Who does
-//! what a line says is a `Network`.
+//! The lines of scripts for nodes, and what is printed for them.
 #![tactic(auto)]
 
 mod line;
-mod network;
 mod outcome;
-mod playing;
-#[cfg(test)]
-mod tests;
+mod telling;
 
 pub use line::{Line, read_line};
-pub use network::Network;
 pub use outcome::{Outcome, Tally};
-pub use playing::{Played, play};
+pub use telling::{line_at, print_outcome, print_unreadable};

@@ -1,6 +1,6 @@
 ghost use Rattle.std.specs.Prelude.{◌≡◌, ◌++◌, OnOk, IsOkUnless, string_bytes};
 ghost use Rattle.cb_base.specs.declared.fault.Fault.TheVariants.{Memory};
-ghost use Rattle.cb_script.specs.Playing.{good, outcome_text, status_of, tally_after, tally_audited};
+ghost use Rattle.cb_script.specs.Outcomes.{good, outcome_text, status_of, tally_after, tally_audited};
 
 use cb_base::Fault;
 

@@ -123,7 +123,16 @@ fn row_16(rt: HostRuntime) {
 /// Of the crew's core.
 #[test]
 fn row_a_too_many_peers(rt: HostRuntime) {
-    assert!(rt; prints(rt, rt.alloc(), "sim", "system 65 1 1\n", "1 unreadable\n", 3));
+    assert!(rt;
+        prints(
+            rt,
+            rt.alloc(),
+            "sim",
+            "system 65 1 1\n",
+            "1 unreadable\n",
+            3
+        )
+    );
 }
 
 const CONNECTIONS: &str =
@@ -190,7 +199,16 @@ fn row_21(rt: HostRuntime) {
 fn row_a_a_ping_without_its_nonce(rt: HostRuntime) {
     let printed = "bad ping F2 Truncated\nrest 0\n";
     assert!(rt; prints(rt, rt.alloc(), "decode", PING_WITHOUT_NONCE, printed, 0));
-    assert!(rt; serves(rt, rt.alloc(), PING_WITHOUT_NONCE, "", "closed BadMessage\n", 3));
+    assert!(rt;
+        serves(
+            rt,
+            rt.alloc(),
+            PING_WITHOUT_NONCE,
+            "",
+            "closed BadMessage\n",
+            3
+        )
+    );
 }
 
 /// A `version` of 70014 with the nonce 7, and a `verack`.
@@ -232,7 +250,16 @@ const FIRST_BLOCK_PRINTED: &str =
 /// Of transactions, blocks and trees.
 #[test]
 fn row_c_decode_tells_the_first_block(rt: HostRuntime) {
-    assert!(rt; prints(rt, rt.alloc(), "decode", FIRST_BLOCK, FIRST_BLOCK_PRINTED, 0));
+    assert!(rt;
+        prints(
+            rt,
+            rt.alloc(),
+            "decode",
+            FIRST_BLOCK,
+            FIRST_BLOCK_PRINTED,
+            0
+        )
+    );
 }
 
 /// A compact block without payload, and one of 90 bytes in which both counts are 0.
@@ -266,7 +293,16 @@ node 2 height 1 tip 5442fb6e469a9d6d101a0ad5d65aae7ac8fb873a0387a38676257c3dabb2
 
 #[test]
 fn row_24(rt: HostRuntime) {
-    assert!(rt; prints(rt, rt.alloc(), "run --nodes 3 --handlers 2", ROW_24, ROW_24_PRINTED, 0));
+    assert!(rt;
+        prints(
+            rt,
+            rt.alloc(),
+            "run --nodes 3 --handlers 2",
+            ROW_24,
+            ROW_24_PRINTED,
+            0
+        )
+    );
 }
 
 const WITH_A_CHECKPOINT: &str = "link 0 1\nlink 1 2\ncheckpoint 0\nmine 0\nwait\n";
@@ -274,15 +310,35 @@ const WITH_A_CHECKPOINT: &str = "link 0 1\nlink 1 2\ncheckpoint 0\nmine 0\nwait\
 /// Of checkpoints.
 #[test]
 fn row_c_a_checkpoint_before_a_block(rt: HostRuntime) {
-    assert!(rt; prints(rt, rt.alloc(), "run --nodes 3 --handlers 2", WITH_A_CHECKPOINT, ROW_24_PRINTED, 0));
+    assert!(rt;
+        prints(
+            rt,
+            rt.alloc(),
+            "run --nodes 3 --handlers 2",
+            WITH_A_CHECKPOINT,
+            ROW_24_PRINTED,
+            0
+        )
+    );
 }
 
-const SIZE_64: &str = "tx 0 01000000011111111111111111111111111111111111111111111111111111111111111111\
+const SIZE_64: &str =
+    "tx 0 01000000011111111111111111111111111111111111111111111111111111111111111111\
 000000000401020304ffffffff0101000000000000000000000000\n";
 
 /// Of nodes over loopback.
 #[test]
 fn row_a_a_transaction_of_64_bytes(rt: HostRuntime) {
-    let printed = "1 F8 Size64\nnode 0 height 0 tip 0f9188f13cb7b2c71f2a335e3a4fc328bf5beb436012afca590b1a11466e2206 pool 0 audit yes\n";
-    assert!(rt; prints(rt, rt.alloc(), "run --nodes 1 --handlers 1", SIZE_64, printed, 2));
+    let printed =
+        "1 F8 Size64\nnode 0 height 0 tip 0f9188f13cb7b2c71f2a335e3a4fc328bf5beb436012afca590b1a11466e2206 pool 0 audit yes\n";
+    assert!(rt;
+        prints(
+            rt,
+            rt.alloc(),
+            "run --nodes 1 --handlers 1",
+            SIZE_64,
+            printed,
+            2
+        )
+    );
 }
