@@ -6,7 +6,7 @@ a line, so that what node 0 knows comes to node 7 by six others. Each row is a w
 
 - compact: the mempools have all transactions of the block;
 - compact, all asked for: they have none, so that each is asked for by getblocktxn;
-- full: two blocks are missing, so that they are asked for in full.
+- catching up: node 0 has all blocks before the others are linked. Where more than one block is missing they are asked for in full.
 
 A row tells milliseconds from the line that gives node 0 the block to the last node's tip (the median of the rounds; a `wait` looks each
 millisecond), milliseconds of the processor for each node and block, and bytes that go out from a node to the next for each block. Then
@@ -21,10 +21,10 @@ from pathlib import Path
 if not __package__:  # called as a file
     sys.path.insert(0, str(Path(__file__).resolve().parents[2]))
 
-from bench.models.plain_block import NULL_POINT, AnyTx
+from bench.models.plain_block import NULL_POINT, AnyTx, MinedBlock
 from bench.tools.command_line import usage
 from bench.tools.network import GENESIS
-from bench.tools.node_scripts import GIVEN, mined
+from bench.tools.node_scripts import GIVEN
 from bench.tools.node_talk import NodeTalk
 from bench.tools.programs import built
 
@@ -53,23 +53,17 @@ class Chain:
         self.fans, self.blocks, name, height = [], [], GENESIS, 0
         for _ in range(rounds):
             height += 1
-            block = mined_with(name, height, fan(height, outputs), [])
+            block = MinedBlock(name, height, [fan(height, outputs)])
             self.fans.append(block)
             spends = [spending(block.txs[0], index, SIZE) for index in range(txs)]
             height += 1
-            full = mined_with(block.header.name, height, coinbase_of(height), spends)
+            full = MinedBlock(block.header.name, height, [coinbase_of(height), *spends])
             self.blocks.append(full)
             name = full.header.name
 
 
 def coinbase_of(height):
     return fan(height, 1)
-
-
-def mined_with(name, height, coinbase, txs):
-    """A block with this coinbase."""
-    block = mined(name, height, GIVEN)
-    return type(block)(name, height, [coinbase, *txs])
 
 
 def linked(program, handlers, pairs):
@@ -140,7 +134,7 @@ def compact(program, handlers, chain, known):
         return figures, *sent(nodes)
 
 
-def full(program, handlers, chain):
+def catching_up(program, handlers, chain):
     """Node 0 has all blocks; the others are linked then."""
     with linked(program, handlers, []) as nodes:
         for fans, block in zip(chain.fans, chain.blocks):
@@ -159,7 +153,7 @@ def star(program, handlers):
         spent, began = nodes.processor_ms(), time.monotonic()
         for tx in chain.blocks[0].txs[1:]:
             nodes.send(f"tx 0 {tx.text.hex()}")
-        nodes.say(f"checkpoint 0")
+        nodes.say("checkpoint 0")
         given = time.monotonic() - began
         took = given + quiet(nodes)
         spent = nodes.processor_ms() - spent
@@ -190,7 +184,7 @@ def main():
     for handlers in HANDLERS:
         told("compact", handlers, *compact(program, handlers, chain, True))
         told("compact, all asked for", handlers, *compact(program, handlers, chain, False))
-        told("full", handlers, *full(program, handlers, chain))
+        told("catching up", handlers, *catching_up(program, handlers, chain))
     for handlers in HANDLERS:
         star(program, handlers)
         mining(program, handlers)
