@@ -1,0 +1,59 @@
+use crate::fault::NodeFault;
+use std::io::ErrorKind;
+use std::net::{Net, SocketAddr, TcpListener, TcpStream};
+use std::sync::Wait;
+
+/// A socket that listens for peers.
+#[derive(Drop)]
+pub struct Listening {
+    listener: TcpListener,
+    address: SocketAddr,
+}
+
+impl Listening {
+    /// Listens at this address. Port 0 stands for any that is free.
+    pub fn at<R: Net<Listener = TcpListener, Stream = TcpStream>>(
+        rt: &R,
+        address: SocketAddr,
+    ) -> Result<Listening, NodeFault> {
+        let listener = TcpListener::bind(rt, address)?;
+        let address = listener.local_addr()?;
+        Ok(Listening { listener, address })
+    }
+
+    /// Where it listens.
+    pub fn address(&self) -> SocketAddr {
+        self.address
+    }
+
+    /// Waits for a peer.
+    pub fn accept<R: Wait>(&self, rt: &R) -> Result<TcpStream, NodeFault> {
+        for _ in rt.forever() {
+            match self.listener.accept() {
+                Ok((stream, _)) => return Ok(stream),
+                Err(error) if is_passing(error.kind()) => {}
+                Err(_) => return Err(NodeFault::Io),
+            }
+        }
+        unreachable!()
+    }
+
+    /// A peer that waits to be accepted, if there is one.
+    pub fn poll(&self) -> Result<Option<TcpStream>, NodeFault> {
+        self.listener.set_nonblocking(true)?;
+        let accepted = self.listener.accept();
+        self.listener.set_nonblocking(false)?;
+        match accepted {
+            Ok((stream, _)) => Ok(Some(stream)),
+            Err(error) if error.kind() == ErrorKind::WouldBlock || is_passing(error.kind()) => {
+                Ok(None)
+            }
+            Err(_) => Err(NodeFault::Io),
+        }
+    }
+}
+
+/// Whether a failed accept tells of one peer or of a signal alone, so that another may be made.
+fn is_passing(kind: ErrorKind) -> bool {
+    kind == ErrorKind::Interrupted || kind == ErrorKind::ConnectionAborted
+}
