@@ -1,3 +1,5 @@
+ghost use Rattle.std.specs.Prelude.{◌≡◌};
+
 use cb_base::Fault;
 use cb_service::Refusal;
 use std::alloc::AllocError;
@@ -22,29 +24,44 @@ pub enum NodeFault {
 }
 
 impl From<io::Error> for NodeFault {
+    ghost use Rattle.cb_node.specs.declared.fault.NodeFault.TheVariants.{Io};
+
+    ghost from_gives = { λ _ fault. fault ≡ Io };
+
     fn from(_error: io::Error) -> NodeFault {
         NodeFault::Io
     }
 }
 
 impl From<AllocError> for NodeFault {
+    ghost use Rattle.cb_node.specs.declared.fault.NodeFault.TheVariants.{Memory};
+
+    ghost from_gives = { λ _ fault. fault ≡ Memory };
+
     fn from(_error: AllocError) -> NodeFault {
         NodeFault::Memory
     }
 }
 
 impl From<Fault> for NodeFault {
-    /// What the hall refused, or want of memory.
+    ghost use Rattle.cb_node.specs.Node.{node_fault};
+
+    ghost from_gives = { λ fault told. told ≡ node_fault fault };
+
     fn from(fault: Fault) -> NodeFault {
-        if fault == Fault::Memory {
-            NodeFault::Memory
-        } else {
-            NodeFault::Hall(fault)
+        match fault {
+            Fault::Memory => NodeFault::Memory,
+            other => NodeFault::Hall(other),
         }
     }
 }
 
 impl From<Refusal> for NodeFault {
+    ghost use Rattle.std.specs.Prelude.{◌⊎◌};
+    ghost use Rattle.cb_node.specs.declared.fault.NodeFault.TheVariants.{Io, Memory};
+
+    ghost from_gives = { λ _ fault. (fault ≡ Io) ⊎ (fault ≡ Memory) };
+
     fn from(refusal: Refusal) -> NodeFault {
         match refusal {
             Refusal::Memory => NodeFault::Memory,

@@ -9,19 +9,23 @@ mod link;
 mod listening;
 mod node;
 mod opening;
-mod reading;
+mod serving;
+mod settings;
 mod slot;
 mod socket;
 mod starting;
 #[cfg(test)]
 mod tests;
+mod threads;
 
 pub use cb_hall::{Hall, Look};
 pub use cb_journal::{Answer, Local};
 pub use cb_work::Totals;
 pub use fault::NodeFault;
 pub use link::{Link, SocketWriter};
-pub use node::{Node, NodeEnd, Report};
+pub use node::{Node, NodeEnd};
 pub use opening::NodeWork;
+pub use settings::NodeSettings;
+pub use slot::Report;
 pub use socket::Socket;
-pub use starting::NodeSettings;
+pub use starting::WRITE_MILLISECONDS;

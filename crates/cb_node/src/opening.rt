@@ -1,4 +1,5 @@
-ghost use Rattle.std.specs.Prelude.{◌≡◌, false};
+ghost use Rattle.std.specs.Prelude.{◌≡◌, IfErr, IfOk};
+ghost use Rattle.cb_node.specs.Slot.{IsNew};
 
 use crate::link::{Link, SocketWriter};
 use crate::slot::Next;
@@ -63,7 +64,9 @@ pub fn next_connection<R: Wait + Copy + Drop>(
     badge: Badge,
     hall: &Shared<Mutex<Hall>>,
 ) -> Result<Next<NodeWork<R>>, NotReady>
-    requires { (badge.count ≡ 0) × (badge.full ≡ false) }
+    requires { IsNew badge }
+    ensures badge { IfOk result (λ next. next.work.badge ≡ badge) }
+    ensures back { IfErr result (λ back. back.badge ≡ badge) }
 {
     let ends = match ends_of(rt, alloc, badge.connection(), hall) {
         Ok(ends) => ends,

@@ -1,40 +1,51 @@
+ghost use Rattle.std.specs.Prelude.{◌≡◌, ◌⊎◌, ◌<◌, ◌^◌, true, false, length, None, IfErr, OnErr, OnOk};
+ghost use Rattle.cb_inbox.specs.Seat.{opening_seat};
+ghost use Rattle.cb_crew.specs.Crew.{HasPlace, inbox_of};
+ghost use Rattle.cb_node.specs.declared.fault.NodeFault.TheVariants.{Io, Memory};
+ghost use Rattle.cb_node.specs.Choosing.{is_used};
+ghost use Rattle.cb_node.specs.Slot.{HasLeft, IsInboxOf, IsNew, IsUnspent, LastsIf, attached, new_slot, reopened};
+
 use crate::choosing::Standing;
 use crate::fault::NodeFault;
 use crate::link::Link;
-use crate::node::Report;
-use crate::reading::SocketReading;
+use crate::threads::{Errand, NoThread, Reading, join_reading, start_reading, unread};
 use cb_base::{Fault, Shared};
 use cb_crew::{Crew, Fresh, ReaderSide, Work};
 use cb_hall::Badge;
-use cb_inbox::{EndedSeat, ReaderSeat};
-use cb_peers::Backlogs;
-use cb_reader::Input;
-use cb_service::{NoReader, Reading, Signals, join_reader, offer_end, start_reader};
+use cb_inbox::{EndedSeat, Inbox, ReaderSeat};
+use cb_peers::{Backlogs, Left};
+use cb_reader::{Input, ReadEnd};
+use cb_service::{Signals, offer_end};
+use cb_work::Totals;
 use std::alloc::Global;
-use std::marker::{Copy, Send};
+use std::marker::{Copy, Model, Send};
 use std::mem;
 use std::net::TcpStream;
+use std::snapshot::Snapshot;
 use std::sync::Wait;
 use std::thread::Threads;
+
+/// With this many marks queued over all connections, no further connection is opened.
+const MOST_QUEUED: u64 = 1 << 40;
 
 /// What the slots of a node share.
 #[derive(Drop)]
 pub struct Common<W: Work> {
-    /// The crew that serves the slots. Each is one of its peers.
+    /// The crew that serves the slots. Each slot is one of its peers.
     pub crew: Shared<Crew<W>>,
-    /// By which its threads wait for each other.
+    /// By which the crew's threads wait for each other.
     pub signals: Shared<Signals>,
-    /// What lies queued of earlier connections.
+    /// What lies queued of the slots' earlier connections.
     pub backlogs: Shared<Backlogs>,
 }
 
 /// Where a slot's side of its inbox is.
 #[derive(Drop)]
-enum Holder<W: Work> {
-    /// In the node.
-    Node(ReaderSide<W::Item, Fresh<W>>),
+enum Seating<W: Work> {
+    /// In the slot.
+    Kept(Left<Fresh<W>>),
     /// With the thread of a connection's reader.
-    Thread(Reading<W>),
+    Lent(Reading<Fresh<W>>),
 }
 
 /// A connection that isn't opened yet.
@@ -46,61 +57,102 @@ pub struct Next<W: Work> {
     pub link: Shared<Link>,
 }
 
-/// A slot: it serves one connection after another.
+/// What one connection moved.
+#[derive(Clone, Copy, Debug, PartialEq, Eq)]
+pub struct Report {
+    /// The connection's slot.
+    pub slot: u16,
+    /// The connection's generation among those of its slot; the first is 1.
+    pub generation: u64,
+    /// What it moved so far.
+    pub totals: Totals,
+}
+
+/// A slot: it serves one connection after another. Contracts see its inbox, whether it ever had a
+/// socket, and whether its latest connection waits for one.
 #[derive(Drop)]
 pub struct Slot<W: Work> {
+    inbox: Snapshot<Inbox<Input, Fresh<W>>>,
     number: u16,
     /// It is always there between two calls.
-    holder: Option<Holder<W>>,
+    seating: Option<Seating<W>>,
+    used: bool,
+    waits: bool,
     /// The latest connection that was opened.
     latest: Shared<Link>,
-    /// The connections before it.
+    /// The connections before it, in order.
     past: Vec<Shared<Link>>,
-    /// Whether the latest connection has had no socket yet.
-    waits: bool,
     /// The badge of a connection that wasn't made ready, for another try.
     badge: Option<Badge>,
     /// A connection whose opening was refused, for another try.
     next: Option<Next<W>>,
 }
 
+impl<W: Work> Model for Slot<W> {
+    ghost use Rattle.cb_node.specs.Slot.{IsSeatingOf, IsUnspent, SlotState};
+    ghost use Rattle.std.specs.Prelude.{◌≡◌, true, false};
+
+    ghost Value = { SlotState };
+
+    ghost view = { λ slot. record { inbox = slot.inbox.value; used = slot.used; waits = slot.waits } };
+
+    ghost invariant = { λ slot. IsSeatingOf slot.inbox.value.name slot.waits slot.seating × IsUnspent slot.badge × (slot.number ≡ slot.inbox.value.peer) × (slot.used ≡ false → slot.waits ≡ true) };
+}
+
 impl<W: Work<Item = Input>> Slot<W> {
-    /// A slot that was never used. The crew's work of its first connection stands already.
+    /// The slot of an inbox in which nothing was queued. It never had a socket. The crew has the
+    /// work of its first connection.
     pub fn new(
         alloc: Global,
-        number: u16,
+        inbox: &Inbox<Input, Fresh<W>>,
         seat: ReaderSeat<Input, Fresh<W>>,
         link: Shared<Link>,
-    ) -> Slot<W> {
+    ) -> Slot<W>
+        requires { seat ≡ opening_seat inbox.now.name }
+        ensures { result ≡ new_slot inbox.entry.now }
+    {
         Slot {
-            number,
-            holder: Some(Holder::Node(ReaderSide::Live(seat))),
+            inbox: Snapshot::of(inbox),
+            number: inbox.peer(),
+            seating: Some(Seating::Kept(unread(seat))),
+            used: false,
+            waits: true,
             latest: link,
             past: Vec::new(alloc),
-            waits: true,
             badge: None,
             next: None,
         }
     }
 
-    /// The latest connection that was opened.
-    pub fn latest(&self) -> &Link {
-        &self.latest
-    }
-
-    /// The connections before the latest, in order.
-    pub fn past(&self) -> &[Shared<Link>] {
-        self.past.as_slice()
-    }
-
-    /// Whether the latest connection has had no socket yet.
-    pub fn waits(&self) -> bool {
+    /// Whether the latest connection waits for its socket.
+    pub fn waits(&self) -> bool
+        ensures waits { result ≡ self.now.waits }
+        ensures unused { self.now.used ≡ false → result ≡ true }
+    {
         self.waits
     }
 
     /// Whether no connection stands ready to be opened.
     pub fn lacks_next(&self) -> bool {
         self.next.is_none()
+    }
+
+    /// How the slot stands.
+    pub fn standing(&self) -> Standing
+        ensures { is_used result ≡ self.now.used }
+    {
+        if !self.used {
+            Standing::Unused
+        } else if self.is_lent() && !self.latest.is_left() {
+            Standing::Busy
+        } else {
+            Standing::Left
+        }
+    }
+
+    /// Whether the thread of a connection's reader has the side.
+    fn is_lent(&self) -> bool {
+        matches!(&self.seating, Some(Seating::Lent(_)))
     }
 
     /// Makes a tick of the latest connection due, if it has a socket.
@@ -111,95 +163,94 @@ impl<W: Work<Item = Input>> Slot<W> {
         }
     }
 
-    /// Appends what each connection of this slot moved.
-    pub fn report(&self, slot: u16, all: &mut Vec<Report>) -> Result<(), Fault> {
+    /// Appends what each connection of this slot moved. Fails only with `Fault::Memory`.
+    pub fn report(&self, all: &mut Vec<Report>) -> Result<(), Fault> {
         for link in self.past.as_slice() {
-            all.push(report_of(slot, link))?;
+            all.push(report_of(self.number, link))?;
         }
         if !self.waits {
-            all.push(report_of(slot, &self.latest))?;
+            all.push(report_of(self.number, &self.latest))?;
         }
         Ok(())
     }
 
-    /// How the slot stands.
-    pub fn standing(&self) -> Standing {
-        match &self.holder {
-            Some(Holder::Thread(_)) if !self.latest.is_left() => Standing::Busy,
-            _ if self.waits && self.past.is_empty() => Standing::Unused,
-            _ => Standing::Left,
-        }
-    }
-
-    /// Waits for the thread of a reader that says it returns, and takes its side back.
-    pub fn settle<R: Threads>(&mut self, rt: &R) {
-        if !self.latest.is_left() {
-            return;
-        }
-        self.holder = match self.holder.take() {
-            Some(Holder::Thread(thread)) => Some(Holder::Node(join_reader(rt, thread))),
-            other => other,
-        };
-    }
-
     /// Keeps the badge of a connection that wasn't made ready.
-    pub fn keep_badge(&mut self, badge: Badge) {
+    pub fn keep_badge(&mut self, badge: Badge)
+        requires { IsNew badge }
+        ensures { self.new ≡ self.old }
+    {
         self.badge = Some(badge);
     }
 
     /// Gives the badge out that was kept.
-    pub fn take_badge(&mut self) -> Option<Badge> {
+    pub fn take_badge(&mut self) -> Option<Badge>
+        ensures badge { IsUnspent result }
+        ensures same { self.new ≡ self.old }
+    {
         self.badge.take()
     }
 
     /// Keeps a connection that is to be opened.
-    pub fn prepare(&mut self, next: Next<W>) {
+    pub fn prepare(&mut self, next: Next<W>)
+        ensures { self.new ≡ self.old }
+    {
         self.next = Some(next);
     }
 
-    /// Opens the next connection, so that it waits for its socket. Returns false if the latest one
-    /// lasts, if the inbox has no room, or if the slot has had all its connections.
-    pub fn open<R: Wait>(&mut self, rt: &R, crew: &Crew<W>, signals: &Signals) -> Result<bool, Fault> {
-        self.past.reserve(1)?;
-        let side = match self.holder.take() {
-            Some(Holder::Node(side)) => side,
-            other => {
-                self.holder = other;
-                return Ok(false);
-            }
+    /// Waits for the thread of a reader that says it returns, and takes the side back.
+    pub fn settle<R: Threads>(&mut self, rt: &R)
+        ensures { self.new ≡ self.old }
+    {
+        if !self.latest.is_left() {
+            return;
+        }
+        self.seating = match self.seating.take() {
+            Some(Seating::Lent(thread)) => Some(Seating::Kept(join_reading(rt, thread))),
+            kept => kept,
         };
-        let (side, opened) = match ended(rt, crew, signals, self.number, side) {
-            ReaderSide::Ended(seat) => self.open_ended(rt, crew, signals, seat),
-            live => (live, false),
-        };
-        self.holder = Some(Holder::Node(side));
-        Ok(opened)
     }
 
-    /// Opens the next connection behind an end mark.
-    fn open_ended<R: Wait>(
-        &mut self,
-        rt: &R,
-        crew: &Crew<W>,
-        signals: &Signals,
-        seat: EndedSeat<Input, Fresh<W>>,
-    ) -> (ReaderSide<Input, Fresh<W>>, bool) {
-        let Some(Next { work, link }) = self.next.take() else {
-            return (ReaderSide::Ended(seat), false);
+    /// Opens the connection that stands ready. Returns whether it was opened: it waits for its socket
+    /// then. It isn't opened if the latest one lasts, if the inbox has no room, or if the slot has
+    /// had all its connections.
+    ///
+    /// Fails only with `Fault::Memory`.
+    pub fn open<R: Wait>(&mut self, rt: &R, crew: &Crew<W>, signals: &Signals) -> Result<bool, Fault>
+        requires slot { IsInboxOf crew.now self.old.inbox }
+        requires lasts { self.old.waits ≡ false }
+        ensures opened { result ≡ Ok true → self.new ≡ reopened self.old }
+        ensures refused { result ≡ Ok false → self.new ≡ self.old }
+        ensures err { OnErr result (self.new ≡ self.old) }
+    {
+        self.past.reserve(1)?;
+        let Some(next) = self.next.take() else {
+            return Ok(false);
         };
-        match seat.open(rt, crew.inbox(self.number), work) {
-            Ok(seat) => {
-                signals.ring();
-                self.past.push_reserved(mem::replace(&mut self.latest, link));
-                self.waits = true;
-                (ReaderSide::Live(seat), true)
+        match self.seating.take() {
+            Some(Seating::Kept(left)) => {
+                let inbox = crew.inbox(self.number);
+                let Tried { left, refused } = try_open(rt, inbox, signals, left, next.work);
+                self.seating = Some(Seating::Kept(left));
+                match refused {
+                    None => {
+                        self.past
+                            .push_reserved(mem::replace(&mut self.latest, next.link));
+                        self.waits = true;
+                        Ok(true)
+                    }
+                    Some(work) => {
+                        self.next = Some(Next {
+                            work,
+                            link: next.link,
+                        });
+                        Ok(false)
+                    }
+                }
             }
-            Err(refused) => {
-                self.next = Some(Next {
-                    work: refused.opening,
-                    link,
-                });
-                (ReaderSide::Ended(refused.seat), false)
+            lent => {
+                self.seating = lent;
+                self.next = Some(next);
+                Ok(false)
             }
         }
     }
@@ -215,61 +266,96 @@ impl<W: Work<Item = Input>> Slot<W> {
     ) -> Result<(), NodeFault>
     where
         W: Send + 'static,
+        requires slot { IsInboxOf common.now.crew self.old.inbox }
+        requires waits { self.old.waits ≡ true }
+        ensures ok { OnOk result (self.new ≡ attached self.old) }
+        ensures kinds { IfErr result (λ fault. (fault ≡ Io) ⊎ (fault ≡ Memory)) }
+        ensures err { OnErr result (self.new ≡ self.old) }
     {
-        let reading = SocketReading {
+        let errand = Errand {
             alloc,
-            stream: stream.clone()?,
-            link: self.latest.clone()?,
+            crew: common.crew.clone()?,
+            signals: common.signals.clone()?,
             backlogs: common.backlogs.clone()?,
+            link: self.latest.clone()?,
+            stream: stream.clone()?,
+            slot: self.number,
         };
-        let crew = common.crew.clone()?;
-        let signals = common.signals.clone()?;
-        let side = match self.holder.take() {
-            Some(Holder::Node(side)) => side,
-            other => {
-                self.holder = other;
-                return Err(NodeFault::NoSlot);
-            }
+        let Some(Seating::Kept(Left { side: ReaderSide::Live(seat), .. })) = self.seating.take() else {
+            unreachable!()
         };
         self.latest.socket.fill(rt, stream);
-        match start_reader(rt, alloc, crew, signals, self.number, side, reading) {
+        match start_reading(rt, errand, seat) {
             Ok(thread) => {
-                self.holder = Some(Holder::Thread(thread));
+                self.seating = Some(Seating::Lent(thread));
+                self.used = true;
                 self.waits = false;
                 Ok(())
             }
-            Err(NoReader { side, cause }) => {
+            Err(NoThread { seat, cause }) => {
                 self.latest.socket.close(rt);
-                self.holder = Some(Holder::Node(side));
-                Err(NodeFault::from(cause))
+                self.seating = Some(Seating::Kept(unread(seat)));
+                Err(cause)
             }
         }
     }
 
     /// The slot's side of its inbox. Waits for the reader's thread if there is one.
-    pub fn into_side<R: Threads>(self, rt: &R) -> ReaderSide<Input, Fresh<W>> {
-        match self.holder {
-            Some(Holder::Node(side)) => side,
-            Some(Holder::Thread(thread)) => join_reader(rt, thread),
+    pub fn into_side<R: Threads>(self, rt: &R) -> ReaderSide<Input, Fresh<W>>
+        ensures inbox { inbox_of result ≡ self.inbox.name }
+        ensures place { HasPlace result }
+    {
+        match self.seating {
+            Some(Seating::Kept(left)) => left.side,
+            Some(Seating::Lent(thread)) => join_reading(rt, thread).side,
             None => unreachable!(),
         }
     }
 }
 
-/// A side whose connection is ended, if the inbox has room for the end mark.
-fn ended<W: Work<Item = Input>, R: Wait>(
+/// How an inbox is left after a try to open a connection, and what was to serve that if it wasn't
+/// opened.
+#[derive(Drop)]
+struct Tried<W: Work> {
+    left: Left<Fresh<W>>,
+    refused: Option<Fresh<W>>,
+}
+
+/// Opens a connection once. The latest connection is ended before, if it lasts.
+fn try_open<W: Work<Item = Input>, R: Wait>(
     rt: &R,
-    crew: &Crew<W>,
+    inbox: &Inbox<Input, Fresh<W>>,
     signals: &Signals,
-    number: u16,
-    side: ReaderSide<Input, Fresh<W>>,
-) -> ReaderSide<Input, Fresh<W>> {
-    match side {
-        ReaderSide::Live(seat) => match offer_end(rt, crew.inbox(number), seat, signals) {
-            Ok(ended) => ReaderSide::Ended(ended),
-            Err(back) => ReaderSide::Live(back),
+    left: Left<Fresh<W>>,
+    work: Fresh<W>,
+) -> Tried<W>
+    requires { HasLeft inbox.now.name left }
+    ensures left { HasLeft inbox.now.name result.left }
+    ensures live { result.refused ≡ None → LastsIf true result.left.side }
+{
+    if left.count >= MOST_QUEUED {
+        return Tried { left, refused: Some(work) };
+    }
+    let (seat, count) = match left.side {
+        ReaderSide::Ended(seat) => (seat, left.count),
+        ReaderSide::Live(seat) => match offer_end(rt, inbox, seat, signals) {
+            Ok(ended) => (ended, left.count + 1),
+            Err(back) => return Tried { left: unread(back), refused: Some(work) },
         },
-        ended => ended,
+    };
+    match seat.open(rt, inbox, work) {
+        Ok(seat) => {
+            signals.ring();
+            Tried { left: unread(seat), refused: None }
+        }
+        Err(refused) => Tried {
+            left: Left {
+                side: ReaderSide::Ended(refused.seat),
+                count,
+                why: ReadEnd::Stopped,
+            },
+            refused: Some(refused.opening),
+        },
     }
 }
 

@@ -55,31 +55,34 @@ fn reconnect<R: Net<Listener = TcpListener, Stream = TcpStream> + Threads + Wait
     Ok(tries)
 }
 
-fn two<R: Net<Listener = TcpListener, Stream = TcpStream> + Threads + Wait + Clock + Copy + Send + Drop + 'static>(rt: &R, alloc: Global) -> Result<bool, NodeFault> {
+fn two<R: Net<Listener = TcpListener, Stream = TcpStream> + Threads + Wait + Clock + Copy + Send + Drop + 'static>(rt: &R, alloc: Global) -> Result<u32, NodeFault> {
     let mut a = Node::start(*rt, alloc, settings(1, 1, 1))?;
     let mut b = Node::start(*rt, alloc, settings(2, 1, 1))?;
     let port = b.listen()?;
-    a.connect(port)?;
-    b.accept()?;
+    let mut good = 0u32;
+    if a.connect(port)? == 1 { good |= 1; }
+    if b.accept()? == 0 { good |= 2; }
+    if b.listen()? == port { good |= 4; }
     mine(&a, 0)?;
-    let mut good = settle(rt, &a, &b, 1);
+    if settle(rt, &a, &b, 1) { good |= 8; }
     for mark in 1..4u8 {
         a.kick(1)?;
-        reconnect(rt, &mut a, &mut b, port)?;
+        let tries = reconnect(rt, &mut a, &mut b, port)?;
+        if tries < 2000 { good = good.wrapping_add(0x1_0000); }
         mine(&b, mark)?;
-        good &= settle(rt, &a, &b, u32::from(mark) + 1);
+        if settle(rt, &a, &b, u32::from(mark) + 1) { good = good.wrapping_add(0x10_0000); }
     }
     let reports = a.reports()?;
-    good &= reports.len() == 4;
+    if reports.len() == 4 { good |= 16; }
     let x = a.finish();
     let y = b.finish();
-    good &= x.desks.len() == 2 && y.desks.len() == 2;
-    good &= match x.desks.get(1) { Some(desk) => desk.past().len() == 3, None => false };
-    good &= match y.desks.get(0) { Some(desk) => desk.past().len() == 3, None => false };
+    if x.desks.len() == 2 && y.desks.len() == 2 { good |= 32; }
+    if match x.desks.get(1) { Some(desk) => desk.past().len() == 3, None => false } { good |= 64; }
+    if match y.desks.get(0) { Some(desk) => desk.past().len() == 3, None => false } { good |= 128; }
     Ok(good)
 }
 
 #[test]
 fn two_nodes(rt: HostRuntime) {
-    assert!(rt; two(&rt, rt.alloc()) == Ok(true));
+    assert_eq!(rt; two(&rt, rt.alloc()), Ok(0x33_00ff));
 }

@@ -1,0 +1,81 @@
+-- Lists of slots.
+use Rattle.std.proofs.Common.{◌≡◌, ◌≢◌, ℕ, ◌<◌, ◌≤◌, Bool, true, false, List, length, map, set, get_or, All, refl, sym, ap, subst, ◌∙◌, arith}
+use Rattle.std.proofs.lemmas.List.{get_or-map, length-map, map-set, set-get_or}
+use Rattle.std.proofs.lemmas.List.Elements.{All-get_or}
+use Rattle.cb_inbox.specs.Seat.{InboxState}
+use Rattle.cb_crew.specs.Crew.{CrewState}
+use Rattle.cb_node.specs.declared.choosing.Standing.{Standing}
+use Rattle.cb_node.specs.declared.choosing.Standing.TheVariants as standing
+use Rattle.cb_node.specs.Choosing.{HasNone, IsLowest, is_used}
+use Rattle.cb_node.specs.Slot.{AreAlike, AreAlikeBut, AreSlotsOf, IsInboxOf, SlotState, WaitsAt, attached, inboxes_of, uses_of}
+
+-- ---- what standings tell
+
+unused_if : (s : Standing) → is_used s ≡ false → s ≡ standing.Unused
+unused_if standing.Unused is = refl
+unused_if standing.Left is = absurd is
+unused_if standing.Busy is = absurd is
+
+-- the lowest that stands so is the lowest that never had a socket
+pub lowest_unused : (all : List Standing) (uses : List Bool) (first end n : ℕ) → map is_used all ≡ uses → IsLowest all standing.Unused first end n → IsLowest uses false first end n
+lowest_unused all uses first end n same low = record {
+  from = low.from;
+  before = low.before;
+  within = subst (λ us. n < length us) same (omega (arith, low.within, length-map all is_used));
+  there = subst (λ us. get_or us n false ≡ false) same (get_or-map is_used all n standing.Unused false low.within ∙ ap is_used low.there);
+  lowest = λ k from lt is.
+      let here : k < length all = omega (arith, lt, low.within) in
+      low.lowest k from lt (unused_if _ (sym (get_or-map is_used all k standing.Unused false here) ∙ subst (λ us. get_or us k false ≡ false) (sym same) is));
+}
+
+-- where none stands so, each had a socket
+pub none_unused : (all : List Standing) (uses : List Bool) (first end : ℕ) → map is_used all ≡ uses → HasNone all standing.Unused first end → HasNone uses false first end
+none_unused all uses first end same none k from lt within is =
+    let here : k < length all = omega (arith, within, ap length same, length-map all is_used) in
+    none k from lt here (unused_if _ (sym (get_or-map is_used all k standing.Unused false here) ∙ subst (λ us. get_or us k false ≡ false) (sym same) is))
+
+-- ---- one slot changes
+
+-- the slot at a place is of the crew
+pub inbox_at : (crew : CrewState) (slots : List SlotState) (n : ℕ) (d : SlotState) → AreSlotsOf crew slots → n < length slots → IsInboxOf crew (get_or slots n d).inbox
+inbox_at crew slots n d are lt =
+    let all : List InboxState = crew.inboxes in
+    let counts : length all ≡ length slots = ap length (sym are.inboxes) ∙ length-map slots (λ (s : SlotState). s.inbox) in
+    let here : get_or all n d.inbox ≡ (get_or slots n d).inbox =
+    ap (λ is. get_or is n d.inbox) (sym are.inboxes) ∙ get_or-map (λ (s : SlotState). s.inbox) slots n d d.inbox lt in
+    subst (IsInboxOf crew) here (All-get_or (IsInboxOf crew) all n d.inbox (omega (arith, counts, lt)) are.each)
+
+pub alike_refl : (slots : List SlotState) → AreAlike slots slots
+alike_refl slots = record { inboxes = refl; uses = refl }
+
+pub alike_then : (a b c : List SlotState) → AreAlike a b → AreAlike b c → AreAlike a c
+alike_then a b c h k = record { inboxes = k.inboxes ∙ h.inboxes; uses = k.uses ∙ h.uses }
+
+-- slots that are alike are of the same crew
+pub still_of : (crew : CrewState) (old new : List SlotState) → AreSlotsOf crew old → inboxes_of new ≡ inboxes_of old → AreSlotsOf crew new
+still_of crew old new are same = record { inboxes = same ∙ are.inboxes; each = are.each }
+
+-- as many
+pub as_many : (old new : List SlotState) → inboxes_of new ≡ inboxes_of old → length new ≡ length old
+as_many old new same = sym (length-map new (λ (s : SlotState). s.inbox)) ∙ ap length same ∙ length-map old (λ (s : SlotState). s.inbox)
+
+-- the slot at a place is another one with the same inbox, and had a socket as before
+pub alike_set : (old new : List SlotState) (n : ℕ) (d s : SlotState) → new ≡ set old n s → s.inbox ≡ (get_or old n d).inbox → s.used ≡ (get_or old n d).used → AreAlike old new
+alike_set old new n d s is inbox used = record {
+  inboxes = ap inboxes_of is ∙ map-set (λ (t : SlotState). t.inbox) old n s ∙ ap (λ i. set (inboxes_of old) n i) inbox ∙ sym (map-set (λ (t : SlotState). t.inbox) old n (get_or old n d)) ∙ ap inboxes_of (set-get_or old n d);
+  uses = ap uses_of is ∙ map-set (λ (t : SlotState). t.used) old n s ∙ ap (λ u. set (uses_of old) n u) used ∙ sym (map-set (λ (t : SlotState). t.used) old n (get_or old n d)) ∙ ap uses_of (set-get_or old n d);
+}
+
+-- or it got one
+pub attached_set : (old mid new : List SlotState) (n : ℕ) (d : SlotState) → AreAlike old mid → new ≡ set mid n (attached (get_or mid n d)) → AreAlikeBut n old new
+attached_set old mid new n d alike is = record {
+  inboxes = ap inboxes_of is ∙ map-set (λ (t : SlotState). t.inbox) mid n (attached (get_or mid n d)) ∙ sym (map-set (λ (t : SlotState). t.inbox) mid n (get_or mid n d)) ∙ ap inboxes_of (set-get_or mid n d) ∙ alike.inboxes;
+  uses = ap uses_of is ∙ map-set (λ (t : SlotState). t.used) mid n (attached (get_or mid n d)) ∙ ap (λ us. set us n true) alike.uses;
+}
+
+-- the slot at a place waits
+pub waits_at : (slots : List SlotState) (n : ℕ) (d : SlotState) → n < length slots → (get_or slots n d).waits ≡ true → WaitsAt slots n
+waits_at slots n d lt is = get_or-map (λ (s : SlotState). s.waits) slots n d false lt ∙ is
+
+pub waiting_at : (slots : List SlotState) (n : ℕ) (d : SlotState) → n < length slots → WaitsAt slots n → (get_or slots n d).waits ≡ true
+waiting_at slots n d lt is = sym (get_or-map (λ (s : SlotState). s.waits) slots n d false lt) ∙ is

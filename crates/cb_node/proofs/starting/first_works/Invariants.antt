@@ -1,0 +1,9 @@
+use Rattle.std.proofs.Common.{◌≡◌, ◌+◌, length, All}
+use Rattle.cb_node.specs.Slot.{IsNew}
+use Rattle.cb_node.proofs.starting.first_works.Given as goal
+
+abbrev pub invariant-loop-badge : goal.invariant-loop-badge
+invariant-loop-badge g l =
+    (length l.works.items + length l.badge-iterator.rest.items ≡ length l.fn.badges.items)
+    × (length l.links.items ≡ length l.works.items)
+    × All IsNew l.badge-iterator.rest.items
