@@ -83,6 +83,12 @@ pub fn next_connection<R: Wait + Copy + Drop>(
             work: Fresh::new(work),
             link,
         }),
-        Err(NotStarted { badge, cause, .. }) => Err(NotReady { badge, cause }),
+        Err(NotStarted {
+            badge,
+            outlet: _outlet,
+            hall: _hall,
+            flags: _flags,
+            cause,
+        }) => Err(NotReady { badge, cause }),
     }
 }

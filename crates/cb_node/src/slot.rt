@@ -305,7 +305,8 @@ impl<W: Work<Item = Input>> Slot<W> {
         ensures inbox { inbox_of result ≡ self.inbox.name }
         ensures place { HasPlace result }
     {
-        match self.seating {
+        let Slot { seating, .. } = self;
+        match seating {
             Some(Seating::Kept(left)) => left.side,
             Some(Seating::Lent(thread)) => join_reading(rt, thread).side,
             None => unreachable!(),
@@ -333,14 +334,23 @@ fn try_open<W: Work<Item = Input>, R: Wait>(
     ensures left { HasLeft inbox.now.name result.left }
     ensures live { result.refused ≡ None → LastsIf true result.left.side }
 {
-    if left.count >= MOST_QUEUED {
-        return Tried { left, refused: Some(work) };
+    let count = left.count;
+    if count >= MOST_QUEUED {
+        return Tried {
+            left,
+            refused: Some(work),
+        };
     }
     let (seat, count) = match left.side {
-        ReaderSide::Ended(seat) => (seat, left.count),
+        ReaderSide::Ended(seat) => (seat, count),
         ReaderSide::Live(seat) => match offer_end(rt, inbox, seat, signals) {
-            Ok(ended) => (ended, left.count + 1),
-            Err(back) => return Tried { left: unread(back), refused: Some(work) },
+            Ok(ended) => (ended, count + 1),
+            Err(back) => {
+                return Tried {
+                    left: unread(back),
+                    refused: Some(work),
+                };
+            }
         },
     };
     match seat.open(rt, inbox, work) {

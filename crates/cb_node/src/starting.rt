@@ -104,8 +104,12 @@ fn parts_of<R: Threads + Wait + Copy + Send + Drop + 'static>(
         works,
         links: of_slots,
     } = first_works(rt, alloc, &settings, badges, &hall)?;
-    let made = new_crew(&rt, alloc, works, settings.handlers)?;
-    let slots = slots_of(&rt, alloc, &made.crew, made.readers, of_slots, &links)?;
+    let NewCrew {
+        crew,
+        readers,
+        handlers,
+    } = new_crew(&rt, alloc, works, settings.handlers)?;
+    let slots = slots_of(&rt, alloc, &crew, readers, of_slots, &links)?;
     Ok(Parts {
         service: Service {
             rt,
@@ -113,11 +117,11 @@ fn parts_of<R: Threads + Wait + Copy + Send + Drop + 'static>(
             settings,
             write_milliseconds: WRITE_MILLISECONDS,
             hall,
-            common: common_of(alloc, made.crew)?,
+            common: common_of(alloc, crew)?,
             links,
         },
         slots,
-        handlers: made.handlers,
+        handlers,
     })
 }
 
