@@ -88,7 +88,7 @@ LastsIf waits (side.Live seat) = Unit {0}
 LastsIf waits (side.Ended seat) = waits ≡ false
 
 -- The slot has its side of this inbox, or the thread of a connection that doesn't wait has it.
-abbrev pub IsSeatingOf : {O : Type 0} → TableId → Bool → Option (Seating O) → Type 0
+abbrev pub IsSeatingOf : {W M : Type 0} → TableId → Bool → Option (Seating W M) → Type 0
 IsSeatingOf name waits (Some (seating.Kept left)) = HasLeft name left × LastsIf waits left.side
 IsSeatingOf name waits (Some (seating.Lent thread)) = ((inbox_for thread).name ≡ name) × (waits ≡ false)
 IsSeatingOf name waits None = ⊥

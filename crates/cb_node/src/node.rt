@@ -1,6 +1,7 @@
-ghost use Rattle.std.specs.Prelude.{◌≡◌, ◌⊎◌, ◌↔◌, ◌≤◌, None, Some, [], length, map, vec_capacity, All, IfErr, IfOk, IfSome, OnErr, OnOk, Ok, Err};
+ghost use Rattle.std.specs.Prelude.{◌≡◌, ◌⊎◌, ◌↔◌, ◌<◌, ◌≤◌, false, None, Some, [], length, map, vec_capacity, All, IfErr, IfOk, IfSome, OnErr, OnOk, Ok, Err};
 ghost use Rattle.cb_base.specs.declared.fault.Fault.TheVariants as faults;
-ghost use Rattle.cb_node.specs.declared.fault.NodeFault.TheVariants.{Hall, Io, Memory, NoSlot};
+ghost use Rattle.cb_node.specs.declared.fault.NodeFault.TheVariants.{Io, Memory, NoSlot};
+ghost use Rattle.cb_node.specs.declared.fault.NodeFault.TheVariants as told;
 ghost use Rattle.cb_crew.specs.Crew.{HasPlace, inbox_of};
 ghost use Rattle.cb_node.specs.Choosing.{HasNone};
 ghost use Rattle.cb_node.specs.Slot.{names_in};
@@ -223,7 +224,7 @@ impl<R: Net<Listener = TcpListener, Stream = TcpStream> + Threads + Wait + Copy 
     ///
     /// Fails with `Fault::JournalFull` of the hall, and with `NodeFault::Memory`.
     pub fn submit(&self, local: Local) -> Result<Answer, NodeFault>
-        ensures { IfErr result (λ fault. (fault ≡ Hall faults.JournalFull) ⊎ (fault ≡ Memory)) }
+        ensures { IfErr result (λ fault. (fault ≡ told.Hall faults.JournalFull) ⊎ (fault ≡ Memory)) }
     {
         let mut hall = self.service.hall.lock(&self.service.rt);
         Ok(hall.submit(local)?)
@@ -244,7 +245,7 @@ impl<R: Net<Listener = TcpListener, Stream = TcpStream> + Threads + Wait + Copy 
     pub fn kick(&self, slot: u16) -> Result<(), NodeFault>
         ensures no_slot { (result ≡ Err NoSlot) ↔ (length self.now.used ≤ slot) }
         ensures kinds { IfErr result
-            (λ fault. (fault ≡ NoSlot) ⊎ (fault ≡ Hall faults.JournalFull) ⊎ (fault ≡ Memory)) }
+            (λ fault. (fault ≡ NoSlot) ⊎ (fault ≡ told.Hall faults.JournalFull) ⊎ (fault ≡ Memory)) }
     {
         let Some(kicked) = self.slots.get(usize::from(slot)) else {
             return Err(NodeFault::NoSlot);
@@ -257,7 +258,7 @@ impl<R: Net<Listener = TcpListener, Stream = TcpStream> + Threads + Wait + Copy 
     /// Kicks a slot's latest connection in the hall.
     fn kick_in_hall(&self, slot: u16) -> Result<(), NodeFault>
         requires { slot < 64 }
-        ensures { IfErr result (λ fault. (fault ≡ Hall faults.JournalFull) ⊎ (fault ≡ Memory)) }
+        ensures { IfErr result (λ fault. (fault ≡ told.Hall faults.JournalFull) ⊎ (fault ≡ Memory)) }
     {
         let mut hall = self.service.hall.lock(&self.service.rt);
         Ok(hall.kick(slot)?)

@@ -1,88 +1,135 @@
 //! Nodes over loopback.
 
-use crate::{Answer, Local, Look, Node, NodeFault, NodeSettings};
+use cb_crew::{Desk, Work};
+use crate::{Answer, Local, Node, NodeFault, NodeSettings};
+use std::alloc::Global;
+use std::marker::{Copy, Send};
 use std::net::{Net, TcpListener, TcpStream};
 use std::sync::Wait;
 use std::test::*;
 use std::thread;
 use std::thread::Threads;
 use std::time::{Clock, Duration};
-use std::alloc::Global;
-use std::marker::{Copy, Send};
 
+/// What a test's nodes run on.
+trait Place: Net<Listener = TcpListener, Stream = TcpStream> + Threads + Wait + Clock + Copy + Send + Drop + 'static {}
+
+impl<R: Net<Listener = TcpListener, Stream = TcpStream> + Threads + Wait + Clock + Copy + Send + Drop + 'static> Place for R {}
+
+/// How often something is tried, a millisecond apart.
+const TRIES: u32 = 20_000;
+
+/// The settings of a node with so many slots of each kind and two handlers.
 fn settings(nonce: u64, inbound: u16, outbound: u16) -> NodeSettings {
-    NodeSettings { nonce, time: 0, salt: nonce, inbound, outbound, handlers: 2 }
+    NodeSettings {
+        nonce,
+        time: 0,
+        salt: nonce,
+        inbound,
+        outbound,
+        handlers: 2,
+    }
 }
 
-fn settle<R: Net<Listener = TcpListener, Stream = TcpStream> + Threads + Wait + Clock + Copy + Send + Drop + 'static>(rt: &R, a: &Node<R>, b: &Node<R>, height: u32) -> bool {
-    for _ in 0..2000u32 {
+/// Waits for a millisecond.
+fn pause<R: Place>(rt: &R) {
+    let _ = thread::sleep(rt, Duration::from_millis(1));
+}
+
+/// Whether both nodes come to this height and the same tip.
+fn agree<R: Place>(rt: &R, a: &Node<R>, b: &Node<R>, height: u32) -> bool {
+    for _ in 0..TRIES {
         a.tick();
         b.tick();
-        let _ = thread::sleep(rt, Duration::from_millis(1));
-        let (x, y) = (a.look(), b.look());
-        if x.tip == y.tip && x.height == height {
+        pause(rt);
+        let (one, other) = (a.look(), b.look());
+        if one.tip == other.tip && one.height == height {
             return true;
         }
     }
     false
 }
 
-fn mine<R: Net<Listener = TcpListener, Stream = TcpStream> + Threads + Wait + Clock + Copy + Send + Drop + 'static>(a: &Node<R>, mark: u8) -> Result<Answer, NodeFault> {
-    let block = a.mine(mark)?;
-    a.submit(Local::Block(block))
+/// Mines a block and submits it.
+fn mine<R: Place>(node: &Node<R>, mark: u8) -> Result<Answer, NodeFault> {
+    let block = node.mine(mark)?;
+    node.submit(Local::Block(block))
 }
 
-fn reconnect<R: Net<Listener = TcpListener, Stream = TcpStream> + Threads + Wait + Clock + Copy + Send + Drop + 'static>(rt: &R, a: &mut Node<R>, b: &mut Node<R>, port: u16) -> Result<u32, NodeFault> {
-    let mut tries = 0u32;
-    for _ in 0..2000u32 {
-        tries = tries.wrapping_add(1);
-        match a.connect(port) {
-            Ok(_) => break,
-            Err(NodeFault::NoSlot) => {}
-            Err(other) => return Err(other),
+/// Connects as soon as a slot is free.
+fn connect<R: Place>(rt: &R, node: &mut Node<R>, port: u16) -> Result<u16, NodeFault> {
+    for _ in 0..TRIES {
+        match node.connect(port) {
+            Err(NodeFault::NoSlot) => pause(rt),
+            other => return other,
         }
-        let _ = thread::sleep(rt, Duration::from_millis(1));
     }
-    for _ in 0..2000u32 {
-        match b.try_accept() {
-            Ok(Some(_)) => break,
-            Ok(None) => {}
-            Err(NodeFault::NoSlot) => {}
-            Err(other) => return Err(other),
-        }
-        let _ = thread::sleep(rt, Duration::from_millis(1));
-    }
-    Ok(tries)
+    Err(NodeFault::NoSlot)
 }
 
-fn two<R: Net<Listener = TcpListener, Stream = TcpStream> + Threads + Wait + Clock + Copy + Send + Drop + 'static>(rt: &R, alloc: Global) -> Result<u32, NodeFault> {
-    let mut a = Node::start(*rt, alloc, settings(1, 1, 1))?;
-    let mut b = Node::start(*rt, alloc, settings(2, 1, 1))?;
+/// Accepts as soon as a slot is free.
+fn accept<R: Place>(rt: &R, node: &mut Node<R>) -> Result<u16, NodeFault> {
+    for _ in 0..TRIES {
+        match node.accept() {
+            Err(NodeFault::NoSlot) => pause(rt),
+            other => return other,
+        }
+    }
+    Err(NodeFault::NoSlot)
+}
+
+/// How many connections the one slot of each node served, after so many were made and ended by a
+/// kick. `None` if the nodes don't agree.
+fn served<R: Place>(rt: &R, alloc: Global, kicks: u8) -> Result<Option<(usize, usize)>, NodeFault> {
+    let mut a = Node::start(*rt, alloc, settings(1, 0, 1))?;
+    let mut b = Node::start(*rt, alloc, settings(2, 1, 0))?;
     let port = b.listen()?;
-    let mut good = 0u32;
-    if a.connect(port)? == 1 { good |= 1; }
-    if b.accept()? == 0 { good |= 2; }
-    if b.listen()? == port { good |= 4; }
-    mine(&a, 0)?;
-    if settle(rt, &a, &b, 1) { good |= 8; }
-    for mark in 1..4u8 {
-        a.kick(1)?;
-        let tries = reconnect(rt, &mut a, &mut b, port)?;
-        if tries < 2000 { good = good.wrapping_add(0x1_0000); }
-        mine(&b, mark)?;
-        if settle(rt, &a, &b, u32::from(mark) + 1) { good = good.wrapping_add(0x10_0000); }
+    for mark in 0..kicks {
+        connect(rt, &mut a, port)?;
+        accept(rt, &mut b)?;
+        mine(&a, mark)?;
+        if !agree(rt, &a, &b, u32::from(mark) + 1) {
+            return Ok(None);
+        }
+        a.kick(0)?;
     }
-    let reports = a.reports()?;
-    if reports.len() == 4 { good |= 16; }
-    let x = a.finish();
-    let y = b.finish();
-    if x.desks.len() == 2 && y.desks.len() == 2 { good |= 32; }
-    if match x.desks.get(1) { Some(desk) => desk.past().len() == 3, None => false } { good |= 64; }
-    if match y.desks.get(0) { Some(desk) => desk.past().len() == 3, None => false } { good |= 128; }
-    Ok(good)
+    let (a, b) = (a.finish(), b.finish());
+    Ok(Some((works_in(&a.desks), works_in(&b.desks))))
+}
+
+/// How many connections the first desk served.
+fn works_in<W: Work>(desks: &[Desk<W>]) -> usize {
+    match desks.first() {
+        Some(desk) => desk.past().len().saturating_add(1),
+        None => 0,
+    }
+}
+
+/// Two nodes of one slot each: connect, mine, kick, connect again, mine. Each node has the same tip
+/// both times, and each slot has served two connections.
+#[test]
+fn a_slot_serves_connection_after_connection(rt: HostRuntime) {
+    assert!(rt; served(&rt, rt.alloc(), 2) == Ok(Some((2, 2))));
+}
+
+/// Whether a node with one inbound slot refuses what it has to, and answers the same port twice.
+fn refuses<R: Place>(rt: &R, alloc: Global) -> Result<bool, NodeFault> {
+    let mut node = Node::start(*rt, alloc, settings(1, 1, 0))?;
+    let deaf = node.accept() == Err(NodeFault::Io);
+    let port = node.listen()?;
+    let right = deaf
+        && node.listen() == Ok(port)
+        && node.try_accept() == Ok(None)
+        && node.turn_away() == Ok(false)
+        && node.connect(port) == Err(NodeFault::NoSlot)
+        && node.kick(0) == Ok(())
+        && node.kick(1) == Err(NodeFault::NoSlot)
+        && node.checkpoint() == Ok(());
+    let moved = node.reports()?.len();
+    Ok(works_in(&node.finish().desks) == 1 && moved == 0 && right)
 }
 
 #[test]
-fn two_nodes(rt: HostRuntime) {
-    assert_eq!(rt; two(&rt, rt.alloc()), Ok(0x33_00ff));
+fn what_a_node_refuses(rt: HostRuntime) {
+    assert!(rt; refuses(&rt, rt.alloc()) == Ok(true));
 }
