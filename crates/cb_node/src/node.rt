@@ -1,17 +1,18 @@
 ghost use Rattle.std.specs.Prelude.{◌≡◌, ◌⊎◌, ◌↔◌, ◌<◌, ◌≤◌, false, None, Some, [], length, map, vec_capacity, All, IfErr, IfOk, IfSome, OnErr, OnOk, Ok, Err};
 ghost use Rattle.cb_base.specs.declared.fault.Fault.TheVariants as faults;
-ghost use Rattle.cb_node.specs.declared.fault.NodeFault.TheVariants.{Io, Memory, NoSlot};
-ghost use Rattle.cb_node.specs.declared.fault.NodeFault.TheVariants as told;
+ghost use Rattle.cb_slots.specs.declared.fault.NodeFault.TheVariants.{Io, Memory, NoSlot};
+ghost use Rattle.cb_slots.specs.declared.fault.NodeFault.TheVariants as told;
 ghost use Rattle.cb_crew.specs.Crew.{HasPlace, inbox_of};
-ghost use Rattle.cb_node.specs.Choosing.{HasNone};
-ghost use Rattle.cb_node.specs.Slot.{names_in};
-ghost use Rattle.cb_node.specs.Node.{HasFinished, IsChosen, with_listens, with_used};
+ghost use Rattle.cb_slots.specs.Choosing.{HasNone, IsChosen};
+ghost use Rattle.cb_slots.specs.Slot.{names_in};
+ghost use Rattle.cb_slots.specs.Choosing.{IsChosen};
+ghost use Rattle.cb_node.specs.Node.{HasFinished, with_listens, with_used};
 
-use crate::fault::NodeFault;
-use crate::listening::Listening;
+use cb_slots::NodeFault;
+use cb_slots::Listening;
 use crate::opening::NodeWork;
 use crate::serving::Service;
-use crate::slot::{Report, Slot};
+use cb_slots::{Report, Slot};
 use cb_base::Shared;
 use cb_block::SoundBlock;
 use cb_crew::{Desk, Fresh, Handler, ReaderSide, Work};
@@ -62,8 +63,8 @@ pub struct Node<R: Wait + Drop> {
 
 impl<R: Wait + Drop> Model for Node<R> {
     ghost use Rattle.std.specs.Prelude.{◌≡◌, ◌≤◌, [], length, vec_capacity};
-    ghost use Rattle.cb_node.specs.Slot.{AreSlotsOf};
-    ghost use Rattle.cb_node.specs.Node.{AreThreadsOf, NodeState, node_state};
+    ghost use Rattle.cb_slots.specs.Slot.{AreSlotsOf, AreThreadsOf};
+    ghost use Rattle.cb_node.specs.Node.{NodeState, node_state};
 
     ghost Value = { NodeState };
 
@@ -333,20 +334,3 @@ fn loopback(port: u16) -> SocketAddr {
     SocketAddr::new(IpAddr::V4(Ipv4Addr::LOCALHOST), port)
 }
 
-/// The sides of these slots, in the given empty list. Waits for the threads of readers. It takes no
-/// memory: the list must have room.
-fn sides_of<W: Work<Item = Input>, R: Threads>(
-    rt: &R,
-    slots: Vec<Slot<W>>,
-    sides: Vec<ReaderSide<Input, Fresh<W>>>,
-) -> Vec<ReaderSide<Input, Fresh<W>>>
-    requires room { (sides.items ≡ []) × (length slots.items ≤ vec_capacity sides) }
-    ensures inboxes { map inbox_of result.items ≡ names_in slots.items }
-    ensures places { All HasPlace result.items }
-{
-    let mut sides = sides;
-    for slot in slots {
-        sides.push_reserved(slot.into_side(rt));
-    }
-    sides
-}

@@ -1,23 +1,23 @@
-ghost use Rattle.std.specs.Prelude.{◌≡◌, IfErr, IfOk};
-ghost use Rattle.cb_node.specs.Slot.{IsNew};
+ghost use Rattle.std.specs.Prelude.{◌≡◌, [], None, IfErr, IfOk};
+ghost use Rattle.cb_work.specs.Flags.{HasLooked};
+ghost use Rattle.cb_slots.specs.Slot.{IsNew};
 
-use crate::link::{Link, SocketWriter};
-use crate::slot::Next;
 use cb_base::{Fault, Shared};
 use cb_crew::Fresh;
 use cb_hall::{Badge, Hall};
 use cb_io::Out;
 use cb_peer::Settings;
+use cb_slots::{Link, SocketWriter};
 use cb_state::Connection;
 use cb_work::{NotStarted, Outlet, PeerFlags, PeerWork, SharedHall};
-use std::alloc::Global;
+use std::alloc::{AllocError, Global};
 use std::marker::Copy;
 use std::sync::{Mutex, Wait};
 
 /// What serves a connection of a node.
 pub type NodeWork<R> = PeerWork<Out<SocketWriter<R>>, SharedHall<R>, PeerFlags>;
 
-/// A connection that wasn't made ready. Its badge comes back.
+/// A badge under which no work could be made.
 #[derive(Drop)]
 pub struct NotReady {
     /// The badge.
@@ -26,69 +26,71 @@ pub struct NotReady {
     pub cause: Fault,
 }
 
-/// What a connection's threads share, and its session's ends.
+/// What a session writes to, asks, and tells.
 #[derive(Drop)]
 struct Ends<R: Wait + Drop> {
-    link: Shared<Link>,
     outlet: Outlet<Out<SocketWriter<R>>>,
-    flags: PeerFlags,
     hall: SharedHall<R>,
+    flags: PeerFlags,
 }
 
-/// The ends of a connection that isn't made yet. Fails only with `Fault::Memory`.
+/// The ends of this connection's session. Fails only for lack of memory.
 fn ends_of<R: Wait + Copy + Drop>(
     rt: R,
-    alloc: Global,
     connection: Connection,
+    link: &Shared<Link>,
     hall: &Shared<Mutex<Hall>>,
-) -> Result<Ends<R>, Fault> {
-    let link = Link::new(alloc, connection.generation)?;
-    let writer = SocketWriter {
-        rt,
-        link: link.clone()?,
-    };
+) -> Result<Ends<R>, AllocError>
+    ensures slot { IfOk result (λ ends. ends.outlet.slot ≡ connection.peer) }
+    ensures sink { IfOk result (λ ends. ends.outlet.sink.failure ≡ None) }
+    ensures flags { IfOk result (λ ends. HasLooked ends.flags.looked ends.flags.found []) }
+{
+    let (one, status, hall) = (link.clone()?, link.status.clone()?, hall.clone()?);
     Ok(Ends {
-        outlet: Outlet::new(connection.peer, Out::new(writer)),
-        flags: PeerFlags::new(link.status.clone()?),
-        hall: SharedHall::new(rt, hall.clone()?),
-        link,
+        outlet: Outlet::new(connection.peer, Out::new(SocketWriter { rt, link: one })),
+        hall: SharedHall::new(rt, hall),
+        flags: PeerFlags::new(status),
     })
 }
 
-/// A connection under this badge that isn't made yet, with its work. Nothing was asked under the
-/// badge. Fails only with `Fault::Memory`, and gives the badge back.
-pub fn next_connection<R: Wait + Copy + Drop>(
+/// The work of a connection that isn't made yet, under this badge. Nothing was asked under it.
+///
+/// Fails only with `Fault::Memory`, and gives the badge back.
+pub fn new_work<R: Wait + Copy + Drop>(
     rt: R,
     alloc: Global,
     settings: Settings,
     badge: Badge,
+    link: &Shared<Link>,
     hall: &Shared<Mutex<Hall>>,
-) -> Result<Next<NodeWork<R>>, NotReady>
+) -> Result<Fresh<NodeWork<R>>, NotReady>
     requires { IsNew badge }
-    ensures badge { IfOk result (λ next. next.work.badge ≡ badge) }
+    ensures work { IfOk result
+        (λ work. (work.badge ≡ badge) × (work.trace.settings ≡ settings)) }
     ensures back { IfErr result (λ back. back.badge ≡ badge) }
 {
-    let ends = match ends_of(rt, alloc, badge.connection(), hall) {
-        Ok(ends) => ends,
-        Err(cause) => return Err(NotReady { badge, cause }),
+    let Ok(ends) = ends_of(rt, badge.connection(), link, hall) else {
+        return Err(NotReady {
+            badge,
+            cause: Fault::Memory,
+        });
     };
     let Ends {
-        link,
         outlet,
-        flags,
         hall,
+        flags,
     } = ends;
     match PeerWork::new(alloc, settings, badge, outlet, hall, flags) {
-        Ok(work) => Ok(Next {
-            work: Fresh::new(work),
-            link,
-        }),
+        Ok(work) => Ok(Fresh::new(work)),
         Err(NotStarted {
             badge,
-            outlet: _outlet,
-            hall: _hall,
-            flags: _flags,
+            outlet,
+            hall,
+            flags,
             cause,
-        }) => Err(NotReady { badge, cause }),
+        }) => {
+            drop((outlet, hall, flags));
+            Err(NotReady { badge, cause })
+        }
     }
 }

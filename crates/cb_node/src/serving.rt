@@ -1,17 +1,13 @@
 ghost use Rattle.std.specs.Prelude.{◌≡◌, ◌≢◌, ◌<◌, ◌≤◌, true, false, length, IfErr, IfOk, OnErr, Ok, Err};
-ghost use Rattle.cb_node.specs.declared.fault.NodeFault.TheVariants.{Memory, NoSlot};
-ghost use Rattle.cb_node.specs.Choosing.{HasNone};
-ghost use Rattle.cb_node.specs.Slot.{AreAlike, AreAlikeBut, AreSlotsOf, IsInboxOf, IsNew, WaitsAt, uses_of};
-ghost use Rattle.cb_node.specs.Node.{IsChosen};
+ghost use Rattle.cb_slots.specs.declared.fault.NodeFault.TheVariants.{Memory, NoSlot};
+ghost use Rattle.cb_slots.specs.Choosing.{HasNone, IsChosen};
+ghost use Rattle.cb_slots.specs.Slot.{AreAlike, AreAlikeBut, AreSlotsOf, IsInboxOf, IsNew, WaitsAt, uses_of};
 
-use crate::choosing::{Standing, lowest, standings_of};
-use crate::fault::NodeFault;
-use crate::link::Links;
-use crate::opening::{NodeWork, NotReady, next_connection};
+use crate::opening::{NodeWork, NotReady, new_work};
 use crate::settings::{NodeSettings, session_settings};
-use crate::slot::{Common, Slot};
 use cb_base::{Fault, Shared};
 use cb_hall::{Badge, Hall};
+use cb_slots::{Common, Link, Links, Next, NodeFault, Slot, Standing, lowest, standings_of};
 use std::alloc::Global;
 use std::marker::{Copy, Send};
 use std::net::TcpStream;
@@ -141,10 +137,8 @@ impl<R: Threads + Wait + Copy + Send + Drop + 'static> Service<R> {
                 Err(fault) => return Err(NodeFault::from(fault)),
             },
         };
-        let settings = session_settings(&self.settings, number);
-        match next_connection(self.rt, self.alloc, settings, badge, &self.hall) {
+        match self.next_by(number, badge) {
             Ok(next) => {
-                self.links.add(&self.rt, number, next.link.clone()?)?;
                 slot.prepare(next);
                 Ok(true)
             }
@@ -153,6 +147,30 @@ impl<R: Threads + Wait + Copy + Send + Drop + 'static> Service<R> {
                 Err(NodeFault::from(cause))
             }
         }
+    }
+
+    /// A slot's next connection under this badge. Fails only with `Fault::Memory`, and gives the badge
+    /// back.
+    fn next_by(&self, number: u16, badge: Badge) -> Result<Next<NodeWork<R>>, NotReady>
+        requires { IsNew badge }
+        ensures back { IfErr result (λ back. back.badge ≡ badge) }
+    {
+        let link = match self.new_link(number, badge.connection().generation) {
+            Ok(link) => link,
+            Err(cause) => return Err(NotReady { badge, cause }),
+        };
+        let settings = session_settings(&self.settings, number);
+        match new_work(self.rt, self.alloc, settings, badge, &link, &self.hall) {
+            Ok(work) => Ok(Next { work, link }),
+            Err(refused) => Err(refused),
+        }
+    }
+
+    /// The link of a slot's connection. Fails only with `Fault::Memory`.
+    fn new_link(&self, number: u16, generation: u64) -> Result<Shared<Link>, Fault> {
+        let link = Link::new(self.alloc, generation)?;
+        self.links.add(&self.rt, number, link.clone()?)?;
+        Ok(link)
     }
 
     /// Opens a slot's next connection in the hall.

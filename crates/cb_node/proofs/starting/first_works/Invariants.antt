@@ -1,5 +1,5 @@
 use Rattle.std.proofs.Common.{◌≡◌, ◌+◌, length, All}
-use Rattle.cb_node.specs.Slot.{IsNew}
+use Rattle.cb_slots.specs.Slot.{IsNew}
 use Rattle.cb_node.proofs.starting.first_works.Given as goal
 
 abbrev pub invariant-loop-badge : goal.invariant-loop-badge

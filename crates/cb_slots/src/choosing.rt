@@ -1,6 +1,6 @@
 ghost use Rattle.std.specs.Prelude.{◌≡◌, None, IfOk, IfSome, map};
-ghost use Rattle.cb_node.specs.Choosing.{HasNone, IsLowest, is_used};
-ghost use Rattle.cb_node.specs.Slot.{uses_of};
+ghost use Rattle.cb_slots.specs.Choosing.{HasNone, IsLowest, is_used};
+ghost use Rattle.cb_slots.specs.Slot.{uses_of};
 
 use crate::slot::Slot;
 use cb_crew::Work;

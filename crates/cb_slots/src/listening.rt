@@ -1,5 +1,5 @@
 ghost use Rattle.std.specs.Prelude.{◌≡◌, IfErr};
-ghost use Rattle.cb_node.specs.declared.fault.NodeFault.TheVariants.{Io};
+ghost use Rattle.cb_slots.specs.declared.fault.NodeFault.TheVariants.{Io};
 
 use crate::fault::NodeFault;
 use std::io::ErrorKind;

@@ -1,8 +1,8 @@
 use Rattle.std.proofs.Common.{◌≡◌, ◌≤◌, length, vec_capacity}
 use Rattle.std.specs.Iterator.Adapters.{zip_first, zip_second}
 use Rattle.std.specs.Vec.Iter.{into_iter_items}
-use Rattle.cb_node.proofs.Placing.{IsPlacing}
-use Rattle.cb_node.proofs.starting.slots_of.Given as goal
+use Rattle.cb_slots.proofs.Placing.{IsPlacing}
+use Rattle.cb_slots.proofs.crewing.slots_of.Given as goal
 
 abbrev pub invariant-loop-seat : goal.invariant-loop-seat
 invariant-loop-seat g l = record {

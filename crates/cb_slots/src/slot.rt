@@ -1,9 +1,9 @@
 ghost use Rattle.std.specs.Prelude.{◌≡◌, ◌⊎◌, ◌<◌, ◌^◌, true, false, length, None, IfErr, OnErr, OnOk};
 ghost use Rattle.cb_inbox.specs.Seat.{opening_seat};
 ghost use Rattle.cb_crew.specs.Crew.{HasPlace, inbox_of};
-ghost use Rattle.cb_node.specs.declared.fault.NodeFault.TheVariants.{Io, Memory};
-ghost use Rattle.cb_node.specs.Choosing.{is_used};
-ghost use Rattle.cb_node.specs.Slot.{HasLeft, IsInboxOf, IsNew, IsUnspent, LastsIf, attached, new_slot, reopened};
+ghost use Rattle.cb_slots.specs.declared.fault.NodeFault.TheVariants.{Io, Memory};
+ghost use Rattle.cb_slots.specs.Choosing.{is_used};
+ghost use Rattle.cb_slots.specs.Slot.{HasLeft, IsInboxOf, IsNew, IsUnspent, LastsIf, attached, new_slot, reopened};
 
 use crate::choosing::Standing;
 use crate::fault::NodeFault;
@@ -89,7 +89,7 @@ pub struct Slot<W: Work> {
 }
 
 impl<W: Work> Model for Slot<W> {
-    ghost use Rattle.cb_node.specs.Slot.{IsSeatingOf, IsUnspent, SlotState};
+    ghost use Rattle.cb_slots.specs.Slot.{IsSeatingOf, IsUnspent, SlotState};
     ghost use Rattle.std.specs.Prelude.{◌≡◌, true, false};
 
     ghost Value = { SlotState };

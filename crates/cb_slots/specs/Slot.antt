@@ -5,14 +5,17 @@ use Rattle.atomic_table.specs.Seated.{TableId}
 use Rattle.cb_inbox.specs.Seat.{InboxState}
 use Rattle.cb_crew.specs.declared.reader_side.ReaderSide.{ReaderSide}
 use Rattle.cb_crew.specs.declared.reader_side.ReaderSide.TheVariants as side
-use Rattle.cb_crew.specs.Crew.{CrewState, inbox_of, names_of}
-use Rattle.cb_service.specs.Service.{queued_by}
+use Rattle.cb_crew.specs.Crew.{AreHandlersOf, CrewState, inbox_of, names_of}
+use Rattle.cb_crew.specs.Desk.{DeskState}
+use Rattle.cb_crew.specs.Turn.{HandlerState}
+use Rattle.cb_service.specs.declared.promises.OfCrew.{OfCrew}
+use Rattle.cb_service.specs.Service.{HandBack, queued_by}
 use Rattle.cb_hall.specs.Badge.{BadgeState}
 use Rattle.cb_reader.specs.declared.input.Input.{Input}
 use Rattle.cb_peers.specs.declared.reading.Left.{Left}
-use Rattle.cb_node.specs.declared.threads.OfSlot.{OfSlot}
-use Rattle.cb_node.specs.declared.slot.Seating.{Seating}
-use Rattle.cb_node.specs.declared.slot.Seating.TheVariants as seating
+use Rattle.cb_slots.specs.declared.threads.OfSlot.{OfSlot}
+use Rattle.cb_slots.specs.declared.slot.Seating.{Seating}
+use Rattle.cb_slots.specs.declared.slot.Seating.TheVariants as seating
 
 -- A slot: its inbox, whether it ever had a socket, and whether its latest connection waits for one.
 pub record SlotState : Type 0 where
@@ -101,3 +104,11 @@ IsNew badge = (badge.count ≡ 0) × (badge.full ≡ false)
 abbrev pub IsUnspent : Option BadgeState → Type 0
 IsUnspent None = Unit {0}
 IsUnspent (Some badge) = IsNew badge
+
+-- ---- the handlers' threads
+
+-- these threads have all handlers of the crew, the crew's first handler first
+pub record AreThreadsOf {W M : Type 0} (crew : CrewState) (threads : List (PromisedHandle (HandlerState (DeskState W M)) (OfCrew W M))) : Type 0 where
+  pub handlers : List (HandlerState (DeskState W M))
+  pub have : HandBack crew threads handlers
+  pub all : AreHandlersOf crew handlers

@@ -2,8 +2,8 @@ ghost use Rattle.std.specs.Prelude.{◌≡◌, ◌⊎◌, ◌<◌, ◌^◌, leng
 ghost use Rattle.cb_crew.specs.declared.reader_side.ReaderSide.TheVariants.{Live};
 ghost use Rattle.cb_crew.specs.Crew.{inbox_of};
 ghost use Rattle.cb_service.specs.Service.{IsSideOf};
-ghost use Rattle.cb_node.specs.declared.fault.NodeFault.TheVariants.{Io, Memory};
-ghost use Rattle.cb_node.specs.Slot.{HasLeft, inbox_for};
+ghost use Rattle.cb_slots.specs.declared.fault.NodeFault.TheVariants.{Io, Memory};
+ghost use Rattle.cb_slots.specs.Slot.{HasLeft, inbox_for};
 
 use crate::fault::NodeFault;
 use crate::link::Link;
@@ -31,7 +31,7 @@ pub struct OfSlot<O: Opening + Drop> {
 }
 
 impl<O: Opening + Drop> Promise<Left<O>> for OfSlot<O> {
-    ghost use Rattle.cb_node.specs.Slot.{HasLeft};
+    ghost use Rattle.cb_slots.specs.Slot.{HasLeft};
 
     ghost kept_by = { λ promise left. HasLeft promise.inbox.value.name left };
 }

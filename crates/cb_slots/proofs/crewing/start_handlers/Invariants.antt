@@ -1,7 +1,7 @@
 use Rattle.std.proofs.Common.{◌≡◌, ◌≤◌, ◌++◌, map, All, length, vec_capacity}
 use Rattle.cb_crew.specs.Crew.{IsHandlerOf}
 use Rattle.cb_service.specs.Service.{handler_of, crew_of}
-use Rattle.cb_node.proofs.starting.start_handlers.Given as goal
+use Rattle.cb_slots.proofs.crewing.start_handlers.Given as goal
 
 abbrev pub invariant-loop-handler : goal.invariant-loop-handler
 invariant-loop-handler g l =

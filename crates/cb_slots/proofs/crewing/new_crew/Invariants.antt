@@ -1,6 +1,6 @@
 use Rattle.std.proofs.Common.{◌≡◌, ◌+◌, length, All}
 use Rattle.cb_crew.specs.Work.{IsFresh}
-use Rattle.cb_node.proofs.starting.new_crew.Given as goal
+use Rattle.cb_slots.proofs.crewing.new_crew.Given as goal
 
 abbrev pub invariant-loop-one : goal.invariant-loop-one
 invariant-loop-one g l =

@@ -1,7 +1,7 @@
 -- Which slot comes next.
-use Rattle.std.specs.Prelude.{◌≡◌, ◌≢◌, ℕ, ◌<◌, ◌≤◌, Bool, true, false, List, length, slice_index_or}
-use Rattle.cb_node.specs.declared.choosing.Standing.{Standing}
-use Rattle.cb_node.specs.declared.choosing.Standing.TheVariants as standing
+use Rattle.std.specs.Prelude.{◌≡◌, ◌≢◌, ℕ, ◌<◌, ◌≤◌, ◌⊎◌, Bool, true, false, List, length, slice_index_or}
+use Rattle.cb_slots.specs.declared.choosing.Standing.{Standing}
+use Rattle.cb_slots.specs.declared.choosing.Standing.TheVariants as standing
 
 -- Of the places from `first` to before `end`, this is the lowest at which the list has the wanted
 -- value.
@@ -21,3 +21,8 @@ abbrev pub is_used : Standing → Bool
 is_used standing.Unused = false
 is_used standing.Left = true
 is_used standing.Busy = true
+
+-- Of the slots from `first` to before `end`, this one is the lowest that never had a socket. Or it
+-- is any of them, where each had one.
+abbrev pub IsChosen : List Bool → ℕ → ℕ → ℕ → Type 0
+IsChosen used first end slot = IsLowest used false first end slot ⊎ (HasNone used false first end × (first ≤ slot) × (slot < end))

@@ -1,7 +1,7 @@
 use Rattle.std.proofs.Common.{◌≡◌, ◌≤◌, ◌+◌, ◌++◌, length, map, All, vec_capacity}
 use Rattle.cb_crew.specs.Crew.{HasPlace, inbox_of}
-use Rattle.cb_node.specs.Slot.{names_in}
-use Rattle.cb_node.proofs.node.sides_of.Given as goal
+use Rattle.cb_slots.specs.Slot.{names_in}
+use Rattle.cb_slots.proofs.crewing.sides_of.Given as goal
 
 abbrev pub invariant-loop-slot : goal.invariant-loop-slot
 invariant-loop-slot g l =

@@ -4,10 +4,10 @@ use Rattle.std.proofs.lemmas.List.{get_or-map, length-map, map-set, set-get_or}
 use Rattle.std.proofs.lemmas.List.Elements.{All-get_or}
 use Rattle.cb_inbox.specs.Seat.{InboxState}
 use Rattle.cb_crew.specs.Crew.{CrewState}
-use Rattle.cb_node.specs.declared.choosing.Standing.{Standing}
-use Rattle.cb_node.specs.declared.choosing.Standing.TheVariants as standing
-use Rattle.cb_node.specs.Choosing.{HasNone, IsLowest, is_used}
-use Rattle.cb_node.specs.Slot.{AreAlike, AreAlikeBut, AreSlotsOf, IsInboxOf, SlotState, WaitsAt, attached, inboxes_of, uses_of}
+use Rattle.cb_slots.specs.declared.choosing.Standing.{Standing}
+use Rattle.cb_slots.specs.declared.choosing.Standing.TheVariants as standing
+use Rattle.cb_slots.specs.Choosing.{HasNone, IsLowest, is_used}
+use Rattle.cb_slots.specs.Slot.{AreAlike, AreAlikeBut, AreSlotsOf, IsInboxOf, SlotState, WaitsAt, attached, inboxes_of, uses_of}
 
 -- ---- what standings tell
 

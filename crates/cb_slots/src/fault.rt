@@ -24,7 +24,7 @@ pub enum NodeFault {
 }
 
 impl From<io::Error> for NodeFault {
-    ghost use Rattle.cb_node.specs.declared.fault.NodeFault.TheVariants.{Io};
+    ghost use Rattle.cb_slots.specs.declared.fault.NodeFault.TheVariants.{Io};
 
     ghost from_gives = { λ _ fault. fault ≡ Io };
 
@@ -34,7 +34,7 @@ impl From<io::Error> for NodeFault {
 }
 
 impl From<AllocError> for NodeFault {
-    ghost use Rattle.cb_node.specs.declared.fault.NodeFault.TheVariants.{Memory};
+    ghost use Rattle.cb_slots.specs.declared.fault.NodeFault.TheVariants.{Memory};
 
     ghost from_gives = { λ _ fault. fault ≡ Memory };
 
@@ -44,7 +44,7 @@ impl From<AllocError> for NodeFault {
 }
 
 impl From<Fault> for NodeFault {
-    ghost use Rattle.cb_node.specs.Node.{node_fault};
+    ghost use Rattle.cb_slots.specs.Fault.{node_fault};
 
     ghost from_gives = { λ fault told. told ≡ node_fault fault };
 
@@ -58,7 +58,7 @@ impl From<Fault> for NodeFault {
 
 impl From<Refusal> for NodeFault {
     ghost use Rattle.std.specs.Prelude.{◌⊎◌};
-    ghost use Rattle.cb_node.specs.declared.fault.NodeFault.TheVariants.{Io, Memory};
+    ghost use Rattle.cb_slots.specs.declared.fault.NodeFault.TheVariants.{Io, Memory};
 
     ghost from_gives = { λ _ fault. (fault ≡ Io) ⊎ (fault ≡ Memory) };
 

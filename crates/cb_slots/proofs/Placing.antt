@@ -5,7 +5,7 @@ use Rattle.std.proofs.lemmas.List.Elements.{All-append, All-cons, All-nil, All-t
 use Rattle.atomic_table.specs.Seated.{TableId}
 use Rattle.cb_inbox.specs.Seat.{InboxState, SeatState, opening_seat}
 use Rattle.cb_crew.specs.Crew.{CrewState}
-use Rattle.cb_node.specs.Slot.{AreSlotsOf, IsInboxOf, SlotState, inboxes_of, new_slot, uses_of}
+use Rattle.cb_slots.specs.Slot.{AreSlotsOf, IsInboxOf, SlotState, inboxes_of, new_slot, uses_of}
 
 -- one thread more, for the next of all handlers
 pub started_more : {T H : Type 0} (f : T → H) (C : T → Type 0) (P : H → Type 0) (done new : List T) (t : T) (h : H) (rest left all : List H)
