@@ -1,6 +1,6 @@
-ghost use Rattle.std.specs.Prelude.{◌≡◌, ◌+◌, ◌≤◌, [], length, map, vec_capacity, All, IfOk};
+ghost use Rattle.std.specs.Prelude.{◌≡◌, ◌+◌, ◌≤◌, length, All, IfOk};
 ghost use Rattle.cb_crew.specs.Crew.{AreHandlersOf};
-ghost use Rattle.cb_slots.specs.Slot.{AreSlotsOf, IsNew, new_slot};
+ghost use Rattle.cb_slots.specs.Slot.{IsNew};
 ghost use Rattle.cb_node.specs.Node.{IsNewNode};
 
 use crate::node::Node;
@@ -61,7 +61,8 @@ fn man<R: Threads + Wait + Copy + Send + Drop + 'static>(
     parts: Parts<R>,
 ) -> Result<Node<R>, NodeFault>
     requires count { length parts.crewed.common.crew.inboxes ≡ settings.inbound + settings.outbound }
-    requires handlers { parts.crewed.common.crew.handlers ≡ settings.handlers }
+    requires handlers { AreHandlersOf parts.crewed.common.crew parts.crewed.handlers.items
+        × (parts.crewed.common.crew.handlers ≡ settings.handlers) }
     ensures { IfOk result (IsNewNode settings.inbound settings.outbound settings.handlers) }
 {
     let Parts {
@@ -113,7 +114,8 @@ fn parts_of<R: Threads + Wait + Copy + Send + Drop + 'static>(
         (λ parts. length parts.crewed.common.crew.inboxes
         ≡ settings.now.inbound + settings.now.outbound) }
     ensures handlers { IfOk result
-        (λ parts. parts.crewed.common.crew.handlers ≡ settings.now.handlers) }
+        (λ parts. AreHandlersOf parts.crewed.common.crew parts.crewed.handlers.items
+        × (parts.crewed.common.crew.handlers ≡ settings.now.handlers)) }
 {
     let count = settings.inbound + settings.outbound;
     let links = shared(alloc, Links::new(alloc, count)?)?;

@@ -1,7 +1,7 @@
 //! Nodes over loopback.
 
-use cb_crew::{Desk, Work};
 use crate::{Answer, Local, Node, NodeFault, NodeSettings};
+use cb_crew::{Desk, Work};
 use std::alloc::Global;
 use std::marker::{Copy, Send};
 use std::net::{Net, TcpListener, TcpStream};

@@ -93,3 +93,19 @@ placing_all crew k slots rest left was none =
 pub uses_none : (inboxes : List InboxState) → uses_of (map new_slot inboxes) ≡ replicate (length inboxes) false
 uses_none [] = refl
 uses_none (i ∷ inboxes) = ap (λ us. false ∷ us) (uses_none inboxes)
+
+-- ---- the sides of slots that end
+
+-- one side more, of the next slot
+pub sides_more : {S T N : Type 0} (f : S → N) (g : T → N) (P : S → Type 0) (done new : List S) (s : S) (t : T) (rest left : List T) (all : List N)
+    → map f done ++ map g rest ≡ all → All P done → rest ≡ t ∷ left → new ≡ done ++ s ∷ [] → f s ≡ g t → P s → (map f new ++ map g left ≡ all) × All P new
+sides_more f g P done new s t rest left all was are steps pushed is here =
+    let mapped : map f (done ++ s ∷ []) ++ map g left ≡ all =
+    ap (λ xs. xs ++ map g left) (map-append f done (s ∷ [])) ∙ append_assoc (map f done) (f s ∷ []) (map g left) ∙ ap (λ n. map f done ++ n ∷ map g left) is ∙ ap (λ r. map f done ++ map g r) (sym steps) ∙ was in (
+      ap (λ xs. map f xs ++ map g left) pushed ∙ mapped,
+      subst (All P) (sym pushed) (All-append P done (s ∷ []) are (All-cons P s [] here (All-nil P))),
+    )
+
+-- where no slot is left, all are
+pub sides_all : {S T N : Type 0} (f : S → N) (g : T → N) (done : List S) (rest : List T) (all : List N) → map f done ++ map g rest ≡ all → rest ≡ [] → map f done ≡ all
+sides_all f g done rest all was none = sym (append-nil (map f done)) ∙ ap (λ r. map f done ++ map g r) (sym none) ∙ was

@@ -39,7 +39,6 @@ pub struct Crewed<W: Work> {
     pub sides: Vec<ReaderSide<Input, Fresh<W>>>,
     ghost are_slots: { AreSlotsOf common.crew slots.items },
     ghost are_new: { slots.items ≡ map new_slot common.crew.inboxes },
-    ghost are_handlers: { AreHandlersOf common.crew handlers.items },
     ghost has_back: { (back.items ≡ []) × (length handlers.items ≤ vec_capacity back) },
     ghost has_sides: { (sides.items ≡ []) × (length slots.items ≤ vec_capacity sides) },
 }
@@ -73,7 +72,9 @@ pub fn crew_slots<W: Work<Item = Input>, R: Wait>(
     requires handlers { (1 ≤ handlers) × (handlers ≤ 16) }
     ensures count { IfOk result
         (λ crewed. length crewed.common.crew.inboxes ≡ length works.items) }
-    ensures handlers { IfOk result (λ crewed. crewed.common.crew.handlers ≡ handlers) }
+    ensures handlers { IfOk result
+        (λ crewed. AreHandlersOf crewed.common.crew crewed.handlers.items
+        × (crewed.common.crew.handlers ≡ handlers)) }
 {
     let NewCrew {
         crew,
