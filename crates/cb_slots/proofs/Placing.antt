@@ -1,11 +1,15 @@
 -- What a node is started with.
 use Rattle.std.proofs.Common.{◌≡◌, ℕ, zero, suc, ◌+◌, ◌-◌, ◌<◌, ◌≤◌, Bool, false, List, [], ◌∷◌, ◌++◌, length, map, take, drop, replicate, slice_index_or, All, refl, sym, ap, subst, ◌∙◌, arith}
 use Rattle.std.proofs.lemmas.List.{append-nil, append_assoc, drop_more, get_or-map, length-drop, length-map, map-append, take_all, take_more}
-use Rattle.std.proofs.lemmas.List.Elements.{All-append, All-cons, All-nil, All-tail}
+use Rattle.std.proofs.lemmas.List.Elements.{All-append, All-cons, All-head, All-nil, All-tail}
 use Rattle.atomic_table.specs.Seated.{TableId}
 use Rattle.cb_inbox.specs.Seat.{InboxState, SeatState, opening_seat}
 use Rattle.cb_crew.specs.Crew.{CrewState}
 use Rattle.cb_slots.specs.Slot.{AreSlotsOf, IsInboxOf, SlotState, inboxes_of, new_slot, uses_of}
+
+-- what holds of all that are left holds of the next
+pub next_has : {H : Type 0} (P : H → Type 0) (rest left : List H) (h : H) → All P rest → rest ≡ h ∷ left → P h
+next_has P rest left h all steps = All-head P h left (subst (All P) steps all)
 
 -- one thread more, for the next of all handlers
 pub started_more : {T H : Type 0} (f : T → H) (C : T → Type 0) (P : H → Type 0) (done new : List T) (t : T) (h : H) (rest left all : List H)

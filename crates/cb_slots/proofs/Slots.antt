@@ -13,8 +13,8 @@ use Rattle.cb_slots.specs.Slot.{AreAlike, AreAlikeBut, AreSlotsOf, IsInboxOf, Sl
 
 unused_if : (s : Standing) → is_used s ≡ false → s ≡ standing.Unused
 unused_if standing.Unused is = refl
-unused_if standing.Left is = absurd is
-unused_if standing.Busy is = absurd is
+unused_if standing.Left is = absurd (let z : true ≡ false = is in cc)
+unused_if standing.Busy is = absurd (let z : true ≡ false = is in cc)
 
 -- the lowest that stands so is the lowest that never had a socket
 pub lowest_unused : (all : List Standing) (uses : List Bool) (first end n : ℕ) → map is_used all ≡ uses → IsLowest all standing.Unused first end n → IsLowest uses false first end n

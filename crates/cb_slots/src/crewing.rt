@@ -129,6 +129,7 @@ fn common_of<W: Work>(alloc: Global, crew: Crew<W>) -> Result<Common<W>, Fault>
     })
 }
 
+#[tactic(auto, using(crate::proofs::Placing::placing_none))]
 /// The slots of a new crew with these seats, none of which ever had a socket.
 fn slots_of<W: Work<Item = Input>, R: Wait>(
     rt: &R,
@@ -147,12 +148,14 @@ fn slots_of<W: Work<Item = Input>, R: Wait>(
     let mut number = 0u16;
     for (seat, link) in seats.into_iter().zip(links) {
         all.add(rt, number, link.clone()?)?;
-        slots.push_reserved(Slot::new(alloc, crew.inbox(number), seat, link));
+        let inbox = crew.inbox(number);
+        slots.push_reserved(Slot::new(alloc, inbox, seat, link));
         number += 1;
     }
     Ok(slots)
 }
 
+#[tactic(auto, using(crate::proofs::Placing::next_has))]
 /// Starts a thread for each handler. If one can't be started, waits until those return that were.
 pub fn start_handlers<W: Work + Send + 'static, R: Threads + Wait + Copy + Send + Drop + 'static>(
     rt: &R,

@@ -6,10 +6,12 @@ use Rattle.cb_slots.proofs.Placing.{sides_all, sides_more}
 use Rattle.cb_slots.proofs.crewing.sides_of.Goals as goal
 
 pub loop-slot-preserved : goal.loop-slot-preserved
-loop-slot-preserved g c = (
-  omega (arith, c.push_reserved.ensures.capacity, ap length c.push_reserved.ensures.items ∙ length_push c.loop-slot.sides.items c.into_side.result, ap length c.in-Some.ensures.steps.0, c.loop-slot.invariant.0),
-  sides_more inbox_of (λ (s : SlotState). s.inbox.name) HasPlace _ _ c.into_side.result c.in-Some.slot _ _ _ c.loop-slot.invariant.1 c.loop-slot.invariant.2 c.in-Some.ensures.steps.0 c.push_reserved.ensures.items c.into_side.ensures.inbox c.into_side.ensures.place,
-)
+loop-slot-preserved g c =
+    let got = sides_more inbox_of (λ (s : SlotState). s.inbox.name) HasPlace _ _ c.into_side.result c.in-Some.slot _ _ _ c.loop-slot.invariant.1 c.loop-slot.invariant.2 c.in-Some.ensures.steps.0 c.push_reserved.ensures.items c.into_side.ensures.inbox c.into_side.ensures.place in (
+      omega (arith, c.push_reserved.ensures.capacity, ap length c.push_reserved.ensures.items ∙ length_push c.loop-slot.sides.items c.into_side.result, ap length c.in-Some.ensures.steps.0, c.loop-slot.invariant.0),
+      got.0,
+      got.1,
+    )
 
 pub returns-clause-inboxes : goal.returns-clause-inboxes
 returns-clause-inboxes g c =
