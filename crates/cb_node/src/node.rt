@@ -68,7 +68,15 @@ impl<R: Wait + Drop> Model for Node<R> {
     ghost invariant = { λ node. AreSlotsOf node.service.common.crew node.slots.items × (node.service.settings.inbound ≤ length node.slots.items) × (length node.slots.items ≤ 64) × AreThreadsOf node.service.common.crew node.handling.items × (node.handlers.items ≡ []) × (length node.handling.items ≤ vec_capacity node.handlers) × (node.sides.items ≡ []) × (length node.slots.items ≤ vec_capacity node.sides) };
 }
 
-impl<R: Net<Listener = TcpListener, Stream = TcpStream> + Threads + Wait + Copy + Send + Drop + 'static> Node<R> {
+impl<
+    R: Net<Listener = TcpListener, Stream = TcpStream>
+        + Threads
+        + Wait
+        + Copy
+        + Send
+        + Drop
+        + 'static,
+> Node<R> {
     /// Listens on the loopback address, and returns the port. A node that listens already returns
     /// its port.
     pub fn listen(&mut self) -> Result<u16, NodeFault> {
@@ -130,7 +138,8 @@ impl<R: Net<Listener = TcpListener, Stream = TcpStream> + Threads + Wait + Copy 
             Some(listening) => listening.accept(&self.service.rt)?,
             None => return Err(NodeFault::Io),
         };
-        self.service.begin(self.slots.as_mut_slice(), 0, end, stream)
+        self.service
+            .begin(self.slots.as_mut_slice(), 0, end, stream)
     }
 
     /// Serves a peer that waits to be accepted by an inbound slot, whose number is returned.
@@ -157,7 +166,10 @@ impl<R: Net<Listener = TcpListener, Stream = TcpStream> + Threads + Wait + Copy 
             None => return Err(NodeFault::Io),
         };
         match polled {
-            Some(stream) => Ok(Some(self.service.begin(self.slots.as_mut_slice(), 0, end, stream)?)),
+            Some(stream) => Ok(Some(
+                self.service
+                    .begin(self.slots.as_mut_slice(), 0, end, stream)?,
+            )),
             None => Ok(None),
         }
     }
@@ -194,7 +206,9 @@ impl<R: Net<Listener = TcpListener, Stream = TcpStream> + Threads + Wait + Copy 
         }
         let timeout = Duration::from_secs(CONNECT_SECONDS);
         let stream = TcpStream::connect_timeout(&self.service.rt, &address, timeout)?;
-        let number = self.service.begin(self.slots.as_mut_slice(), first, end, stream)?;
+        let number = self
+            .service
+            .begin(self.slots.as_mut_slice(), first, end, stream)?;
         if let Some(slot) = self.slots.get(usize::from(number)) {
             slot.tick(&self.service.common.signals);
         }
@@ -328,4 +342,3 @@ impl<R: Net<Listener = TcpListener, Stream = TcpStream> + Threads + Wait + Copy 
 fn loopback(port: u16) -> SocketAddr {
     SocketAddr::new(IpAddr::V4(Ipv4Addr::LOCALHOST), port)
 }
-

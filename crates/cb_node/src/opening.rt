@@ -82,13 +82,15 @@ pub fn new_work<R: Wait + Copy + Drop>(
     } = ends;
     match PeerWork::new(alloc, settings, badge, outlet, hall, flags) {
         Ok(work) => Ok(Fresh::new(work)),
-        Err(NotStarted {
-            badge,
-            outlet,
-            hall,
-            flags,
-            cause,
-        }) => {
+        Err(
+            NotStarted {
+                badge,
+                outlet,
+                hall,
+                flags,
+                cause,
+            },
+        ) => {
             drop((outlet, hall, flags));
             Err(NotReady { badge, cause })
         }

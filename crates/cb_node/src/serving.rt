@@ -37,7 +37,12 @@ pub struct Service<R: Wait + Drop> {
 impl<R: Threads + Wait + Copy + Send + Drop + 'static> Service<R> {
     /// Whether one of these slots, as it seems, can serve a connection: it never had a socket, or its
     /// reader has returned.
-    pub fn has_slot(&self, slots: &[Slot<NodeWork<R>>], first: u16, end: u16) -> Result<bool, NodeFault>
+    pub fn has_slot(
+        &self,
+        slots: &[Slot<NodeWork<R>>],
+        first: u16,
+        end: u16,
+    ) -> Result<bool, NodeFault>
         ensures none { result ≡ Ok false → HasNone (uses_of slots.now) false first end }
         ensures kinds { IfErr result (λ fault. fault ≡ Memory) }
     {
@@ -75,12 +80,7 @@ impl<R: Threads + Wait + Copy + Send + Drop + 'static> Service<R> {
     }
 
     /// One of these slots with a connection that waits for its socket, which may be opened for it.
-    fn find(
-        &self,
-        slots: &mut [Slot<NodeWork<R>>],
-        first: u16,
-        end: u16,
-    ) -> Result<u16, NodeFault>
+    fn find(&self, slots: &mut [Slot<NodeWork<R>>], first: u16, end: u16) -> Result<u16, NodeFault>
         requires slots { AreSlotsOf self.now.common.crew slots.old }
         requires end { (end ≤ length slots.old) × (length slots.old ≤ 64) }
         ensures alike { AreAlike slots.old slots.new }

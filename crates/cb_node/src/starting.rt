@@ -35,7 +35,15 @@ struct Parts<R: Wait + Drop> {
     crewed: Crewed<NodeWork<R>>,
 }
 
-impl<R: Net<Listener = TcpListener, Stream = TcpStream> + Threads + Wait + Copy + Send + Drop + 'static> Node<R> {
+impl<
+    R: Net<Listener = TcpListener, Stream = TcpStream>
+        + Threads
+        + Wait
+        + Copy
+        + Send
+        + Drop
+        + 'static,
+> Node<R> {
     /// Starts a node without connections, which doesn't listen. Its handlers' threads run.
     ///
     /// Fails with `NodeFault::Memory`, and with `NodeFault::Io` if a thread can't be started. Each

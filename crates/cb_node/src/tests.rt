@@ -12,9 +12,25 @@ use std::thread::Threads;
 use std::time::{Clock, Duration};
 
 /// What a test's nodes run on.
-trait Place: Net<Listener = TcpListener, Stream = TcpStream> + Threads + Wait + Clock + Copy + Send + Drop + 'static {}
+trait Place: Net<Listener = TcpListener, Stream = TcpStream>
+    + Threads
+    + Wait
+    + Clock
+    + Copy
+    + Send
+    + Drop
+    + 'static {}
 
-impl<R: Net<Listener = TcpListener, Stream = TcpStream> + Threads + Wait + Clock + Copy + Send + Drop + 'static> Place for R {}
+impl<
+    R: Net<Listener = TcpListener, Stream = TcpStream>
+        + Threads
+        + Wait
+        + Clock
+        + Copy
+        + Send
+        + Drop
+        + 'static,
+> Place for R {}
 
 /// How often something is tried, a millisecond apart.
 const TRIES: u32 = 20_000;

@@ -215,7 +215,12 @@ impl<W: Work<Item = Input>> Slot<W> {
     /// had all its connections.
     ///
     /// Fails only with `Fault::Memory`.
-    pub fn open<R: Wait>(&mut self, rt: &R, crew: &Crew<W>, signals: &Signals) -> Result<bool, Fault>
+    pub fn open<R: Wait>(
+        &mut self,
+        rt: &R,
+        crew: &Crew<W>,
+        signals: &Signals,
+    ) -> Result<bool, Fault>
         requires slot { IsInboxOf crew.now self.old.inbox }
         requires lasts { self.old.waits ≡ false }
         ensures opened { result ≡ Ok true → self.new ≡ reopened self.old }
@@ -281,7 +286,15 @@ impl<W: Work<Item = Input>> Slot<W> {
             stream: stream.clone()?,
             slot: self.number,
         };
-        let Some(Seating::Kept(Left { side: ReaderSide::Live(seat), .. })) = self.seating.take() else {
+        let Some(
+            Seating::Kept(
+                Left {
+                    side: ReaderSide::Live(seat),
+                    ..
+                },
+            ),
+        ) = self.seating.take()
+        else {
             unreachable!()
         };
         self.latest.socket.fill(rt, stream);
@@ -356,7 +369,10 @@ fn try_open<W: Work<Item = Input>, R: Wait>(
     match seat.open(rt, inbox, work) {
         Ok(seat) => {
             signals.ring();
-            Tried { left: unread(seat), refused: None }
+            Tried {
+                left: unread(seat),
+                refused: None,
+            }
         }
         Err(refused) => Tried {
             left: Left {
