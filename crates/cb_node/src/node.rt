@@ -308,6 +308,7 @@ impl<
         Ok(all)
     }
 
+    #[tactic(auto, using(crate::proofs::Slots::sides_are, crate::proofs::Slots::handlers_are))]
     /// Ends the node. No connection is read any more; what the readers queued is served. Then all
     /// threads have returned, and all sockets are closed.
     ///

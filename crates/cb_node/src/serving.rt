@@ -35,6 +35,7 @@ pub struct Service<R: Wait + Drop> {
 }
 
 impl<R: Threads + Wait + Copy + Send + Drop + 'static> Service<R> {
+    #[tactic(auto, using(crate::proofs::Slots::none_unused))]
     /// Whether one of these slots, as it seems, can serve a connection: it never had a socket, or its
     /// reader has returned.
     pub fn has_slot(
@@ -53,6 +54,7 @@ impl<R: Threads + Wait + Copy + Send + Drop + 'static> Service<R> {
         )
     }
 
+    #[tactic(auto, using(crate::proofs::Slots::alike_refl, crate::proofs::Slots::attached_set, crate::proofs::Slots::waiting_at, crate::proofs::Slots::inbox_at, crate::proofs::Slots::still_of))]
     /// Serves a connection by one of these slots, whose number is returned: the lowest that never had
     /// a socket, or else the lowest in which the next connection can be opened.
     ///
@@ -79,6 +81,7 @@ impl<R: Threads + Wait + Copy + Send + Drop + 'static> Service<R> {
         Ok(number)
     }
 
+    #[tactic(auto, using(crate::proofs::Slots::alike_refl, crate::proofs::Slots::alike_then, crate::proofs::Slots::alike_set, crate::proofs::Slots::inbox_at, crate::proofs::Slots::waits_at, crate::proofs::Slots::lowest_unused, crate::proofs::Slots::none_unused))]
     /// One of these slots with a connection that waits for its socket, which may be opened for it.
     fn find(&self, slots: &mut [Slot<NodeWork<R>>], first: u16, end: u16) -> Result<u16, NodeFault>
         requires slots { AreSlotsOf self.now.common.crew slots.old }

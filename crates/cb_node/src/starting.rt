@@ -109,6 +109,7 @@ fn man<R: Threads + Wait + Copy + Send + Drop + 'static>(
     }
 }
 
+#[tactic(auto, using(crate::proofs::Slots::badges_new, crate::proofs::Slots::badges_count))]
 /// What a node is made of.
 fn parts_of<R: Threads + Wait + Copy + Send + Drop + 'static>(
     rt: R,

@@ -1,13 +1,22 @@
 -- Lists of slots.
-use Rattle.std.proofs.Common.{◌≡◌, ◌≢◌, ℕ, ◌<◌, ◌≤◌, Bool, true, false, List, length, map, set, get_or, All, refl, sym, ap, subst, ◌∙◌, arith}
+use Rattle.std.proofs.Common.{◌≡◌, ◌≢◌, ℕ, ◌<◌, ◌≤◌, Bool, true, false, List, [], ◌∷◌, length, map, set, get_or, All, refl, sym, ap, subst, ◌∙◌, arith}
 use Rattle.std.proofs.lemmas.List.{get_or-map, length-map, map-set, set-get_or}
-use Rattle.std.proofs.lemmas.List.Elements.{All-get_or}
+use Rattle.std.specs.List.{range_with_len}
+use Rattle.std.proofs.lemmas.List.FromFn.{length-range_with_len}
+use Rattle.std.proofs.lemmas.List.Elements.{All-cons, All-get_or, All-nil}
+use Rattle.std.specs.declared.thread.PromisedHandle.{PromisedHandle}
 use Rattle.cb_inbox.specs.Seat.{InboxState}
-use Rattle.cb_crew.specs.Crew.{CrewState}
+use Rattle.cb_hall.specs.Badge.{AreBadges, BadgeState, first_of, fresh_badge}
+use Rattle.cb_crew.specs.declared.reader_side.ReaderSide.{ReaderSide}
+use Rattle.cb_crew.specs.Desk.{DeskState}
+use Rattle.cb_crew.specs.Turn.{HandlerState}
+use Rattle.cb_crew.specs.Crew.{AreHandlersOf, AreSidesOf, CrewState, HasPlace, inbox_of}
+use Rattle.cb_service.specs.declared.promises.OfCrew.{OfCrew}
+use Rattle.cb_service.specs.Service.{HandBack}
 use Rattle.cb_slots.specs.declared.choosing.Standing.{Standing}
 use Rattle.cb_slots.specs.declared.choosing.Standing.TheVariants as standing
 use Rattle.cb_slots.specs.Choosing.{HasNone, IsLowest, is_used}
-use Rattle.cb_slots.specs.Slot.{AreAlike, AreAlikeBut, AreSlotsOf, IsInboxOf, SlotState, WaitsAt, attached, inboxes_of, uses_of}
+use Rattle.cb_slots.specs.Slot.{AreAlike, AreAlikeBut, AreSlotsOf, AreThreadsOf, IsInboxOf, IsNew, SlotState, WaitsAt, attached, inboxes_of, names_in, uses_of}
 
 -- ---- what standings tell
 
@@ -79,3 +88,33 @@ waits_at slots n d lt is = get_or-map (λ (s : SlotState). s.waits) slots n d fa
 
 pub waiting_at : (slots : List SlotState) (n : ℕ) (d : SlotState) → n < length slots → WaitsAt slots n → (get_or slots n d).waits ≡ true
 waiting_at slots n d lt is = sym (get_or-map (λ (s : SlotState). s.waits) slots n d false lt) ∙ is
+
+-- ---- a node that finishes
+
+names_map : (slots : List SlotState) → names_in slots ≡ map (λ (i : InboxState). i.name) (inboxes_of slots)
+names_map [] = refl
+names_map (s ∷ slots) = ap (λ ns. s.inbox.name ∷ ns) (names_map slots)
+
+-- the sides of the slots are those of the crew's peers
+pub sides_are : {M O : Type 0} (crew : CrewState) (slots : List SlotState) (sides : List (ReaderSide M O)) → AreSlotsOf crew slots → map inbox_of sides ≡ names_in slots → All HasPlace sides → AreSidesOf crew sides
+sides_are crew slots sides are names places = record {
+  inboxes = names ∙ names_map slots ∙ ap (map (λ (i : InboxState). i.name)) are.inboxes;
+  places = places;
+}
+
+-- the handlers that threads give back are the crew's
+pub handlers_are : {W M : Type 0} (crew : CrewState) (threads : List (PromisedHandle (HandlerState (DeskState W M)) (OfCrew W M))) (back : List (HandlerState (DeskState W M)))
+    → ((k : CrewState) (before : List (HandlerState (DeskState W M))) → HandBack k threads before → AreHandlersOf k before → AreHandlersOf k back)
+    → AreThreadsOf crew threads → AreHandlersOf crew back
+handlers_are crew threads back joined are = joined crew are.handlers are.have are.all
+
+-- badges of new connections
+all_new : (peers : List ℕ) → All IsNew (map (λ (p : ℕ). fresh_badge (first_of p)) peers)
+all_new [] = All-nil IsNew
+all_new (p ∷ peers) = All-cons IsNew _ _ (refl, refl) (all_new peers)
+
+pub badges_new : (n : ℕ) (badges : List BadgeState) → AreBadges n badges → All IsNew badges
+badges_new n badges are = subst (All IsNew) (sym are) (all_new (range_with_len 0 n))
+
+pub badges_count : (n : ℕ) (badges : List BadgeState) → AreBadges n badges → length badges ≡ n
+badges_count n badges are = ap length are ∙ length-map (range_with_len 0 n) (λ (p : ℕ). fresh_badge (first_of p)) ∙ length-range_with_len 0 n
