@@ -142,7 +142,7 @@ fn parts_of<R: Threads + Wait + Copy + Send + Drop + 'static>(
         }),
         Err(fault) => {
             drop((hall, links));
-            Err(fault)
+            Err(NodeFault::from(fault))
         }
     }
 }
