@@ -1,5 +1,5 @@
 -- Lists of slots.
-use Rattle.std.proofs.Common.{◌≡◌, ◌≢◌, ℕ, ◌<◌, ◌≤◌, Bool, true, false, List, [], ◌∷◌, length, map, set, get_or, All, refl, sym, ap, subst, ◌∙◌, arith}
+use Rattle.std.proofs.Common.{◌≡◌, ◌≢◌, ℕ, ◌<◌, ◌≤◌, Bool, true, false, List, [], ◌∷◌, length, map, set, get_or, replicate, All, refl, sym, ap, subst, ◌∙◌, arith}
 use Rattle.std.proofs.lemmas.List.{get_or-map, length-map, map-set, set-get_or}
 use Rattle.std.specs.List.{range_with_len}
 use Rattle.std.proofs.lemmas.List.FromFn.{length-range_with_len}
@@ -16,7 +16,7 @@ use Rattle.cb_service.specs.Service.{HandBack}
 use Rattle.cb_slots.specs.declared.choosing.Standing.{Standing}
 use Rattle.cb_slots.specs.declared.choosing.Standing.TheVariants as standing
 use Rattle.cb_slots.specs.Choosing.{HasNone, IsLowest, is_used}
-use Rattle.cb_slots.specs.Slot.{AreAlike, AreAlikeBut, AreSlotsOf, AreThreadsOf, IsInboxOf, IsNew, SlotState, WaitsAt, attached, inboxes_of, names_in, uses_of}
+use Rattle.cb_slots.specs.Slot.{AreAlike, AreAlikeBut, AreSlotsOf, AreThreadsOf, IsInboxOf, IsNew, SlotState, WaitsAt, attached, inboxes_of, names_in, new_slot, uses_of}
 
 -- ---- what standings tell
 
@@ -88,6 +88,20 @@ waits_at slots n d lt is = get_or-map (λ (s : SlotState). s.waits) slots n d fa
 
 pub waiting_at : (slots : List SlotState) (n : ℕ) (d : SlotState) → n < length slots → WaitsAt slots n → (get_or slots n d).waits ≡ true
 waiting_at slots n d lt is = sym (get_or-map (λ (s : SlotState). s.waits) slots n d false lt) ∙ is
+
+-- ---- a node that starts
+
+-- as many slots as inboxes
+pub count_of : (crew : CrewState) (slots : List SlotState) → AreSlotsOf crew slots → length slots ≡ length crew.inboxes
+count_of crew slots are = sym (length-map slots (λ (s : SlotState). s.inbox)) ∙ ap length are.inboxes
+
+uses_none : (inboxes : List InboxState) → uses_of (map new_slot inboxes) ≡ replicate (length inboxes) false
+uses_none [] = refl
+uses_none (i ∷ inboxes) = ap (λ us. false ∷ us) (uses_none inboxes)
+
+-- none of the new slots ever had a socket
+pub uses_new : (crew : CrewState) (slots : List SlotState) (n : ℕ) → slots ≡ map new_slot crew.inboxes → length crew.inboxes ≡ n → uses_of slots ≡ replicate n false
+uses_new crew slots n are count = ap uses_of are ∙ uses_none crew.inboxes ∙ ap (λ k. replicate k false) count
 
 -- ---- a node that finishes
 

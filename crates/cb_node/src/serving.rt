@@ -7,7 +7,9 @@ use crate::opening::{NodeWork, NotReady, new_work};
 use crate::settings::{NodeSettings, session_settings};
 use cb_base::{Fault, Shared};
 use cb_hall::{Badge, Hall};
-use cb_slots::{Common, Link, Links, Next, NodeFault, Slot, Standing, lowest, standings_of};
+use cb_slots::{
+    Common, Link, Links, Next, NodeFault, Slot, Standing, lowest, shared, standings_of,
+};
 use std::alloc::Global;
 use std::marker::{Copy, Send};
 use std::net::TcpStream;
@@ -75,7 +77,7 @@ impl<R: Threads + Wait + Copy + Send + Drop + 'static> Service<R> {
     {
         stream.set_nodelay(true)?;
         stream.set_write_timeout(Some(Duration::from_millis(self.write_milliseconds)))?;
-        let stream = Shared::new(self.alloc, stream).map_err(|_| NodeFault::Memory)?;
+        let stream = shared(self.alloc, stream)?;
         let number = self.find(slots, first, end)?;
         slots[usize::from(number)].attach(&self.rt, self.alloc, &self.common, stream)?;
         Ok(number)

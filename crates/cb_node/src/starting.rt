@@ -61,6 +61,7 @@ impl<
     }
 }
 
+#[tactic(auto, using(crate::proofs::Slots::count_of, crate::proofs::Slots::uses_new))]
 /// Starts the handlers' threads of a node.
 fn man<R: Threads + Wait + Copy + Send + Drop + 'static>(
     rt: R,
@@ -69,6 +70,7 @@ fn man<R: Threads + Wait + Copy + Send + Drop + 'static>(
     parts: Parts<R>,
 ) -> Result<Node<R>, NodeFault>
     requires count { length parts.crewed.common.crew.inboxes ≡ settings.inbound + settings.outbound }
+    requires most { settings.inbound + settings.outbound ≤ 64 }
     requires handlers { AreHandlersOf parts.crewed.common.crew parts.crewed.handlers.items
         × (parts.crewed.common.crew.handlers ≡ settings.handlers) }
     ensures { IfOk result (IsNewNode settings.inbound settings.outbound settings.handlers) }
