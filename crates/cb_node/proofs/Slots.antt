@@ -1,6 +1,6 @@
 -- Lists of slots.
 use Rattle.std.proofs.Common.{◌≡◌, ◌≢◌, ℕ, ◌<◌, ◌≤◌, Bool, true, false, List, [], ◌∷◌, length, map, set, get_or, replicate, All, refl, sym, ap, subst, ◌∙◌, arith}
-use Rattle.std.proofs.lemmas.List.{get_or-map, length-map, map-set, set-get_or}
+use Rattle.std.proofs.lemmas.List.{get_or-map, get_or-set_same, length-map, length-set, map-set, set-get_or}
 use Rattle.std.specs.List.{range_with_len}
 use Rattle.std.proofs.lemmas.List.FromFn.{length-range_with_len}
 use Rattle.std.proofs.lemmas.List.Elements.{All-cons, All-get_or, All-nil}
@@ -75,6 +75,14 @@ alike_set old new n d s is inbox used = record {
   uses = ap uses_of is ∙ map-set (λ (t : SlotState). t.used) old n s ∙ ap (λ u. set (uses_of old) n u) used ∙ sym (map-set (λ (t : SlotState). t.used) old n (get_or old n d)) ∙ ap uses_of (set-get_or old n d);
 }
 
+-- once more
+pub alike_more : (a b c : List SlotState) (n : ℕ) (d s : SlotState) → AreAlike a b → c ≡ set b n s → s.inbox ≡ (get_or b n d).inbox → s.used ≡ (get_or b n d).used → AreAlike a c
+alike_more a b c n d s alike is inbox used = alike_then a b c alike (alike_set b c n d s is inbox used)
+
+-- the slot at a place of slots that are alike is of the crew
+pub inbox_alike : (crew : CrewState) (old new : List SlotState) (n : ℕ) (d : SlotState) → AreSlotsOf crew old → AreAlike old new → n < length new → IsInboxOf crew (get_or new n d).inbox
+inbox_alike crew old new n d are alike lt = inbox_at crew new n d (still_of crew old new are alike.inboxes) lt
+
 -- or it got one
 pub attached_set : (old mid new : List SlotState) (n : ℕ) (d : SlotState) → AreAlike old mid → new ≡ set mid n (attached (get_or mid n d)) → AreAlikeBut n old new
 attached_set old mid new n d alike is = record {
@@ -85,6 +93,17 @@ attached_set old mid new n d alike is = record {
 -- the slot at a place waits
 pub waits_at : (slots : List SlotState) (n : ℕ) (d : SlotState) → n < length slots → (get_or slots n d).waits ≡ true → WaitsAt slots n
 waits_at slots n d lt is = get_or-map (λ (s : SlotState). s.waits) slots n d false lt ∙ is
+
+-- the lowest that never had a socket waits
+pub waits_unused : (all : List Standing) (slots : List SlotState) (first end n : ℕ) (d : SlotState) (told : Bool) → map is_used all ≡ uses_of slots → IsLowest all standing.Unused first end n → n < length slots
+    → told ≡ (get_or slots n d).waits → ((get_or slots n d).used ≡ false → told ≡ true) → WaitsAt slots n
+waits_unused all slots first end n d told same low lt is unused =
+    let used : (get_or slots n d).used ≡ false = sym (get_or-map (λ (s : SlotState). s.used) slots n d false lt) ∙ (lowest_unused all (uses_of slots) first end n same low).there in
+    waits_at slots n d lt (sym is ∙ unused used)
+
+-- a slot that waits was put there
+pub waits_set : (old new : List SlotState) (n : ℕ) (s : SlotState) → new ≡ set old n s → n < length old → s.waits ≡ true → WaitsAt new n
+waits_set old new n s is lt waits = waits_at new n s (omega (arith, ap length is, length-set old n s, lt)) (ap (λ (xs : List SlotState). (get_or xs n s).waits) is ∙ ap (λ (t : SlotState). t.waits) (get_or-set_same old n s s lt) ∙ waits)
 
 pub waiting_at : (slots : List SlotState) (n : ℕ) (d : SlotState) → n < length slots → WaitsAt slots n → (get_or slots n d).waits ≡ true
 waiting_at slots n d lt is = sym (get_or-map (λ (s : SlotState). s.waits) slots n d false lt) ∙ is

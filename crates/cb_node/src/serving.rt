@@ -50,13 +50,13 @@ impl<R: Threads + Wait + Copy + Send + Drop + 'static> Service<R> {
         ensures kinds { IfErr result (λ fault. fault ≡ Memory) }
     {
         let standings = standings_of(self.alloc, slots)?;
-        Ok(
-            lowest(standings.as_slice(), Standing::Unused, first, end).is_some()
-                || lowest(standings.as_slice(), Standing::Left, first, end).is_some(),
-        )
+        match lowest(standings.as_slice(), Standing::Unused, first, end) {
+            Some(_) => Ok(true),
+            None => Ok(lowest(standings.as_slice(), Standing::Left, first, end).is_some()),
+        }
     }
 
-    #[tactic(auto, using(crate::proofs::Slots::alike_refl, crate::proofs::Slots::attached_set, crate::proofs::Slots::waiting_at, crate::proofs::Slots::inbox_at, crate::proofs::Slots::still_of))]
+    #[tactic(auto, using(crate::proofs::Slots::alike_refl, crate::proofs::Slots::alike_more, crate::proofs::Slots::attached_set, crate::proofs::Slots::waiting_at, crate::proofs::Slots::inbox_alike))]
     /// Serves a connection by one of these slots, whose number is returned: the lowest that never had
     /// a socket, or else the lowest in which the next connection can be opened.
     ///
@@ -83,12 +83,13 @@ impl<R: Threads + Wait + Copy + Send + Drop + 'static> Service<R> {
         Ok(number)
     }
 
-    #[tactic(auto, using(crate::proofs::Slots::alike_refl, crate::proofs::Slots::alike_then, crate::proofs::Slots::alike_set, crate::proofs::Slots::inbox_at, crate::proofs::Slots::waits_at, crate::proofs::Slots::lowest_unused, crate::proofs::Slots::none_unused))]
+    #[tactic(auto, using(crate::proofs::Slots::alike_refl, crate::proofs::Slots::alike_more, crate::proofs::Slots::inbox_alike, crate::proofs::Slots::waits_unused, crate::proofs::Slots::waits_set, crate::proofs::Slots::lowest_unused, crate::proofs::Slots::none_unused))]
     /// One of these slots with a connection that waits for its socket, which may be opened for it.
     fn find(&self, slots: &mut [Slot<NodeWork<R>>], first: u16, end: u16) -> Result<u16, NodeFault>
         requires slots { AreSlotsOf self.now.common.crew slots.old }
         requires end { (end ≤ length slots.old) × (length slots.old ≤ 64) }
         ensures alike { AreAlike slots.old slots.new }
+        ensures count { length slots.new ≡ length slots.old }
         ensures chosen { IfOk result (IsChosen (uses_of slots.old) first end) }
         ensures waits { IfOk result (WaitsAt slots.new) }
         ensures no_slot { result ≡ Err NoSlot → HasNone (uses_of slots.old) false first end }
