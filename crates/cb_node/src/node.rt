@@ -1,4 +1,4 @@
-ghost use Rattle.std.specs.Prelude.{◌≡◌, ◌⊎◌, ◌↔◌, ◌<◌, ◌≤◌, false, None, Some, length, IfErr, IfOk, IfSome, OnErr, Ok, Err};
+ghost use Rattle.std.specs.Prelude.{◌≡◌, ◌≢◌, ◌⊎◌, ◌↔◌, ◌<◌, ◌≤◌, false, None, Some, length, IfErr, IfOk, IfSome, OnErr, Ok, Err};
 ghost use Rattle.cb_base.specs.declared.fault.Fault.TheVariants as faults;
 ghost use Rattle.cb_slots.specs.declared.fault.NodeFault.TheVariants.{Io, Memory, NoSlot};
 ghost use Rattle.cb_slots.specs.declared.fault.NodeFault.TheVariants as told;
@@ -268,7 +268,9 @@ impl<
     /// Kicks a slot's latest connection in the hall.
     fn kick_in_hall(&self, slot: u16) -> Result<(), NodeFault>
         requires { slot < 64 }
-        ensures { IfErr result (λ fault. (fault ≡ told.Hall faults.JournalFull) ⊎ (fault ≡ Memory)) }
+        ensures there { result ≢ Err NoSlot }
+        ensures kinds { IfErr result
+            (λ fault. (fault ≡ told.Hall faults.JournalFull) ⊎ (fault ≡ Memory)) }
     {
         let mut hall = self.service.hall.lock(&self.service.rt);
         Ok(hall.kick(slot)?)
@@ -303,7 +305,10 @@ impl<
     {
         let mut all = Vec::new(self.service.alloc);
         for slot in self.slots.as_slice() {
-            slot.report(&mut all)?;
+            // It fails only with `Fault::Memory`.
+            if slot.report(&mut all).is_err() {
+                return Err(NodeFault::Memory);
+            }
         }
         Ok(all)
     }
