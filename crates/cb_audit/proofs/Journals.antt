@@ -8,18 +8,22 @@ use Rattle.cb_journal.specs.declared.answer.Answer.{Answer}
 use Rattle.cb_journal.specs.declared.question.Question.{Question}
 use Rattle.cb_journal.specs.declared.entry.Entry.{Entry}
 use Rattle.cb_journal.specs.declared.entry.Entry.TheVariants.{Asked, Kick, Opened, Submitted}
-use Rattle.cb_journal.specs.Connections.{Slots}
-use Rattle.cb_journal.specs.Journal.{IsPast}
+use Rattle.cb_journal.specs.Connections.{AreCounted, Slots}
+use Rattle.cb_journal.specs.Journal.{IsPast, JournalState}
 use Rattle.cb_journal.specs.Replica.{IsFit, Leads, ReplicaState, Steps, heard}
 use Rattle.cb_journal.proofs.Leading.{leads_length, leads_one, leads_then, step_fit}
 use Rattle.cb_journal.proofs.Once.{one_step}
+use Rattle.cb_audit.specs.declared.heard.Difference.{Difference}
 use Rattle.cb_audit.specs.declared.heard.Heard.{Heard}
 use Rattle.cb_audit.specs.declared.place.Place.{Place}
-use Rattle.cb_audit.specs.Comparing.{Seen}
-use Rattle.cb_audit.specs.Heard.{Compares, IsHeard, IsPartway, seen_more, seen_of}
-use Rattle.cb_audit.specs.Order.{AuditedTrace}
+use Rattle.cb_audit.specs.Audit.{Answered}
+use Rattle.cb_audit.specs.Comparing.{AreFew, Seen}
+use Rattle.cb_audit.specs.Counting.{granted, told_by}
+use Rattle.cb_audit.specs.Heard.{Compares, IsHeard, IsPartway, IsSplit, seen_more, seen_of}
+use Rattle.cb_audit.specs.Order.{AuditedTrace, trace_of}
 use Rattle.cb_audit.specs.Turns.{Turn, turn_of, turns_of}
 use Rattle.cb_audit.proofs.Accounts.{heard_like}
+use Rattle.cb_audit.proofs.Numbers.{granted_few}
 
 -- ---- turns of one entry more
 
@@ -205,3 +209,28 @@ pub so_far_end : (kept : Slots) (audited : List AuditedTrace) (base here end : R
     → IsSoFar kept audited base all (drop k items) here end places stranger → length items ≤ k → IsDone kept audited base all end places stranger
 so_far_end kept audited base here end all items k places stranger so_far past =
     done_all kept audited base here end all places stranger (subst (λ (left : List Entry). IsSoFar kept audited base all left here end places stranger) (drop_all k items past) so_far)
+
+-- ---- at the end
+
+-- no place is too large for its field
+few_seen : (kept : Slots) (audited : List AuditedTrace) (entries : List Entry) (told : List Answer) → ((c : Connection) → granted kept c ≤ 4611686018427387904) → ((c : Connection) → told_by (trace_of audited c) ≤ 4611686018427387904)
+    → length entries ≤ 1000000 → AreFew kept audited (seen_of entries told)
+few_seen kept audited entries told granted_few told_few few =
+    record {
+      granted_few = granted_few;
+      told_few = told_few;
+      seen_few = λ c. (let own = turns_few c entries told in omega (arith, own, few));
+    }
+
+-- the answers are those of the journal, and what was found is the first difference
+pub answered : (journal : JournalState) (audited : List AuditedTrace) (places : List Place) (stranger : Option Connection) (most : ℕ) (found : Option Difference)
+    → IsDone journal.base.connections audited journal.base journal.entries journal.latest places stranger → AreCounted most journal.base.connections → most ≤ 4611686018427387904
+    → ((c : Connection) → told_by (trace_of audited c) ≤ 4611686018427387904) → length journal.entries ≤ 1000000
+    → ((seen : Seen) → AreFew journal.base.connections audited seen → IsHeard journal.base.connections audited seen places stranger → IsSplit journal.base.connections audited seen found)
+    → Answered journal (λ seen. IsSplit journal.base.connections audited seen found)
+answered journal audited places stranger most found done are low told_few few split =
+    (
+      done.told, done.leads,
+      split (seen_of journal.entries done.told)
+      (few_seen journal.base.connections audited journal.entries done.told (granted_few journal.base.connections most are low) told_few few) done.was_heard,
+    )

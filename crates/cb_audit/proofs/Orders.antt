@@ -2,7 +2,7 @@
 use Rattle.std.proofs.Common.{◌≡◌, ◌∙◌, ◌≢◌, ℕ, zero, suc, ◌+◌, ◌-◌, ◌/◌, ◌<◌, ◌≤◌, Bool, true, false, cond, List, [], ◌∷◌, length, Option, Some, None, refl, sym, ap, subst, inl, inr, arith, nat_eq}
 use Rattle.std.specs.Prelude.{◌⊎◌, ◌&&◌, get_or, slice_get}
 use Rattle.std.proofs.lemmas.Bool.Decides.{nat_tests}
-use Rattle.std.proofs.lemmas.Option.{slice_get_read, slice_get_within}
+use Rattle.std.proofs.lemmas.Option.{get_or_from_slice_get, slice_get_read, slice_get_within}
 use Rattle.cb_state.specs.declared.connection.Connection.{Connection}
 use Rattle.cb_state.specs.Announcers.{same_connection}
 use Rattle.cb_hall.proofs.Lookups.{is_same}
@@ -128,6 +128,49 @@ pub has_or_not : (audited : List AuditedTrace) (c : Connection) → HasTrace aud
 has_or_not [] c = inr refl
 has_or_not (x ∷ xs) c = by_first x xs c (same_connection x.connection c) refl (has_or_not xs c)
 
+-- ---- whether they are in order
+
+-- those before a place
+abbrev pub InOrderUpTo : List AuditedTrace → ℕ → Type 0
+InOrderUpTo audited n = (i j : ℕ) (one other : AuditedTrace) → i < j → j < n → slice_get audited i ≡ Some one → slice_get audited j ≡ Some other → IsBefore one.connection other.connection
+
+pub order_first : (audited : List AuditedTrace) → InOrderUpTo audited 1
+order_first audited i j one other low high at bt = absurd (omega (arith, low, high))
+
+same_one : (audited : List AuditedTrace) (i j : ℕ) (one other : AuditedTrace) → i ≡ j → slice_get audited i ≡ Some one → slice_get audited j ≡ Some other → one ≡ other
+same_one audited i j one other e at bt = let some_same : Some one ≡ Some other = sym at ∙ ap (slice_get audited) e ∙ bt in cc
+
+before_last : (audited : List AuditedTrace) (n i : ℕ) (former last one : AuditedTrace) → InOrderUpTo audited n → 1 ≤ n → slice_get audited (n - 1) ≡ Some former → IsBefore former.connection last.connection
+    → i < n → slice_get audited i ≡ Some one → ((i < n - 1) ⊎ (n - 1 ≤ i)) → IsBefore one.connection last.connection
+before_last audited n i former last one are some_place at before low bt (inl h) =
+    before_trans one.connection former.connection last.connection (are i (n - 1) one former h (omega (arith, some_place)) bt at) before
+before_last audited n i former last one are some_place at before low bt (inr h) =
+    subst (λ (a : AuditedTrace). IsBefore a.connection last.connection) (same_one audited (n - 1) i former one (omega (arith, low, h)) at bt) before
+
+order_pick : (audited : List AuditedTrace) (n i j : ℕ) (former last one other : AuditedTrace) → InOrderUpTo audited n → 1 ≤ n → slice_get audited (n - 1) ≡ Some former → slice_get audited n ≡ Some last
+    → IsBefore former.connection last.connection → i < j → j < n + 1 → slice_get audited i ≡ Some one → slice_get audited j ≡ Some other → ((j < n) ⊎ (n ≤ j)) → IsBefore one.connection other.connection
+order_pick audited n i j former last one other are some_place at lt before low high bt ct (inl h) = are i j one other low h bt ct
+order_pick audited n i j former last one other are some_place at lt before low high bt ct (inr h) =
+    subst (λ (a : AuditedTrace). IsBefore one.connection a.connection) (same_one audited n j last other (omega (arith, high, h)) lt ct)
+    (before_last audited n i former last one are some_place at before (omega (arith, low, high)) bt (less i (n - 1)))
+
+pub order_next : (audited : List AuditedTrace) (n : ℕ) (former last : AuditedTrace) → InOrderUpTo audited n → 1 ≤ n → n < length audited → former ≡ get_or audited (n - 1) former → last ≡ get_or audited n last
+    → IsBefore former.connection last.connection → InOrderUpTo audited (n + 1)
+order_next audited n former last are some_place within is own before = λ i j one other low high at bt.
+    order_pick audited n i j former last one other are some_place (slice_get_read audited (length audited) (n - 1) former refl (omega (arith, some_place, within)) is)
+    (slice_get_read audited (length audited) n last refl within own) before low high at bt (less j n)
+
+pub order_all : (audited : List AuditedTrace) (n : ℕ) → InOrderUpTo audited n → length audited ≤ n → AreInOrder audited
+order_all audited n are past = λ i j one other low at bt.
+    (let within = slice_get_within audited j other bt in are i j one other low (omega (arith, within, past)) at bt)
+
+pub order_not : (audited : List AuditedTrace) (n : ℕ) (former last : AuditedTrace) → 1 ≤ n → n < length audited → former ≡ get_or audited (n - 1) former → last ≡ get_or audited n last
+    → (IsBefore former.connection last.connection → ⊥) → AreInOrder audited → ⊥
+order_not audited n former last some_place within is own not order =
+    not
+    (order (n - 1) n former last (omega (arith, some_place)) (slice_get_read audited (length audited) (n - 1) former refl (omega (arith, some_place, within)) is)
+    (slice_get_read audited (length audited) n last refl within own))
+
 -- ---- a binary search
 
 -- Those before `low` come before the connection, those from `high` on behind it.
@@ -204,3 +247,13 @@ left_at audited c low high middle m order b large small is before = between_left
 pub found_at : (audited : List AuditedTrace) (c : Connection) (low high middle : ℕ) (m : AuditedTrace) → IsBetween audited c low high → middle < high → m ≡ get_or audited middle m → (IsBefore m.connection c → ⊥) → (IsBefore c m.connection → ⊥)
     → IsTraceAt audited c middle
 found_at audited c low high middle m b small is not back = (m, item_at audited c low high middle m b small is, neither_before m.connection c not back)
+
+-- ---- by what the code reads
+
+here_is : (audited : List AuditedTrace) (place : ℕ) (here one : AuditedTrace) → slice_get audited place ≡ Some one → here ≡ get_or audited place here → here ≡ one
+here_is audited place here one at is = is ∙ get_or_from_slice_get audited place one here at
+
+-- what the trace of a found place is
+pub trace_read : (audited : List AuditedTrace) (c : Connection) (place : ℕ) (here : AuditedTrace) → AreInOrder audited → IsTraceAt audited c place → here ≡ get_or audited place here → trace_of audited c ≡ Some here.trace
+trace_read audited c place here order (one, at, own) is =
+    trace_at audited c place one order at own ∙ ap (λ (a : AuditedTrace). Some a.trace) (sym (here_is audited place here one at is))

@@ -64,6 +64,21 @@ pub paired_other : (turns all : List Turn) (questions : List (Option Question)) 
 paired_other turns all questions entries i entry low is other paired_all =
     ap (λ (l : List Answer). turns ++ paired questions l) (sym (left_of entries i entry low is ∙ ap (λ (l : List Answer). l ++ answers_in (drop (i + 1) entries)) other)) ∙ paired_all
 
+-- it isn't an answer
+no_answer : (event : Event) → ((answer : Answer) → event ≡ events.Told answer → ⊥) → answer_in event ≡ []
+no_answer (events.Said item) not = refl
+no_answer (events.Broken fault) not = refl
+no_answer events.Tick not = refl
+no_answer (events.Told answer) not = absurd (not answer refl)
+no_answer events.ReaderEnd not = refl
+no_answer events.NoMemory not = refl
+no_answer events.HallFull not = refl
+no_answer events.WriteFault not = refl
+
+pub paired_passed : (turns all : List Turn) (questions : List (Option Question)) (entries : List TraceEntry) (i : ℕ) (entry : TraceEntry) → i < length entries → entry ≡ get_or entries i entry
+    → ((answer : Answer) → entry.event ≡ events.Told answer → ⊥) → IsPaired turns questions (drop i entries) all → IsPaired turns questions (drop (i + 1) entries) all
+paired_passed turns all questions entries i entry low is not paired_all = paired_other turns all questions entries i entry low is (no_answer entry.event not) paired_all
+
 pub paired_more : (turns all : List Turn) (questions : List (Option Question)) (question : Option Question) (answer : Answer) (entries : List TraceEntry) (i : ℕ) (entry : TraceEntry) → i < length entries → entry ≡ get_or entries i entry
     → entry.event ≡ events.Told answer
     → IsPaired turns (question ∷ questions) (drop i entries) all → IsPaired (turns ++ record { question = question; answer = answer } ∷ []) questions (drop (i + 1) entries) all
@@ -76,6 +91,10 @@ paired_more turns all questions question answer entries i entry low is told pair
 -- no question is left
 pub paired_stays : (turns all : List Turn) (entries : List TraceEntry) (i : ℕ) → IsPaired turns [] (drop i entries) all → IsPaired turns [] (drop (i + 1) entries) all
 paired_stays turns all entries i paired_all = paired_all
+
+pub paired_short : (turns all : List Turn) (questions : List (Option Question)) (left : List TraceEntry) → questions ≡ [] → IsPaired turns questions left all → turns ≡ all
+paired_short turns all questions left none paired_all =
+    sym (append-nil turns) ∙ ap (λ (l : List (Option Question)). turns ++ paired l (answers_in left)) (sym none) ∙ paired_all
 
 pub paired_end : (turns all : List Turn) (questions : List (Option Question)) (entries : List TraceEntry) (i : ℕ) → IsPaired turns questions (drop i entries) all → length entries ≤ i → turns ≡ all
 paired_end turns all questions entries i paired_all past =

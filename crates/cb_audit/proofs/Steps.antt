@@ -18,8 +18,8 @@ drop_nil (suc n) = refl
 
 get_drop : {A : Type 0} (n i : ℕ) (xs : List A) → slice_get (drop n xs) i ≡ slice_get xs (n + i)
 get_drop n i [] = ap (λ (l : List _). slice_get l i) (drop_nil n)
-get_drop zero i (x ∷ xs) = refl
-get_drop (suc n) i (x ∷ xs) = get_drop n i xs
+get_drop zero i (x ∷ xs) = ap (slice_get (x ∷ xs)) (let e : i ≡ 0 + i = omega arith in e)
+get_drop (suc n) i (x ∷ xs) = get_drop n i xs ∙ ap (slice_get (x ∷ xs)) (let e : suc (n + i) ≡ suc n + i = omega arith in e)
 
 take_suc : {A : Type 0} (n : ℕ) (xs : List A) (x : A) → slice_get xs n ≡ Some x → take (suc n) xs ≡ take n xs ++ x ∷ []
 take_suc n [] x at = absurd (let never : None ≡ Some x = at in cc)

@@ -9,7 +9,7 @@ use cb_state::Connection;
 use std::alloc::Global;
 
 /// Why an audit doesn't say yes.
-#[derive(Drop)]
+#[derive(Clone, Copy, PartialEq, Eq)]
 pub enum Split {
     /// There isn't enough memory to compare questions and answers.
     Memory,

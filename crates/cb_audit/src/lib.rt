@@ -13,5 +13,5 @@ mod place;
 mod turns;
 
 pub use auditing::{Split, audit};
-pub use audited::Audited;
+pub use audited::{Audited, are_in_order};
 pub use laws::each_answer_has_its_question;

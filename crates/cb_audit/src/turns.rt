@@ -75,12 +75,13 @@ fn paired<'a>(
     let mut turns = Vec::new(alloc);
     let mut questions = asked.into_iter();
     for entry in entries {
-        if let Event::Told(answer) = &entry.event {
-            let Some(question) = questions.next() else {
-                break;
-            };
-            turns.push(Turn { question, answer })?;
-        }
+        let Event::Told(answer) = &entry.event else {
+            continue;
+        };
+        let Some(question) = questions.next() else {
+            return Ok(turns);
+        };
+        turns.push(Turn { question, answer })?;
     }
     Ok(turns)
 }
