@@ -90,8 +90,7 @@ pub first_more : (kept : Slots) (audited : List AuditedTrace) (places all : List
     → (length all ≡ n + 1) × ArePlaced kept audited (λ _. []) all
 first_more kept audited places all n here new is long are at come =
     let sum = length-append places (new ∷ []) in
-    let same = ap length is in
-    (
+    let same = ap length is in (
       omega (arith, sum, same, long),
       subst (ArePlaced kept audited (λ _. [])) (sym is) (placed_more kept audited (λ _. []) places here new are (ap (slice_get audited) long ∙ at) come),
     )
@@ -131,11 +130,11 @@ known_placed kept audited seen places c at i here one old new place turns turn o
     let there : here ≡ one = one_of audited i here one (ap (slice_get audited) (sym e) ∙ hat) bt in
     let come = are at here old hat pat in
     let stepped =
-        step (start_of kept here) (skip_of kept here) (seen here.connection)
-        (subst (λ (t : List Turn). HasCome (start_of kept here) (skip_of kept here) t (seen here.connection) old.skip old.next old.differs) (sym own) come) in
+    step (start_of kept here) (skip_of kept here) (seen here.connection)
+    (subst (λ (t : List Turn). HasCome (start_of kept here) (skip_of kept here) t (seen here.connection) old.skip old.next old.differs) (sym own) come) in
     let grown =
-        subst (λ (t : List Turn). HasCome (start_of kept here) (skip_of kept here) t (seen_more seen c turn here.connection) new.skip new.next new.differs) own
-        (subst (λ (s : List Turn). HasCome (start_of kept here) (skip_of kept here) turns s new.skip new.next new.differs) (sym (more_same seen c here.connection turn (sym is))) stepped) in
+    subst (λ (t : List Turn). HasCome (start_of kept here) (skip_of kept here) t (seen_more seen c turn here.connection) new.skip new.next new.differs) own
+    (subst (λ (s : List Turn). HasCome (start_of kept here) (skip_of kept here) turns s new.skip new.next new.differs) (sym (more_same seen c here.connection turn (sym is))) stepped) in
     subst (λ (a : AuditedTrace). HasCome (start_of kept a) (skip_of kept a) (turns_in a.trace) (seen_more seen c turn a.connection) place.skip place.next place.differs) there
     (subst (λ (p : Place). HasCome (start_of kept here) (skip_of kept here) (turns_in here.trace) (seen_more seen c turn here.connection) p.skip p.next p.differs) same grown)
 known_placed kept audited seen places c at i here one old new place turns turn order are hat is pat own step bt (inr (differ, ct)) =
@@ -185,14 +184,12 @@ first_is : (audited : List AuditedTrace) (seen : Seen) (stranger : Option Connec
     → ((stranger ≡ Some first) ⊎ (Some c ≡ Some first)) → IsStranger audited first × (seen_more seen c turn first ≡ [] → ⊥)
 first_is audited seen None c first turn are none (inl e) = (let never : None ≡ Some first = e in absurd (cc))
 first_is audited seen (Some connection) c first turn are none (inl e) =
-    let same : connection ≡ first = (let some_same : Some connection ≡ Some first = e in cc) in
-    (
+    let same : connection ≡ first = (let some_same : Some connection ≡ Some first = e in cc) in (
       subst (IsStranger audited) same are.stranger,
       subst (λ (x : Connection). seen_more seen c turn x ≡ [] → ⊥) same (more_some seen c connection turn (same_connection c connection) are.some_turn),
     )
 first_is audited seen stranger c first turn are none (inr e) =
-    let same : c ≡ first = (let some_same : Some c ≡ Some first = e in cc) in
-    (
+    let same : c ≡ first = (let some_same : Some c ≡ Some first = e in cc) in (
       subst (IsStranger audited) same none,
       λ nothing. push_some (seen first) turn (sym (more_same seen c first turn same) ∙ nothing),
     )
@@ -286,11 +283,11 @@ splits_at kept audited seen one turns difference has own is =
       index = is.index;
       is = is.is ∙ ap (λ (t : Option TraceView). first_place kept one.connection t + is.index) (sym has);
       parts =
-        subst
-        (λ (t : Option TraceView).
+          subst
+          (λ (t : Option TraceView).
           PartsAt (drop (first_place kept one.connection t - granted kept one.connection) (seen one.connection)) (drop (first_place kept one.connection t - told_before t) (turns_by t)) is.index)
-        (sym has)
-        (subst (λ (l : List Turn). PartsAt (drop (skip_of kept one) (seen one.connection)) (drop (start_of kept one) l) is.index) own is.parts);
+          (sym has)
+          (subst (λ (l : List Turn). PartsAt (drop (skip_of kept one) (seen one.connection)) (drop (start_of kept one) l) is.index) own is.parts);
     }
 
 -- the answers dropped are some of all
@@ -325,7 +322,7 @@ all_at audited all at here turns is a b =
 pub with_found : (kept : Slots) (audited : List AuditedTrace) (seen : Seen) (places : List Place) (n : ℕ) (here : AuditedTrace) (place : Place) (turns : List Turn) (found : Option Difference) → AreInOrder audited
     → AreFew kept audited seen → ArePlaced kept audited seen places → slice_get audited n ≡ Some here → slice_get places n ≡ Some place → turns ≡ turns_in here.trace
     → ((k : Slots) (s : List Turn) → HasCome (start_of k here) (skip_of k here) turns s place.skip place.next place.differs → granted k here.connection ≤ 4611686018427387904 → here.trace.total.told ≤ 4611686018427387904
-      → length s ≤ 4611686018427387904 → MatchOption found (drop (skip_of k here) s ≡ drop (start_of k here) turns) (IsDifference k here turns s))
+    → length s ≤ 4611686018427387904 → MatchOption found (drop (skip_of k here) s ≡ drop (start_of k here) turns) (IsDifference k here turns s))
     → MatchOption found (drop (skip_of kept here) (seen here.connection) ≡ drop (start_of kept here) turns) (IsDifference kept here turns (seen here.connection))
 with_found kept audited seen places n here place turns found order few placed at bt own clause =
     let has = trace_at audited here.connection n here order at refl in
@@ -399,14 +396,14 @@ stranger_splits kept audited seen c place none some_turn is =
       index = 0;
       is = subst (λ (t : Option TraceView). place ≡ first_place kept c t + 0) (sym none) (omega (arith, is));
       parts =
-        subst (λ (t : Option TraceView). PartsAt (drop (first_place kept c t - granted kept c) (seen c)) (drop (first_place kept c t - told_before t) (turns_by t)) 0) (sym none)
-        (record {
-          before = refl;
-          here = λ e.
-              (let skip : first_place kept c None - granted kept c ≡ 0 = omega arith in
-              some_first (seen c) some_turn
-              (ap (λ (n : ℕ). slice_get (drop n (seen c)) 0) (sym skip) ∙ e ∙ ap (λ (l : List Turn). slice_get l 0) (drop_all (first_place kept c None - 0) [] (omega arith))));
-        });
+          subst (λ (t : Option TraceView). PartsAt (drop (first_place kept c t - granted kept c) (seen c)) (drop (first_place kept c t - told_before t) (turns_by t)) 0) (sym none)
+          (record {
+            before = refl;
+            here = λ e.
+                (let skip : first_place kept c None - granted kept c ≡ 0 = omega arith in
+                some_first (seen c) some_turn
+                (ap (λ (n : ℕ). slice_get (drop n (seen c)) 0) (sym skip) ∙ e ∙ ap (λ (l : List Turn). slice_get l 0) (drop_all (first_place kept c None - 0) [] (omega arith))));
+          });
     }
 
 any_agrees : (kept : Slots) (audited : List AuditedTrace) (seen : Seen) (other : Connection) → (HasTrace audited other → Agrees kept audited seen other) → (IsStranger audited other → seen other ≡ [])
@@ -456,7 +453,7 @@ pub not_before : (a b : Connection) → IsBefore a b → IsBefore b a → ⊥
 not_before a b h k = before_not a a (before_trans a b a h k) refl
 
 pub told_not : {P : Type 0} (b : Bool) → (P → b ≡ true) → b ≡ false → P → ⊥
-told_not b yes is p = (let never : true ≡ false = sym (yes p) ∙ is in absurd (cc))
+told_not b if_so is p = (let never : true ≡ false = sym (if_so p) ∙ is in absurd (cc))
 
 pub one_found : (found : Option Difference) (difference other : Difference) (c : Connection) → found ≡ Some difference → (IsBefore difference.connection c → ⊥) → found ≡ Some other → IsBefore other.connection c → ⊥
 one_found found difference other c is not same before =

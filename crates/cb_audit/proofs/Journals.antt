@@ -33,7 +33,7 @@ turns_asked : (c d : Connection) (q : Question) (done next : List Entry) (said :
 turns_asked c d q done next said others more answer is same =
     subst
     (λ (t : Option Answer).
-      turns_of c ((Asked d q ∷ done) ++ next) ((heard (Asked d q) t ++ others) ++ more) ≡ turns_of c (Asked d q ∷ done) (heard (Asked d q) t ++ others) ++ turns_of c next more)
+    turns_of c ((Asked d q ∷ done) ++ next) ((heard (Asked d q) t ++ others) ++ more) ≡ turns_of c (Asked d q ∷ done) (heard (Asked d q) t ++ others) ++ turns_of c next more)
     (sym is)
     (ap (λ (l : List Turn). turn_of c d q answer ++ l) same ∙ sym (append_assoc (turn_of c d q answer) (turns_of c done others) (turns_of c next more)))
 
@@ -86,7 +86,7 @@ seen_other old new done told more entry leads none other =
 
 pub compares_asked : (kept : Slots) (audited : List AuditedTrace) (old new : ReplicaState) (c : Connection) (q : Question) (answer : Answer) (before after : Heard) → Steps old (Asked c q) (Some answer) new
     → ((seen : Seen) → IsHeard kept audited seen before.places.items before.stranger
-      → IsHeard kept audited (seen_more seen c (record { question = Some q; answer = answer })) after.places.items after.stranger)
+    → IsHeard kept audited (seen_more seen c (record { question = Some q; answer = answer })) after.places.items after.stranger)
     → Compares kept audited old (Asked c q) new before after
 compares_asked kept audited old new c q answer before after steps more =
     record {
@@ -120,6 +120,17 @@ compares_other kept audited old new (Kick c) said before after steps not same = 
 compares_other kept audited old new (Opened c) said before after steps not same = compares_same kept audited old new (Opened c) said before after steps (λ _. refl) same
 compares_other kept audited old new (Submitted l) said before after steps not same = compares_same kept audited old new (Submitted l) said before after steps (λ _. refl) same
 
+-- by what the code matched
+pub compares_heard : (kept : Slots) (audited : List AuditedTrace) (old new : ReplicaState) (entry : Entry) (c : Connection) (q : Question) (said : Option Answer) (answer : Answer) (before after : Heard) → Steps old entry said new
+    → entry ≡ Asked c q → said ≡ Some answer
+    → ((seen : Seen) → IsHeard kept audited seen before.places.items before.stranger
+    → IsHeard kept audited (seen_more seen c (record { question = Some q; answer = answer })) after.places.items after.stranger)
+    → Compares kept audited old entry new before after
+compares_heard kept audited old new entry c q said answer before after steps is told more =
+    subst (λ (e : Entry). Compares kept audited old e new before after) (sym is)
+    (compares_asked kept audited old new c q answer before after
+    (subst (λ (e : Entry). Steps old e (Some answer) new) is (subst (λ (t : Option Answer). Steps old entry t new) told steps)) more)
+
 -- ---- the journal
 
 -- so far, with what is still to come
@@ -138,11 +149,11 @@ so_far_first kept audited base here end all left places stranger past e f heard 
       told = [];
       parts = e;
       way =
-        record {
-          before = (refl, f);
-          others = past.answers;
-          after = subst (λ (s : ReplicaState). Leads s left past.answers end) (sym f) (subst (λ (es : List Entry). Leads base es past.answers end) (sym e) past.since);
-        };
+          record {
+            before = (refl, f);
+            others = past.answers;
+            after = subst (λ (s : ReplicaState). Leads s left past.answers end) (sym f) (subst (λ (es : List Entry). Leads base es past.answers end) (sym e) past.since);
+          };
       was_heard = heard;
     }
 
@@ -174,11 +185,11 @@ so_far_step kept audited base here next end all left entry before after so_far o
       told = so_far.told ++ heard entry one.said;
       parts = append_assoc so_far.done (entry ∷ []) left ∙ so_far.parts;
       way =
-        record {
-          before = leads_then base here next so_far.done (entry ∷ []) so_far.told (heard entry one.said) so_far.way.before (leads_one here next entry one.said one.steps);
-          others = r.2;
-          after = subst (λ (s : ReplicaState). Leads s left r.2 end) (sym same.1) r.5;
-        };
+          record {
+            before = leads_then base here next so_far.done (entry ∷ []) so_far.told (heard entry one.said) so_far.way.before (leads_one here next entry one.said one.steps);
+            others = r.2;
+            after = subst (λ (s : ReplicaState). Leads s left r.2 end) (sym same.1) r.5;
+          };
       was_heard = one.more base so_far.done so_far.told so_far.way.before so_far.was_heard;
     }
 
@@ -228,9 +239,9 @@ pub answered : (journal : JournalState) (audited : List AuditedTrace) (places : 
     → ((c : Connection) → told_by (trace_of audited c) ≤ 4611686018427387904) → length journal.entries ≤ 1000000
     → ((seen : Seen) → AreFew journal.base.connections audited seen → IsHeard journal.base.connections audited seen places stranger → IsSplit journal.base.connections audited seen found)
     → Answered journal (λ seen. IsSplit journal.base.connections audited seen found)
-answered journal audited places stranger most found done are low told_few few split =
-    (
-      done.told, done.leads,
-      split (seen_of journal.entries done.told)
+answered journal audited places stranger most found done are low told_few few split = (
+  done.told,
+  done.leads,
+  split (seen_of journal.entries done.told)
       (few_seen journal.base.connections audited journal.entries done.told (granted_few journal.base.connections most are low) told_few few) done.was_heard,
-    )
+)

@@ -79,7 +79,7 @@ is_next slots audited peer place other p some_generation low even are (inl h) = 
 is_next slots audited peer place other p some_generation low even are (inr h) =
     let g : other.generation ≡ place + 1 = omega (arith, low, h) in
     let same : record { peer = peer; generation = place + 1 } ≡ other =
-        ap (λ (n : ℕ). record { peer = n; generation = place + 1 }) (sym p) ∙ ap (λ (n : ℕ). record { peer = other.peer; generation = n }) (sym g) in
+    ap (λ (n : ℕ). record { peer = n; generation = place + 1 }) (sym p) ∙ ap (λ (n : ℕ). record { peer = other.peer; generation = n }) (sym g) in
     subst (IsEven slots audited) same even
 
 pub even_next : (slots : Slots) (audited : List AuditedTrace) (peer place : ℕ) → AreEvenUpTo slots audited peer place → IsEven slots audited (record { peer = peer; generation = place + 1 })

@@ -171,6 +171,20 @@ order_not audited n former last some_place within is own not order =
     (order (n - 1) n former last (omega (arith, some_place)) (slice_get_read audited (length audited) (n - 1) former refl (omega (arith, some_place, within)) is)
     (slice_get_read audited (length audited) n last refl within own))
 
+-- by what the loop reads
+pub order_read : (audited : List AuditedTrace) (n : ℕ) (former last : AuditedTrace) (a b : Connection) → InOrderUpTo audited n → 1 ≤ n → n < length audited → former ≡ get_or audited (n - 1) former → last ≡ get_or audited n last
+    → a ≡ former.connection → b ≡ last.connection → IsBefore a b → InOrderUpTo audited (n + 1)
+order_read audited n former last a b are some_place within is own ea eb before =
+    order_next audited n former last are some_place within is own (subst (λ (c : Connection). IsBefore c last.connection) ea (subst (IsBefore a) eb before))
+
+pub order_denied : (audited : List AuditedTrace) (n : ℕ) (former last : AuditedTrace) (a b : Connection) (before : Bool) → 1 ≤ n → n < length audited → former ≡ get_or audited (n - 1) former → last ≡ get_or audited n last
+    → a ≡ former.connection → b ≡ last.connection → (IsBefore a b → before ≡ true) → before ≡ false → AreInOrder audited → ⊥
+order_denied audited n former last a b before some_place within is own ea eb if_so not order =
+    order_not audited n former last some_place within is own
+    (λ h.
+    (let never : true ≡ false = sym (if_so (subst (λ (c : Connection). IsBefore c b) (sym ea) (subst (IsBefore former.connection) (sym eb) h))) ∙ not in absurd (cc)))
+    order
+
 -- ---- a binary search
 
 -- Those before `low` come before the connection, those from `high` on behind it.
@@ -257,3 +271,21 @@ here_is audited place here one at is = is ∙ get_or_from_slice_get audited plac
 pub trace_read : (audited : List AuditedTrace) (c : Connection) (place : ℕ) (here : AuditedTrace) → AreInOrder audited → IsTraceAt audited c place → here ≡ get_or audited place here → trace_of audited c ≡ Some here.trace
 trace_read audited c place here order (one, at, own) is =
     trace_at audited c place one order at own ∙ ap (λ (a : AuditedTrace). Some a.trace) (sym (here_is audited place here one at is))
+
+-- one look of the search, by what it reads
+pub right_read : (audited : List AuditedTrace) (c : Connection) (low high middle : ℕ) (m : AuditedTrace) (other : Connection) → AreInOrder audited → IsBetween audited c low high → middle < high → m ≡ get_or audited middle m
+    → other ≡ m.connection → IsBefore other c → IsBetween audited c (middle + 1) high
+right_read audited c low high middle m other order b small is own before =
+    right_at audited c low high middle m order b small is (subst (λ (x : Connection). IsBefore x c) own before)
+
+pub left_read : (audited : List AuditedTrace) (c : Connection) (low high middle : ℕ) (m : AuditedTrace) (other : Connection) → AreInOrder audited → IsBetween audited c low high → low ≤ middle → middle < high → m ≡ get_or audited middle m
+    → other ≡ m.connection → IsBefore c other → IsBetween audited c low middle
+left_read audited c low high middle m other order b large small is own before =
+    left_at audited c low high middle m order b large small is (subst (λ (x : Connection). IsBefore c x) own before)
+
+pub found_read : (audited : List AuditedTrace) (c : Connection) (low high middle : ℕ) (m : AuditedTrace) (other : Connection) (before behind : Bool) → IsBetween audited c low high → middle < high → m ≡ get_or audited middle m
+    → other ≡ m.connection → (IsBefore other c → before ≡ true) → before ≡ false → (IsBefore c other → behind ≡ true) → behind ≡ false → IsTraceAt audited c middle
+found_read audited c low high middle m other before behind b small is own if_before not_before if_behind not_behind =
+    found_at audited c low high middle m b small is
+    (λ h. (let never : true ≡ false = sym (if_before (subst (λ (x : Connection). IsBefore x c) (sym own) h)) ∙ not_before in absurd (cc)))
+    (λ h. (let never : true ≡ false = sym (if_behind (subst (λ (x : Connection). IsBefore c x) (sym own) h)) ∙ not_behind in absurd (cc)))

@@ -114,8 +114,7 @@ after_kept start skip left next (Some differs) theirs seen turn none there is =
 come_same : (start next : ℕ) (theirs ours : List Turn) (turn : Turn) → IsCome start theirs ours next None → slice_get theirs next ≡ Some turn → IsCome start theirs (ours ++ turn ∷ []) (next + 1) None
 come_same start next theirs ours turn (at, same) is =
     let more = length_one ours turn in
-    let there : slice_get (drop start theirs) (length ours) ≡ Some turn = get_drop start (length ours) theirs ∙ ap (slice_get theirs) (sym at) ∙ is in
-    (
+    let there : slice_get (drop start theirs) (length ours) ≡ Some turn = get_drop start (length ours) theirs ∙ ap (slice_get theirs) (sym at) ∙ is in (
       omega (arith, at, more),
       ap (λ (l : List Turn). l ++ turn ∷ []) same ∙ sym (take_one (length ours) (drop start theirs) turn there) ∙ ap (λ (n : ℕ). take n (drop start theirs)) (sym more),
     )
@@ -130,9 +129,10 @@ place_same start skip next theirs seen turn is same =
 
 come_other : (start next : ℕ) (theirs ours : List Turn) (turn : Turn) → IsCome start theirs ours next None → slice_get theirs next ≢ Some turn → IsCome start theirs (ours ++ turn ∷ []) next (Some next)
 come_other start next theirs ours turn (at, same) differs =
-    let more = length_one ours turn in
-    (
-      length ours, at, omega (arith, more),
+    let more = length_one ours turn in (
+      length ours,
+      at,
+      omega (arith, more),
       record {
         before = take_at ours (turn ∷ []) (length ours) refl ∙ same;
         here = λ e. differs (ap (slice_get theirs) at ∙ sym (get_drop start (length ours) theirs) ∙ sym e ∙ get_last ours turn);
@@ -174,12 +174,12 @@ come_short start next theirs ours (at, same) low =
       is = at;
       within = omega arith;
       parts =
-        record {
-          before = take_all (length ours) ours (omega arith) ∙ same;
-          here = λ e.
-              (let gone : None ≡ slice_get theirs next = sym (slice_get_past ours (length ours) (omega arith)) ∙ e ∙ get_drop start (length ours) theirs ∙ ap (slice_get theirs) (sym at) in
-              is_there theirs next low (sym gone));
-        };
+          record {
+            before = take_all (length ours) ours (omega arith) ∙ same;
+            here = λ e.
+                (let gone : None ≡ slice_get theirs next = sym (slice_get_past ours (length ours) (omega arith)) ∙ e ∙ get_drop start (length ours) theirs ∙ ap (slice_get theirs) (sym at) in
+                is_there theirs next low (sym gone));
+          };
     }
   where
     is_there : (xs : List Turn) (n : ℕ) → n < length xs → slice_get xs n ≡ None → ⊥

@@ -55,7 +55,6 @@ pub(crate) fn is_before(connection: Connection, other: Connection) -> bool
 }
 
 /// Whether the traces are in the order of their connections. Then no connection has two.
-#[tactic(auto, using(crate::proofs::Orders::order_first, crate::proofs::Orders::order_next, crate::proofs::Orders::order_all, crate::proofs::Orders::order_not))]
 pub fn are_in_order(audited: &[Audited]) -> bool
     ensures { IsTrue result ↔ AreInOrder audited.now }
 {
@@ -70,7 +69,6 @@ pub fn are_in_order(audited: &[Audited]) -> bool
 }
 
 /// The place of a connection's trace, by a binary search; `None` if it has no trace.
-#[tactic(auto, using(crate::proofs::Orders::between_all, crate::proofs::Orders::right_at, crate::proofs::Orders::left_at, crate::proofs::Orders::found_at, crate::proofs::Orders::between_none))]
 pub(crate) fn find(audited: &[Audited], connection: Connection) -> Option<usize>
     requires order { AreInOrder audited.now }
     ensures found { IfSome result (IsTraceAt audited.now connection) }

@@ -65,8 +65,9 @@ pub(crate) fn compare(
     ensures memory { IsOkUnless result Memory }
 {
     let base = journal.base();
-    // No effect when it runs: it tells the prover what the type keeps.
+    // No effect when they run: they tell the prover what the types keep.
     let _ = base.entries();
+    let _ = journal.latest().entries();
     let kept = base.connections();
     let turns = all_turns(alloc, audited)?;
     let mut heard = Heard::new(alloc, kept, audited)?;

@@ -104,7 +104,7 @@ pub(crate) fn earlier(one: Option<Connection>, other: Option<Connection>) -> Opt
 }
 
 /// The first connection whose numbers differ. It allocates nothing.
-#[tactic(auto, using(crate::proofs::Numbers::are_64, crate::proofs::Numbers::of_64, crate::proofs::Numbers::first_of_all, crate::proofs::Numbers::granted_few))]
+#[tactic(auto, using(crate::proofs::Numbers::granted_few))]
 pub(crate) fn first_uneven(journal: &Journal, audited: &[Audited]) -> Option<Connection>
     requires order { AreInOrder audited.now }
     ensures exact { MatchOption result (AreEven journal.now.latest.connections audited.now)

@@ -113,11 +113,7 @@ impl Heard {
 }
 
 /// The places of all traces before the journal. Fails only with `Fault::Memory`.
-fn first_places(
-    alloc: Global,
-    kept: &Connections,
-    audited: &[Audited],
-) -> Result<Vec<Place>, Fault>
+fn first_places(alloc: Global, kept: &Connections, audited: &[Audited]) -> Result<Vec<Place>, Fault>
     ensures long { IfOk result (λ places. length places.items ≡ length audited.now) }
     ensures placed { IfOk result
         (λ places. ArePlaced kept.now audited.now (λ _. []) places.items) }

@@ -3,8 +3,8 @@
 //! its calls. A trace is the log of the events that one connection's session was given.
 #![tactic(auto)]
 
-mod auditing;
 mod audited;
+mod auditing;
 mod comparing;
 mod counting;
 mod heard;
@@ -12,6 +12,6 @@ mod laws;
 mod place;
 mod turns;
 
-pub use auditing::{Split, audit};
 pub use audited::{Audited, are_in_order};
+pub use auditing::{Split, audit};
 pub use laws::each_answer_has_its_question;

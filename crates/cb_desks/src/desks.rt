@@ -13,6 +13,7 @@ use cb_work::{Flags, PeerWork};
 use std::alloc::Global;
 
 /// A list of traces, with those of one more desk. Fails only with `Fault::Memory`.
+#[tactic(auto, using(crate::proofs::Listing::map_first, crate::proofs::Listing::map_more, crate::proofs::Listing::map_last))]
 fn with_desk<'a, S: Sink + Drop, H: Oracle + Drop, F: Flags>(
     list: Vec<Audited<'a>>,
     desk: &'a Desk<PeerWork<S, H, F>>,
@@ -31,6 +32,7 @@ fn with_desk<'a, S: Sink + Drop, H: Oracle + Drop, F: Flags>(
 
 /// The traces of all works of the desks, each with its connection: for each desk those of the past
 /// connections in order, and then that of the latest one. Fails only with `Fault::Memory`.
+#[tactic(auto, using(crate::proofs::Listing::flat_more, crate::proofs::Listing::flat_all))]
 pub fn traces<'a, S: Sink + Drop, H: Oracle + Drop, F: Flags>(
     alloc: Global,
     desks: &'a [Desk<PeerWork<S, H, F>>],

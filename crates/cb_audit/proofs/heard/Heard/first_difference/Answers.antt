@@ -27,7 +27,7 @@ returns-in_default-found c = λ seen few heard.
     split_stranger c.args.kept.now c.args.audited.now seen c.first_with_trace-found.result c.in-Some.connection c.granted.result (c.first_with_trace-found.ensures c.args.kept.now seen few placed)
     (subst (λ (s : Option Connection). AreStrangers c.args.audited.now seen s) c.in-Some.is heard.strangers)
     (λ other same before.
-      one_found c.first_with_trace-found.result c.in-Some-found.difference other c.in-Some.connection c.in-Some-found.is (told_not c.is_before.result c.is_before.ensures.1 c.if-is_before.false) same before)
+    one_found c.first_with_trace-found.result c.in-Some-found.difference other c.in-Some.connection c.in-Some-found.is (told_not c.is_before.result c.is_before.ensures.1 c.if-is_before.false) same before)
     c.granted.ensures
 
 pub returns-in_default-found-2 : goal.returns-in_default-found-2
