@@ -312,13 +312,17 @@ fn tells<R: Wait + Copy + Drop>(alloc: Global, row: &Row, desks: &[Desk<MemoryWo
     }
 }
 
+/// The items of what a peer sent.
+fn items_of(alloc: Global, sent: &[u8]) -> Option<Vec<Item>> {
+    let fed = Assembler::new(alloc).feed(sent).ok()?;
+    Some(fed.items)
+}
+
 /// A desk that was served what the row's peer sent.
 fn desk_of<R: Wait + Copy + Drop>(rt: &R, alloc: Global, row: &Row) -> Option<Desk<MemoryWork<R>>> {
+    let items = items_of(alloc, row.sent)?;
     let work = first_work(rt, alloc)?;
-    match Assembler::new(alloc).feed(row.sent) {
-        Ok(fed) => served(rt, alloc, fed.items, work),
-        Err(_) => None,
-    }
+    served(rt, alloc, items, work)
 }
 
 /// Whether the audit of a row tells what it must.
