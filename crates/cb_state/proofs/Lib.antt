@@ -9,5 +9,6 @@ pub mod OnceEach
 pub mod OneAnswer
 pub mod Parted
 pub mod PutOff
+pub mod Standings
 pub mod Takings
 pub mod TipHeight
