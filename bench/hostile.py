@@ -125,7 +125,7 @@ def one_tx(mark, prev, works=True):
 def parents(rng):
     """Blocks that are refused by their headers."""
     chain = Chain()
-    bad = Block(chain.tip, [Tx(1, [], [50]), paying(0, [(drawn(rng), 0)], [1])])
+    bad = Block(chain.tip, [Tx(BLOCKS + 1, [], [50]), paying(0, [(drawn(rng), 0)], [1])])
     ground = chain.records + given("block", bad, False)
     unknown = beside(ground, asked("block", one_tx(0, drawn(rng)), False), REFUSED)
     for name, block in (("a block on a header alone", one_tx(0, chain.top)), ("a block that is known to be bad", bad),

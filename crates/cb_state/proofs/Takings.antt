@@ -96,18 +96,19 @@ refused_by : (tree : Tree) (block : Block) (fault : Fault) → RefusesHeading tr
 refused_by tree block fault (RefusesHeading.without_work no is) = AcceptsBlock.without_work no (ap (λ (f : Fault). Err f) is) refl
 refused_by tree block fault (RefusesHeading.with_work work against) = AcceptsBlock.refused work fault against refl refl
 
-pub block_unheard : (old : NodeState) (block : Block) (from : Option Connection) (fault : Fault) (told : Result Taken Fault)
-    → RefusesHeading old.tree block.header fault
-    → IfOk told (λ taken. (taken.refused ≡ Some fault) × (taken.locator ≡ locator_for (Some fault) (locator_of old.tree)))
+-- the whole state is seen field by field
+pub block_unheard : (whole old : NodeState) (shown block : Block) (from : Option Connection) (fault : Fault) (told : Result Taken Fault)
+    → old ≡ whole → shown ≡ block → RefusesHeading old.tree shown.header fault
+    → IfOk told (λ taken. (taken.refused ≡ Some fault) × (taken.locator ≡ locator_for (Some fault) (locator_of whole.tree)))
     → IfOk told (λ taken. TakesBlock old block from taken old)
-block_unheard old block from fault (Err error) why ok = tt
-block_unheard old block from fault (Ok taken) why ok = record {
+block_unheard whole old shown block from fault (Err error) same shows why ok = tt
+block_unheard whole old shown block from fault (Ok taken) same shows why ok = record {
   answer = Err fault;
-  chain = refused_by old.tree block fault why;
+  chain = refused_by old.tree block fault (subst (λ (b : Block). RefusesHeading old.tree b.header fault) shows why);
   pool = Follows.stays refl refl;
   announcers = refl;
   refused = ok.0;
-  locator = ok.1 ∙ ap (λ (r : Option Fault). locator_for r (locator_of old.tree)) (sym ok.0);
+  locator = ok.1 ∙ ap (λ (s : NodeState). locator_for (Some fault) (locator_of s.tree)) (sym same) ∙ ap (λ (r : Option Fault). locator_for r (locator_of old.tree)) (sym ok.0);
 }
 
 tip_not : (change : Change) → change.on ≡ [] → became_tip (Ok change) ≡ false

@@ -1,6 +1,6 @@
 ghost use Rattle.std.specs.Prelude.{◌≡◌, None, MatchOption};
 ghost use Rattle.cb_block.specs.Work.{HasWork};
-ghost use Rattle.cb_chain.specs.Calls.{block_fault};
+ghost use Rattle.cb_chain.specs.Calls.{block_fault, is_full_under};
 ghost use Rattle.cb_state.specs.Judging.{IsStanding, RefusesHeading, parent_fault};
 
 use cb_base::{Fault, Hash256};
@@ -8,7 +8,7 @@ use cb_block::{Header, hash_with_work};
 use cb_chain::{Chain, MOST_HEIGHT};
 
 /// What a chain has under a hash.
-#[derive(Clone, Copy, PartialEq, Eq)]
+#[derive(Clone, Copy)]
 enum Standing {
     /// Nothing, or a header whose block isn't kept.
     Lacking,

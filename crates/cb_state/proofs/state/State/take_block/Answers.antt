@@ -7,7 +7,8 @@ use Rattle.cb_state.proofs.state.State.take_block.Goals as goal
 
 pub returns-in-Some-clause-taken : goal.returns-in-Some-clause-taken
 returns-in-Some-clause-taken c =
-    block_unheard c.args.self.now c.args.block c.args.from c.in-Some.fault c.refused.result c.in-Some.ensures c.refused.ensures.told
+    let old : NodeState = record { tree = c.self.inside.chain; pool = c.self.inside.pool; announcers = c.self.inside.announcers } in
+    rw (← c.self.view_is) (block_unheard c.args.self.now old c.block.result.now c.args.block c.args.from c.in-Some.fault c.refused.result c.self.view_is c.block.ensures.same c.in-Some.ensures c.refused.ensures.told)
 
 pub returns-in-Err-clause-taken : goal.returns-in-Err-clause-taken
 returns-in-Err-clause-taken c =
