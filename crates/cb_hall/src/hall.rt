@@ -12,7 +12,7 @@ ghost use Rattle.cb_hall.specs.Hall.{Grants, Grows, HasHistory, IsFull, Submitte
 
 use crate::badge::{Badge, first_badges};
 use crate::summary::Look;
-use cb_base::Fault;
+use cb_base::{Fault, Seed};
 use cb_block::SoundBlock;
 use cb_journal::{Answer, Connections, Entry, Journal, Local, MOST_CALLS, Question};
 use cb_state::{Connection, State};
@@ -43,7 +43,7 @@ impl Model for Hall {
 
 impl Hall {
     /// Returns a hall without calls, and the badges of the first connections of the peers 0, 1, and
-    /// so on. Fails only with `Fault::Memory`.
+    /// so on. The hall's tables have the fixed seed. Fails only with `Fault::Memory`.
     pub fn new(alloc: Global, peers: u16) -> Result<(Hall, Vec<Badge>), Fault>
         requires some { 1 ≤ peers }
         requires limit { peers ≤ 64 }
@@ -51,8 +51,20 @@ impl Hall {
         ensures badges { IfOk result (λ made. AreBadges peers made.1.items) }
         ensures memory { IsOkUnless result Memory }
     {
+        Hall::with_seed(alloc, peers, Seed::fixed())
+    }
+
+    /// As `new`. The hall's tables have this seed, which changes no result. Peers choose the keys
+    /// of these tables, so a seed that no peer knows keeps a lookup short.
+    pub fn with_seed(alloc: Global, peers: u16, seed: Seed) -> Result<(Hall, Vec<Badge>), Fault>
+        requires some { 1 ≤ peers }
+        requires limit { peers ≤ 64 }
+        ensures hall { IfOk result (λ made. made.0 ≡ new_journal) }
+        ensures badges { IfOk result (λ made. AreBadges peers made.1.items) }
+        ensures memory { IsOkUnless result Memory }
+    {
         let badges = first_badges(alloc, peers)?;
-        let journal = Journal::new(alloc)?;
+        let journal = Journal::with_seed(alloc, seed)?;
         Ok((Hall { journal }, badges))
     }
 

@@ -1,6 +1,6 @@
 -- Which inventory entries are wanted (Bitcoin's protocol, `inv`).
-use Rattle.std.specs.Prelude.{◌≡◌, Bool, true, false, ◌&&◌, not, nat_eq, if◌then◌else◌, List, [], ◌∷◌, ◌++◌, filter, Option, None, Some}
-use Rattle.std.specs.List.{list_any}
+use Rattle.std.specs.Prelude.{◌≡◌, ℕ, Bool, true, false, ◌&&◌, not, nat_eq, if◌then◌else◌, List, [], ◌∷◌, ◌++◌, filter, Option, None, Some}
+use Rattle.std.specs.List.{flat_map, list_any}
 use Rattle.std.specs.Option.{option_map_or}
 use Rattle.cb_base.specs.declared.hash.Hash256.{Hash256}
 use Rattle.cb_chain.specs.Best.{best}
@@ -34,6 +34,16 @@ is_wanted state other = false
 
 abbrev pub wanted_of : NodeState → List Inventory → List Inventory
 wanted_of state entries = filter (is_wanted state) (once entries)
+
+-- the hash of an entry, and those of entries, one after the other
+abbrev pub hash_in : Inventory → Hash256
+hash_in (Tx hash) = hash
+hash_in (Block hash) = hash
+hash_in (CompactBlock hash) = hash
+hash_in (Other kind hash) = hash
+
+abbrev pub hashes_text : List Inventory → List ℕ
+hashes_text entries = flat_map (λ entry. (hash_in entry).0) entries
 
 abbrev pub is_block : Inventory → Bool
 is_block (Block hash) = true

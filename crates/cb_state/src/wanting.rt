@@ -1,19 +1,24 @@
-ghost use Rattle.std.specs.Prelude.{◌≡◌, ◌≤◌, [], if◌then◌else◌, length, IfOk, IsOkUnless, OnOk};
+ghost use Rattle.std.specs.Prelude.{◌≡◌, ◌<◌, ◌≤◌, [], if◌then◌else◌, length, IfOk, IsOkUnless, OnOk};
 ghost use Rattle.std.specs.HashSet.{contains};
 ghost use Rattle.std.specs.List.{list_any};
 ghost use Rattle.cb_base.specs.declared.fault.Fault.TheVariants.{Memory};
+ghost use Rattle.cb_base.specs.Seeding.{fixed_seed, seed_of_keys};
 ghost use Rattle.cb_chain.specs.Entries.{entry_of, same};
 ghost use Rattle.cb_chain.specs.Locator.{locator_of};
 ghost use Rattle.cb_state.specs.declared.inventory.Inventory.TheVariants as entry;
-ghost use Rattle.cb_state.specs.Wanting.{AreNoted, IsNeed, blocks_of, is_block, is_near, only_block, stands_on_tip, wanted_of, with_entry, with_wanted};
+ghost use Rattle.cb_state.specs.Wanting.{AreNoted, IsNeed, blocks_of, hash_in, hashes_text, is_block, is_near, only_block, stands_on_tip, wanted_of, with_entry, with_wanted};
 
 use crate::inventory::{Inventories, Inventory};
 use crate::locator::locator_of;
 use crate::state::State;
-use cb_base::{Fault, Hash256};
+use cb_base::{Fault, Hash256, Keys, Seed};
 use cb_payload::Locator;
 use std::alloc::Global;
 use std::collections::HashSet;
+
+/// Up to this number of entries their sets have the fixed seed. Even if they all collide, their
+/// lookups cost less than a seed that is made of them.
+const FEW_ENTRIES: usize = 64;
 
 /// Which inventory entries are wanted.
 #[derive(Drop)]
@@ -31,8 +36,8 @@ pub struct Need {
 #[derive(Drop)]
 struct Wanted {
     list: Vec<Inventory>,
-    txs: HashSet<Hash256>,
-    blocks: HashSet<Hash256>,
+    txs: HashSet<Hash256, Seed>,
+    blocks: HashSet<Hash256, Seed>,
 }
 
 impl Wanted {
@@ -89,6 +94,42 @@ fn only_block(entries: &[Inventory]) -> Option<Hash256>
     only
 }
 
+/// The hash of an entry.
+fn hash_in(entry: Inventory) -> Hash256
+    ensures { result ≡ hash_in entry }
+{
+    match entry {
+        Inventory::Tx(hash) => hash,
+        Inventory::Block(hash) => hash,
+        Inventory::CompactBlock(hash) => hash,
+        Inventory::Other(_, hash) => hash,
+    }
+}
+
+/// The seed that is made of the hashes of all entries.
+fn seed_of_entries(entries: &[Inventory]) -> Seed
+    ensures { result ≡ seed_of_keys (hashes_text entries.now) }
+{
+    let mut keys = Keys::new();
+    for entry in entries {
+        let hash = hash_in(*entry);
+        keys.add(hash.0.as_slice());
+    }
+    keys.seed()
+}
+
+/// The seed for the sets of these entries: that of all of them, so that a sender can't choose
+/// hashes that collide. Up to 64 entries have the fixed seed.
+fn seed_for(entries: &[Inventory]) -> Seed
+    ensures few { length entries.now ≤ 64 → result ≡ fixed_seed }
+    ensures many { 64 < length entries.now → result ≡ seed_of_keys (hashes_text entries.now) }
+{
+    if entries.len() <= FEW_ENTRIES {
+        return Seed::fixed();
+    }
+    seed_of_entries(entries)
+}
+
 impl State {
     /// Returns which entries are wanted: transactions that aren't in the mempool, and blocks that
     /// are neither kept nor marked bad. Entries of other types are never wanted. Each different
@@ -115,10 +156,11 @@ impl State {
         ensures few { IfOk result (λ wanted. length wanted.items ≤ length entries.now) }
         ensures memory { IsOkUnless result Memory }
     {
+        let seed = seed_for(entries);
         let mut wanted = Wanted {
             list: Vec::new(self.alloc),
-            txs: HashSet::new(self.alloc),
-            blocks: HashSet::new(self.alloc),
+            txs: HashSet::with_hasher(self.alloc, seed),
+            blocks: HashSet::with_hasher(self.alloc, seed),
         };
         for entry in entries {
             self.look_at(&mut wanted, *entry)?;
