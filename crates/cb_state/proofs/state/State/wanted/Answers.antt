@@ -9,8 +9,8 @@ pub loop-entry-init : goal.loop-entry-init
 unfolding once
 loop-entry-init c = record {
   noted = record {
-    txs = λ txid. none_noted c.new-2.result.keys c.new.result.items txid (Tx txid) c.new-2.ensures.empty c.new.ensures.items;
-    blocks = λ hash. none_noted c.new-3.result.keys c.new.result.items hash (Block hash) c.new-3.ensures.empty c.new.ensures.items;
+    txs = λ txid. none_noted c.with_hasher.result.keys c.new.result.items txid (Tx txid) c.with_hasher.ensures.empty c.new.ensures.items;
+    blocks = λ hash. none_noted c.with_hasher-2.result.keys c.new.result.items hash (Block hash) c.with_hasher-2.ensures.empty c.new.ensures.items;
   };
   listed = c.new.ensures.items;
   few = omega (arith, ap (λ (l : List Inventory). length l) c.new.ensures.items);
