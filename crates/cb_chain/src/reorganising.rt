@@ -247,7 +247,14 @@ impl Chain {
         self.tree.reserve(1)?;
         let tip = self.active[self.active.len() - 1];
         let seed = self.ledger.seed();
-        let mut side = starts_from(self.alloc, seed, &self.tree, tip, &mut self.side, spot.parent);
+        let mut side = starts_from(
+            self.alloc,
+            seed,
+            &self.tree,
+            tip,
+            &mut self.side,
+            spot.parent,
+        );
         let tried = side.try_on(self.alloc, &self.ledger, &mut self.tree, spot.parent, &kept);
         let undo = match tried {
             Ok(undo) => undo,

@@ -32,7 +32,11 @@ fn keep_inputs(coins: &HashMap<OutPoint, Option<i64>, Seed>, inputs: &[TxIn]) ->
 
 /// Whether `coins` has no output that a transaction with this txid and these outputs makes. An
 /// output whose index is above 4,294,967,295 counts as one that `coins` has.
-fn keep_outputs(coins: &HashMap<OutPoint, Option<i64>, Seed>, txid: Hash256, outputs: &[TxOut]) -> bool
+fn keep_outputs(
+    coins: &HashMap<OutPoint, Option<i64>, Seed>,
+    txid: Hash256,
+    outputs: &[TxOut],
+) -> bool
     ensures kept { IsTrue result → (u : Unspent) (place : ℕ) → place < length outputs.now
         → map.get (changed u (changes_of coins.now.entries)) (record { txid = txid; index = place })
         ≡ map.get u (record { txid = txid; index = place }) }

@@ -14,7 +14,11 @@ use std::collections::HashMap;
 
 /// The sum of the values that the inputs spend, or `None` if one of the outputs isn't unspent. The
 /// inputs must spend different outputs. The UTXO set is `ledger` with the changes `coins`.
-fn worth(coins: &HashMap<OutPoint, Option<i64>, Seed>, ledger: &Ledger, inputs: &[TxIn]) -> Option<i128>
+fn worth(
+    coins: &HashMap<OutPoint, Option<i64>, Seed>,
+    ledger: &Ledger,
+    inputs: &[TxIn],
+) -> Option<i128>
     requires { ¬ SpendsTwice inputs.now }
     ensures { MatchOption result
         (inputs_spent (changed ledger.now.unspent (changes_of coins.now.entries)) inputs.now

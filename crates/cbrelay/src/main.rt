@@ -38,13 +38,6 @@ fn main(rt: HostRuntime) -> ExitCode {
     };
     let mut reader = In::new(rt.reader());
     let mut writer = Out::new(std::io::writer(&rt));
-    let status = seeded_command(
-        alloc,
-        seed,
-        words,
-        &mut reader,
-        &mut writer,
-        &mut errors,
-    );
+    let status = seeded_command(alloc, seed, words, &mut reader, &mut writer, &mut errors);
     ExitCode::from(status)
 }
