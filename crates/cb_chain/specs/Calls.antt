@@ -39,6 +39,11 @@ block_fault tree header =
     else (if not (is_kept tree header.prev) then Some NoParent
     else (if is_full_under tree header.prev then Some TooMany else None))))
 
+-- why a block with this header is refused before its transactions are looked at
+pub data RefusesHeading (tree : Tree) (header : Header) (fault : Fault) : Type 0 where
+  without_work : ¬ HasWork header → fault ≡ BadWork → RefusesHeading tree header fault
+  with_work : HasWork header → block_fault tree header ≡ Some fault → RefusesHeading tree header fault
+
 -- the entries of a header alone, of a header that is marked bad, and of a block
 abbrev pub header_entry : Header → Entry
 header_entry header = record { header = header; block = None; marked = false }

@@ -1,8 +1,8 @@
-ghost use Rattle.std.specs.Prelude.{◌≡◌, ◌≢◌, ◌⊎◌, ◌∷◌, [], List, map, reverse, true, None, Some, Ok, Err, IfErr, IfOk, MatchResult, OnOk};
+ghost use Rattle.std.specs.Prelude.{◌≡◌, ◌≢◌, ◌⊎◌, ◌∷◌, [], List, map, reverse, true, None, Some, Ok, Err, IfErr, IfOk, MatchOption, MatchResult, OnOk};
 ghost use Rattle.cb_base.specs.declared.fault.Fault.TheVariants.{Memory};
 ghost use Rattle.cb_block.specs.Work.{HasWork};
 ghost use Rattle.cb_chain.specs.Best.{best};
-ghost use Rattle.cb_chain.specs.Calls.{AcceptsBlock, AcceptsHeader, block_fault, header_fault, joined};
+ghost use Rattle.cb_chain.specs.Calls.{AcceptsBlock, AcceptsHeader, RefusesHeading, block_fault, header_fault, joined};
 ghost use Rattle.cb_chain.specs.Entries.{block_hash, is_kept};
 ghost use Rattle.cb_chain.specs.History.{BlockCall, Call, HeaderCall, IsHistoric, IsHistory};
 ghost use Rattle.cb_chain.specs.Keeping.{IsSpot, IsTree, node_on, parent_fault, tree_of};
@@ -114,6 +114,28 @@ impl Chain {
             }
         }
         self.tree.spot_on_parent(header, hash, true)
+    }
+
+    /// Why `accept_block` refuses a block with this header before it looks at the block's
+    /// transactions: `Fault::BadWork`, `Fault::BadParent`, `Fault::Known`, `Fault::NoParent` or
+    /// `Fault::TooMany`, in the order of `accept_block`. `None` if nothing speaks against the
+    /// header.
+    ///
+    /// It looks two hashes up and allocates nothing, however high the chain is. So a caller can ask
+    /// before it spends time or memory on a block.
+    pub fn fault_of_block(&self, header: &Header) -> Option<Fault>
+        ensures { MatchOption result
+            (HasWork header.now × (block_fault self.now header.now ≡ None))
+            (RefusesHeading self.now header.now) }
+    {
+        let hash = match hash_with_work(header) {
+            Ok(hash) => hash,
+            Err(fault) => return Some(fault),
+        };
+        match self.block_spot(*header, hash) {
+            Ok(_) => None,
+            Err(fault) => Some(fault),
+        }
     }
 
     /// Adds a header to the tree.

@@ -12,7 +12,7 @@ use Rattle.cb_tx.specs.declared.tx.Tx.{Tx}
 use Rattle.cb_ledger.specs.Spend.{spend}
 use Rattle.cb_ledger.specs.Unspent.{Unspent}
 use Rattle.cb_chain.specs.declared.change.Change.{Change}
-use Rattle.cb_chain.specs.Calls.{AcceptsBlock}
+use Rattle.cb_chain.specs.Calls.{AcceptsBlock, RefusesHeading}
 use Rattle.cb_chain.specs.Entries.{Tree, block_hash, is_lacking}
 use Rattle.cb_chain.specs.Following.{headers_above}
 use Rattle.cb_chain.specs.Headers.{TakesHeaders}
@@ -88,6 +88,25 @@ block_refused old tree block from fault locator (Ok taken) (inr accepts) same_ch
   announcers = refl;
   refused = ok.0;
   locator = ok.1 ∙ ap (locator_for (Some fault)) (located ∙ locator_stays old.tree tree same_chain) ∙ ap (λ (r : Option Fault). locator_for r (locator_of tree)) (sym ok.0);
+}
+
+-- the chain refuses a block by its header, and nothing changes
+refused_by : (tree : Tree) (block : Block) (fault : Fault) → RefusesHeading tree block.header fault → AcceptsBlock tree block (Err fault) tree
+refused_by tree block fault (RefusesHeading.without_work no is) = AcceptsBlock.without_work no (ap (λ (f : Fault). Err f) is) refl
+refused_by tree block fault (RefusesHeading.with_work work against) = AcceptsBlock.refused work fault against refl refl
+
+pub block_unheard : (old : NodeState) (block : Block) (from : Option Connection) (fault : Fault) (told : Result Taken Fault)
+    → RefusesHeading old.tree block.header fault
+    → IfOk told (λ taken. (taken.refused ≡ Some fault) × (taken.locator ≡ locator_for (Some fault) (locator_of old.tree)))
+    → IfOk told (λ taken. TakesBlock old block from taken old)
+block_unheard old block from fault (Err error) why ok = tt
+block_unheard old block from fault (Ok taken) why ok = record {
+  answer = Err fault;
+  chain = refused_by old.tree block fault why;
+  pool = Follows.stays refl refl;
+  announcers = refl;
+  refused = ok.0;
+  locator = ok.1 ∙ ap (λ (r : Option Fault). locator_for r (locator_of old.tree)) (sym ok.0);
 }
 
 tip_not : (change : Change) → change.on ≡ [] → became_tip (Ok change) ≡ false

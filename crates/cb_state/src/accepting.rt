@@ -3,6 +3,7 @@ ghost use Rattle.cb_base.specs.declared.fault.Fault.TheVariants.{Memory};
 ghost use Rattle.cb_block.specs.Blocks.{MeetsBlockRules};
 ghost use Rattle.cb_chain.specs.Entries.{is_lacking};
 ghost use Rattle.cb_chain.specs.Laws.{MayLead};
+ghost use Rattle.cb_chain.specs.Locator.{locator_of};
 ghost use Rattle.cb_ledger.specs.Spend.{spend};
 ghost use Rattle.cb_pool.specs.Folding.{Refolds};
 ghost use Rattle.cb_pool.specs.Listing.{txs_of};
@@ -159,7 +160,9 @@ impl State {
     /// parent isn't known.
     ///
     /// `Chain::accept_block` lists the refusals, and which of them mark the block bad in the header
-    /// tree. No refusal changes the mempool or the announcers.
+    /// tree. No refusal changes the mempool or the announcers. A header that the chain refuses is
+    /// told before anything is worked out for the mempool, so it costs as much however long the
+    /// chain is and whatever the mempool holds.
     ///
     /// If the block becomes the tip, the mempool is rebuilt: the transactions of disconnected
     /// blocks come first, then those that were in it, and each is kept if it still applies. The
@@ -175,6 +178,9 @@ impl State {
         ensures err { OnErr result (self.new ≡ self.old) }
         ensures memory { IsOkUnless result Memory }
     {
+        if let Some(fault) = self.chain.fault_of_block(&block.block().header) {
+            return self.refused(fault);
+        }
         let locator = locator_of(&self.chain)?;
         let outlook = self.outlook_on(&block)?;
         let change = match self.chain.accept_block(block) {
@@ -210,6 +216,33 @@ impl State {
             refused: accepted.refused,
             lack: lacking(&self.chain, accepted.met),
             locator: told_locator(self.alloc, accepted.refused, locator),
+        })
+    }
+
+    /// The chain's block locator if the refusal is `Fault::NoParent`, else an empty one. Fails only
+    /// with `Fault::Memory`.
+    fn locator_after(&self, refused: Option<Fault>) -> Result<Locator, Fault>
+        ensures exact { IfOk result
+            (λ locator. locator ≡ locator_for refused (locator_of self.now.tree)) }
+        ensures memory { IsOkUnless result Memory }
+    {
+        match refused {
+            Some(fault) if fault == Fault::NoParent => locator_of(&self.chain),
+            _ => Ok(Locator::from_few(Vec::new(self.alloc))),
+        }
+    }
+
+    /// The outcome of a block whose header the chain refuses. Fails only with `Fault::Memory`.
+    fn refused(&self, fault: Fault) -> Result<Taken, Fault>
+        ensures told { IfOk result
+            (λ taken. (taken.refused ≡ Some fault)
+            × (taken.locator ≡ locator_for (Some fault) (locator_of self.now.tree))) }
+        ensures memory { IsOkUnless result Memory }
+    {
+        let why = told(fault)?;
+        Ok(Taken {
+            refused: why,
+            locator: self.locator_after(why)?,
         })
     }
 

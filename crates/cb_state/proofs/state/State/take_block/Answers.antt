@@ -2,8 +2,12 @@ use Rattle.std.proofs.Common.{◌≡◌, ◌∙◌, [], List, subst, sym}
 use Rattle.std.specs.Prelude.{◌≢◌}
 use Rattle.cb_base.specs.declared.hash.Hash256.{Hash256}
 use Rattle.cb_state.specs.State.{NodeState}
-use Rattle.cb_state.proofs.Takings.{block_aside, block_leads, block_refused, foreseen_for, leads_waits, nothing_on, ready_for, something_on, waits_on}
+use Rattle.cb_state.proofs.Takings.{block_aside, block_leads, block_refused, block_unheard, foreseen_for, leads_waits, nothing_on, ready_for, something_on, waits_on}
 use Rattle.cb_state.proofs.state.State.take_block.Goals as goal
+
+pub returns-in-Some-clause-taken : goal.returns-in-Some-clause-taken
+returns-in-Some-clause-taken c =
+    block_unheard c.args.self.now c.args.block c.args.from c.in-Some.fault c.refused.result c.in-Some.ensures c.refused.ensures.told
 
 pub returns-in-Err-clause-taken : goal.returns-in-Err-clause-taken
 returns-in-Err-clause-taken c =
