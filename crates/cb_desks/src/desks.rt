@@ -1,0 +1,68 @@
+ghost use Rattle.std.specs.Prelude.{◌≡◌, ◌++◌, IfOk, IsOkUnless};
+ghost use Rattle.cb_base.specs.declared.fault.Fault.TheVariants.{Memory};
+ghost use Rattle.cb_audit.specs.Order.{AreInOrder};
+ghost use Rattle.cb_desks.specs.Desks.{AuditsDesks, traces_of, traces_of_desk};
+
+use cb_audit::{Audited, Split, audit};
+use cb_base::Fault;
+use cb_crew::Desk;
+use cb_hall::Hall;
+use cb_io::Sink;
+use cb_trace::Oracle;
+use cb_work::{Flags, PeerWork};
+use std::alloc::Global;
+
+/// A list of traces, with those of one more desk. Fails only with `Fault::Memory`.
+#[tactic(auto, using(crate::proofs::Listing::map_first, crate::proofs::Listing::map_more, crate::proofs::Listing::map_last))]
+fn with_desk<'a, S: Sink + Drop, H: Oracle + Drop, F: Flags>(
+    list: Vec<Audited<'a>>,
+    desk: &'a Desk<PeerWork<S, H, F>>,
+) -> Result<Vec<Audited<'a>>, Fault>
+    ensures more { IfOk result (λ more. more.items ≡ list.items ++ traces_of_desk desk.now) }
+    ensures memory { IsOkUnless result Memory }
+{
+    let mut all = list;
+    for work in desk.past() {
+        all.push(Audited::new(work.connection(), work.trace()))?;
+    }
+    let latest = desk.work();
+    all.push(Audited::new(latest.connection(), latest.trace()))?;
+    Ok(all)
+}
+
+/// The traces of all works of the desks, each with its connection: for each desk those of the past
+/// connections in order, and then that of the latest one. Fails only with `Fault::Memory`.
+#[tactic(auto, using(crate::proofs::Listing::flat_more, crate::proofs::Listing::flat_all))]
+pub fn traces<'a, S: Sink + Drop, H: Oracle + Drop, F: Flags>(
+    alloc: Global,
+    desks: &'a [Desk<PeerWork<S, H, F>>],
+) -> Result<Vec<Audited<'a>>, Fault>
+    ensures all { IfOk result (λ all. all.items ≡ traces_of desks.now) }
+    ensures memory { IsOkUnless result Memory }
+{
+    let mut all = Vec::with_capacity(alloc, desks.len())?;
+    for desk in desks {
+        all = with_desk(all, desk)?;
+    }
+    Ok(all)
+}
+
+/// Compares a hall's journal with the traces of the desks' works, as `audit` does. The works must
+/// be in the order of their connections (`are_in_order` of `traces` tells whether they are): the
+/// desks by peers, and a desk's works by generations.
+///
+/// Fails as `audit` does, and with `Split::Memory` also if there isn't enough memory to list the
+/// traces.
+pub fn audit_desks<S: Sink + Drop, H: Oracle + Drop, F: Flags>(
+    alloc: Global,
+    hall: &Hall,
+    desks: &[Desk<PeerWork<S, H, F>>],
+) -> Result<(), Split>
+    requires order { AreInOrder (traces_of desks.now) }
+    ensures { AuditsDesks hall.now (traces_of desks.now) result }
+{
+    match traces(alloc, desks) {
+        Ok(list) => audit(alloc, hall, list.as_slice()),
+        Err(_) => Err(Split::Memory),
+    }
+}
