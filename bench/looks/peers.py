@@ -3,7 +3,7 @@
 python3 bench/looks/peers.py [RUNS] [SEED] [PROGRAM]
 
 It needs the built program (crates/bench_peers/out/bench_peers, as ./build --all leaves it) and python3, and
-takes a minute or two. The conversations are those of bench/looks/conversations.py.
+takes some ten seconds. The conversations are those of bench/looks/conversations.py.
 
 Without words 20 runs from seed 1: 32 peers of 5 connections each, whose readers kick other peers and make ticks due, and 4 handlers.
 The inboxes hold one mark in half of the runs and 256 in the others. A new session that is given a trace's events again has to come to
