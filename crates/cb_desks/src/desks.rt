@@ -18,7 +18,7 @@ fn with_desk<'a, S: Sink + Drop, H: Oracle + Drop, F: Flags>(
     list: Vec<Audited<'a>>,
     desk: &'a Desk<PeerWork<S, H, F>>,
 ) -> Result<Vec<Audited<'a>>, Fault>
-    ensures more { IfOk result (λ more. more.items ≡ list.items ++ traces_of_desk desk.now) }
+    ensures more { IfOk result (λ more. more.items ≡ list.entry.items ++ traces_of_desk desk.now) }
     ensures memory { IsOkUnless result Memory }
 {
     let mut all = list;

@@ -1,0 +1,114 @@
+-- How contracts see the slots of a node.
+use Rattle.std.specs.Prelude.{◌≡◌, ℕ, ◌<◌, ◌^◌, Bool, true, false, List, length, map, All, Option, Some, None, slice_index_or, slice_set}
+use Rattle.std.specs.declared.thread.PromisedHandle.{PromisedHandle}
+use Rattle.atomic_table.specs.Seated.{TableId}
+use Rattle.cb_inbox.specs.Seat.{InboxState}
+use Rattle.cb_crew.specs.declared.reader_side.ReaderSide.{ReaderSide}
+use Rattle.cb_crew.specs.declared.reader_side.ReaderSide.TheVariants as side
+use Rattle.cb_crew.specs.Crew.{AreHandlersOf, CrewState, inbox_of, names_of}
+use Rattle.cb_crew.specs.Desk.{DeskState}
+use Rattle.cb_crew.specs.Turn.{HandlerState}
+use Rattle.cb_service.specs.declared.promises.OfCrew.{OfCrew}
+use Rattle.cb_service.specs.Service.{HandBack, queued_by}
+use Rattle.cb_hall.specs.Badge.{BadgeState}
+use Rattle.cb_reader.specs.declared.input.Input.{Input}
+use Rattle.cb_peers.specs.declared.reading.Left.{Left}
+use Rattle.cb_slots.specs.declared.threads.OfSlot.{OfSlot}
+use Rattle.cb_slots.specs.declared.slot.Seating.{Seating}
+use Rattle.cb_slots.specs.declared.slot.Seating.TheVariants as seating
+
+-- A slot: its inbox, whether it ever had a socket, and whether its latest connection waits for one.
+pub record SlotState : Type 0 where
+  pub inbox : InboxState
+  pub used : Bool
+  pub waits : Bool
+
+-- a slot that never had a socket
+abbrev pub new_slot : InboxState → SlotState
+new_slot inbox = record { inbox = inbox; used = false; waits = true }
+
+-- the slot got a socket
+abbrev pub attached : SlotState → SlotState
+attached slot = record { inbox = slot.inbox; used = true; waits = false }
+
+-- the slot's next connection was opened
+abbrev pub reopened : SlotState → SlotState
+reopened slot = record { inbox = slot.inbox; used = slot.used; waits = true }
+
+-- it is the inbox of a peer of this crew
+pub record IsInboxOf (crew : CrewState) (inbox : InboxState) : Type 0 where
+  pub peer : inbox.peer < length crew.inboxes
+  pub name : inbox.name ≡ slice_index_or (names_of crew) inbox.peer inbox.name
+
+-- ---- all slots
+
+abbrev pub inboxes_of : List SlotState → List InboxState
+inboxes_of slots = map (λ (slot : SlotState). slot.inbox) slots
+
+-- the names of their inboxes
+abbrev pub names_in : List SlotState → List TableId
+names_in slots = map (λ (slot : SlotState). slot.inbox.name) slots
+
+-- which slots ever had a socket
+abbrev pub uses_of : List SlotState → List Bool
+uses_of slots = map (λ (slot : SlotState). slot.used) slots
+
+-- the slots are those of the crew's peers, in their order
+pub record AreSlotsOf (crew : CrewState) (slots : List SlotState) : Type 0 where
+  pub inboxes : inboxes_of slots ≡ crew.inboxes
+  pub each : All (IsInboxOf crew) crew.inboxes
+
+-- the connection of this slot waits for its socket
+abbrev pub WaitsAt : List SlotState → ℕ → Type 0
+WaitsAt slots n = slice_index_or (map (λ (slot : SlotState). slot.waits) slots) n false ≡ true
+
+-- The same slots, of which the same ever had a socket.
+pub record AreAlike (old new : List SlotState) : Type 0 where
+  pub inboxes : inboxes_of new ≡ inboxes_of old
+  pub uses : uses_of new ≡ uses_of old
+
+-- The same slots, of which this one got a socket.
+pub record AreAlikeBut (n : ℕ) (old new : List SlotState) : Type 0 where
+  pub inboxes : inboxes_of new ≡ inboxes_of old
+  pub uses : uses_of new ≡ slice_set (uses_of old) n true
+
+-- ---- where a slot's side of its inbox is
+
+-- A reader left this inbox with this side. So many marks were queued over all connections, fewer
+-- than 2^48.
+pub record HasLeft {O : Type 0} (name : TableId) (left : Left O) : Type 0 where
+  pub inbox : inbox_of left.side ≡ name
+  pub count : left.count ≡ length (queued_by left.side)
+  pub few : left.count < 2 ^ 48
+
+-- the inbox whose reader's thread it is
+abbrev pub inbox_for : {O : Type 0} → PromisedHandle (Left O) (OfSlot O) → InboxState
+inbox_for thread = thread.promise.inbox.value
+
+-- A connection that waits for its socket lasts.
+abbrev pub LastsIf : {O : Type 0} → Bool → ReaderSide Input O → Type 0
+LastsIf waits (side.Live seat) = Unit {0}
+LastsIf waits (side.Ended seat) = waits ≡ false
+
+-- The slot has its side of this inbox, or the thread of a connection that doesn't wait has it.
+abbrev pub IsSeatingOf : {W M : Type 0} → TableId → Bool → Option (Seating W M) → Type 0
+IsSeatingOf name waits (Some (seating.Kept left)) = HasLeft name left × LastsIf waits left.side
+IsSeatingOf name waits (Some (seating.Lent thread)) = ((inbox_for thread).name ≡ name) × (waits ≡ false)
+IsSeatingOf name waits None = ⊥
+
+-- Nothing was asked under the badge.
+abbrev pub IsNew : BadgeState → Type 0
+IsNew badge = (badge.count ≡ 0) × (badge.full ≡ false)
+
+-- Nothing was asked under the badge, if there is one.
+abbrev pub IsUnspent : Option BadgeState → Type 0
+IsUnspent None = Unit {0}
+IsUnspent (Some badge) = IsNew badge
+
+-- ---- the handlers' threads
+
+-- these threads have all handlers of the crew, the crew's first handler first
+pub record AreThreadsOf {W M : Type 0} (crew : CrewState) (threads : List (PromisedHandle (HandlerState (DeskState W M)) (OfCrew W M))) : Type 0 where
+  pub handlers : List (HandlerState (DeskState W M))
+  pub have : HandBack crew threads handlers
+  pub all : AreHandlersOf crew handlers

@@ -1,0 +1,239 @@
+ghost use Rattle.std.specs.Prelude.{◌≡◌, ◌≤◌, [], length, map, vec_capacity, All, IfOk, IsOkUnless};
+ghost use Rattle.cb_base.specs.declared.fault.Fault.TheVariants.{Memory};
+ghost use Rattle.cb_crew.specs.Crew.{AreHandlersOf, AreOpeningSeats, HasPlace, IsHandlerOf, inbox_of};
+ghost use Rattle.cb_service.specs.Service.{crew_of, handler_of};
+ghost use Rattle.cb_slots.specs.Slot.{AreSlotsOf, AreThreadsOf, names_in, new_slot};
+
+use crate::fault::NodeFault;
+use crate::link::{CloseEnded, Link, Links};
+use crate::slot::{Common, Slot};
+use cb_base::{Fault, Shared};
+use cb_crew::{Crew, Fresh, Handler, NewCrew, ReaderSide, Work};
+use cb_inbox::ReaderSeat;
+use cb_peers::Backlogs;
+use cb_reader::Input;
+use cb_service::{Handling, Orders, Signals, join_handler, start_handler};
+use std::alloc::Global;
+use std::marker::{Copy, Send};
+use std::sync::Wait;
+use std::thread::Threads;
+
+/// How many marks a slot's inbox holds.
+const CAPACITY: usize = 256;
+
+/// How many marks a handler takes in a turn at most.
+const BUDGET: u32 = 64;
+
+/// A crew with slots for its peers, before its handlers have threads.
+#[derive(Drop)]
+pub struct Crewed<W: Work> {
+    /// What the slots share.
+    pub common: Common<W>,
+    /// The slots of all peers, in their order. None ever had a socket.
+    pub slots: Vec<Slot<W>>,
+    /// All handlers, with the crew's first handler first.
+    pub handlers: Vec<Handler<W>>,
+    /// An empty list with room for all handlers.
+    pub back: Vec<Handler<W>>,
+    /// An empty list with room for the sides of all slots.
+    pub sides: Vec<ReaderSide<Input, Fresh<W>>>,
+    ghost are_slots: { AreSlotsOf common.crew slots.items },
+    ghost are_new: { slots.items ≡ map new_slot common.crew.inboxes },
+    ghost has_back: { (back.items ≡ []) × (length handlers.items ≤ vec_capacity back) },
+    ghost has_sides: { (sides.items ≡ []) × (length slots.items ≤ vec_capacity sides) },
+}
+
+/// Moves a value to the heap, with one owner. Fails only with `Fault::Memory`.
+pub fn shared<T: Drop>(alloc: Global, value: T) -> Result<Shared<T>, Fault>
+    ensures same { IfOk result (λ made. made ≡ value) }
+    ensures memory { IsOkUnless result Memory }
+{
+    match Shared::new(alloc, value) {
+        Ok(made) => Ok(made),
+        Err(failed) => {
+            drop(failed);
+            Err(Fault::Memory)
+        }
+    }
+}
+
+/// A crew with these works, and the slots of its peers with these links. Fails only with
+/// `Fault::Memory`.
+pub fn crew_slots<W: Work<Item = Input>, R: Wait>(
+    rt: &R,
+    alloc: Global,
+    works: Vec<Fresh<W>>,
+    of_slots: Vec<Shared<Link>>,
+    links: &Links,
+    handlers: u16,
+) -> Result<Crewed<W>, Fault>
+    requires works { (1 ≤ length works.items) × (length works.items ≤ 64) }
+    requires links { length of_slots.items ≡ length works.items }
+    requires handlers { (1 ≤ handlers) × (handlers ≤ 16) }
+    ensures count { IfOk result
+        (λ crewed. length crewed.common.crew.inboxes ≡ length works.items) }
+    ensures handlers { IfOk result
+        (λ crewed. AreHandlersOf crewed.common.crew crewed.handlers.items
+        × (crewed.common.crew.handlers ≡ handlers)) }
+{
+    let NewCrew {
+        crew,
+        readers,
+        handlers,
+    } = new_crew(rt, alloc, works, handlers)?;
+    let sides = Vec::with_capacity(alloc, readers.len())?;
+    let back = Vec::with_capacity(alloc, handlers.len())?;
+    let slots = slots_of(rt, alloc, &crew, readers, of_slots, links)?;
+    Ok(Crewed {
+        common: common_of(alloc, crew)?,
+        slots,
+        handlers,
+        back,
+        sides,
+    })
+}
+
+/// A crew with these works. Fails only with `Fault::Memory`.
+fn new_crew<W: Work, R: Wait>(
+    rt: &R,
+    alloc: Global,
+    fresh: Vec<Fresh<W>>,
+    handlers: u16,
+) -> Result<NewCrew<W>, Fault>
+    requires works { (1 ≤ length fresh.items) × (length fresh.items ≤ 64) }
+    requires handlers { (1 ≤ handlers) × (handlers ≤ 16) }
+    ensures crew { IfOk result (λ made. (length made.crew.inboxes ≡ length fresh.items)
+        × (made.crew.handlers ≡ handlers)) }
+    ensures seats { IfOk result (λ made. AreOpeningSeats made.crew made.readers.items) }
+    ensures handlers { IfOk result (λ made. AreHandlersOf made.crew made.handlers.items) }
+{
+    let mut works = Vec::new(alloc);
+    for one in fresh {
+        works.push(one.into_work())?;
+    }
+    match Crew::new(rt, alloc, works, handlers, CAPACITY) {
+        Ok(made) => Ok(made),
+        Err((_, fault)) => Err(fault),
+    }
+}
+
+/// What the slots of this crew share. Fails only with `Fault::Memory`.
+fn common_of<W: Work>(alloc: Global, crew: Crew<W>) -> Result<Common<W>, Fault>
+    ensures { IfOk result (λ common. common.crew ≡ crew) }
+{
+    let peers = crew.peers();
+    Ok(Common {
+        signals: Shared::new(alloc, Signals::new(alloc, peers)?)?,
+        backlogs: Shared::new(alloc, Backlogs::new(alloc, peers)?)?,
+        crew: Shared::new(alloc, crew)?,
+    })
+}
+
+#[tactic(auto, using(crate::proofs::Placing::placing_none))]
+/// The slots of a new crew with these seats, none of which ever had a socket.
+fn slots_of<W: Work<Item = Input>, R: Wait>(
+    rt: &R,
+    alloc: Global,
+    crew: &Crew<W>,
+    seats: Vec<ReaderSeat<Input, Fresh<W>>>,
+    links: Vec<Shared<Link>>,
+    all: &Links,
+) -> Result<Vec<Slot<W>>, Fault>
+    requires seats { AreOpeningSeats crew.now seats.items }
+    requires links { length links.items ≡ length seats.items }
+    ensures slots { IfOk result (λ slots. AreSlotsOf crew.now slots.items
+        × (slots.items ≡ map new_slot crew.now.inboxes)) }
+{
+    let mut slots = Vec::with_capacity(alloc, usize::from(crew.peers()))?;
+    let mut number = 0u16;
+    for (seat, link) in seats.into_iter().zip(links) {
+        all.add(rt, number, link.clone()?)?;
+        let inbox = crew.inbox(number);
+        slots.push_reserved(Slot::new(alloc, inbox, seat, link));
+        number += 1;
+    }
+    Ok(slots)
+}
+
+#[tactic(auto, using(crate::proofs::Placing::next_has))]
+/// Starts a thread for each handler. If one can't be started, waits until those return that were.
+pub fn start_handlers<W: Work + Send + 'static, R: Threads + Wait + Copy + Send + Drop + 'static>(
+    rt: &R,
+    alloc: Global,
+    common: &Common<W>,
+    links: &Shared<Links>,
+    handlers: Vec<Handler<W>>,
+) -> Result<Vec<Handling<W>>, NodeFault>
+where
+    W::Item: Send + 'static,
+    requires { AreHandlersOf common.now.crew handlers.items }
+    ensures { IfOk result (λ threads. AreThreadsOf common.now.crew threads.items
+        × (length threads.items ≡ length handlers.items)) }
+{
+    let mut threads = Vec::with_capacity(alloc, handlers.len())?;
+    for handler in handlers {
+        match start_one(rt, alloc, common, links, handler) {
+            Ok(thread) => threads.push_reserved(thread),
+            Err(fault) => {
+                common.signals.stop();
+                return Err(joined(rt, threads, fault));
+            }
+        }
+    }
+    Ok(threads)
+}
+
+/// Waits until these threads return. Returns the given fault.
+fn joined<W: Work, R: Threads>(rt: &R, threads: Vec<Handling<W>>, fault: NodeFault) -> NodeFault
+    ensures { result ≡ fault }
+{
+    for thread in threads {
+        drop(join_handler(rt, thread));
+    }
+    fault
+}
+
+/// Starts a handler's thread. If that fails, the handler is dropped.
+fn start_one<W: Work + Send + 'static, R: Threads + Wait + Copy + Send + Drop + 'static>(
+    rt: &R,
+    alloc: Global,
+    common: &Common<W>,
+    links: &Shared<Links>,
+    handler: Handler<W>,
+) -> Result<Handling<W>, NodeFault>
+where
+    W::Item: Send + 'static,
+    requires { IsHandlerOf common.now.crew handler }
+    ensures { IfOk result
+        (λ thread. (crew_of thread ≡ common.now.crew) × (handler_of thread ≡ handler)) }
+{
+    let orders = Orders {
+        budget: BUDGET,
+        hook: CloseEnded {
+            backlogs: common.backlogs.clone()?,
+            links: links.clone()?,
+        },
+    };
+    let (crew, signals) = (common.crew.clone()?, common.signals.clone()?);
+    match start_handler(rt, alloc, crew, signals, orders, handler) {
+        Ok(thread) => Ok(thread),
+        Err(refused) => Err(NodeFault::from(refused.cause)),
+    }
+}
+/// The sides of these slots, in the given empty list. Waits for the threads of readers. It takes no
+/// memory: the list must have room.
+pub fn sides_of<W: Work<Item = Input>, R: Threads>(
+    rt: &R,
+    slots: Vec<Slot<W>>,
+    sides: Vec<ReaderSide<Input, Fresh<W>>>,
+) -> Vec<ReaderSide<Input, Fresh<W>>>
+    requires room { (sides.items ≡ []) × (length slots.items ≤ vec_capacity sides) }
+    ensures inboxes { map inbox_of result.items ≡ names_in slots.items }
+    ensures places { All HasPlace result.items }
+{
+    let mut sides = sides;
+    for slot in slots {
+        sides.push_reserved(slot.into_side(rt));
+    }
+    sides
+}

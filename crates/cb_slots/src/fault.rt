@@ -1,0 +1,71 @@
+ghost use Rattle.std.specs.Prelude.{◌≡◌};
+
+use cb_base::Fault;
+use cb_service::Refusal;
+use std::alloc::AllocError;
+use std::io;
+use thiserror::Error;
+
+/// Why a node refuses a call.
+#[derive(Clone, Copy, Debug, PartialEq, Eq, Error)]
+pub enum NodeFault {
+    /// A socket failed, no socket listens, or no thread could be started.
+    #[error("a socket or a thread failed")]
+    Io,
+    /// No slot is free, or the node doesn't have the slot.
+    #[error("no slot")]
+    NoSlot,
+    /// The hall refused: what Bitcoin Core keeps in ChainstateManager and CTxMemPool.
+    #[error("the hall refused: F{} {}", .0.number(), .0.name())]
+    Hall(Fault),
+    /// Memory ran out.
+    #[error("memory ran out")]
+    Memory,
+}
+
+impl From<io::Error> for NodeFault {
+    ghost use Rattle.cb_slots.specs.declared.fault.NodeFault.TheVariants.{Io};
+
+    ghost from_gives = { λ _ fault. fault ≡ Io };
+
+    fn from(_error: io::Error) -> NodeFault {
+        NodeFault::Io
+    }
+}
+
+impl From<AllocError> for NodeFault {
+    ghost use Rattle.cb_slots.specs.declared.fault.NodeFault.TheVariants.{Memory};
+
+    ghost from_gives = { λ _ fault. fault ≡ Memory };
+
+    fn from(_error: AllocError) -> NodeFault {
+        NodeFault::Memory
+    }
+}
+
+impl From<Fault> for NodeFault {
+    ghost use Rattle.cb_slots.specs.Fault.{node_fault};
+
+    ghost from_gives = { λ fault told. told ≡ node_fault fault };
+
+    fn from(fault: Fault) -> NodeFault {
+        match fault {
+            Fault::Memory => NodeFault::Memory,
+            other => NodeFault::Hall(other),
+        }
+    }
+}
+
+impl From<Refusal> for NodeFault {
+    ghost use Rattle.std.specs.Prelude.{◌⊎◌};
+    ghost use Rattle.cb_slots.specs.declared.fault.NodeFault.TheVariants.{Io, Memory};
+
+    ghost from_gives = { λ _ fault. (fault ≡ Io) ⊎ (fault ≡ Memory) };
+
+    fn from(refusal: Refusal) -> NodeFault {
+        match refusal {
+            Refusal::Memory => NodeFault::Memory,
+            Refusal::Thread => NodeFault::Io,
+        }
+    }
+}

@@ -1,0 +1,395 @@
+ghost use Rattle.std.specs.Prelude.{◌≡◌, ◌⊎◌, ◌<◌, ◌^◌, true, false, length, None, IfErr, OnErr, OnOk};
+ghost use Rattle.cb_inbox.specs.Seat.{opening_seat};
+ghost use Rattle.cb_crew.specs.Crew.{HasPlace, inbox_of};
+ghost use Rattle.cb_slots.specs.declared.fault.NodeFault.TheVariants.{Io, Memory};
+ghost use Rattle.cb_slots.specs.Choosing.{is_used};
+ghost use Rattle.cb_slots.specs.Slot.{HasLeft, IsInboxOf, IsNew, IsUnspent, LastsIf, attached, new_slot, reopened};
+
+use crate::choosing::Standing;
+use crate::fault::NodeFault;
+use crate::link::Link;
+use crate::threads::{Errand, NoThread, Reading, join_reading, start_reading, unread};
+use cb_base::{Fault, Shared};
+use cb_crew::{Crew, Fresh, ReaderSide, Work};
+use cb_hall::Badge;
+use cb_inbox::{EndedSeat, Inbox, ReaderSeat};
+use cb_peers::{Backlogs, Left};
+use cb_reader::{Input, ReadEnd};
+use cb_service::{Signals, offer_end};
+use cb_work::Totals;
+use std::alloc::Global;
+use std::marker::{Copy, Model, Send};
+use std::mem;
+use std::net::TcpStream;
+use std::snapshot::Snapshot;
+use std::sync::Wait;
+use std::thread::Threads;
+
+/// With this many marks queued over all connections, no further connection is opened.
+const MOST_QUEUED: u64 = 1 << 40;
+
+/// What the slots of a node share.
+#[derive(Drop)]
+pub struct Common<W: Work> {
+    /// The crew that serves the slots. Each slot is one of its peers.
+    pub crew: Shared<Crew<W>>,
+    /// By which the crew's threads wait for each other.
+    pub signals: Shared<Signals>,
+    /// What lies queued of the slots' earlier connections.
+    pub backlogs: Shared<Backlogs>,
+}
+
+/// Where a slot's side of its inbox is.
+#[derive(Drop)]
+enum Seating<W: Work> {
+    /// In the slot.
+    Kept(Left<Fresh<W>>),
+    /// With the thread of a connection's reader.
+    Lent(Reading<Fresh<W>>),
+}
+
+/// A connection that isn't opened yet.
+#[derive(Drop)]
+pub struct Next<W: Work> {
+    /// What serves it.
+    pub work: Fresh<W>,
+    /// What its threads share with the node.
+    pub link: Shared<Link>,
+}
+
+/// What one connection moved.
+#[derive(Clone, Copy, Debug, PartialEq, Eq)]
+pub struct Report {
+    /// The connection's slot.
+    pub slot: u16,
+    /// The connection's generation among those of its slot; the first is 1.
+    pub generation: u64,
+    /// What it moved so far.
+    pub totals: Totals,
+}
+
+/// A slot: it serves one connection after another. Contracts see its inbox, whether it ever had a
+/// socket, and whether its latest connection waits for one.
+#[derive(Drop)]
+pub struct Slot<W: Work> {
+    inbox: Snapshot<Inbox<Input, Fresh<W>>>,
+    number: u16,
+    /// It is always there between two calls.
+    seating: Option<Seating<W>>,
+    used: bool,
+    waits: bool,
+    /// The latest connection that was opened.
+    latest: Shared<Link>,
+    /// The connections before it, in order.
+    past: Vec<Shared<Link>>,
+    /// The badge of a connection that wasn't made ready, for another try.
+    badge: Option<Badge>,
+    /// A connection whose opening was refused, for another try.
+    next: Option<Next<W>>,
+}
+
+impl<W: Work> Model for Slot<W> {
+    ghost use Rattle.cb_slots.specs.Slot.{IsSeatingOf, IsUnspent, SlotState};
+    ghost use Rattle.std.specs.Prelude.{◌≡◌, true, false};
+
+    ghost Value = { SlotState };
+
+    ghost view = { λ slot. record { inbox = slot.inbox.value; used = slot.used; waits = slot.waits } };
+
+    ghost invariant = { λ slot. IsSeatingOf slot.inbox.value.name slot.waits slot.seating × IsUnspent slot.badge × (slot.number ≡ slot.inbox.value.peer) × (slot.used ≡ false → slot.waits ≡ true) };
+}
+
+impl<W: Work<Item = Input>> Slot<W> {
+    /// The slot of an inbox in which nothing was queued. It never had a socket. The crew has the
+    /// work of its first connection.
+    pub fn new(
+        alloc: Global,
+        inbox: &Inbox<Input, Fresh<W>>,
+        seat: ReaderSeat<Input, Fresh<W>>,
+        link: Shared<Link>,
+    ) -> Slot<W>
+        requires { seat ≡ opening_seat inbox.now.name }
+        ensures { result ≡ new_slot inbox.entry.now }
+    {
+        Slot {
+            inbox: Snapshot::of(inbox),
+            number: inbox.peer(),
+            seating: Some(Seating::Kept(unread(seat))),
+            used: false,
+            waits: true,
+            latest: link,
+            past: Vec::new(alloc),
+            badge: None,
+            next: None,
+        }
+    }
+
+    /// Whether the latest connection waits for its socket.
+    pub fn waits(&self) -> bool
+        ensures waits { result ≡ self.now.waits }
+        ensures unused { self.now.used ≡ false → result ≡ true }
+    {
+        self.waits
+    }
+
+    /// Whether no connection stands ready to be opened.
+    pub fn lacks_next(&self) -> bool {
+        self.next.is_none()
+    }
+
+    /// How the slot stands.
+    pub fn standing(&self) -> Standing
+        ensures { is_used result ≡ self.now.used }
+    {
+        if !self.used {
+            Standing::Unused
+        } else if self.is_lent() && !self.latest.is_left() {
+            Standing::Busy
+        } else {
+            Standing::Left
+        }
+    }
+
+    /// Whether the thread of a connection's reader has the side.
+    fn is_lent(&self) -> bool {
+        matches!(&self.seating, Some(Seating::Lent(_)))
+    }
+
+    /// Makes a tick of the latest connection due, if it has a socket.
+    pub fn tick(&self, signals: &Signals) {
+        if !self.waits {
+            self.latest.status.set_tick();
+            signals.ring();
+        }
+    }
+
+    /// Appends what each connection of this slot moved. Fails only with `Fault::Memory`.
+    pub fn report(&self, all: &mut Vec<Report>) -> Result<(), Fault> {
+        for link in self.past.as_slice() {
+            all.push(report_of(self.number, link))?;
+        }
+        if !self.waits {
+            all.push(report_of(self.number, &self.latest))?;
+        }
+        Ok(())
+    }
+
+    /// Keeps the badge of a connection that wasn't made ready.
+    pub fn keep_badge(&mut self, badge: Badge)
+        requires { IsNew badge }
+        ensures { self.new ≡ self.old }
+    {
+        self.badge = Some(badge);
+    }
+
+    /// Gives the badge out that was kept.
+    pub fn take_badge(&mut self) -> Option<Badge>
+        ensures badge { IsUnspent result }
+        ensures same { self.new ≡ self.old }
+    {
+        self.badge.take()
+    }
+
+    /// Keeps a connection that is to be opened.
+    pub fn prepare(&mut self, next: Next<W>)
+        ensures { self.new ≡ self.old }
+    {
+        self.next = Some(next);
+    }
+
+    /// Waits for the thread of a reader that says it returns, and takes the side back.
+    pub fn settle<R: Threads>(&mut self, rt: &R)
+        ensures { self.new ≡ self.old }
+    {
+        if !self.latest.is_left() {
+            return;
+        }
+        self.seating = match self.seating.take() {
+            Some(Seating::Lent(thread)) => Some(Seating::Kept(join_reading(rt, thread))),
+            kept => kept,
+        };
+    }
+
+    /// Opens the connection that stands ready. Returns whether it was opened: it waits for its socket
+    /// then. It isn't opened if the latest one lasts, if the inbox has no room, or if the slot has
+    /// had all its connections.
+    ///
+    /// Fails only with `Fault::Memory`.
+    pub fn open<R: Wait>(
+        &mut self,
+        rt: &R,
+        crew: &Crew<W>,
+        signals: &Signals,
+    ) -> Result<bool, Fault>
+        requires slot { IsInboxOf crew.now self.old.inbox }
+        requires lasts { self.old.waits ≡ false }
+        ensures opened { result ≡ Ok true → self.new ≡ reopened self.old }
+        ensures refused { result ≡ Ok false → self.new ≡ self.old }
+        ensures err { OnErr result (self.new ≡ self.old) }
+    {
+        self.past.reserve(1)?;
+        let Some(next) = self.next.take() else {
+            return Ok(false);
+        };
+        match self.seating.take() {
+            Some(Seating::Kept(left)) => {
+                let inbox = crew.inbox(self.number);
+                let Tried { left, refused } = try_open(rt, inbox, signals, left, next.work);
+                self.seating = Some(Seating::Kept(left));
+                match refused {
+                    None => {
+                        self.past
+                            .push_reserved(mem::replace(&mut self.latest, next.link));
+                        self.waits = true;
+                        Ok(true)
+                    }
+                    Some(work) => {
+                        self.next = Some(Next {
+                            work,
+                            link: next.link,
+                        });
+                        Ok(false)
+                    }
+                }
+            }
+            lent => {
+                self.seating = lent;
+                self.next = Some(next);
+                Ok(false)
+            }
+        }
+    }
+
+    /// Gives the connection that waits its socket, and starts the thread that reads it. If that
+    /// fails, the connection still waits.
+    pub fn attach<R: Threads + Wait + Copy + Send + Drop + 'static>(
+        &mut self,
+        rt: &R,
+        alloc: Global,
+        common: &Common<W>,
+        stream: Shared<TcpStream>,
+    ) -> Result<(), NodeFault>
+    where
+        W: Send + 'static,
+        requires slot { IsInboxOf common.now.crew self.old.inbox }
+        requires waits { self.old.waits ≡ true }
+        ensures ok { OnOk result (self.new ≡ attached self.old) }
+        ensures kinds { IfErr result (λ fault. (fault ≡ Io) ⊎ (fault ≡ Memory)) }
+        ensures err { OnErr result (self.new ≡ self.old) }
+    {
+        let errand = Errand {
+            alloc,
+            crew: common.crew.clone()?,
+            signals: common.signals.clone()?,
+            backlogs: common.backlogs.clone()?,
+            link: self.latest.clone()?,
+            stream: stream.clone()?,
+            slot: self.number,
+        };
+        let Some(
+            Seating::Kept(
+                Left {
+                    side: ReaderSide::Live(seat),
+                    ..
+                },
+            ),
+        ) = self.seating.take()
+        else {
+            unreachable!()
+        };
+        self.latest.socket.fill(rt, stream);
+        match start_reading(rt, errand, seat) {
+            Ok(thread) => {
+                self.seating = Some(Seating::Lent(thread));
+                self.used = true;
+                self.waits = false;
+                Ok(())
+            }
+            Err(NoThread { seat, cause }) => {
+                self.latest.socket.close(rt);
+                self.seating = Some(Seating::Kept(unread(seat)));
+                Err(cause)
+            }
+        }
+    }
+
+    /// The slot's side of its inbox. Waits for the reader's thread if there is one.
+    pub fn into_side<R: Threads>(self, rt: &R) -> ReaderSide<Input, Fresh<W>>
+        ensures inbox { inbox_of result ≡ self.inbox.name }
+        ensures place { HasPlace result }
+    {
+        let Slot { seating, .. } = self;
+        match seating {
+            Some(Seating::Kept(left)) => left.side,
+            Some(Seating::Lent(thread)) => join_reading(rt, thread).side,
+            None => unreachable!(),
+        }
+    }
+}
+
+/// How an inbox is left after a try to open a connection, and what was to serve that if it wasn't
+/// opened.
+#[derive(Drop)]
+struct Tried<W: Work> {
+    left: Left<Fresh<W>>,
+    refused: Option<Fresh<W>>,
+}
+
+/// Opens a connection once. The latest connection is ended before, if it lasts.
+fn try_open<W: Work<Item = Input>, R: Wait>(
+    rt: &R,
+    inbox: &Inbox<Input, Fresh<W>>,
+    signals: &Signals,
+    left: Left<Fresh<W>>,
+    work: Fresh<W>,
+) -> Tried<W>
+    requires { HasLeft inbox.now.name left }
+    ensures left { HasLeft inbox.now.name result.left }
+    ensures live { result.refused ≡ None → LastsIf true result.left.side }
+{
+    let count = left.count;
+    if count >= MOST_QUEUED {
+        return Tried {
+            left,
+            refused: Some(work),
+        };
+    }
+    let (seat, count) = match left.side {
+        ReaderSide::Ended(seat) => (seat, count),
+        ReaderSide::Live(seat) => match offer_end(rt, inbox, seat, signals) {
+            Ok(ended) => (ended, count + 1),
+            Err(back) => {
+                return Tried {
+                    left: unread(back),
+                    refused: Some(work),
+                };
+            }
+        },
+    };
+    match seat.open(rt, inbox, work) {
+        Ok(seat) => {
+            signals.ring();
+            Tried {
+                left: unread(seat),
+                refused: None,
+            }
+        }
+        Err(refused) => Tried {
+            left: Left {
+                side: ReaderSide::Ended(refused.seat),
+                count,
+                why: ReadEnd::Stopped,
+            },
+            refused: Some(refused.opening),
+        },
+    }
+}
+
+/// What a connection moved.
+fn report_of(slot: u16, link: &Link) -> Report {
+    Report {
+        slot,
+        generation: link.generation,
+        totals: link.status.totals(),
+    }
+}
