@@ -18,7 +18,7 @@ if not __package__:  # called as a file
 
 from bench.tools.command_line import usage
 from bench.tools.conversation_drawing import Conversation, Relay
-from bench.tools.growths import build, is_same, run
+from bench.tools.growths import build, refuse_each
 from bench.tools.messages import pings
 from bench.tools.peers_play import connections_of, peer_line, summary_of
 from bench.tools.programs import built
@@ -55,26 +55,10 @@ def is_beginning(ran, ample):
 def refuse_all(name, program, script, library):
     """Refuses each growth of a run in turn, and returns how many runs ended otherwise than they should."""
     ample = subprocess.run([program], input=script, capture_output=True)
-    if ample.returncode != 0:
+    if ample.returncode != 0 or summary_of(ample.stdout).get("unlike") != 0:
         print(f"{name}: with ample memory status {ample.returncode}, printed {ample.stdout[:200]!r}")
         return 1
-    refused, spared, failures, place = 0, 0, 0, 1
-    while True:
-        ran, growths = run([program], script, library, place)
-        if growths.count < place:
-            break
-        if is_beginning(ran, ample):
-            refused += 1
-        elif is_same(ran, ample):
-            spared += 1
-        else:
-            failures += 1
-            print(f"{name}: growth {place} refused: status {ran.returncode}, printed {ran.stdout[:200]!r}, {ran.stderr!r}")
-        place += 1
-    whole = is_same(ran, ample) and summary_of(ample.stdout).get("unlike") == 0
-    print(f"{name}: {place - 1} growths refused in turn: {refused} ended the run, {spared} were done without, {failures} failures"
-          + ("" if whole else "; a trace didn't replay"))
-    return failures + (not whole)
+    return refuse_each(name, [program], script, library, is_beginning)
 
 
 def main():

@@ -101,8 +101,12 @@ def is_same(ran, ample):
 
 
 def in_turn(told, crate, words, data, library):
-    """Refuses each growth of a run in turn, and returns how many runs ended otherwise than they should."""
-    command = [path_of(crate)] + words
+    """Refuses each growth of a run of a crate's program in turn, and returns how many runs ended otherwise than they should."""
+    return refuse_each(told, [path_of(crate)] + words, data, library, is_refusal)
+
+
+def refuse_each(told, command, data, library, is_cut):
+    """The same of any command. `is_cut` tells of a run and the one with ample memory whether the first ended well for want of memory."""
     ample = subprocess.run(command, input=data, capture_output=True)
     refused, spared, failures = 0, 0, 0
     place = 1
@@ -110,7 +114,7 @@ def in_turn(told, crate, words, data, library):
         ran, growths = run(command, data, library, place)
         if growths.count < place:
             break
-        if is_refusal(ran, ample):
+        if is_cut(ran, ample):
             refused += 1
         elif is_same(ran, ample):
             spared += 1
