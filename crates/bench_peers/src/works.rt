@@ -32,7 +32,7 @@ pub fn new_work<R: Wait + Drop>(
 ) -> Result<Fresh<BenchWork<R>>, Fault>
     requires badge { (badge.count ≡ 0) × (badge.full ≡ false) }
 {
-    let hall = SharedHall::new(rt, hall.clone()?);
+    let hall = SharedHall::new(rt, hall.clone()?, status.clone()?);
     let outlet = Outlet::new(badge.connection().peer, Kept::new(alloc));
     match PeerWork::new(alloc, SETTINGS, badge, outlet, hall, PeerFlags::new(status)) {
         Ok(work) => Ok(Fresh::new(work)),

@@ -1,6 +1,6 @@
 -- The traces of the works of a crew's desks: the logs of the events that the connections' sessions
 -- were given.
-use Rattle.std.specs.Prelude.{◌≡◌, List, ◌∷◌, [], ◌++◌, map, Result, Ok, Err}
+use Rattle.std.specs.Prelude.{List, ◌∷◌, [], ◌++◌, map, Result, Err}
 use Rattle.std.specs.List.{flat_map}
 use Rattle.cb_crew.specs.Desk.{DeskState}
 use Rattle.cb_work.specs.PeerWork.{WorkState}

@@ -24,13 +24,13 @@ use Rattle.cb_crew.specs.declared.work.Given.{Given}
 use Rattle.cb_crew.specs.declared.work.Given.TheVariants as given
 use Rattle.cb_crew.specs.declared.reader_side.ReaderSide.{ReaderSide}
 use Rattle.cb_crew.specs.Crew.{CrewState, all_queued}
-use Rattle.cb_crew.specs.Desk.{DeskState}
+use Rattle.cb_crew.specs.Desk.{DeskState, first_label}
 use Rattle.cb_crew.specs.Headline.{InOrder, IsFinished, IsSettled, NothingAfterEnd, works_of}
 use Rattle.cb_crew.specs.Work.{connections_of}
 use Rattle.cb_reader.specs.declared.input.Input.{Input}
 use Rattle.cb_reader.specs.declared.input.Input.TheVariants as inputs
 use Rattle.cb_work.specs.PeerWork.{WasGiven, WorkState, events_of, is_over, was_starved}
-use Rattle.cb_peers.specs.Headline.{IsHeadline, ServesConnection, ServesSide, peer_label}
+use Rattle.cb_peers.specs.Headline.{IsHeadline, ServesConnection, ServesPeer, ServesSide, peer_label}
 
 -- ---- a session that the peer's own end ended was given that end
 
@@ -158,7 +158,9 @@ module _ {S H F : Type 0} (told : H → BadgeState → List Reply → H → Badg
   serves_sides [] (desk ∷ desks) settled = absurd settled
   serves_sides (side ∷ sides) [] settled = absurd settled
   serves_sides (side ∷ sides) (desk ∷ desks) settled =
-      (record { whose = settled.0.served.whose; each = serves_each (works_of desk) (connections_of (all_queued side)) settled.0.served.each settled.0.served.closed }, serves_sides sides desks settled.1)
+      let served : ServesPeer contents (first_label peer_label desk) (all_queued side) (works_of desk) =
+      record { whose = settled.0.served.whose; each = serves_each (works_of desk) (connections_of (all_queued side)) settled.0.served.each settled.0.served.closed } in
+      (record { taken = settled.0.taken; served = served }, serves_sides sides desks settled.1)
 
   pub is_headline : (crew : CrewState) (sides : List (ReaderSide Input (WorkState S H F))) (desks : List (DeskState (WorkState S H F) Input)) → IsFinished peer_label (WasGiven told refused contents has_failed) is_over crew sides desks → IsHeadline contents crew sides desks
   is_headline crew sides desks finished =

@@ -63,9 +63,10 @@ pub record ServesPeer {S H F : Type 0} (contents : S → Option (List ℕ)) (fir
   pub whose : AreWorksOf peer_label first queued works
   pub each : AllZip (ServesConnection contents) works (connections_of queued)
 
--- The desk has served all that this side of its peer's reader queued.
-abbrev pub ServesSide : {S H F : Type 0} → (S → Option (List ℕ)) → ReaderSide Input (WorkState S H F) → DeskState (WorkState S H F) Input → Type 0
-ServesSide contents side desk = ServesPeer contents (first_label peer_label desk) (all_queued side) (works_of desk)
+-- The desk has served all that this side of its peer's reader queued. Its seat took just that.
+pub record ServesSide {S H F : Type 0} (contents : S → Option (List ℕ)) (side : ReaderSide Input (WorkState S H F)) (desk : DeskState (WorkState S H F) Input) : Type 0 where
+  pub taken : desk.taken ≡ all_queued side
+  pub served : ServesPeer contents (first_label peer_label desk) (all_queued side) (works_of desk)
 
 -- All peers: their readers' sides, and the desks of the crew that served them. There is one desk
 -- for each peer, in order. Its first work is the one with which the crew was made for this peer.

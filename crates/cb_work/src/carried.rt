@@ -1,4 +1,4 @@
-use crate::traffic::BlockPath;
+use crate::traffic::{BlockPath, Brought};
 use cb_base::Hash256;
 use cb_crew::Given;
 use cb_journal::Answer;
@@ -14,8 +14,8 @@ enum Content {
     Block(Hash256),
     /// A `cmpctblock` of the block with this hash.
     CompactBlock(Hash256),
-    /// A `blocktxn`.
-    Transactions,
+    /// A `blocktxn` of the block with this hash.
+    Transactions(Hash256),
     /// Nothing of a block.
     Other,
 }
@@ -65,7 +65,7 @@ fn content_of(input: &Input) -> Content {
     match message.message() {
         Message::Block(block) => Content::Block(block.header.hash()),
         Message::CmpctBlock(compact) => Content::CompactBlock(compact.header.hash()),
-        Message::BlockTxn(_) => Content::Transactions,
+        Message::BlockTxn(txs) => Content::Transactions(txs.block),
         _ => Content::Other,
     }
 }
@@ -75,17 +75,40 @@ fn content_of(input: &Input) -> Content {
 #[derive(Clone, Copy)]
 pub(crate) struct Rebuilding {
     block: Option<Hash256>,
+    /// The number of payload bytes of its `cmpctblock`.
+    payload: u64,
 }
 
 impl Rebuilding {
     /// No block is awaited.
     pub fn nothing() -> Rebuilding {
-        Rebuilding { block: None }
+        Rebuilding {
+            block: None,
+            payload: 0,
+        }
     }
 
-    /// How a block came, if the step of this item handed one to the hall. `entries` are the trace's
-    /// entries after the step.
-    pub fn path(&mut self, carried: &Carried, entries: &[TraceEntry]) -> Option<BlockPath> {
+    /// The block that the step of this item handed to the hall, if it did. `entries` are the
+    /// trace's entries after the step.
+    pub fn brought(&mut self, carried: &Carried, entries: &[TraceEntry]) -> Option<Brought> {
+        let before = self.before(carried);
+        let path = self.path(carried, entries)?;
+        let payload = before.saturating_add(carried.payload);
+        Some(Brought { path, payload })
+    }
+
+    /// The payload bytes that came before this item of the block that it may bring; `u64::MAX` if
+    /// another `cmpctblock` came since its own.
+    fn before(&self, carried: &Carried) -> u64 {
+        match carried.content {
+            Content::Transactions(hash) if self.block == Some(hash) => self.payload,
+            Content::Transactions(_) => u64::MAX,
+            Content::Block(_) | Content::CompactBlock(_) | Content::Other => 0,
+        }
+    }
+
+    /// How a block came, if the step of this item handed one to the hall.
+    fn path(&mut self, carried: &Carried, entries: &[TraceEntry]) -> Option<BlockPath> {
         match carried.content {
             Content::Block(hash) => {
                 let awaited = self.ends(hash);
@@ -99,12 +122,13 @@ impl Rebuilding {
             Content::CompactBlock(hash) => {
                 let taken = taken(entries);
                 self.block = if taken { None } else { Some(hash) };
+                self.payload = carried.payload;
                 taken.then_some(BlockPath::Compact)
             }
-            Content::Transactions => {
+            Content::Transactions(hash) => {
                 let taken = taken(entries);
                 if taken {
-                    self.block = None;
+                    self.ends(hash);
                 }
                 taken.then_some(BlockPath::Completed)
             }

@@ -2,7 +2,7 @@ ghost use Rattle.std.specs.Prelude.{◌≡◌, false, []};
 ghost use Rattle.cb_work.specs.Flags.{HasLooked};
 
 use crate::flags::Flags;
-use crate::traffic::{BlockPath, Totals, Traffic};
+use crate::traffic::{BlockPath, Brought, Totals, Traffic};
 use cb_base::Shared;
 use std::sync::atomic::{AtomicBool, AtomicU64, Ordering};
 
@@ -23,6 +23,9 @@ pub struct ConnectionStatus {
     compact: AtomicU64,
     completed: AtomicU64,
     fallback: AtomicU64,
+    saved: AtomicU64,
+    /// The bytes of the block that was handed to the hall last.
+    given: AtomicU64,
 }
 
 impl ConnectionStatus {
@@ -40,6 +43,8 @@ impl ConnectionStatus {
             compact: AtomicU64::new(0),
             completed: AtomicU64::new(0),
             fallback: AtomicU64::new(0),
+            saved: AtomicU64::new(0),
+            given: AtomicU64::new(0),
         }
     }
 
@@ -90,6 +95,7 @@ impl ConnectionStatus {
             compact: self.compact.load(Ordering::SeqCst),
             completed: self.completed.load(Ordering::SeqCst),
             fallback: self.fallback.load(Ordering::SeqCst),
+            saved: self.saved.load(Ordering::SeqCst),
         }
     }
 
@@ -100,8 +106,24 @@ impl ConnectionStatus {
         self.payload.fetch_add(traffic.payload, Ordering::SeqCst);
         self.written.fetch_add(traffic.written, Ordering::SeqCst);
         self.sent.fetch_add(traffic.sent, Ordering::SeqCst);
-        if let Some(path) = traffic.block {
-            self.blocks(path).fetch_add(1, Ordering::SeqCst);
+        if let Some(brought) = traffic.block {
+            self.blocks(brought.path).fetch_add(1, Ordering::SeqCst);
+            self.saved
+                .fetch_add(self.saved_by(brought), Ordering::SeqCst);
+        }
+    }
+
+    /// Notes the size of a block that is handed to the hall: the bytes of its `block`'s payload.
+    pub fn note_given(&self, size: u64) {
+        self.given.store(size, Ordering::SeqCst);
+    }
+
+    /// How many bytes short ids saved of the block that was handed to the hall last.
+    fn saved_by(&self, brought: Brought) -> u64 {
+        let size = self.given.load(Ordering::SeqCst);
+        match brought.path {
+            BlockPath::Compact | BlockPath::Completed => size.saturating_sub(brought.payload),
+            BlockPath::Full | BlockPath::Fallback => 0,
         }
     }
 

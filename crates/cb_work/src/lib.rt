@@ -24,4 +24,4 @@ pub use flags::Flags;
 pub use outlet::Outlet;
 pub use peer_work::{NotStarted, PeerWork};
 pub use shared_hall::SharedHall;
-pub use traffic::{BlockPath, Totals, Traffic};
+pub use traffic::{BlockPath, Brought, Totals, Traffic};

@@ -273,7 +273,7 @@ impl<S: Sink + Drop, H: Oracle + Drop, F: Flags> PeerWork<S, H, F> {
         ensures same { IsSamePeer F.looks self.old self.new }
         ensures serves { ServesOn H.told H.refused S.contents S.has_failed self.old self.new }
     {
-        let block = self.rebuilding.path(&carried, self.trace.entries());
+        let block = self.rebuilding.brought(&carried, self.trace.entries());
         self.flags.tell(&Traffic {
             messages: carried.messages,
             payload: carried.payload,

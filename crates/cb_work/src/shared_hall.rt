@@ -1,3 +1,4 @@
+use crate::connection_status::ConnectionStatus;
 use cb_base::{Fault, Shared};
 use cb_hall::{Badge, Hall};
 use cb_journal::{Answer, Question};
@@ -5,7 +6,8 @@ use cb_trace::Oracle;
 use std::sync::{Mutex, Wait};
 
 /// The hall behind its lock, which each connection's work holds. A question waits for the lock, and
-/// the lock is let go after each call.
+/// the lock is let go after each call. The size of each block that is handed over is noted in the
+/// connection's status.
 ///
 /// No clause can name the hall between two calls, since others call it too. So what is told here
 /// speaks of the badge alone.
@@ -13,12 +15,17 @@ use std::sync::{Mutex, Wait};
 pub struct SharedHall<R: Drop> {
     rt: R,
     hall: Shared<Mutex<Hall>>,
+    status: Shared<ConnectionStatus>,
 }
 
 impl<R: Wait + Drop> SharedHall<R> {
-    /// A way to this hall. It waits for the lock by `rt`.
-    pub fn new(rt: R, hall: Shared<Mutex<Hall>>) -> SharedHall<R> {
-        SharedHall { rt, hall }
+    /// A way to this hall for the connection with this status. It waits for the lock by `rt`.
+    pub fn new(
+        rt: R,
+        hall: Shared<Mutex<Hall>>,
+        status: Shared<ConnectionStatus>,
+    ) -> SharedHall<R> {
+        SharedHall { rt, hall, status }
     }
 
     /// The hall with its lock.
@@ -37,6 +44,9 @@ impl<R: Wait + Drop> Oracle for SharedHall<R> {
     ghost refused = { λ hall badge fault. IsMarked badge fault };
 
     fn ask(&mut self, badge: &mut Badge, question: Question) -> Result<Answer, Fault> {
+        if matches!(question, Question::GiveBlock(_)) {
+            self.status.note_given(question.weight());
+        }
         let mut guard = self.hall.lock(&self.rt);
         guard.ask(badge, question)
     }

@@ -3,8 +3,8 @@
 ghost use Rattle.std.specs.Prelude.{◌≡◌, false};
 
 use crate::{
-    Badge, BlockPath, ConnectionStatus, Flags, Given, Hall, Input, Outlet, PeerFlags, PeerWork,
-    Settings, SharedHall, Totals, Traffic, Work,
+    Badge, BlockPath, Brought, ConnectionStatus, Flags, Given, Hall, Input, Outlet, PeerFlags,
+    PeerWork, Settings, SharedHall, Totals, Traffic, Work,
 };
 use cb_base::Shared;
 use cb_io::Out;
@@ -116,16 +116,9 @@ fn new_work<R: Wait + Drop>(
     }
     let outlet = Outlet::new(badge.connection().peer, Out::new(Vec::new(alloc)));
     let status = Shared::new(alloc, ConnectionStatus::new()).ok()?;
+    let hall = SharedHall::new(rt, hall, status.clone().ok()?);
     let flags = PeerFlags::new(status);
-    PeerWork::new(
-        alloc,
-        settings,
-        badge,
-        outlet,
-        SharedHall::new(rt, hall),
-        flags,
-    )
-    .ok()
+    PeerWork::new(alloc, settings, badge, outlet, hall, flags).ok()
 }
 
 /// What the handshake and the pings come to under this badge.
@@ -241,16 +234,20 @@ fn the_opening_message_waits_for_the_first_tick(rt: HostRuntime) {
 }
 
 /// Whether a step is counted that took 4 of 10 queued bytes, wrote 7 in two messages and brought a
-/// compact block.
+/// block of 104 bytes as a compact block: 104 - 4 = 100 bytes are saved.
 fn is_counted(alloc: Global) -> Option<bool> {
     let mut flags = PeerFlags::new(Shared::new(alloc, ConnectionStatus::new()).ok()?);
     flags.status().add_queued(10);
+    flags.status().note_given(104);
     flags.tell(&Traffic {
         messages: 1,
         payload: 4,
         written: 7,
         sent: 2,
-        block: Some(BlockPath::Compact),
+        block: Some(Brought {
+            path: BlockPath::Compact,
+            payload: 4,
+        }),
     });
     let expected = Totals {
         messages: 1,
@@ -261,6 +258,7 @@ fn is_counted(alloc: Global) -> Option<bool> {
         compact: 1,
         completed: 0,
         fallback: 0,
+        saved: 100,
     };
     Some(flags.status().queued() == 6 && flags.status().totals() == expected)
 }

@@ -12,6 +12,16 @@ pub enum BlockPath {
     Fallback,
 }
 
+/// A block that was handed to the hall.
+#[derive(Clone, Copy, Debug, PartialEq, Eq)]
+pub struct Brought {
+    /// How it came.
+    pub path: BlockPath,
+    /// The number of payload bytes of the messages that brought it: of its `block`, or of its
+    /// `cmpctblock` and `blocktxn`. `u64::MAX` if that of the `cmpctblock` isn't known any more.
+    pub payload: u64,
+}
+
 /// What one step of a connection moved.
 #[derive(Clone, Copy, Debug, PartialEq, Eq)]
 pub struct Traffic {
@@ -23,8 +33,8 @@ pub struct Traffic {
     pub written: u64,
     /// The number of messages written.
     pub sent: u64,
-    /// How a block came, if the step handed one to the hall.
-    pub block: Option<BlockPath>,
+    /// The block that the step handed to the hall, if it did.
+    pub block: Option<Brought>,
 }
 
 /// What one connection moved so far. Each number stops at no bound: it wraps at 2^64.
@@ -46,4 +56,7 @@ pub struct Totals {
     pub completed: u64,
     /// Blocks that came as a `block` because they couldn't be rebuilt.
     pub fallback: u64,
+    /// The bytes that short ids saved: of each block that was rebuilt, the bytes of its `block`'s
+    /// payload less those of the payloads that brought it; 0 where that is below 0.
+    pub saved: u64,
 }
