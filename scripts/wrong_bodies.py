@@ -20,6 +20,8 @@ from pathlib import Path
 LEMMA = re.compile(r"^(?:(?:pub|abbrev|unfoldable|opaque|private) )*(?:(record|data) )?([^\s:(){},]+)[^=]*?:(?=\s|$)")
 FUNCTION = re.compile(r"^(\s*)(?:pub(?:\([^)]*\))?\s+)?(?:(?:const|unsafe)\s+)*fn\s+(\w+)")
 IMPL = re.compile(r"^(?:unsafe\s+)?impl\b(.*)")
+# how many lines the header of an impl takes at most
+HEADER_LINES = 12
 TYPE = re.compile(r"^(?:pub(?:\([^)]*\))?\s+)?(?:struct|enum)\s+(\w+)", re.M)
 
 
@@ -92,7 +94,7 @@ def functions_of(file, text):
             owner, is_of_trait = "", False
         begins = IMPL.match(line)
         if begins:
-            header = " ".join(lines[place : place + 4]).split("{")[0].partition("impl")[2]
+            header = " ".join(lines[place : place + HEADER_LINES]).split("{")[0].partition("impl")[2]
             owner, is_of_trait = owner_of(header), " for " in header
         found_here = FUNCTION.match(line)
         if found_here:
