@@ -18,13 +18,13 @@ from pathlib import Path
 if not __package__:  # called as a file
     sys.path.insert(0, str(Path(__file__).resolve().parents[2]))
 
-from bench.models.plain_block import Block, Tx, paying
+from bench.models.plain_block import Block, Header, Tx, paying
 from bench.models.plain_compact import key_of, short_id
 from bench.tools.blocks import NOBODY
 from bench.tools.command_line import usage
 from bench.tools.hall_drawing import Generated, tx_of_64_bytes
 from bench.tools.hall_play import HallPlay, question_text, repeated
-from bench.tools.network import GENESIS
+from bench.tools.network import GENESIS, header_text
 from bench.tools.programs import built, write_stored_run
 from bench.tools.records import record
 
@@ -238,6 +238,20 @@ def row_b_leaves_of_one_badge(program):
     return [] if told == wanted else [f"behind {count + 1:,} leaves: {told!r} for {wanted!r}"]
 
 
+def headers_around_one_without_work():
+    """Of 2,000 headers the one at place 1,000 has no work: those before it are accepted, and none behind it."""
+    play, headers = HallPlay(), []
+    for place in range(2_000):
+        headers.append(Header(header_text(headers[-1].name if headers else GENESIS, bytes([place % 256]) * 32, place != 1_000)))
+    told = play.ask((0, 1), "headers", headers).split()
+    expect(told[:4] + told[-1:], ["heads", "F11", "BadWork", "lack", "locator"])
+    expect(told[4:-1], [header.name[::-1].hex() for header in headers[:1_000]])
+    expect(play.ask((0, 1), "headers", [headers[1_001]])[:17], "heads F23 NoParen")
+    expect(play.ask((0, 1), "headers", headers[999:1_000]), f"heads - lack {told[1_003]} locator")
+    play.look()
+    return play
+
+
 def generated(seed, count, is_short, play=None):
     """A play of so many calls of a new hall, whose halls all stand as their calls lead to from the beginning."""
     play = play or HallPlay()
@@ -277,7 +291,7 @@ def main():
     program = built(words.program, "bench_hall")
     examples = HallPlay()
     worked_examples(examples)
-    plays = [(0, examples)] + [(seed, generated(seed, min(CALLS, count - (seed - first) * CALLS), False))
+    plays = [(0, examples), (0, headers_around_one_without_work())] + [(seed, generated(seed, min(CALLS, count - (seed - first) * CALLS), False))
                                for seed in range(first, first + -(-count // CALLS))]
     differences = [f"seed {seed}: {difference}" for seed, play in plays for difference in play.differences(program)]
     differences += row_b_leaves_of_one_badge(program)

@@ -6,8 +6,9 @@ It needs the built program crates/bench_hall/out/bench_hall (as ./build bench_ha
 takes some seconds. A block of 200 bytes and one of 900,000, with as many transactions, are given, served and told as news: a call has
 to meet as many growths of as many bytes for the one as for the other, so that the block is shared and never copied. So has a match
 with a pool of one transaction and with one of a thousand, once the pool was matched with. Then each growth is refused in turn while
-three blocks take the place of two under a pool of ten, and the pool is matched with, and a look before and after each call tells
-whether anything changed: each run has to end as with ample memory, or with status 4. The status is 0 where all is so.
+three blocks take the place of two under a pool of ten, and the pool is matched with, and while a block is put off whose transaction
+goes back to a pool, behind a checkpoint. A look before and after each call tells whether anything changed: each run has to end as with
+ample memory, or with status 4. The status is 0 where all is so.
 """
 
 import sys
@@ -112,16 +113,40 @@ def reorganisation():
     return play
 
 
+def behind_a_checkpoint():
+    """A block takes a transaction from the pool. Behind a checkpoint two blocks put it off, and its transaction comes back."""
+    play = HallPlay()
+    first = Block(GENESIS, [Tx(1, [], [50])])
+    one = paying(1, [(first.txs[0].name, 0)], [50])
+    other = paying(2, [(one.name, 0)], [50])
+    second, aside = Block(first.header.name, [Tx(2, [], [50]), one]), Block(first.header.name, [Tx(3, [], [50])])
+    last = Block(aside.header.name, [Tx(4, [], [50])])
+    play.records.append(record(b"c"))
+    play.ask((0, 1), "block", first, True)
+    for tx in (one, other):
+        play.ask((1, 1), "tx", tx)
+    play.ask((0, 1), "block", second, True)
+    play.checkpoint()
+    for block in (aside, last):
+        play.ask((1, 1), "block", block, False)
+    assert [tx.name for tx, _ in play.hall.now.pool] == [one.name, other.name]
+    play.look()
+    play.counts()
+    play.again()
+    return play
+
+
 def main():
     words = usage(__doc__, program="the program, if not crates/bench_hall/out/bench_hall").parse_args()
     program = built(words.program, "bench_hall")
-    play = reorganisation()
-    differences = play.differences(program)
+    plays = {"three blocks for two under a pool of ten": reorganisation(), "a block put off behind a checkpoint": behind_a_checkpoint()}
+    differences = [difference for play in plays.values() for difference in play.differences(program)]
     for difference in differences:
         print(difference)
     with tempfile.TemporaryDirectory() as folder:
         library = build(folder)
-        failures = counted(program, library) + matched(program, library) + in_turn("three blocks for two under a pool of ten", "bench_hall", [], b"".join(play.records), library)
+        failures = counted(program, library) + matched(program, library)
+        failures += sum(in_turn(name, "bench_hall", [], b"".join(play.records), library) for name, play in plays.items())
     sys.exit(1 if failures or differences else 0)
 
 

@@ -106,6 +106,8 @@ RUNS = [
     ("serve relay.bin", "cbrelay", ["serve"], example("relay.bin")),
     ("serve, a checkpoint between a compact block and what it lacks", "cbrelay", ["serve"], behind_a_checkpoint().said()),
     ("serve, a checkpoint between three large messages and a ping", "cbrelay", ["serve"], unknown(3) + pings(1)),
+    ("sim crew.txt", "cbrelay", ["sim"], example("crew.txt")),
+    ("sim connections.txt", "cbrelay", ["sim"], example("connections.txt")),
     ("sound, a block of 5 transactions", "bench_sound", [], block(5, 10)),
     ("chain, a block at the tip and three blocks for two", "bench_chain", [], careful_play()),
     ("chain, faults on a side branch, and turns to it and back", "bench_chain", [], careful_turns()),

@@ -9,9 +9,11 @@ import textwrap
 from dataclasses import dataclass, field
 from types import SimpleNamespace
 
-from bench.models.plain_block import NULL_POINT, AnyTx, MinedBlock
-from bench.models.plain_compact import key_of, short_id
+from bench.models.plain_block import NULL_POINT, AnyTx, Block, MinedBlock
+from bench.models.plain_compact import WORD, key_of, short_id
+from bench.models.plain_wire import spelled
 from bench.tools.blocks import NOBODY
+from bench.tools.hall_drawing import tx_of_64_bytes
 from bench.tools.messages import envelope
 from bench.tools.network import GENESIS
 from bench.tools.texts import compact_size, hash_twice
@@ -120,12 +122,12 @@ def compact(block, nonce=NONCE, ids=None, prefilled=None):
     """The block's first transaction is whole, and of the others there are short ids, if nothing else is said."""
     ids = [id_of(block, nonce, tx) for tx in block.txs[1:]] if ids is None else ids
     prefilled = [(0, block.txs[0])] if prefilled is None else prefilled
-    whole = [part for difference, tx in prefilled for part in (compact_size(difference), tx.text)]
+    whole = [part for difference, tx in prefilled for part in (spelled(difference), tx.text)]
     return message("cmpctblock", block.header.text, u64(nonce), compact_size(len(ids)), *ids, compact_size(len(prefilled)), *whole)
 
 
 def getblocktxn(block, *differences):
-    return message("getblocktxn", block.header.name, compact_size(len(differences)), *map(compact_size, differences))
+    return message("getblocktxn", block.header.name, compact_size(len(differences)), *map(spelled, differences))
 
 
 def blocktxn(block, *txs):
@@ -433,6 +435,44 @@ def no_such_request_below():
     return row
 
 
+def place_past_64_bits():
+    row = begun("place-past-64-bits", "A whole transaction whose difference leads past 64 bits closes with BadMessage.")
+    two = on_first(COINS[0])
+    row.step("the place 0, and the difference 2^64 - 1", [compact(two, ids=[], prefilled=[(0, two.txs[0]), (WORD, COINS[0])])])
+    row.why = "BadMessage"
+    return row
+
+
+def request_past_64_bits():
+    row = begun("request-past-64-bits", "A request whose difference leads past 64 bits closes with BadRequest.")
+    given_first(row)
+    row.step("the place 0 of block 1, and the difference 2^64 - 1", [getblocktxn(FIRST, 0, WORD)])
+    row.why = "BadRequest"
+    return row
+
+
+def whole_of_64_bytes():
+    row = begun("whole-of-64-bytes", "A list with a transaction of 64 bytes isn't sound, though it has the header's root (CVE-2017-12842). As a "
+                "compact block it is only asked for whole; as a block it closes with BadBlock.")
+    given_first(row)
+    bad = on_first(tx_of_64_bytes())
+    assert len(bad.txs[1].text) == 64
+    row.step("all of it whole: `getdata` of type 2", [compact(bad, ids=[], prefilled=[(0, bad.txs[0]), (0, bad.txs[1])])], [getdata(BLOCK, bad.header.name)])
+    row.step("a `ping`: the session goes on", [ping(5)], [pong(5)])
+    row.step("the block", [block(bad)])
+    row.why = "BadBlock"
+    return row
+
+
+def nobody_asked():
+    row = begun("nobody-asked", "Transactions of a block that nobody asked for do nothing.")
+    given_first(row)
+    row.step("of a block that is there, of one that isn't, and none at all", [blocktxn(FIRST, FIRST.txs[0]), blocktxn(NINE, *COINS), blocktxn(NINE)])
+    row.step("a `ping`: the session goes on", [ping(5)], [pong(5)])
+    row.step("the block isn't there", [getdata(BLOCK, NINE.header.name)], [message("notfound", b"\1", u32(BLOCK), NINE.header.name)])
+    return row
+
+
 def not_held_against():
     row = begun("not-held-against", "A block that was rebuilt and can't be connected isn't held against its sender.")
     given_first(row)
@@ -496,6 +536,18 @@ def far_apart():
     return row
 
 
+def a_header_without_work():
+    row = begun("a-header-without-work", "Of 2,000 headers the one at place 1,000, counted from 0, has no work. It closes with BadBlock.")
+    blocks = raised(1_000)
+    blocks.append(Block(blocks[-1].header.name, blocks[0].txs, False))
+    while len(blocks) < 2_000:
+        blocks.append(mined(len(blocks) + 1, blocks[-1].header.name))
+    row.step("all of them", [headers(*blocks)])
+    row.step("a `ping` that isn't read any more", [ping(5)])
+    row.why = "BadBlock"
+    return row
+
+
 def relay():
     """The conversation of examples/relay.bin."""
     row = begun("relay", "Compact blocks both ways: one is rebuilt at once, one lacks two transactions, one can't be rebuilt, and two are "
@@ -529,9 +581,9 @@ def relay():
 
 ROWS = [repeated_ids, wrong_list, two_missing, one_of_two, exchanged, depths, known, replaced, dropped, two_pairs, told_ways, told_in_order,
         told_unasked, told_no_longer, told_if_asked, another_version, near_the_tip, no_such_place, no_such_request, no_such_request_below,
-        not_held_against, unknown_parent, too_many_in_flight, relay]
+        place_past_64_bits, request_past_64_bits, whole_of_64_bytes, nobody_asked, not_held_against, unknown_parent, too_many_in_flight, relay]
 # These are too long to be stored.
-OTHERS = [behind_a_checkpoint, far_apart]
+OTHERS = [behind_a_checkpoint, far_apart, a_header_without_work]
 
 
 # ---- as stored runs

@@ -1,3 +1,4 @@
 pub mod Entering
 pub mod Peers
+pub mod Running
 pub mod Telling

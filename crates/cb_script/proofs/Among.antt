@@ -1,11 +1,10 @@
 -- The nodes that a line names are there.
-use Rattle.std.proofs.Common.{◌≡◌, ℕ, ◌^◌, ◌<◌, Bool, true, false, cond, List, [], ◌∷◌, Option, Some, None, Result, Ok, Err, IfOk, option_map, refl, sym, subst, inl, inr}
+use Rattle.std.proofs.Common.{◌≡◌, ℕ, ◌^◌, ◌<◌, Bool, true, false, cond, List, Option, Some, None, Result, Ok, Err, IfOk, option_map, refl, sym, subst, inl, inr}
 use Rattle.std.specs.Prelude.{IfSome, codes, option_and_then}
 use Rattle.std.specs.Str.{bytes_eq}
 use Rattle.std.proofs.lemmas.Bool.{cases_Bool}
 use Rattle.std.proofs.lemmas.Slice.Eq.{bytes_eq-Decides}
 use Rattle.cb_base.specs.declared.fault.Fault.{Fault}
-use Rattle.cb_wire.specs.declared.message.Message.{Message}
 use Rattle.cb_run.specs.Words.{cut_of, number_in}
 use Rattle.cb_run.proofs.WordLemmas.{number_read}
 use Rattle.cb_script.specs.declared.line.Line.{Line}

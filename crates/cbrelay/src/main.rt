@@ -5,10 +5,13 @@ use cb_command::{command, refuse_foreign};
 use cb_io::{In, Out};
 use cb_run::Status;
 use std::io::ErrorKind;
+use std::net::{TcpListener, TcpStream};
 use std::process::ExitCode;
 
 /// Passes the arguments, standard input, standard output and standard error to `command`.
 fn main(rt: HostRuntime) -> ExitCode {
+    // The proof of a call for the host needs the kinds of its sockets named here.
+    let _sockets: Option<(TcpListener, TcpStream)> = None;
     let alloc = rt.alloc();
     let mut errors = Out::new(rt.stderr());
     let words = match std::env::args(&rt) {
@@ -23,5 +26,5 @@ fn main(rt: HostRuntime) -> ExitCode {
     };
     let mut reader = In::new(rt.reader());
     let mut writer = Out::new(std::io::writer(&rt));
-    ExitCode::from(command(alloc, words, &mut reader, &mut writer, &mut errors))
+    ExitCode::from(command(rt, alloc, words, &mut reader, &mut writer, &mut errors))
 }

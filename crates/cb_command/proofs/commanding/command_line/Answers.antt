@@ -1,15 +1,13 @@
 use Rattle.std.proofs.Common.{rules, ◌≡◌, ap, ap₂, codes, ◌∙◌}
-use Rattle.clap.specs.Words.{App, app_of, new_app, with_subcommand}
-use Rattle.cb_command.specs.Words.{with_version}
+use Rattle.clap.specs.Words.{App, app_of, new_app, with_rule, with_subcommand}
+use Rattle.cb_command.specs.Words.{run_line}
 use Rattle.cb_command.proofs.Entering.{if_ok_more}
 use Rattle.cb_command.proofs.commanding.command_line.Goals as goal
 
 pub returns : goal.returns
 returns c =
-    let decode : app_of c.about-decode.result ≡ new_app (codes "decode") = search rules in
-    let serve : app_of c.about-serve.result ≡ new_app (codes "serve") = search rules in
-    let sim : app_of c.about-sim.result ≡ new_app (codes "sim") = search rules in
-    let top : app_of c.after_help.result ≡ with_version (new_app (codes "cbrelay")) = search rules in
-    let first = c.in_ok-subcommand.ensures.shape (search rules) ∙ ap₂ with_subcommand top (ap (λ (a : App). a.top) decode) in
-    let second = c.in_ok-subcommand-2.ensures.shape (search rules) ∙ ap₂ with_subcommand first (ap (λ (a : App). a.top) serve) in
-    if_ok_more c.subcommand-3.result (λ line adds. adds.shape (search rules) ∙ ap₂ with_subcommand second (ap (λ (a : App). a.top) sim)) c.subcommand-3.ensures
+    let bare : app_of c.after_help.result ≡ new_app (codes "run") = search rules in
+    let one = c.in_ok-arg.ensures.shape c.nodes_arg.ensures.local ∙ ap₂ with_rule bare c.nodes_arg.ensures.rule in
+    let two = c.in_ok-arg-2.ensures.shape c.handlers_arg.ensures.local ∙ ap₂ with_rule one c.handlers_arg.ensures.rule in
+    let script : app_of c.in_ok-script.script ≡ run_line = c.in_ok-script.ensures.shape c.stats_arg.ensures.local ∙ ap₂ with_rule two c.stats_arg.ensures.rule in
+    if_ok_more c.subcommand.result (λ line adds. adds.shape (search rules) ∙ ap₂ with_subcommand c.in_ok-line.ensures (ap (λ (a : App). a.top) script)) c.subcommand.ensures

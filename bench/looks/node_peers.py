@@ -1,0 +1,323 @@
+#!/usr/bin/env python3
+"""Runs nodes over loopback with peers that are no nodes, and with slots that are used again and again: python3 bench/looks/node_peers.py
+[PROGRAM] [--all]
+
+It needs the built program (crates/cbrelay/out/cbrelay, as ./build leaves it), python3 and Linux, and takes a minute.
+
+- A node's 32 slots are used up, and one is freed by a kick and used again. With --all each slot is used until it has had 256 connections, and
+  then there is none: that takes a minute more.
+- A peer asks for many blocks and reads nothing. The others go on meanwhile; its connection ends with WriteFault after 20 seconds.
+- While a node's only handler waits in such a write, a slot whose reader was told to stop can't put its end mark in, since its inbox is full, and
+  in another the end mark has filled the inbox. The next connection goes to the next slot that was left, and then there is no slot.
+- Peers end in the middle of a message, once with the end of the stream and once by a reset, and others send bytes that are no message, a
+  payload that can't be read, or nothing at all. The nodes go on.
+
+The status is 0 where all came out so.
+"""
+
+import socket
+import struct
+import sys
+import time
+from contextlib import ExitStack
+from pathlib import Path
+
+if not __package__:  # called as a file
+    sys.path.insert(0, str(Path(__file__).resolve().parents[2]))
+
+from bench.models import plain_wire as wire
+from bench.models.plain_block import sized
+from bench.models.plain_session import Settings
+from bench.tools.command_line import usage
+from bench.tools.messages import envelope
+from bench.tools.network import GENESIS
+from bench.tools.node_scripts import GIVEN, OUTBOUND, mined
+from bench.tools.node_talk import NodeTalk, peer
+from bench.tools.programs import built
+
+SLOTS, CONNECTIONS = 32, 256
+# How many marks an inbox holds.
+MARKS = 256
+# How often a link is tried, and after how many rounds of kicks without a link no slot is left.
+TRIES, IDLE_ROUNDS = 100, 3
+LARGE, ASKED = 900_000, 60
+HELLO = wire.version(Settings(nonce=0x5EED)) + envelope(b"verack", b"")
+PING = envelope(b"ping", bytes(8))
+PONG = PING[:4] + b"pong"
+UNREADABLE = envelope(b"ping", bytes(7))
+# How long a write may wait, and how long we wait for its end.
+TIMEOUT, PATIENCE = 20, 60
+# The slots of the peers by which inboxes become full, and how often that is tried where the machine is too slow.
+PEERS, FULL_TRIES = ("1", "2", "3", "4", "5"), 3
+# How many bytes tell that blocks are written to a peer, and how often we look whether all threads sleep.
+MUCH, LOOKS_AT_REST = 10_000, 5
+
+
+class Looks:
+    """How many things came out otherwise than they should."""
+
+    def __init__(self, program):
+        self.program, self.count, self.failed = program, 0, 0
+
+    def look(self, name, got, wanted):
+        self.count += 1
+        if got != wanted:
+            self.failed += 1
+            print(f"node_peers: {name}: {got!r} for {wanted!r}")
+
+    def ends(self, name, nodes, height, status):
+        """The input ends: all nodes must stand at one tip of this height, with audits that say yes."""
+        got, lines = nodes.finish()
+        rows = [line.split() for line in lines if " tip " in line]
+        self.look(f"{name}: the status", got, status)
+        self.look(f"{name}: heights", {row[3] for row in rows}, {str(height)})
+        self.look(f"{name}: tips", len({row[5] for row in rows}), 1)
+        self.look(f"{name}: audits", {row[9] for row in rows}, {"yes"})
+        return [line.split() for line in lines if " slot " in line and " closed " in line]
+
+    # ---- connection after connection
+
+    def one_slot_again(self):
+        """All slots are used; one of them is freed and used again."""
+        with NodeTalk(self.program, 2, 2, "--stats") as nodes:
+            for _ in range(SLOTS):
+                self.look("a link", nodes.say("link 0 1"), None)
+            self.look("a link more", nodes.say("link 0 1"), "no slot")
+            threads = len(nodes.states())
+            self.look("a kick", nodes.say(f"kick 0 {OUTBOUND + 5}"), None)
+            # Both readers return. A link before that could use node 0's slot in vain.
+            until(lambda: rests(nodes, threads - 2), time.monotonic() + TIMEOUT)
+            self.look("a link again", nodes.say("link 0 1"), None)
+            self.look("a block", nodes.say("mine 0"), None)
+            self.look("a wait", nodes.say("wait"), None)
+            rows = self.ends("one slot again", nodes, 1, 3)
+            again = {(row[1], row[3]) for row in rows if row[5] != "1"}
+            self.look("slots of second connections", again, {("0", str(OUTBOUND + 5)), ("1", "5")})
+            kicked = [row[7] for row in rows if row[:6] == ["node", "0", "slot", str(OUTBOUND + 5), "connection", "1"]]
+            self.look("the kicked connection's end", kicked, ["Kicked"])
+
+    def every_connection(self):
+        """Each slot of node 0 is used 256 times. A link for which node 1 has no slot at that moment uses one of node 0 as well."""
+        with NodeTalk(self.program, 2, 4, "--stats", seconds=PATIENCE) as nodes:
+            made, idle = 0, 0
+            while idle < IDLE_ROUNDS:
+                before = made
+                while nodes.retried("link 0 1", TRIES) is None:
+                    made += 1
+                idle = idle + 1 if made == before else 0
+                for slot in range(OUTBOUND, OUTBOUND + SLOTS):
+                    nodes.say(f"kick 0 {slot}")
+            self.look("as many connections as there can be", made <= SLOTS * CONNECTIONS, True)
+            self.look("a block", nodes.say("mine 0"), None)
+            self.look("a link back", nodes.retried("link 1 0"), None)
+            self.look("a wait", nodes.say("wait"), None)
+            rows = self.ends("every connection", nodes, 1, 3)
+            latest = {int(row[3]): int(row[5]) for row in rows if row[1] == "0" and int(row[3]) >= OUTBOUND}
+            self.look("generations", set(latest.values()), {CONNECTIONS})
+            print(f"node_peers: {made} connections by {SLOTS} slots")
+
+    # ---- peers that are no nodes
+
+    def with_peer(self, name, act, end):
+        """Nodes 0 and 1 are linked, and a peer is served by node 1's slot 1. What it does ends the connection so."""
+        with NodeTalk(self.program, 2, 2, "--stats") as nodes:
+            self.look(f"{name}: a link", nodes.say("link 0 1"), None)
+            [port] = nodes.ports()
+            with peer(port) as stream:
+                # The peer waits to be accepted, so it is taken for node 0, whose own connection waits behind it.
+                self.look(f"{name}: a link", nodes.say("link 0 1"), None)
+                act(nodes, stream)
+                self.look(f"{name}: a block", nodes.say("mine 0"), None)
+                self.look(f"{name}: a wait", nodes.say("wait"), None)
+                self.look(f"{name}: a block back", nodes.say("mine 1"), None)
+                self.look(f"{name}: a wait", nodes.say("wait"), None)
+            rows = self.ends(name, nodes, 2, 3)
+            self.look(f"{name}: the peer's end", [row[7] for row in rows if row[1:4] == ["1", "slot", "1"]], [end] if end else [])
+
+    def silent(self, nodes, stream):
+        """Says nothing, and stays."""
+
+    def cut(self, nodes, stream):
+        """The stream's end in the middle of a message."""
+        stream.sendall(HELLO + PING[:20])
+        stream.shutdown(socket.SHUT_WR)
+        time.sleep(0.2)
+
+    def reset(self, nodes, stream):
+        """A reset in the middle of a payload."""
+        stream.sendall(HELLO + PING[:28])
+        time.sleep(0.1)
+        end_by_reset(stream)
+        time.sleep(0.2)
+
+    def noise(self, nodes, stream):
+        """Bytes that are no message."""
+        stream.sendall(bytes(100))
+        time.sleep(0.2)
+
+    def unreadable(self, nodes, stream):
+        """A payload that can't be read."""
+        stream.sendall(HELLO + UNREADABLE)
+        time.sleep(0.2)
+
+    def many_pings(self, nodes, stream):
+        """More pings than an inbox holds at once, of which each is answered."""
+        stream.sendall(HELLO + PING * 3_000)
+        self.look("pongs", pongs(stream, 3_000), 3_000)
+
+    def asked_of(self, nodes):
+        """Node 1 is given a large block. A message that asks for it many times comes back."""
+        block = mined(GENESIS, 1, GIVEN)
+        large = sized(block.header.name, LARGE)
+        for one in (block, large):
+            self.look("a given block", nodes.say(f"block 1 {one.text.hex()}"), None)
+        return wire.entries(b"getdata", [(2, large.header.name)] * ASKED)
+
+    def never_reads(self):
+        """A peer asks for many large blocks and reads nothing. The others go on; its connection ends by itself."""
+        with NodeTalk(self.program, 3, 2, "--stats", seconds=PATIENCE) as nodes:
+            self.look("a link", nodes.say("link 0 1"), None)
+            self.look("a link", nodes.say("link 2 1"), None)
+            much = self.asked_of(nodes)
+            self.look("a wait", nodes.say("wait"), None)
+            [port] = nodes.ports()
+            with peer(port) as stream:
+                self.look("a link", nodes.say("link 0 1"), None)
+                stream.sendall(HELLO + much)
+                began = time.monotonic()
+                height = 2
+                while time.monotonic() < began + TIMEOUT + 2:
+                    for node in (0, 1, 2):
+                        self.look("a block beside it", nodes.say(f"mine {node}"), None)
+                        self.look("a wait beside it", nodes.say("wait"), None)
+                        height += 1
+                    time.sleep(1)
+                rows = self.ends("a peer that never reads", nodes, height, 3)
+            self.look("the peer's end", [row[7] for row in rows if row[1:4] == ["1", "slot", "2"]], ["WriteFault"])
+
+    # ---- full inboxes
+
+    def full_inboxes(self):
+        """Slots whose inboxes are full are passed over. A try in which that isn't so in time tells nothing, and is made again."""
+        for _ in range(FULL_TRIES):
+            with NodeTalk(self.program, 3, 1, "--stats", seconds=PATIENCE) as nodes, ExitStack() as stack:
+                much = self.asked_of(nodes)
+                streams = self.peers_first(nodes, stack)
+                told = links_beside(nodes, streams, much)
+                if told is not None:
+                    self.look("links beside full inboxes", told, [None, None, "no slot"])
+                    self.after_full_inboxes(nodes, streams)
+                    return
+        self.look("inboxes that are full before a write ends", False, True)
+
+    def peers_first(self, nodes, stack):
+        """Uses all slots of node 1. Those of PEERS serve the peers that come back, whose inboxes are empty, the others nodes 0 and 2."""
+        self.look("a link", nodes.say("link 2 1"), None)
+        [port] = nodes.ports()
+        # All wait to be accepted, so they are taken for node 2, whose own connections wait behind them.
+        streams = [stack.enter_context(peer(port)) for _ in PEERS]
+        for stream in streams:
+            self.look("a peer's link", nodes.say("link 2 1"), None)
+            stream.sendall(HELLO + PING)
+            self.look("a pong", pongs(stream, 1), 1)
+        for _ in range(SLOTS - 1 - len(PEERS)):
+            self.look("a link", nodes.say("link 0 1"), None)
+        self.look("a wait", nodes.say("wait"), None)
+        return streams
+
+    def after_full_inboxes(self, nodes, streams):
+        """The handler is free again. What lay in the inboxes is served, and the nodes go on."""
+        _, _, holder, ended, roomy = streams
+        end_by_reset(holder)
+        self.look("pongs after a full inbox", [pongs(stream, MARKS) for stream in (ended, roomy)], [MARKS - 1, MARKS - 2])
+        self.look("a block", nodes.say("mine 0"), None)
+        self.look("a wait", nodes.say("wait"), None)
+        rows = [row for row in self.ends("full inboxes", nodes, 3, 3) if row[1] == "1" and row[3] in PEERS]
+        ends = [row[7] for row in rows if row[5] == "1"]
+        self.look("the peers' ends", ends, ["WriteFault", "BadMessage", "WriteFault", "Bye", "Bye"])
+        self.look("slots of second connections", [row[3] for row in rows if row[5] != "1"], [PEERS[0], PEERS[4]])
+
+
+def links_beside(nodes, streams, much):
+    """What becomes of three links to node 1 while it has full inboxes; nothing if they weren't so before a write may have ended by itself.
+
+    The handler takes the slots' turns in order. First it writes to the first peer, which reads nothing, until that resets its connection. Then it
+    finds the unreadable message of the second peer, whose reader it tells to stop, and writes to the third, which reads nothing. So the first
+    peer's slot is free, the second's inbox has no room for the end mark, the fourth's none for an open mark, and the fifth's has room for both.
+    """
+    first, stopped, holder, ended, roomy = streams
+    threads = len(nodes.states())
+    end = time.monotonic() + TIMEOUT
+    first.sendall(much)
+    until(lambda: is_written_to(first), end)
+    holder.sendall(much)
+    stopped.sendall(UNREADABLE + PING * 2 * MARKS)
+    for stream, count in ((ended, MARKS - 1), (roomy, MARKS - 2)):
+        stream.sendall(PING * count)
+        stream.shutdown(socket.SHUT_WR)
+    # The readers of the fourth and the fifth have returned, and then that of the first. That of the second waits.
+    until(lambda: rests(nodes, threads - 2), end)
+    end_by_reset(first)
+    until(lambda: is_written_to(holder), end)
+    until(lambda: rests(nodes, threads - 3), end)
+    # The first link goes to the first peer's slot, the second to the fifth's.
+    told = [nodes.say("link 2 1") for _ in range(3)]
+    return told if time.monotonic() < end else None
+
+
+def is_written_to(stream):
+    """Whether more came to a peer than is sent to one that asks for nothing."""
+    return len(stream.recv(MUCH, socket.MSG_PEEK)) == MUCH
+
+
+def rests(nodes, threads):
+    """Whether the nodes have so many threads, which all sleep at several looks in a row."""
+    for _ in range(LOOKS_AT_REST):
+        if nodes.states() != ["S"] * threads:
+            return False
+        time.sleep(0.01)
+    return True
+
+
+def until(holds, end):
+    """Waits until something holds, to this moment at most."""
+    while not holds() and time.monotonic() < end:
+        time.sleep(0.01)
+
+
+def pongs(stream, most):
+    """How many pongs come to a peer, up to so many or to the stream's end."""
+    got = b""
+    while got.count(PONG) < most:
+        piece = stream.recv(65_536)
+        if not piece:
+            break
+        got += piece
+    return got.count(PONG)
+
+
+def end_by_reset(stream):
+    """Closes a peer's connection by a reset."""
+    stream.setsockopt(socket.SOL_SOCKET, socket.SO_LINGER, struct.pack("ii", 1, 0))
+    stream.close()
+
+
+def main():
+    parser = usage(__doc__, program="the program")
+    parser.add_argument("--all", action="store_true", help="use up all connections of all slots too")
+    words = parser.parse_args()
+    looks = Looks(built(words.program, "cbrelay"))
+    looks.one_slot_again()
+    for act, end in ((looks.silent, None), (looks.cut, "Bye"), (looks.reset, "Bye"), (looks.noise, "BadStream"),
+                     (looks.unreadable, "BadMessage"), (looks.many_pings, "Bye")):
+        looks.with_peer(act.__name__, act, end)
+    looks.never_reads()
+    looks.full_inboxes()
+    if words.all:
+        looks.every_connection()
+    print(f"node_peers: {looks.count - looks.failed} as they should be, {looks.failed} not")
+    return 1 if looks.failed else 0
+
+
+if __name__ == "__main__":
+    sys.exit(main())

@@ -1,0 +1,54 @@
+-- The task that the words name, and how it ended.
+use Rattle.std.proofs.Common.{◌≡◌, ℕ, Bool, true, false, List, [], ◌⊎◌, inl, inr, codes, Option, Some, None, Result, Ok, Err, IfOk, IfErr, MatchResult, sym, subst}
+use Rattle.std.specs.Prelude.{if◌then◌else◌}
+use Rattle.std.specs.Str.{bytes_eq}
+use Rattle.clap.specs.Words.{fault_of}
+use Rattle.cb_run.specs.declared.ending.Status.{Status}
+use Rattle.cb_run.specs.declared.ending.Halt.{Halt}
+use Rattle.cb_run.specs.Ending.{HasCause, status_code}
+use Rattle.cb_decode.specs.Report.{ReportsKnown}
+use Rattle.cb_run_nodes.specs.declared.running.RunOrders.{RunOrders}
+use Rattle.cb_command.specs.Command.{EndsEarly, Halts, PrintsReport, code_of}
+use Rattle.cb_command.specs.Words.{AreWithin, ByTask, entered, program, task_in, task_named}
+use Rattle.cb_command.specs.declared.commanding.Task.{Task}
+use Rattle.cb_command.specs.declared.commanding.Task.TheVariants.{Decode, Serve, Sim, Run}
+
+-- a run with its status, or one that ended early
+pub done : (Prints : ℕ → Type 0) (Same : Type 0) (input : Option (List ℕ)) (read_failed write_failed : Bool) (told tells : Option (List ℕ)) (failed : Bool) (ended : Result ℕ Halt) (code : ℕ) → IfOk ended Prints
+    → IfErr ended (HasCause input read_failed write_failed) → MatchResult ended (λ c. (code ≡ c) × Same) (EndsEarly told tells failed code) → (Prints code × Same) ⊎ Halts input read_failed write_failed told tells failed code
+done Prints Same input read_failed write_failed told tells failed (Ok status) code prints cause settled = inl (subst Prints (sym settled.0) prints, settled.1)
+done Prints Same input read_failed write_failed told tells failed (Err halt) code prints cause settled = inr (halt, cause, settled)
+
+-- the same of `decode`
+pub decoded : (Same : Type 0) (input held holds : Option (List ℕ)) (read_failed write_failed : Bool) (told tells : Option (List ℕ)) (failed : Bool) (ended : Result Status Halt) (coded : Result ℕ Halt) (code : ℕ)
+    → coded ≡ code_of ended → IfOk ended (ReportsKnown input held holds) → IfErr ended (HasCause input read_failed write_failed)
+    → MatchResult coded (λ c. (code ≡ c) × Same) (EndsEarly told tells failed code) → (PrintsReport input held holds code × Same) ⊎ Halts input read_failed write_failed told tells failed code
+decoded Same input held holds read_failed write_failed told tells failed (Ok status) coded code is reports cause settled =
+    let both : (code ≡ status_code status) × Same = subst (λ (r : Result ℕ Halt). MatchResult r (λ c. (code ≡ c) × Same) (EndsEarly told tells failed code)) is settled in inl ((status, reports, both.0), both.1)
+decoded Same input held holds read_failed write_failed told tells failed (Err halt) coded code is reports cause settled =
+    inr (halt, cause, subst (λ (r : Result ℕ Halt). MatchResult r (λ c. (code ≡ c) × Same) (EndsEarly told tells failed code)) is settled)
+
+-- the orders of `run` are those that were found
+by_words : (orders other : RunOrders) (serve sim run : Bool) → Run other ≡ (if serve then Serve else if sim then Sim else if run then Run orders else Decode) → other ≡ orders
+by_words orders other true sim run is = absurd (let clash : Run other ≡ Serve = is in cc)
+by_words orders other false true run is = absurd (let clash : Run other ≡ Sim = is in cc)
+by_words orders other false false true is = let same : Run other ≡ Run orders = is in cc
+by_words orders other false false false is = absurd (let clash : Run other ≡ Decode = is in cc)
+
+by_name : (orders other : RunOrders) (name : Option (List ℕ)) → Run other ≡ task_named orders name → other ≡ orders
+by_name orders other None is = absurd (let clash : Run other ≡ Decode = is in cc)
+by_name orders other (Some name) is = by_words orders other (bytes_eq name (codes "serve")) (bytes_eq name (codes "sim")) (bytes_eq name (codes "run")) is
+
+-- A task was run, whatever it told for the orders that the words give.
+pub runs_task : {Refused Lacked : Type 0} (Decodes Serves Simulates : Type 0) (Runs : RunOrders → Type 0) (found task : Task) (words whole : List (List ℕ)) → found ≡ task → words ≡ whole → fault_of program words ≡ []
+    → ((orders : RunOrders) × AreWithin orders × (found ≡ task_in orders words)) → ((orders : RunOrders) → task ≡ task_in orders words → ByTask task Decodes Serves Simulates (Runs orders))
+    → Refused ⊎ (Lacked ⊎ ((fault_of program whole ≡ []) × ((orders : RunOrders) × AreWithin orders × ByTask (task_in orders whole) Decodes Serves Simulates (Runs orders))))
+runs_task Decodes Serves Simulates Runs found task words whole named same none given ran =
+    let orders : RunOrders = given.0 in
+    let is : task ≡ task_in orders words = subst (λ (t : Task). t ≡ task_in orders words) named given.2 in
+    let told : ByTask (task_in orders words) Decodes Serves Simulates (Runs orders) = subst (λ (t : Task). ByTask t Decodes Serves Simulates (Runs orders)) is (ran orders is) in
+    inr (inr (subst (λ (w : List (List ℕ)). fault_of program w ≡ []) same none, (orders, given.1, subst (λ (w : List (List ℕ)). ByTask (task_in orders w) Decodes Serves Simulates (Runs orders)) same told)))
+
+-- what holds for the orders with which `run` was called holds for those that the words give
+pub for_orders : (P : RunOrders → Type 0) (other orders : RunOrders) (words : List (List ℕ)) → P other → Run other ≡ task_in orders words → P orders
+for_orders P other orders words holds is = subst P (by_name orders other (entered words) is) holds

@@ -1,0 +1,58 @@
+-- What is printed while a script is played.
+use Rattle.std.specs.Prelude.{◌≡◌, ◌↔◌, ℕ, ◌+◌, ◌≤◌, ⊤, List, [], ◌∷◌, ◌++◌, length, Option, Some, None}
+use Rattle.std.specs.Str.Lines.{lines}
+use Rattle.cb_script.specs.declared.line.Line.{Line}
+use Rattle.cb_node.specs.Node.{NodeState}
+use Rattle.cb_script.specs.declared.line.Line.TheVariants.{Kick}
+use Rattle.cb_script.specs.declared.outcome.Outcome.{Outcome}
+use Rattle.cb_script.specs.declared.outcome.Outcome.TheVariants.{NoSlot}
+use Rattle.cb_script.specs.declared.outcome.Tally.{Tally}
+use Rattle.cb_script.specs.Outcomes.{CanEnd, good, outcome_text, tally_after, unreadable_text}
+use Rattle.cb_script.specs.ScriptLine.{Reads}
+use Rattle.cb_run_nodes.specs.declared.playing.Played.{Played}
+use Rattle.cb_run_nodes.specs.declared.playing.Played.TheVariants.{Whole, Unreadable}
+
+-- Each node has 64 slots.
+abbrev pub HasSlots : NodeState → Type 0
+HasSlots node = length node.used ≡ 64
+
+-- A kick of a slot that nodes don't have is told so, and no other kick is.
+abbrev pub TellsKick : Line → Outcome → Type 0
+TellsKick (Kick node slot) outcome = (outcome ≡ NoSlot) ↔ (64 ≤ slot)
+TellsKick other outcome = ⊤
+
+-- what can become of a line
+abbrev pub CanBecome : Line → Outcome → Type 0
+CanBecome line outcome = CanEnd line outcome × TellsKick line outcome
+
+-- These lines, the first of which has this number, can all be read. This is printed for them, and
+-- they lead from the old tally to the new one.
+abbrev pub PlaysLines : ℕ → ℕ → List (List ℕ) → Tally → List ℕ → Tally → Type 0
+PlaysLines nodes number [] old printed new = (printed ≡ []) × (new ≡ old)
+PlaysLines nodes number (text ∷ more) old printed new =
+    (line : Line) × (outcome : Outcome) × (rest : List ℕ) × Reads nodes text (Some line) × CanBecome line outcome × (printed ≡ outcome_text number outcome ++ rest)
+    × PlaysLines nodes (number + 1) more (tally_after old outcome) rest new
+
+-- A line can't be read. What the lines before it print is followed by its number.
+pub record PlaysUpTo (nodes : ℕ) (input out : List ℕ) : Type 0 where
+  pub before : List (List ℕ)
+  pub line : List ℕ
+  pub after : List (List ℕ)
+  pub text : List ℕ
+  pub tally : Tally
+  pub lines_are : lines input ≡ before ++ (line ∷ after)
+  pub plays : PlaysLines nodes 1 before good text tally
+  pub unreadable : Reads nodes line None
+  pub out_is : out ≡ text ++ unreadable_text (length before + 1)
+
+-- what is printed for a whole script, by how its playing ended
+abbrev pub Plays : ℕ → List ℕ → List ℕ → Played → Type 0
+Plays nodes input out (Whole tally) = PlaysLines nodes 1 (lines input) good out tally
+Plays nodes input out Unreadable = PlaysUpTo nodes input out
+
+-- the same, if the bytes of the reader and the writer are known
+abbrev pub PlaysKnown : ℕ → Option (List ℕ) → Option (List ℕ) → Option (List ℕ) → Played → Type 0
+PlaysKnown nodes None old new played = ⊤
+PlaysKnown nodes (Some input) None new played = ⊤
+PlaysKnown nodes (Some input) (Some held) None played = ⊥
+PlaysKnown nodes (Some input) (Some held) (Some holds) played = (out : List ℕ) × (holds ≡ held ++ out) × Plays nodes input out played
