@@ -46,6 +46,24 @@ NO_ACTS = (
     "drop 0 1", "put 0", "put", "end", "end 0 1", "open", "open 0 1", "open 65536", "claim", "claim 65536", "take x", "take -1",
     "give 0 ", "give +0", "system 1 1 1", "",
 )
+# Words of `run` that are refused: sizes out of their ranges, and without one of them.
+NO_RUNS = (
+    "--nodes 0 --handlers 1", "--nodes 9 --handlers 1", "--nodes 1 --handlers 0", "--nodes 1 --handlers 17", "--nodes -1 --handlers 1",
+    "--nodes x --handlers 1", "--nodes 65537 --handlers 1", "--nodes 1", "--handlers 1", "", "--nodes 1 --handlers 1 more", "--nodes 1 --handlers 1 --stat",
+    "--nodes 1 --nodes 2 --handlers 1",
+)
+TX_64 = "0100000001" + "11" * 32 + "000000000401020304ffffffff010100000000000000" + "00" * 5
+# Lines of `run` with two nodes that can't be read.
+NO_LINES = (
+    "", " ", "wait ", " wait", "Wait", "wait 0", "link", "link 0", "link 0 ", "link 0  1", "link  0 1", "link 0 1 ", "link 0 2", "link 2 0",
+    "link 0 1 1", "link +0 1", "link 0 -1", "link 0 x", "link 0 18446744073709551616", "link 0 65536", "mine", "mine 2", "mine 0 0", "mine x",
+    "kick 0", "kick 2 0", "kick 0 65536", "kick 0 0 0", "kick 0 18446744073709551616", "checkpoint", "checkpoint 2", "checkpoint 0 ", "tx 0",
+    "tx 0 ", f"tx 0 {TX_64[:-2]}", f"tx 0 {TX_64}00", f"tx 0 {TX_64[:-1]}", f"tx 0 {TX_64[:-1]}g", f"tx 0 {TX_64[:64]} {TX_64[64:]}", f"tx 0  {TX_64}",
+    f"tx 2 {TX_64}", f"block 0 {TX_64}", "block 0", "block 0 ", "block 1 00", "put 0 1", "system 1 1 1", "link\t0 1", "mine 0\r\r", "mine \u0660",
+)
+RUN = ["run", "--nodes", "2", "--handlers", "1"]
+STANDS = "height 0 tip 0f9188f13cb7b2c71f2a335e3a4fc328bf5beb436012afca590b1a11466e2206 pool 0 audit yes"
+STOOD = f"node 0 {STANDS}\nnode 1 {STANDS}\n".encode()
 
 
 class Looks:
@@ -83,6 +101,17 @@ class Looks:
             lines = f"system 1 1 1\nput 0 7\n{line}\ntake 0\n".encode()
             self.look(f"sim of {line!r}", self.run(["sim"], lines), (3, b"3 unreadable\n", b""))
 
+    def nodes_that_are_refused(self):
+        for words in NO_RUNS:
+            status, printed, told = self.run(["run", *words.split()], b"wait\n")
+            self.look(f"run {words}", (status, printed, told != b""), (1, b"", True))
+
+    def lines_of_nodes_that_cannot_be_read(self):
+        for line in NO_LINES:
+            given = f"kick 0 64\n{line}\nmine 0\n".encode()
+            self.look(f"run of {line!r}", self.run(RUN, given), (3, b"1 no slot\n2 unreadable\n", b""))
+        self.look("run of what isn't UTF-8", self.run(RUN, b"mine 0\xff\n"), (3, b"1 unreadable\n", b""))
+
     # ---- reads
 
     def one_byte_a_read(self):
@@ -91,6 +120,7 @@ class Looks:
             (["decode"], DECODED, PRINTED, b""),
             (["serve"], VERACK + PING + PING, PONG + PONG, b"closed Bye\n"),
             (["sim"], SIMULATED, REPORTED, b""),
+            (RUN, b"link 0 1\nwait\n", STOOD, b""),
         ):
             ours, theirs = socket.socketpair(socket.AF_UNIX, socket.SOCK_SEQPACKET)
             with ours, theirs, subprocess.Popen([self.program, *words], stdin=theirs, stdout=subprocess.PIPE, stderr=subprocess.PIPE) as node:
@@ -106,6 +136,7 @@ class Looks:
         for name, words, given, wanted in (
             ("decode, behind a line and a half", ["decode"], DECODED[:60], (3, b"verack\n", b"read failed\n")),
             ("sim, behind a line and a half", ["sim"], SIMULATED[:15], (3, b"", b"read failed\n")),
+            ("run, behind a line and a half", RUN, b"kick 0 64\nmin", (3, b"1 no slot\n", b"read failed\n")),
             ("serve, at once", ["serve"], b"", (3, b"", b"closed Bye\nread failed\n")),
             ("serve, behind a ping and a magic", ["serve"], PING + PING[:4], (3, PONG, b"closed Bye\nread failed\n")),
             ("serve, in the middle of a payload", ["serve"], PING[:28], (3, b"", b"closed Bye\nread failed\n")),
@@ -183,6 +214,8 @@ def main():
     looks = Looks(built(None, "cbrelay"))
     looks.words_that_are_refused()
     looks.lines_that_cannot_be_read()
+    looks.nodes_that_are_refused()
+    looks.lines_of_nodes_that_cannot_be_read()
     looks.one_byte_a_read()
     looks.reads_that_fail()
     looks.writes_that_fail()

@@ -7,7 +7,8 @@ use Rattle.clap.specs.declared.error.kind.ErrorKind.TheVariants.{OutOfMemory}
 use Rattle.clap.specs.declared.parser.matches.ArgMatches.{ArgMatches}
 use Rattle.clap.proofs.OnLiterals.{clap_on_literals}
 use Rattle.cb_command.specs.Words.{AreRefused, program, task_in}
-use Rattle.cb_command.specs.declared.commanding.Task.TheVariants.{Decode, Serve, Sim}
+use Rattle.cb_command.specs.declared.commanding.Task.TheVariants.{Decode, Serve, Sim, Run}
+use Rattle.cb_run_nodes.specs.declared.running.RunOrders.{RunOrders}
 
 pub program_is_simple : is_simple program ≡ true
 unfolding clap_on_literals
@@ -26,14 +27,16 @@ pub name_of_rows : (m : ArgMatches) → subcommand_name_of m ≡ option_map (λ 
 name_of_rows m = mapped_twice _ (λ found. found.0) _
 
 -- the commands by their words
-pub named : (name : List ℕ) → (task_in (name ∷ []) ≡ Decode) × (task_in (name ∷ codes "decode" ∷ []) ≡ Decode) × (task_in (name ∷ codes "serve" ∷ []) ≡ Serve) × (task_in (name ∷ codes "sim" ∷ []) ≡ Sim)
+pub named : (orders : RunOrders) (name : List ℕ) → (task_in orders (name ∷ []) ≡ Decode) × (task_in orders (name ∷ codes "decode" ∷ []) ≡ Decode) × (task_in orders (name ∷ codes "serve" ∷ []) ≡ Serve) × (task_in orders (name ∷ codes "sim" ∷ []) ≡ Sim)
+    × (task_in orders (name ∷ codes "run" ∷ codes "--nodes" ∷ codes "8" ∷ codes "--handlers" ∷ codes "16" ∷ []) ≡ Run orders)
 unfolding clap_on_literals
-named name = (refl, refl, refl, refl)
+named orders name = (refl, refl, refl, refl, refl)
 
 -- and they are taken
 pub taken : (name : List ℕ) → (takes program (name ∷ []) ≡ true) × (takes program (name ∷ codes "decode" ∷ []) ≡ true) × (takes program (name ∷ codes "serve" ∷ []) ≡ true) × (takes program (name ∷ codes "sim" ∷ []) ≡ true)
+    × (takes program (name ∷ codes "run" ∷ codes "--nodes" ∷ codes "8" ∷ codes "--handlers" ∷ codes "16" ∷ []) ≡ true)
 unfolding clap_on_literals
-taken name = (refl, refl, refl, refl)
+taken name = (refl, refl, refl, refl, refl)
 
 pub if_ok_more : {T E : Type 0} {P Q : T → Type 0} (r : Result T E) → ((t : T) → P t → Q t) → IfOk r P → IfOk r Q
 if_ok_more (Ok t) f p = f t p

@@ -1,38 +1,64 @@
 -- What the words of a command line ask for.
-use Rattle.std.specs.Prelude.{◌≡◌, ◌≢◌, ℕ, true, false, if◌then◌else◌, List, [], codes, Option, Some, None, option_map}
+use Rattle.std.specs.Prelude.{◌≡◌, ◌≢◌, ℕ, ◌≤◌, pos, true, false, if◌then◌else◌, ⊤, List, [], codes, Option, Some, None, option_map}
 use Rattle.std.specs.Str.{bytes_eq}
-use Rattle.clap.specs.Words.{App, fault_of, new_app, subcommand_of, takes, with_subcommand}
+use Rattle.clap.specs.Words.{App, Rule, fault_of, new_app, new_rule, subcommand_of, takes, with_rule, with_subcommand}
+use Rattle.clap.specs.declared.builder.action.ArgAction.TheVariants.{SetTrue}
+use Rattle.clap.specs.declared.builder.value_parser.ValueParser.TheVariants as parsers
+use Rattle.cb_run_nodes.specs.declared.running.RunOrders.{RunOrders}
 use Rattle.cb_command.specs.declared.commanding.Task.{Task}
-use Rattle.cb_command.specs.declared.commanding.Task.TheVariants.{Decode, Serve, Sim}
+use Rattle.cb_command.specs.declared.commanding.Task.TheVariants.{Decode, Serve, Sim, Run}
 
 -- A command that prints its version.
 abbrev pub with_version : App → App
 with_version a = record a { top = record a.top { has_version = true } }
 
--- The program's command line: its version, and three commands without arguments.
+-- An option of this name that must be there, with a number from 1 to the most.
+abbrev pub sized : List ℕ → ℕ → Rule
+sized name most = record (new_rule name) { long = Some name; value_names = 1; parser = Some (parsers.Signed (pos 1) (pos most)); required = true }
+
+-- A flag of this name.
+abbrev pub flag : List ℕ → Rule
+flag name = record (new_rule name) { long = Some name; action = Some SetTrue }
+
+-- The command `run`: how many nodes there are, and how many handler threads each has.
+abbrev pub run_line : App
+run_line = with_rule (with_rule (with_rule (new_app (codes "run")) (sized (codes "nodes") 8)) (sized (codes "handlers") 16)) (flag (codes "stats"))
+
+-- The program's command line: its version, three commands without arguments, and `run`.
 abbrev pub program : App
 program =
-    with_subcommand (with_subcommand (with_subcommand (with_version (new_app (codes "cbrelay"))) (new_app (codes "decode")).top) (new_app (codes "serve")).top) (new_app (codes "sim")).top
+    with_subcommand (with_subcommand (with_subcommand (with_subcommand (with_version (new_app (codes "cbrelay"))) (new_app (codes "decode")).top) (new_app (codes "serve")).top) (new_app (codes "sim")).top) run_line.top
 
 -- The command that the words name, if any. The first word is the program's name.
 abbrev pub entered : List (List ℕ) → Option (List ℕ)
 entered words = option_map (λ found. found.0) (subcommand_of program words)
 
--- The task of that command; `decode` if none is named.
-abbrev pub task_named : Option (List ℕ) → Task
-task_named None = Decode
-task_named (Some name) = if bytes_eq name (codes "serve") then Serve else if bytes_eq name (codes "sim") then Sim else Decode
+-- There are 1 to 8 nodes with 1 to 16 handlers each.
+abbrev pub AreWithin : RunOrders → Type 0
+AreWithin orders = ((1 ≤ orders.sizes.nodes) × (orders.sizes.nodes ≤ 8)) × ((1 ≤ orders.sizes.handlers) × (orders.sizes.handlers ≤ 16))
 
--- The task that the words ask for.
-abbrev pub task_in : List (List ℕ) → Task
-task_in words = task_named (entered words)
+-- The same of a task's orders, if it has any.
+abbrev pub IsWithin : Task → Type 0
+IsWithin (Run orders) = AreWithin orders
+IsWithin other = ⊤
+
+-- The task of that command, with these orders for `run`; `decode` if none is named.
+abbrev pub task_named : RunOrders → Option (List ℕ) → Task
+task_named orders None = Decode
+task_named orders (Some name) =
+    if bytes_eq name (codes "serve") then Serve else if bytes_eq name (codes "sim") then Sim else if bytes_eq name (codes "run") then Run orders else Decode
+
+-- The task that the words ask for, with these orders for `run`.
+abbrev pub task_in : RunOrders → List (List ℕ) → Task
+task_in orders words = task_named orders (entered words)
 
 -- Clap doesn't accept the words, and finds a fault in them.
 abbrev pub AreRefused : List (List ℕ) → Type 0
 AreRefused words = (takes program words ≡ false) × (fault_of program words ≢ [])
 
--- One of three statements, by the task.
-abbrev pub ByTask : Task → Type 0 → Type 0 → Type 0 → Type 0
-ByTask Decode decodes serves runs = decodes
-ByTask Serve decodes serves runs = serves
-ByTask Sim decodes serves runs = runs
+-- One of four statements, by the task.
+abbrev pub ByTask : Task → Type 0 → Type 0 → Type 0 → Type 0 → Type 0
+ByTask Decode decodes serves simulates runs = decodes
+ByTask Serve decodes serves simulates runs = serves
+ByTask Sim decodes serves simulates runs = simulates
+ByTask (Run orders) decodes serves simulates runs = runs

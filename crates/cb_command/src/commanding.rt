@@ -1,6 +1,6 @@
 //! The command line and its commands.
 
-ghost use Rattle.std.specs.Prelude.{◌≡◌, ◌⊎◌, ℕ, true, false, IsErrOf, List, [], ◌∷◌, codes, map, option_map, string_bytes, IfOk, IfErr, MatchResult};
+ghost use Rattle.std.specs.Prelude.{◌≡◌, ◌⊎◌, ◌≤◌, ℕ, true, false, IsErrOf, List, [], ◌∷◌, codes, map, option_map, string_bytes, IfOk, IfErr, MatchResult};
 ghost use Rattle.std.specs.Io.KnownBytes.{Appends};
 ghost use Rattle.cb_peer_state.specs.declared.state.CloseReason.{CloseReason};
 ghost use Rattle.cb_peer_state.specs.declared.state.CloseReason.TheVariants as reasons;
@@ -10,17 +10,20 @@ ghost use Rattle.cb_command.specs.Command.{PrintsReport, EndsEarly, Halts, Refus
 ghost use Rattle.cb_run.specs.Ending.{halt_status, halt_line};
 ghost use Rattle.cb_command.specs.Peer.{WasServed};
 ghost use Rattle.cb_sim.specs.SimInput.{SimulatesKnown};
-ghost use Rattle.cb_command.specs.Words.{AreRefused, ByTask, program, task_in, task_named};
-ghost use Rattle.clap.specs.Words.{FailsBy, app_of, fault_of, kind_of, takes};
+ghost use Rattle.cb_command.specs.Words.{AreRefused, AreWithin, ByTask, IsWithin, flag, program, run_line, sized, task_in, task_named};
+ghost use Rattle.cb_run_nodes.specs.Summary.{RunsKnown};
+ghost use Rattle.cb_run_nodes.specs.declared.running.RunOrders.{RunOrders};
+ghost use Rattle.clap.specs.Words.{FailsBy, app_of, fault_of, kind_of, rule_of, takes};
 ghost use Rattle.clap.specs.declared.error.kind.ErrorKind.TheVariants.{OutOfMemory};
 
 use crate::serve::serve_peer;
 use cb_decode::decode;
 use cb_io::{Sink, Source};
 use cb_run::{Halt, Status, write_all};
+use cb_run_nodes::{Host, RunOrders, Sizes, run_nodes};
 use cb_sim::simulate;
-use clap::Command;
 use clap::error::ErrorKind;
+use clap::{Arg, ArgAction, ArgMatches, Command, value_parser};
 use std::alloc::{AllocError, Global};
 
 /// The command that a command line names.
@@ -33,6 +36,8 @@ pub enum Task {
     /// `sim`: run the pure core of the crew, which is the threads that share the peers' work, one
     /// line for each act.
     Sim,
+    /// `run`: play a script of nodes that are joined over loopback.
+    Run(RunOrders),
 }
 
 /// The version that `--version` prints.
@@ -46,19 +51,41 @@ test network (regtest).
 Exit status:
   0  all was done
   1  the command line was refused, or help or the version was asked for
-  2  sim: an act was refused
-  3  the input has a fault, or a read or a write failed
+  2  sim: an act was refused; run: a node refused what it was given
+  3  the input has a fault, or a read or a write failed; run: also a slot, a socket, a wait or an audit
   4  memory ran out
 
+Examples:
+  echo fabfb5da76657261636b000000000000000000005df6e0e2 | cbrelay decode
+  printf 'link 0 1\\nmine 0\\nwait\\n' | cbrelay run --nodes 2 --handlers 1";
+
+/// The text that `run --help` prints below the options.
+const RUN_USE: &str = "\
+Nodes have the numbers 0 to N-1. Standard input is a script; each line is one of
+
+  link A B      node A connects to node B
+  tx A HEX      node A is given a transaction
+  block A HEX   node A is given a block
+  mine A        node A mines a block
+  kick A SLOT   node A kicks the peer in a slot; slots 0 to 31 are of peers that
+                connected to it, slots 32 to 63 of those it connected to
+  wait          ticks until all nodes have one tip, at most 2,000
+  checkpoint A  node A drops its log of calls
+
+What was refused or failed is printed with the line's number. At the end each node
+prints its height, its tip, its mempool's size, and whether its log and the traces of
+its connections tell one history.
+
 Example:
-  echo fabfb5da76657261636b000000000000000000005df6e0e2 | cbrelay decode";
+  printf 'link 0 1\\nmine 0\\nwait\\n' | cbrelay run --nodes 2 --handlers 1";
 
 /// Runs the command that the words name, and returns the exit status, the code of a `Status`.
 ///
 /// The first word is the program's name. All input is read from `reader`. Output goes to `writer`.
 /// Messages about the command line, and about a failed read or write, go to `errors`; `serve` also
 /// prints there why its session ended.
-pub fn command<R: Source, W: Sink, E: Sink>(
+pub fn command<N: Host, R: Source, W: Sink, E: Sink>(
+    rt: N,
     alloc: Global,
     words: Vec<String>,
     reader: &mut R,
@@ -79,7 +106,8 @@ pub fn command<R: Source, W: Sink, E: Sink>(
         (E.has_failed errors.new) result Memory × (reader.new ≡ reader.old)
         × (writer.new ≡ writer.old))
         ⊎ ((fault_of program (map string_bytes words.items) ≡ [])
-        × ByTask (task_in (map string_bytes words.items))
+        × ((orders : RunOrders) × AreWithin orders
+        × ByTask (task_in orders (map string_bytes words.items))
         ((PrintsReport (R.remaining reader.old) (W.contents writer.old)
         (W.contents writer.new) result × (errors.new ≡ errors.old))
         ⊎ Halts (R.remaining reader.old) (R.has_failed reader.new) (W.has_failed writer.new)
@@ -94,22 +122,32 @@ pub fn command<R: Source, W: Sink, E: Sink>(
         ((SimulatesKnown (R.remaining reader.old) (W.contents writer.old)
         (W.contents writer.new) result × (errors.new ≡ errors.old))
         ⊎ Halts (R.remaining reader.old) (R.has_failed reader.new) (W.has_failed writer.new)
-        (E.contents errors.old) (E.contents errors.new) (E.has_failed errors.new) result))) }
+        (E.contents errors.old) (E.contents errors.new) (E.has_failed errors.new) result)
+        ((RunsKnown orders.sizes.nodes orders.stats (R.remaining reader.old)
+        (W.contents writer.old) (W.contents writer.new) result × (errors.new ≡ errors.old))
+        ⊎ Halts (R.remaining reader.old) (R.has_failed reader.new) (W.has_failed writer.new)
+        (E.contents errors.old) (E.contents errors.new) (E.has_failed errors.new) result)))) }
     // The words and their commands.
-    ensures named { (name : List ℕ) →
-        (task_in (name ∷ []) ≡ Task.Decode) × (task_in (name ∷ codes "decode" ∷ []) ≡ Task.Decode)
-        × (task_in (name ∷ codes "serve" ∷ []) ≡ Task.Serve)
-        × (task_in (name ∷ codes "sim" ∷ []) ≡ Task.Sim) }
+    ensures named { (orders : RunOrders) (name : List ℕ) →
+        (task_in orders (name ∷ []) ≡ Task.Decode)
+        × (task_in orders (name ∷ codes "decode" ∷ []) ≡ Task.Decode)
+        × (task_in orders (name ∷ codes "serve" ∷ []) ≡ Task.Serve)
+        × (task_in orders (name ∷ codes "sim" ∷ []) ≡ Task.Sim)
+        × (task_in orders (name ∷ codes "run" ∷ codes "--nodes" ∷ codes "8" ∷ codes "--handlers"
+        ∷ codes "16" ∷ []) ≡ Task.Run orders) }
     // Clap accepts these words.
     ensures taken { (name : List ℕ) →
         (takes program (name ∷ []) ≡ true) × (takes program (name ∷ codes "decode" ∷ []) ≡ true)
         × (takes program (name ∷ codes "serve" ∷ []) ≡ true)
-        × (takes program (name ∷ codes "sim" ∷ []) ≡ true) }
+        × (takes program (name ∷ codes "sim" ∷ []) ≡ true)
+        × (takes program (name ∷ codes "run" ∷ codes "--nodes" ∷ codes "8" ∷ codes "--handlers"
+        ∷ codes "16" ∷ []) ≡ true) }
 {
     match task_of(alloc, words.as_slice()) {
         Ok(Task::Decode) => settle(code_of(decode(alloc, reader, writer)), errors),
         Ok(Task::Serve) => answer_peer(alloc, reader, writer, errors),
         Ok(Task::Sim) => settle(simulate(alloc, reader, writer), errors),
+        Ok(Task::Run(orders)) => settle(run_nodes(rt, alloc, orders, reader, writer), errors),
         Err(error) => settle_refusal(alloc, &error, errors),
     }
 }
@@ -189,37 +227,124 @@ fn command_line<'a>(alloc: Global) -> Result<Command<'a>, AllocError>
     let decode = Command::new(alloc, "decode").about("Print the items of a stream of hex pieces");
     let serve = Command::new(alloc, "serve").about("Answer a peer: its bytes in, ours out");
     let sim = Command::new(alloc, "sim").about("Run the crew's core, a line for each act");
+    let run = run_line(alloc)?;
     Command::new(alloc, "cbrelay")
         .about("Answers one Bitcoin peer on standard input, and decodes messages (regtest)")
         .version(VERSION)
         .after_help(USE)
         .subcommand(decode)?
         .subcommand(serve)?
-        .subcommand(sim)
+        .subcommand(sim)?
+        .subcommand(run)
+}
+
+/// The command line that `run` accepts.
+fn run_line<'a>(alloc: Global) -> Result<Command<'a>, AllocError>
+    ensures { IfOk result (λ line. app_of line ≡ run_line) }
+{
+    Command::new(alloc, "run")
+        .about("Play a script of nodes that are joined over loopback")
+        .after_help(RUN_USE)
+        .arg(nodes_arg(alloc))?
+        .arg(handlers_arg(alloc))?
+        .arg(stats_arg(alloc))
+}
+
+/// The option `--nodes`.
+fn nodes_arg<'a>(alloc: Global) -> Arg<'a>
+    ensures rule { rule_of result ≡ sized (codes "nodes") 8 }
+    ensures local { result.global ≡ false }
+{
+    Arg::new(alloc, "nodes")
+        .long("nodes")
+        .value_name("N")
+        .help("How many nodes there are, 1 to 8")
+        .required(true)
+        .value_parser(value_parser!(u16).range(1..=8))
+}
+
+/// The option `--handlers`.
+fn handlers_arg<'a>(alloc: Global) -> Arg<'a>
+    ensures rule { rule_of result ≡ sized (codes "handlers") 16 }
+    ensures local { result.global ≡ false }
+{
+    Arg::new(alloc, "handlers")
+        .long("handlers")
+        .value_name("H")
+        .help("How many threads serve a node's peers, 1 to 16")
+        .required(true)
+        .value_parser(value_parser!(u16).range(1..=16))
+}
+
+/// The flag `--stats`.
+fn stats_arg<'a>(alloc: Global) -> Arg<'a>
+    ensures rule { rule_of result ≡ flag (codes "stats") }
+    ensures local { result.global ≡ false }
+{
+    Arg::new(alloc, "stats")
+        .long("stats")
+        .help("Also print what each connection moved")
+        .action(ArgAction::SetTrue)
 }
 
 /// The task that the words name; `decode` if they name none. Fails if clap refuses the words or
 /// asks to print help or the version, or if memory runs out.
 fn task_of(alloc: Global, words: &[String]) -> Result<Task, clap::Error>
-    ensures task { IfOk result (λ task. task ≡ task_in (map string_bytes words.now)) }
+    ensures task { IfOk result (λ task. (orders : RunOrders) × AreWithin orders
+        × (task ≡ task_in orders (map string_bytes words.now))) }
+    ensures within { IfOk result (λ task. IsWithin task) }
     ensures kinds { FailsBy (fault_of program (map string_bytes words.now)) result }
     ensures passes { IfErr result
         (λ error. takes program (map string_bytes words.now) ≡ true → kind_of error ≡ OutOfMemory) }
 {
     let line = command_line(alloc)?;
     match line.try_get_matches_from(words) {
-        Ok(matches) => Ok(task_named(matches.subcommand_name())),
+        Ok(matches) => Ok(task_named(matches.subcommand_name(), orders_of(&matches))),
         Err(error) => Err(error),
     }
 }
 
-/// The task of the command that was named; `decode` if none was.
-fn task_named(name: Option<&str>) -> Task
-    ensures { result ≡ task_named (option_map (λ text. text.now) name.entry) }
+/// What `run` is asked for; the least if it isn't the command.
+fn orders_of(matches: &ArgMatches) -> RunOrders
+    ensures { AreWithin result }
+{
+    match matches.subcommand_matches("run") {
+        Some(run) => RunOrders {
+            sizes: Sizes {
+                nodes: size_of(run, "nodes", 8),
+                handlers: size_of(run, "handlers", 16),
+            },
+            stats: run.get_flag("stats"),
+        },
+        None => RunOrders {
+            sizes: Sizes {
+                nodes: 1,
+                handlers: 1,
+            },
+            stats: false,
+        },
+    }
+}
+
+/// The number from 1 to `most` that an option of `run` has. Clap has seen to it that it is there
+/// and in this range.
+fn size_of(run: &ArgMatches, name: &str, most: u16) -> u16
+    requires { 1 ≤ most }
+    ensures { (1 ≤ result) × (result ≤ most) }
+{
+    run.get_one::<u16>(name).unwrap_or(1).clamp(1, most)
+}
+
+/// The task of the command that was named, with these orders for `run`; `decode` if none was.
+fn task_named(name: Option<&str>, orders: RunOrders) -> Task
+    requires { AreWithin orders }
+    ensures named { result ≡ task_named orders (option_map (λ text. text.now) name.entry) }
+    ensures within { IsWithin result }
 {
     match name {
         Some("serve") => Task::Serve,
         Some("sim") => Task::Sim,
+        Some("run") => Task::Run(orders),
         Some(_) | None => Task::Decode,
     }
 }

@@ -33,7 +33,7 @@ pub struct Orders<H> {
 /// How many milliseconds a handler's sleep lasts at most: the first one, and any later one.
 const SHORTEST_SLEEP: u64 = 10;
 
-const LONGEST_SLEEP: u64 = 1_000;
+const LONGEST_SLEEP: u64 = 2_000;
 
 /// How long a handler has found nothing to do.
 #[derive(Drop)]

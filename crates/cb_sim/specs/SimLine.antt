@@ -1,28 +1,20 @@
 -- How the lines of `sim` are written: the acts, and the sizes of a crew.
-use Rattle.std.specs.Prelude.{◌≡◌, ℕ, ◌^◌, ◌<◌, ◌≤◌, ◌==◌, nat_lt, nat_le, Bool, false, ◌&&◌, if◌then◌else◌, List, [], ◌∷◌, ◌++◌, codes, Option, Some, None, option_and_then, option_map}
-use Rattle.std.specs.Str.{all_ascii_digits, bytes_eq}
-use Rattle.std.specs.Str.Parse.{IsNumeral, digits_value}
+use Rattle.std.specs.Prelude.{◌≡◌, ℕ, ◌^◌, ◌<◌, ◌≤◌, nat_le, ◌&&◌, if◌then◌else◌, List, ◌∷◌, ◌++◌, codes, Option, Some, None, option_and_then, option_map}
+use Rattle.std.specs.Str.{bytes_eq}
+use Rattle.cb_run.specs.Words.{Writes, NamesOne, cut_of, number_in}
 use Rattle.cb_sim.specs.declared.sim.read.Sizes.{Sizes}
 use Rattle.cb_sched.specs.declared.act.Act.{Act}
 use Rattle.cb_sched.specs.declared.act.Act.TheVariants as act
-
--- the word is this decimal number: one digit or more and nothing else; leading zeros are allowed
-abbrev pub Writes : List ℕ → ℕ → Type 0
-Writes word n = IsNumeral 10 word × (digits_value 10 word ≡ n)
-
--- a name, one space and a number below 2^16
-abbrev pub NamesOne : List ℕ → List ℕ → ℕ → Type 0
-NamesOne text name n = (word : List ℕ) × Writes word n × (n < 2 ^ 16) × (text ≡ name ++ 32 ∷ word)
 
 -- The line is this act: its name and its numbers, with one space between two words.
 abbrev pub TellsAct : List ℕ → Act → Type 0
 TellsAct text (act.Put p x) =
     (peer : List ℕ) × (item : List ℕ) × Writes peer p × (p < 2 ^ 16) × Writes item x × (x < 2 ^ 64) × (text ≡ codes "put" ++ 32 ∷ (peer ++ 32 ∷ item))
-TellsAct text (act.End p) = NamesOne text (codes "end") p
-TellsAct text (act.Open p) = NamesOne text (codes "open") p
-TellsAct text (act.Claim k) = NamesOne text (codes "claim") k
-TellsAct text (act.Take k) = NamesOne text (codes "take") k
-TellsAct text (act.Give k) = NamesOne text (codes "give") k
+TellsAct text (act.End p) = NamesOne (2 ^ 16) text (codes "end") p
+TellsAct text (act.Open p) = NamesOne (2 ^ 16) text (codes "open") p
+TellsAct text (act.Claim k) = NamesOne (2 ^ 16) text (codes "claim") k
+TellsAct text (act.Take k) = NamesOne (2 ^ 16) text (codes "take") k
+TellsAct text (act.Give k) = NamesOne (2 ^ 16) text (codes "give") k
 
 -- The line has the sizes of a crew, within their ranges.
 pub record TellsSizes (text : List ℕ) (sizes : Sizes) : Type 0 where
@@ -38,19 +30,6 @@ pub record TellsSizes (text : List ℕ) (sizes : Sizes) : Type 0 where
   pub line : text ≡ codes "system" ++ 32 ∷ (peers ++ 32 ∷ (handlers ++ 32 ∷ capacity))
 
 -- ---- the same as functions of the text
-
--- the text before the first space, and the text after it
-abbrev pub cut_of : List ℕ → Option (List ℕ × List ℕ)
-cut_of [] = None
-cut_of (c ∷ cs) = if c == 32 then Some ([], cs) else option_map (λ p. (c ∷ p.0, p.1)) (cut_of cs)
-
-abbrev pub is_numeral : List ℕ → Bool
-is_numeral [] = false
-is_numeral (c ∷ cs) = all_ascii_digits (c ∷ cs)
-
--- the number that a word writes, if it writes one and the number is below the limit
-abbrev pub number_in : ℕ → List ℕ → Option ℕ
-number_in limit word = if is_numeral word && nat_lt (digits_value 10 word) limit then Some (digits_value 10 word) else None
 
 -- the act with this name and the numbers in `rest`
 abbrev pub act_named : List ℕ → List ℕ → Option Act

@@ -1,4 +1,5 @@
 ghost use Rattle.std.specs.Prelude.{◌≡◌, ◌⊎◌, ◌<◌, ◌^◌, true, false, length, None, IfErr, OnErr, OnOk};
+ghost use Rattle.cb_base.specs.declared.fault.Fault.TheVariants as faults;
 ghost use Rattle.cb_inbox.specs.Seat.{opening_seat};
 ghost use Rattle.cb_crew.specs.Crew.{HasPlace, inbox_of};
 ghost use Rattle.cb_slots.specs.declared.fault.NodeFault.TheVariants.{Io, Memory};
@@ -164,7 +165,9 @@ impl<W: Work<Item = Input>> Slot<W> {
     }
 
     /// Appends what each connection of this slot moved. Fails only with `Fault::Memory`.
-    pub fn report(&self, all: &mut Vec<Report>) -> Result<(), Fault> {
+    pub fn report(&self, all: &mut Vec<Report>) -> Result<(), Fault>
+        ensures { IfErr result (λ fault. fault ≡ faults.Memory) }
+    {
         for link in self.past.as_slice() {
             all.push(report_of(self.number, link))?;
         }

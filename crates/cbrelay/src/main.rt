@@ -23,5 +23,12 @@ fn main(rt: HostRuntime) -> ExitCode {
     };
     let mut reader = In::new(rt.reader());
     let mut writer = Out::new(std::io::writer(&rt));
-    ExitCode::from(command(alloc, words, &mut reader, &mut writer, &mut errors))
+    ExitCode::from(command(
+        rt,
+        alloc,
+        words,
+        &mut reader,
+        &mut writer,
+        &mut errors,
+    ))
 }

@@ -2,6 +2,7 @@
 
 use cb_command::command;
 use cb_io::{In, Out};
+use cb_run_nodes::Host;
 use std::alloc::{AllocError, Global};
 use std::test::*;
 
@@ -15,49 +16,60 @@ struct Run<'a> {
     status: u8,
 }
 
-/// The program's words: its name, and one behind it, if there is one.
+/// The program's words: its name, and those of a text, with a space between two.
 fn words_of(alloc: Global, word: &str) -> Result<Vec<String>, AllocError> {
-    let mut words = Vec::with_capacity(alloc, 2)?;
+    let mut words = Vec::new(alloc);
     words.push(String::from_str(alloc, "cbrelay")?)?;
     if !word.is_empty() {
-        words.push(String::from_str(alloc, word)?)?;
+        for part in word.split(' ') {
+            words.push(String::from_str(alloc, part)?)?;
+        }
     }
     Ok(words)
 }
 
 /// The status of a run of the program. It says nothing of what is read and written, so that its caller's states stay small.
-fn status_of(
+fn status_of<N: Host>(
+    rt: N,
     alloc: Global,
     words: Vec<String>,
     reader: &mut In<&[u8]>,
     writer: &mut Out<Vec<u8>>,
     errors: &mut Out<Vec<u8>>,
 ) -> u8 {
-    command(alloc, words, reader, writer, errors)
+    command(rt, alloc, words, reader, writer, errors)
 }
 
 /// Whether the program comes to what the run says, with these words.
-fn comes_to(alloc: Global, words: Vec<String>, run: Run<'_>) -> bool {
+fn comes_to<N: Host>(rt: N, alloc: Global, words: Vec<String>, run: Run<'_>) -> bool {
     let mut reader = In::new(run.read);
     let mut writer = Out::new(Vec::new(alloc));
     let mut errors = Out::new(Vec::new(alloc));
-    let status = status_of(alloc, words, &mut reader, &mut writer, &mut errors);
+    let status = status_of(rt, alloc, words, &mut reader, &mut writer, &mut errors);
     let written = writer.into_inner();
     let told = errors.into_inner();
     status == run.status && written.as_slice() == run.written && told.as_slice() == run.told
 }
 
 /// Whether the program comes to what the run says.
-fn is_so(alloc: Global, run: Run<'_>) -> bool {
+fn is_so<N: Host>(rt: N, alloc: Global, run: Run<'_>) -> bool {
     match words_of(alloc, run.word) {
-        Ok(words) => comes_to(alloc, words, run),
+        Ok(words) => comes_to(rt, alloc, words, run),
         Err(_) => false,
     }
 }
 
 /// Whether a command prints this text of that one, tells nothing on standard error, and ends with this status.
-fn prints(alloc: Global, word: &'static str, text: &str, printed: &str, status: u8) -> bool {
+fn prints<N: Host>(
+    rt: N,
+    alloc: Global,
+    word: &'static str,
+    text: &str,
+    printed: &str,
+    status: u8,
+) -> bool {
     is_so(
+        rt,
         alloc,
         Run {
             word,
@@ -70,7 +82,14 @@ fn prints(alloc: Global, word: &'static str, text: &str, printed: &str, status: 
 }
 
 /// Whether a peer that sends the one bytes is sent the others, both in hex, and told so why its connection is closed.
-fn serves(alloc: Global, sent: &str, answered: &str, closed: &str, status: u8) -> bool {
+fn serves<N: Host>(
+    rt: N,
+    alloc: Global,
+    sent: &str,
+    answered: &str,
+    closed: &str,
+    status: u8,
+) -> bool {
     let Ok(read) = hex::decode(alloc, sent) else {
         return false;
     };
@@ -78,6 +97,7 @@ fn serves(alloc: Global, sent: &str, answered: &str, closed: &str, status: u8) -
         return false;
     };
     is_so(
+        rt,
         alloc,
         Run {
             word: "serve",
@@ -97,13 +117,22 @@ const ROW_16_PRINTED: &str =
 
 #[test]
 fn row_16(rt: HostRuntime) {
-    assert!(rt; prints(rt.alloc(), "sim", ROW_16, ROW_16_PRINTED, 2));
+    assert!(rt; prints(rt, rt.alloc(), "sim", ROW_16, ROW_16_PRINTED, 2));
 }
 
 /// Of the crew's core.
 #[test]
 fn row_a_too_many_peers(rt: HostRuntime) {
-    assert!(rt; prints(rt.alloc(), "sim", "system 65 1 1\n", "1 unreadable\n", 3));
+    assert!(rt;
+        prints(
+            rt,
+            rt.alloc(),
+            "sim",
+            "system 65 1 1\n",
+            "1 unreadable\n",
+            3
+        )
+    );
 }
 
 const CONNECTIONS: &str =
@@ -115,7 +144,7 @@ const CONNECTIONS_PRINTED: &str =
 /// Of connection after connection.
 #[test]
 fn row_a_connection_after_connection(rt: HostRuntime) {
-    assert!(rt; prints(rt.alloc(), "sim", CONNECTIONS, CONNECTIONS_PRINTED, 2));
+    assert!(rt; prints(rt, rt.alloc(), "sim", CONNECTIONS, CONNECTIONS_PRINTED, 2));
 }
 
 const ROW_19: &str =
@@ -127,7 +156,7 @@ const ROW_19_PRINTED: &str = "verack\ndamaged\nunknown hello 5\nrest 0\n";
 fn row_19(rt: HostRuntime) {
     for word in ["", "decode"] {
         assert!(rt;
-            prints(rt.alloc(), word, ROW_19, ROW_19_PRINTED, 0),
+            prints(rt, rt.alloc(), word, ROW_19, ROW_19_PRINTED, 0),
             "at {word}"
         );
     }
@@ -144,7 +173,7 @@ fn row_20(rt: HostRuntime) {
         (FOREIGN, "broken F12 BadMagic\nrest 0\n", 3),
     ] {
         assert!(rt;
-            prints(rt.alloc(), "decode", text, printed, status),
+            prints(rt, rt.alloc(), "decode", text, printed, status),
             "at {text}"
         );
     }
@@ -161,16 +190,25 @@ const VERACK: &str = "fabfb5da76657261636b000000000000000000005df6e0e2";
 
 #[test]
 fn row_21(rt: HostRuntime) {
-    assert!(rt; serves(rt.alloc(), PING, PONG, "closed Bye\n", 0));
-    assert!(rt; serves(rt.alloc(), VERACK, "", "closed Bye\n", 0));
+    assert!(rt; serves(rt, rt.alloc(), PING, PONG, "closed Bye\n", 0));
+    assert!(rt; serves(rt, rt.alloc(), VERACK, "", "closed Bye\n", 0));
 }
 
 /// Of envelopes and pings.
 #[test]
 fn row_a_a_ping_without_its_nonce(rt: HostRuntime) {
     let printed = "bad ping F2 Truncated\nrest 0\n";
-    assert!(rt; prints(rt.alloc(), "decode", PING_WITHOUT_NONCE, printed, 0));
-    assert!(rt; serves(rt.alloc(), PING_WITHOUT_NONCE, "", "closed BadMessage\n", 3));
+    assert!(rt; prints(rt, rt.alloc(), "decode", PING_WITHOUT_NONCE, printed, 0));
+    assert!(rt;
+        serves(
+            rt,
+            rt.alloc(),
+            PING_WITHOUT_NONCE,
+            "",
+            "closed BadMessage\n",
+            3
+        )
+    );
 }
 
 /// A `version` of 70014 with the nonce 7, and a `verack`.
@@ -196,7 +234,7 @@ fn row_22(rt: HostRuntime) {
         (OWN_VERSION, "", "closed SelfPeer\n", 3),
     ] {
         assert!(rt;
-            serves(rt.alloc(), sent, answered, closed, status),
+            serves(rt, rt.alloc(), sent, answered, closed, status),
             "at {closed}"
         );
     }
@@ -212,7 +250,16 @@ const FIRST_BLOCK_PRINTED: &str =
 /// Of transactions, blocks and trees.
 #[test]
 fn row_c_decode_tells_the_first_block(rt: HostRuntime) {
-    assert!(rt; prints(rt.alloc(), "decode", FIRST_BLOCK, FIRST_BLOCK_PRINTED, 0));
+    assert!(rt;
+        prints(
+            rt,
+            rt.alloc(),
+            "decode",
+            FIRST_BLOCK,
+            FIRST_BLOCK_PRINTED,
+            0
+        )
+    );
 }
 
 /// A compact block without payload, and one of 90 bytes in which both counts are 0.
@@ -232,6 +279,66 @@ fn row_a_compact_blocks_of_nothing(rt: HostRuntime) {
             COMPACT_BLOCKS,
             COMPACT_BLOCKS_PRINTED,
             0
+        )
+    );
+}
+
+const ROW_24: &str = "link 0 1\nlink 1 2\nmine 0\nwait\n";
+
+const ROW_24_PRINTED: &str = "\
+node 0 height 1 tip 5442fb6e469a9d6d101a0ad5d65aae7ac8fb873a0387a38676257c3dabb208e5 pool 0 audit yes
+node 1 height 1 tip 5442fb6e469a9d6d101a0ad5d65aae7ac8fb873a0387a38676257c3dabb208e5 pool 0 audit yes
+node 2 height 1 tip 5442fb6e469a9d6d101a0ad5d65aae7ac8fb873a0387a38676257c3dabb208e5 pool 0 audit yes
+";
+
+#[test]
+fn row_24(rt: HostRuntime) {
+    assert!(rt;
+        prints(
+            rt,
+            rt.alloc(),
+            "run --nodes 3 --handlers 2",
+            ROW_24,
+            ROW_24_PRINTED,
+            0
+        )
+    );
+}
+
+const WITH_A_CHECKPOINT: &str = "link 0 1\nlink 1 2\ncheckpoint 0\nmine 0\nwait\n";
+
+/// Of checkpoints.
+#[test]
+fn row_c_a_checkpoint_before_a_block(rt: HostRuntime) {
+    assert!(rt;
+        prints(
+            rt,
+            rt.alloc(),
+            "run --nodes 3 --handlers 2",
+            WITH_A_CHECKPOINT,
+            ROW_24_PRINTED,
+            0
+        )
+    );
+}
+
+const SIZE_64: &str =
+    "tx 0 01000000011111111111111111111111111111111111111111111111111111111111111111\
+000000000401020304ffffffff0101000000000000000000000000\n";
+
+/// Of nodes over loopback.
+#[test]
+fn row_a_a_transaction_of_64_bytes(rt: HostRuntime) {
+    let printed =
+        "1 F8 Size64\nnode 0 height 0 tip 0f9188f13cb7b2c71f2a335e3a4fc328bf5beb436012afca590b1a11466e2206 pool 0 audit yes\n";
+    assert!(rt;
+        prints(
+            rt,
+            rt.alloc(),
+            "run --nodes 1 --handlers 1",
+            SIZE_64,
+            printed,
+            2
         )
     );
 }

@@ -1,8 +1,9 @@
-ghost use Rattle.std.specs.Prelude.{◌≡◌, ℕ, ◌^◌, ◌<◌, ◌≤◌, ◌↔◌, Some, IfSome, option_map};
+ghost use Rattle.std.specs.Prelude.{◌≡◌, ◌≤◌, ◌↔◌, Some, IfSome};
 ghost use Rattle.cb_sim.specs.declared.sim.read.Sizes.{Sizes};
 ghost use Rattle.cb_sched.specs.declared.act.Act.{Act};
-ghost use Rattle.cb_sim.specs.SimLine.{TellsAct, TellsSizes, act_in, act_named, sizes_in, cut_of, number_in};
+ghost use Rattle.cb_sim.specs.SimLine.{TellsAct, TellsSizes, act_in, act_named, sizes_in};
 
+use cb_run::{cut, number, short};
 use cb_sched::Act;
 
 /// The sizes of a crew.
@@ -91,28 +92,4 @@ fn named(name: &str, rest: &str) -> Option<Act>
         "give" => Some(Act::Give(short(rest)?)),
         _ => None,
     }
-}
-
-/// The text before the first space, and the text after it.
-fn cut(text: &str) -> Option<(&str, &str)>
-    ensures { option_map (λ parts. (parts.0.now, parts.1.now)) result ≡ cut_of text.now }
-{
-    text.split_once(' ')
-}
-
-/// A decimal number below 2^16.
-fn short(word: &str) -> Option<u16>
-    ensures { result ≡ number_in (2 ^ 16) word.now }
-{
-    u16::try_from(number(word)?).ok()
-}
-
-/// A decimal number below 2^64: one digit or more and nothing else. Leading zeros are allowed.
-fn number(word: &str) -> Option<u64>
-    ensures { result ≡ number_in (2 ^ 64) word.now }
-{
-    if word.starts_with('+') {
-        return None;
-    }
-    word.parse().ok()
 }

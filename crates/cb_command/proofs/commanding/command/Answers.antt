@@ -13,6 +13,9 @@ returns-in-Ok-Serve-clause-named g c = named
 pub returns-in-Ok-Sim-clause-named : goal.returns-in-Ok-Sim-clause-named
 returns-in-Ok-Sim-clause-named g c = named
 
+pub returns-in-Ok-Run-clause-named : goal.returns-in-Ok-Run-clause-named
+returns-in-Ok-Run-clause-named g c = named
+
 pub returns-clause-named : goal.returns-clause-named
 returns-clause-named g c = named
 
@@ -24,6 +27,9 @@ returns-in-Ok-Serve-clause-taken g c = taken
 
 pub returns-in-Ok-Sim-clause-taken : goal.returns-in-Ok-Sim-clause-taken
 returns-in-Ok-Sim-clause-taken g c = taken
+
+pub returns-in-Ok-Run-clause-taken : goal.returns-in-Ok-Run-clause-taken
+returns-in-Ok-Run-clause-taken g c = taken
 
 pub returns-clause-taken : goal.returns-clause-taken
 returns-clause-taken g c = taken

@@ -3,7 +3,7 @@ use Rattle.std.specs.String.{string_bytes}
 use Rattle.std.proofs.lemmas.List.{append-nil}
 use Rattle.std.proofs.lemmas.Result.{IfOk-weaker}
 use Rattle.cb_sim.specs.SimRun.{refusal_text, unreadable_text}
-use Rattle.cb_sim.proofs.SimRead.{none_is_no_some}
+use Rattle.cb_run.proofs.WordLemmas.{none_is_no_some}
 use Rattle.cb_sim.proofs.SimRunLemmas.{opens, cannot_open, refuses}
 use Rattle.cb_sim.proofs.sim.Simulation.line.Goals as goal
 

@@ -1,8 +1,8 @@
 use Rattle.std.proofs.Common.{arith, sym, ◌∙◌}
 use Rattle.std.proofs.lemmas.Bool.{false≢true}
 use Rattle.std.proofs.lemmas.Str.Pattern.{starts_char}
-use Rattle.cb_sim.proofs.SimRead.{number_is}
-use Rattle.cb_sim.proofs.sim.read.number.Goals as goal
+use Rattle.cb_run.proofs.WordLemmas.{number_is}
+use Rattle.cb_run.proofs.words.number.Goals as goal
 
 pub returns : goal.returns
 returns c =

@@ -1,0 +1,204 @@
+#!/usr/bin/env python3
+"""Runs nodes over loopback with peers that are no nodes, and with slots that are used again and again: python3 bench/looks/node_peers.py
+[PROGRAM] [--all]
+
+It needs the built program (crates/cbrelay/out/cbrelay, as ./build leaves it), python3 and Linux, and takes half a minute.
+
+- A node's 32 slots are used up, and one is freed by a kick and used again. With --all each slot is used until it has had 256 connections, and
+  then there is none: that takes a minute more.
+- A peer asks for many blocks and reads nothing. The others go on meanwhile; its connection ends with WriteFault after 20 seconds.
+- Peers end in the middle of a message, once with the end of the stream and once by a reset, and others send bytes that are no message, a
+  payload that can't be read, or nothing at all. The nodes go on.
+
+The status is 0 where all came out so.
+"""
+
+import socket
+import struct
+import sys
+import time
+from pathlib import Path
+
+if not __package__:  # called as a file
+    sys.path.insert(0, str(Path(__file__).resolve().parents[2]))
+
+from bench.models import plain_wire as wire
+from bench.models.plain_block import sized
+from bench.models.plain_session import Settings
+from bench.tools.command_line import usage
+from bench.tools.messages import envelope
+from bench.tools.network import GENESIS
+from bench.tools.node_scripts import GIVEN, OUTBOUND, mined
+from bench.tools.node_talk import NodeTalk, peer
+from bench.tools.programs import built
+
+SLOTS, CONNECTIONS = 32, 256
+# How often a link is tried, and after how many rounds of kicks without a link no slot is left.
+TRIES, IDLE_ROUNDS = 100, 3
+LARGE, ASKED = 900_000, 60
+HELLO = wire.version(Settings(nonce=0x5EED)) + envelope(b"verack", b"")
+PING = envelope(b"ping", bytes(8))
+# How long a write may wait, and how long we wait for its end.
+TIMEOUT, PATIENCE = 20, 60
+
+
+class Looks:
+    """How many things came out otherwise than they should."""
+
+    def __init__(self, program):
+        self.program, self.count, self.failed = program, 0, 0
+
+    def look(self, name, got, wanted):
+        self.count += 1
+        if got != wanted:
+            self.failed += 1
+            print(f"node_peers: {name}: {got!r} for {wanted!r}")
+
+    def ends(self, name, nodes, height, status):
+        """The input ends: all nodes must stand at one tip of this height, with audits that say yes."""
+        got, lines = nodes.finish()
+        rows = [line.split() for line in lines if " tip " in line]
+        self.look(f"{name}: the status", got, status)
+        self.look(f"{name}: heights", {row[3] for row in rows}, {str(height)})
+        self.look(f"{name}: tips", len({row[5] for row in rows}), 1)
+        self.look(f"{name}: audits", {row[9] for row in rows}, {"yes"})
+        return [line.split() for line in lines if " slot " in line and " closed " in line]
+
+    # ---- connection after connection
+
+    def one_slot_again(self):
+        """All slots are used; one of them is freed and used again."""
+        with NodeTalk(self.program, 2, 2, "--stats") as nodes:
+            for _ in range(SLOTS):
+                self.look("a link", nodes.say("link 0 1"), None)
+            self.look("a link more", nodes.say("link 0 1"), "no slot")
+            self.look("a kick", nodes.say(f"kick 0 {OUTBOUND + 5}"), None)
+            self.look("a link again", nodes.retried("link 0 1"), None)
+            self.look("a block", nodes.say("mine 0"), None)
+            self.look("a wait", nodes.say("wait"), None)
+            rows = self.ends("one slot again", nodes, 1, 3)
+            again = {(row[1], row[3]) for row in rows if row[5] != "1"}
+            self.look("slots of second connections", again, {("0", str(OUTBOUND + 5)), ("1", "5")})
+            kicked = [row[7] for row in rows if row[:6] == ["node", "0", "slot", str(OUTBOUND + 5), "connection", "1"]]
+            self.look("the kicked connection's end", kicked, ["Kicked"])
+
+    def every_connection(self):
+        """Each slot of node 0 is used 256 times. A link for which node 1 has no slot at that moment uses one of node 0 as well."""
+        with NodeTalk(self.program, 2, 4, "--stats", seconds=PATIENCE) as nodes:
+            made, idle = 0, 0
+            while idle < IDLE_ROUNDS:
+                before = made
+                while nodes.retried("link 0 1", TRIES) is None:
+                    made += 1
+                idle = idle + 1 if made == before else 0
+                for slot in range(OUTBOUND, OUTBOUND + SLOTS):
+                    nodes.say(f"kick 0 {slot}")
+            self.look("as many connections as there can be", made <= SLOTS * CONNECTIONS, True)
+            self.look("a block", nodes.say("mine 0"), None)
+            self.look("a link back", nodes.retried("link 1 0"), None)
+            self.look("a wait", nodes.say("wait"), None)
+            rows = self.ends("every connection", nodes, 1, 3)
+            latest = {int(row[3]): int(row[5]) for row in rows if row[1] == "0" and int(row[3]) >= OUTBOUND}
+            self.look("generations", set(latest.values()), {CONNECTIONS})
+            print(f"node_peers: {made} connections by {SLOTS} slots")
+
+    # ---- peers that are no nodes
+
+    def with_peer(self, name, act, end):
+        """Nodes 0 and 1 are linked, and a peer is served by node 1's slot 1. What it does ends the connection so."""
+        with NodeTalk(self.program, 2, 2, "--stats") as nodes:
+            self.look(f"{name}: a link", nodes.say("link 0 1"), None)
+            [port] = nodes.ports()
+            with peer(port) as stream:
+                # The peer waits to be accepted, so it is taken for node 0, whose own connection waits behind it.
+                self.look(f"{name}: a link", nodes.say("link 0 1"), None)
+                act(nodes, stream)
+                self.look(f"{name}: a block", nodes.say("mine 0"), None)
+                self.look(f"{name}: a wait", nodes.say("wait"), None)
+                self.look(f"{name}: a block back", nodes.say("mine 1"), None)
+                self.look(f"{name}: a wait", nodes.say("wait"), None)
+            rows = self.ends(name, nodes, 2, 3)
+            self.look(f"{name}: the peer's end", [row[7] for row in rows if row[1:4] == ["1", "slot", "1"]], [end] if end else [])
+
+    def silent(self, nodes, stream):
+        """Says nothing, and stays."""
+
+    def cut(self, nodes, stream):
+        """The stream's end in the middle of a message."""
+        stream.sendall(HELLO + PING[:20])
+        stream.shutdown(socket.SHUT_WR)
+        time.sleep(0.2)
+
+    def reset(self, nodes, stream):
+        """A reset in the middle of a payload."""
+        stream.sendall(HELLO + PING[:28])
+        time.sleep(0.1)
+        stream.setsockopt(socket.SOL_SOCKET, socket.SO_LINGER, struct.pack("ii", 1, 0))
+        stream.close()
+        time.sleep(0.2)
+
+    def noise(self, nodes, stream):
+        """Bytes that are no message."""
+        stream.sendall(bytes(100))
+        time.sleep(0.2)
+
+    def unreadable(self, nodes, stream):
+        """A payload that can't be read."""
+        stream.sendall(HELLO + envelope(b"ping", bytes(7)))
+        time.sleep(0.2)
+
+    def many_pings(self, nodes, stream):
+        """More pings than an inbox holds at once, of which each is answered."""
+        stream.sendall(HELLO + PING * 3_000)
+        got = b""
+        while got.count(PING[:4] + b"pong") < 3_000:
+            piece = stream.recv(65_536)
+            if not piece:
+                break
+            got += piece
+        self.look("pongs", got.count(PING[:4] + b"pong"), 3_000)
+
+    def never_reads(self):
+        """A peer asks for many large blocks and reads nothing. The others go on; its connection ends by itself."""
+        block = mined(GENESIS, 1, GIVEN)
+        large = sized(block.header.name, LARGE)
+        with NodeTalk(self.program, 3, 2, "--stats", seconds=PATIENCE) as nodes:
+            self.look("a link", nodes.say("link 0 1"), None)
+            self.look("a link", nodes.say("link 2 1"), None)
+            for one in (block, large):
+                self.look("a given block", nodes.say(f"block 1 {one.text.hex()}"), None)
+            self.look("a wait", nodes.say("wait"), None)
+            [port] = nodes.ports()
+            with peer(port) as stream:
+                self.look("a link", nodes.say("link 0 1"), None)
+                stream.sendall(HELLO + wire.entries(b"getdata", [(2, large.header.name)] * ASKED))
+                began = time.monotonic()
+                height = 2
+                while time.monotonic() < began + TIMEOUT + 2:
+                    for node in (0, 1, 2):
+                        self.look("a block beside it", nodes.say(f"mine {node}"), None)
+                        self.look("a wait beside it", nodes.say("wait"), None)
+                        height += 1
+                    time.sleep(1)
+                rows = self.ends("a peer that never reads", nodes, height, 3)
+            self.look("the peer's end", [row[7] for row in rows if row[1:4] == ["1", "slot", "2"]], ["WriteFault"])
+
+
+def main():
+    parser = usage(__doc__, program="the program")
+    parser.add_argument("--all", action="store_true", help="use up all connections of all slots too")
+    words = parser.parse_args()
+    looks = Looks(built(words.program, "cbrelay"))
+    looks.one_slot_again()
+    for act, end in ((looks.silent, None), (looks.cut, "Bye"), (looks.reset, "Bye"), (looks.noise, "BadStream"),
+                     (looks.unreadable, "BadMessage"), (looks.many_pings, "Bye")):
+        looks.with_peer(act.__name__, act, end)
+    looks.never_reads()
+    if words.all:
+        looks.every_connection()
+    print(f"node_peers: {looks.count - looks.failed} as they should be, {looks.failed} not")
+    return 1 if looks.failed else 0
+
+
+if __name__ == "__main__":
+    sys.exit(main())

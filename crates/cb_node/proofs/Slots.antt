@@ -1,0 +1,153 @@
+-- Lists of slots.
+use Rattle.std.proofs.Common.{◌≡◌, ℕ, ◌<◌, Bool, true, false, List, [], ◌∷◌, length, map, set, get_or, replicate, All, refl, sym, ap, subst, ◌∙◌, arith}
+use Rattle.std.proofs.lemmas.List.{get_or-map, get_or-set_same, length-map, length-set, map-set, set-get_or}
+use Rattle.std.specs.List.{range_with_len}
+use Rattle.std.proofs.lemmas.List.FromFn.{length-range_with_len}
+use Rattle.std.proofs.lemmas.List.Elements.{All-cons, All-get_or, All-nil}
+use Rattle.std.specs.declared.thread.PromisedHandle.{PromisedHandle}
+use Rattle.cb_inbox.specs.Seat.{InboxState}
+use Rattle.cb_hall.specs.Badge.{AreBadges, BadgeState, first_of, fresh_badge}
+use Rattle.cb_crew.specs.declared.reader_side.ReaderSide.{ReaderSide}
+use Rattle.cb_crew.specs.Desk.{DeskState}
+use Rattle.cb_crew.specs.Turn.{HandlerState}
+use Rattle.cb_crew.specs.Crew.{AreHandlersOf, AreSidesOf, CrewState, HasPlace, inbox_of}
+use Rattle.cb_service.specs.declared.promises.OfCrew.{OfCrew}
+use Rattle.cb_service.specs.Service.{HandBack}
+use Rattle.cb_slots.specs.declared.choosing.Standing.{Standing}
+use Rattle.cb_slots.specs.declared.choosing.Standing.TheVariants as standing
+use Rattle.cb_slots.specs.Choosing.{HasNone, IsLowest, is_used}
+use Rattle.cb_slots.specs.Slot.{AreAlike, AreAlikeBut, AreSlotsOf, AreThreadsOf, IsInboxOf, IsNew, SlotState, WaitsAt, attached, inboxes_of, names_in, new_slot, uses_of}
+
+-- ---- what standings tell
+
+unused_if : (s : Standing) → is_used s ≡ false → s ≡ standing.Unused
+unused_if standing.Unused is = refl
+unused_if standing.Left is = absurd (let z : true ≡ false = is in cc)
+unused_if standing.Busy is = absurd (let z : true ≡ false = is in cc)
+
+-- the lowest that stands so is the lowest that never had a socket
+pub lowest_unused : (all : List Standing) (uses : List Bool) (first end n : ℕ) → map is_used all ≡ uses → IsLowest all standing.Unused first end n → IsLowest uses false first end n
+lowest_unused all uses first end n same low = record {
+  from = low.from;
+  before = low.before;
+  within = subst (λ us. n < length us) same (omega (arith, low.within, length-map all is_used));
+  there = subst (λ us. get_or us n false ≡ false) same (get_or-map is_used all n standing.Unused false low.within ∙ ap is_used low.there);
+  lowest = λ k from lt is.
+      let here : k < length all = omega (arith, lt, low.within) in
+      low.lowest k from lt (unused_if _ (sym (get_or-map is_used all k standing.Unused false here) ∙ subst (λ us. get_or us k false ≡ false) (sym same) is));
+}
+
+-- where none stands so, each had a socket
+pub none_unused : (all : List Standing) (uses : List Bool) (first end : ℕ) → map is_used all ≡ uses → HasNone all standing.Unused first end → HasNone uses false first end
+none_unused all uses first end same none k from lt within is =
+    let here : k < length all = omega (arith, within, ap length same, length-map all is_used) in
+    none k from lt here (unused_if _ (sym (get_or-map is_used all k standing.Unused false here) ∙ subst (λ us. get_or us k false ≡ false) (sym same) is))
+
+-- ---- one slot changes
+
+-- the slot at a place is of the crew
+pub inbox_at : (crew : CrewState) (slots : List SlotState) (n : ℕ) (d : SlotState) → AreSlotsOf crew slots → n < length slots → IsInboxOf crew (get_or slots n d).inbox
+inbox_at crew slots n d are lt =
+    let all : List InboxState = crew.inboxes in
+    let counts : length all ≡ length slots = ap length (sym are.inboxes) ∙ length-map slots (λ (s : SlotState). s.inbox) in
+    let here : get_or all n d.inbox ≡ (get_or slots n d).inbox =
+    ap (λ is. get_or is n d.inbox) (sym are.inboxes) ∙ get_or-map (λ (s : SlotState). s.inbox) slots n d d.inbox lt in
+    subst (IsInboxOf crew) here (All-get_or (IsInboxOf crew) all n d.inbox (omega (arith, counts, lt)) are.each)
+
+pub alike_refl : (slots : List SlotState) → AreAlike slots slots
+alike_refl slots = record { inboxes = refl; uses = refl }
+
+pub alike_then : (a b c : List SlotState) → AreAlike a b → AreAlike b c → AreAlike a c
+alike_then a b c h k = record { inboxes = k.inboxes ∙ h.inboxes; uses = k.uses ∙ h.uses }
+
+-- slots that are alike are of the same crew
+pub still_of : (crew : CrewState) (old new : List SlotState) → AreSlotsOf crew old → inboxes_of new ≡ inboxes_of old → AreSlotsOf crew new
+still_of crew old new are same = record { inboxes = same ∙ are.inboxes; each = are.each }
+
+-- as many
+pub as_many : (old new : List SlotState) → inboxes_of new ≡ inboxes_of old → length new ≡ length old
+as_many old new same = sym (length-map new (λ (s : SlotState). s.inbox)) ∙ ap length same ∙ length-map old (λ (s : SlotState). s.inbox)
+
+-- the slot at a place is another one with the same inbox, and had a socket as before
+pub alike_set : (old new : List SlotState) (n : ℕ) (d s : SlotState) → new ≡ set old n s → s.inbox ≡ (get_or old n d).inbox → s.used ≡ (get_or old n d).used → AreAlike old new
+alike_set old new n d s is inbox used = record {
+  inboxes = ap inboxes_of is ∙ map-set (λ (t : SlotState). t.inbox) old n s ∙ ap (λ i. set (inboxes_of old) n i) inbox ∙ sym (map-set (λ (t : SlotState). t.inbox) old n (get_or old n d)) ∙ ap inboxes_of (set-get_or old n d);
+  uses = ap uses_of is ∙ map-set (λ (t : SlotState). t.used) old n s ∙ ap (λ u. set (uses_of old) n u) used ∙ sym (map-set (λ (t : SlotState). t.used) old n (get_or old n d)) ∙ ap uses_of (set-get_or old n d);
+}
+
+-- once more
+pub alike_more : (a b c : List SlotState) (n : ℕ) (d s : SlotState) → AreAlike a b → c ≡ set b n s → s.inbox ≡ (get_or b n d).inbox → s.used ≡ (get_or b n d).used → AreAlike a c
+alike_more a b c n d s alike is inbox used = alike_then a b c alike (alike_set b c n d s is inbox used)
+
+-- the slot at a place of slots that are alike is of the crew
+pub inbox_alike : (crew : CrewState) (old new : List SlotState) (n : ℕ) (d : SlotState) → AreSlotsOf crew old → AreAlike old new → n < length new → IsInboxOf crew (get_or new n d).inbox
+inbox_alike crew old new n d are alike lt = inbox_at crew new n d (still_of crew old new are alike.inboxes) lt
+
+-- or it got one
+pub attached_set : (old mid new : List SlotState) (n : ℕ) (d : SlotState) → AreAlike old mid → new ≡ set mid n (attached (get_or mid n d)) → AreAlikeBut n old new
+attached_set old mid new n d alike is = record {
+  inboxes = ap inboxes_of is ∙ map-set (λ (t : SlotState). t.inbox) mid n (attached (get_or mid n d)) ∙ sym (map-set (λ (t : SlotState). t.inbox) mid n (get_or mid n d)) ∙ ap inboxes_of (set-get_or mid n d) ∙ alike.inboxes;
+  uses = ap uses_of is ∙ map-set (λ (t : SlotState). t.used) mid n (attached (get_or mid n d)) ∙ ap (λ us. set us n true) alike.uses;
+}
+
+-- the slot at a place waits
+pub waits_at : (slots : List SlotState) (n : ℕ) (d : SlotState) → n < length slots → (get_or slots n d).waits ≡ true → WaitsAt slots n
+waits_at slots n d lt is = get_or-map (λ (s : SlotState). s.waits) slots n d false lt ∙ is
+
+-- the lowest that never had a socket waits
+pub waits_unused : (all : List Standing) (slots : List SlotState) (first end n : ℕ) (d : SlotState) (told : Bool) → map is_used all ≡ uses_of slots → IsLowest all standing.Unused first end n → n < length slots
+    → told ≡ (get_or slots n d).waits → ((get_or slots n d).used ≡ false → told ≡ true) → WaitsAt slots n
+waits_unused all slots first end n d told same low lt is unused =
+    let used : (get_or slots n d).used ≡ false = sym (get_or-map (λ (s : SlotState). s.used) slots n d false lt) ∙ (lowest_unused all (uses_of slots) first end n same low).there in
+    waits_at slots n d lt (sym is ∙ unused used)
+
+-- a slot that waits was put there
+pub waits_set : (old new : List SlotState) (n : ℕ) (s : SlotState) → new ≡ set old n s → n < length old → s.waits ≡ true → WaitsAt new n
+waits_set old new n s is lt waits = waits_at new n s (omega (arith, ap length is, length-set old n s, lt)) (ap (λ (xs : List SlotState). (get_or xs n s).waits) is ∙ ap (λ (t : SlotState). t.waits) (get_or-set_same old n s s lt) ∙ waits)
+
+pub waiting_at : (slots : List SlotState) (n : ℕ) (d : SlotState) → n < length slots → WaitsAt slots n → (get_or slots n d).waits ≡ true
+waiting_at slots n d lt is = sym (get_or-map (λ (s : SlotState). s.waits) slots n d false lt) ∙ is
+
+-- ---- a node that starts
+
+-- as many slots as inboxes
+pub count_of : (crew : CrewState) (slots : List SlotState) → AreSlotsOf crew slots → length slots ≡ length crew.inboxes
+count_of crew slots are = sym (length-map slots (λ (s : SlotState). s.inbox)) ∙ ap length are.inboxes
+
+uses_none : (inboxes : List InboxState) → uses_of (map new_slot inboxes) ≡ replicate (length inboxes) false
+uses_none [] = refl
+uses_none (i ∷ inboxes) = ap (λ us. false ∷ us) (uses_none inboxes)
+
+-- none of the new slots ever had a socket
+pub uses_new : (crew : CrewState) (slots : List SlotState) (n : ℕ) → slots ≡ map new_slot crew.inboxes → length crew.inboxes ≡ n → uses_of slots ≡ replicate n false
+uses_new crew slots n are count = ap uses_of are ∙ uses_none crew.inboxes ∙ ap (λ k. replicate k false) count
+
+-- ---- a node that finishes
+
+names_map : (slots : List SlotState) → names_in slots ≡ map (λ (i : InboxState). i.name) (inboxes_of slots)
+names_map [] = refl
+names_map (s ∷ slots) = ap (λ ns. s.inbox.name ∷ ns) (names_map slots)
+
+-- the sides of the slots are those of the crew's peers
+pub sides_are : {M O : Type 0} (crew : CrewState) (slots : List SlotState) (sides : List (ReaderSide M O)) → AreSlotsOf crew slots → map inbox_of sides ≡ names_in slots → All HasPlace sides → AreSidesOf crew sides
+sides_are crew slots sides are names places = record {
+  inboxes = names ∙ names_map slots ∙ ap (map (λ (i : InboxState). i.name)) are.inboxes;
+  places = places;
+}
+
+-- the handlers that threads give back are the crew's
+pub handlers_are : {W M : Type 0} (crew : CrewState) (threads : List (PromisedHandle (HandlerState (DeskState W M)) (OfCrew W M))) (back : List (HandlerState (DeskState W M)))
+    → ((k : CrewState) (before : List (HandlerState (DeskState W M))) → HandBack k threads before → AreHandlersOf k before → AreHandlersOf k back)
+    → AreThreadsOf crew threads → AreHandlersOf crew back
+handlers_are crew threads back joined are = joined crew are.handlers are.have are.all
+
+-- badges of new connections
+all_new : (peers : List ℕ) → All IsNew (map (λ (p : ℕ). fresh_badge (first_of p)) peers)
+all_new [] = All-nil IsNew
+all_new (p ∷ peers) = All-cons IsNew _ _ (refl, refl) (all_new peers)
+
+pub badges_new : (n : ℕ) (badges : List BadgeState) → AreBadges n badges → All IsNew badges
+badges_new n badges are = subst (All IsNew) (sym are) (all_new (range_with_len 0 n))
+
+pub badges_count : (n : ℕ) (badges : List BadgeState) → AreBadges n badges → length badges ≡ n
+badges_count n badges are = ap length are ∙ length-map (range_with_len 0 n) (λ (p : ℕ). fresh_badge (first_of p)) ∙ length-range_with_len 0 n

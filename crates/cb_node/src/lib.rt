@@ -1,0 +1,21 @@
+//! A node: sockets, threads and the hall that serve its peers' connections. Each connection has a
+//! slot; a slot serves one connection after another. A few handler threads serve all slots, and a
+//! reader thread reads each connection.
+#![tactic(auto)]
+
+mod node;
+mod opening;
+mod serving;
+mod settings;
+mod starting;
+#[cfg(test)]
+mod tests;
+
+pub use cb_hall::{Hall, Look};
+pub use cb_journal::{Answer, Local};
+pub use cb_slots::{NodeFault, Report};
+pub use cb_work::Totals;
+pub use node::{Node, NodeEnd};
+pub use opening::NodeWork;
+pub use settings::NodeSettings;
+pub use starting::WRITE_MILLISECONDS;

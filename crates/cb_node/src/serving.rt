@@ -1,0 +1,190 @@
+ghost use Rattle.std.specs.Prelude.{◌≡◌, ◌≢◌, ◌<◌, ◌≤◌, true, false, length, IfErr, IfOk, OnErr, Ok, Err};
+ghost use Rattle.cb_slots.specs.declared.fault.NodeFault.TheVariants.{Memory, NoSlot};
+ghost use Rattle.cb_slots.specs.Choosing.{HasNone, IsChosen};
+ghost use Rattle.cb_slots.specs.Slot.{AreAlike, AreAlikeBut, AreSlotsOf, IsInboxOf, IsNew, WaitsAt, uses_of};
+
+use crate::opening::{NodeWork, NotReady, new_work};
+use crate::settings::{NodeSettings, session_settings};
+use cb_base::{Fault, Shared};
+use cb_hall::{Badge, Hall};
+use cb_slots::{
+    Common, Link, Links, Next, NodeFault, Slot, Standing, lowest, shared, standings_of,
+};
+use std::alloc::Global;
+use std::marker::{Copy, Send};
+use std::net::TcpStream;
+use std::sync::{Mutex, Wait};
+use std::thread::Threads;
+use std::time::Duration;
+
+/// By what a node serves connections.
+#[derive(Drop)]
+pub struct Service<R: Wait + Drop> {
+    /// By which it waits and starts threads.
+    pub rt: R,
+    /// Where it allocates.
+    pub alloc: Global,
+    /// What the node was started with. The time is that of later connections.
+    pub settings: NodeSettings,
+    /// How many milliseconds a write to a peer may wait.
+    pub write_milliseconds: u64,
+    /// What Bitcoin Core keeps in ChainstateManager and CTxMemPool, behind its lock.
+    pub hall: Shared<Mutex<Hall>>,
+    /// What the slots share.
+    pub common: Common<NodeWork<R>>,
+    /// The connections that aren't over.
+    pub links: Shared<Links>,
+}
+
+impl<R: Threads + Wait + Copy + Send + Drop + 'static> Service<R> {
+    #[tactic(auto, using(crate::proofs::Slots::none_unused))]
+    /// Whether one of these slots, as it seems, can serve a connection: it never had a socket, or its
+    /// reader has returned.
+    pub fn has_slot(
+        &self,
+        slots: &[Slot<NodeWork<R>>],
+        first: u16,
+        end: u16,
+    ) -> Result<bool, NodeFault>
+        ensures none { result ≡ Ok false → HasNone (uses_of slots.now) false first end }
+        ensures kinds { IfErr result (λ fault. fault ≡ Memory) }
+    {
+        let standings = standings_of(self.alloc, slots)?;
+        match lowest(standings.as_slice(), Standing::Unused, first, end) {
+            Some(_) => Ok(true),
+            None => Ok(lowest(standings.as_slice(), Standing::Left, first, end).is_some()),
+        }
+    }
+
+    #[tactic(auto, using(crate::proofs::Slots::alike_refl, crate::proofs::Slots::alike_more, crate::proofs::Slots::attached_set, crate::proofs::Slots::waiting_at, crate::proofs::Slots::inbox_alike))]
+    /// Serves a connection by one of these slots, whose number is returned: the lowest that never had
+    /// a socket, or else the lowest in which the next connection can be opened.
+    ///
+    /// Fails with `NodeFault::NoSlot` if there is none. No slot is used then.
+    pub fn begin(
+        &self,
+        slots: &mut [Slot<NodeWork<R>>],
+        first: u16,
+        end: u16,
+        stream: TcpStream,
+    ) -> Result<u16, NodeFault>
+        requires slots { AreSlotsOf self.now.common.crew slots.old }
+        requires end { (end ≤ length slots.old) × (length slots.old ≤ 64) }
+        ensures chosen { IfOk result (IsChosen (uses_of slots.old) first end) }
+        ensures ok { IfOk result (λ slot. AreAlikeBut slot slots.old slots.new) }
+        ensures err { OnErr result (AreAlike slots.old slots.new) }
+        ensures no_slot { result ≡ Err NoSlot → HasNone (uses_of slots.old) false first end }
+    {
+        stream.set_nodelay(true)?;
+        stream.set_write_timeout(Some(Duration::from_millis(self.write_milliseconds)))?;
+        let stream = shared(self.alloc, stream)?;
+        let number = self.find(slots, first, end)?;
+        slots[usize::from(number)].attach(&self.rt, self.alloc, &self.common, stream)?;
+        Ok(number)
+    }
+
+    #[tactic(auto, using(crate::proofs::Slots::alike_refl, crate::proofs::Slots::alike_more, crate::proofs::Slots::inbox_alike, crate::proofs::Slots::waits_unused, crate::proofs::Slots::waits_set, crate::proofs::Slots::lowest_unused, crate::proofs::Slots::none_unused))]
+    /// One of these slots with a connection that waits for its socket, which may be opened for it.
+    fn find(&self, slots: &mut [Slot<NodeWork<R>>], first: u16, end: u16) -> Result<u16, NodeFault>
+        requires slots { AreSlotsOf self.now.common.crew slots.old }
+        requires end { (end ≤ length slots.old) × (length slots.old ≤ 64) }
+        ensures alike { AreAlike slots.old slots.new }
+        ensures count { length slots.new ≡ length slots.old }
+        ensures chosen { IfOk result (IsChosen (uses_of slots.old) first end) }
+        ensures waits { IfOk result (WaitsAt slots.new) }
+        ensures no_slot { result ≡ Err NoSlot → HasNone (uses_of slots.old) false first end }
+    {
+        let standings = standings_of(self.alloc, slots)?;
+        if let Some(number) = lowest(standings.as_slice(), Standing::Unused, first, end) {
+            // No effect when it runs: it tells the prover that its first connection waits.
+            let _ = slots[usize::from(number)].waits();
+            return Ok(number);
+        }
+        for number in first..end {
+            if standings.get(usize::from(number)) == Some(&Standing::Left)
+                && self.ready(&mut slots[usize::from(number)], number)?
+            {
+                return Ok(number);
+            }
+        }
+        Err(NodeFault::NoSlot)
+    }
+
+    /// Opens a slot's next connection, if none waits there. Returns whether one waits then.
+    fn ready(&self, slot: &mut Slot<NodeWork<R>>, number: u16) -> Result<bool, NodeFault>
+        requires slot { IsInboxOf self.now.common.crew slot.old.inbox }
+        requires number { number < 64 }
+        ensures same { (slot.new.inbox ≡ slot.old.inbox) × (slot.new.used ≡ slot.old.used) }
+        ensures waits { result ≡ Ok true → slot.new.waits ≡ true }
+        ensures kinds { result ≢ Err NoSlot }
+    {
+        slot.settle(&self.rt);
+        if slot.waits() {
+            return Ok(true);
+        }
+        if slot.lacks_next() && !self.prepare(slot, number)? {
+            return Ok(false);
+        }
+        Ok(slot.open(&self.rt, &self.common.crew, &self.common.signals)?)
+    }
+
+    /// Makes a slot's next connection ready to be opened. Returns false if the slot has had all its
+    /// connections.
+    fn prepare(&self, slot: &mut Slot<NodeWork<R>>, number: u16) -> Result<bool, NodeFault>
+        requires { number < 64 }
+        ensures same { slot.new ≡ slot.old }
+        ensures kinds { result ≢ Err NoSlot }
+    {
+        let badge = match slot.take_badge() {
+            Some(badge) => badge,
+            None => match self.open_in_hall(number) {
+                Ok(badge) => badge,
+                Err(Fault::NoMore) => return Ok(false),
+                Err(fault) => return Err(NodeFault::from(fault)),
+            },
+        };
+        match self.next_by(number, badge) {
+            Ok(next) => {
+                slot.prepare(next);
+                Ok(true)
+            }
+            Err(NotReady { badge, cause }) => {
+                slot.keep_badge(badge);
+                Err(NodeFault::from(cause))
+            }
+        }
+    }
+
+    /// A slot's next connection under this badge. Fails only with `Fault::Memory`, and gives the badge
+    /// back.
+    fn next_by(&self, number: u16, badge: Badge) -> Result<Next<NodeWork<R>>, NotReady>
+        requires { IsNew badge }
+        ensures back { IfErr result (λ back. back.badge ≡ badge) }
+    {
+        let link = match self.new_link(number, badge.connection().generation) {
+            Ok(link) => link,
+            Err(cause) => return Err(NotReady { badge, cause }),
+        };
+        let settings = session_settings(&self.settings, number);
+        match new_work(self.rt, self.alloc, settings, badge, &link, &self.hall) {
+            Ok(work) => Ok(Next { work, link }),
+            Err(refused) => Err(refused),
+        }
+    }
+
+    /// The link of a slot's connection. Fails only with `Fault::Memory`.
+    fn new_link(&self, number: u16, generation: u64) -> Result<Shared<Link>, Fault> {
+        let link = Link::new(self.alloc, generation)?;
+        self.links.add(&self.rt, number, link.clone()?)?;
+        Ok(link)
+    }
+
+    /// Opens a slot's next connection in the hall.
+    fn open_in_hall(&self, number: u16) -> Result<Badge, Fault>
+        requires { number < 64 }
+        ensures badge { IfOk result IsNew }
+    {
+        let mut hall = self.hall.lock(&self.rt);
+        hall.open(number)
+    }
+}

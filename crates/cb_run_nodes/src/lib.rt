@@ -1,0 +1,13 @@
+//! The command `run`: plays a script with nodes that are joined over loopback sockets.
+#![tactic(auto)]
+
+mod nodes;
+mod playing;
+mod report;
+mod running;
+mod stats;
+
+pub use nodes::{Host, Nodes, Sizes};
+pub use playing::{Played, play};
+pub use report::NodeReport;
+pub use running::{RunOrders, run_nodes};
