@@ -251,6 +251,7 @@ fn is_counted(alloc: Global) -> Option<bool> {
         written: 7,
         sent: 2,
         block: Some(BlockPath::Compact),
+        state: State::Greeted,
     });
     let expected = Totals {
         messages: 1,
@@ -262,7 +263,8 @@ fn is_counted(alloc: Global) -> Option<bool> {
         completed: 0,
         fallback: 0,
     };
-    Some(flags.status().queued() == 6 && flags.status().totals() == expected)
+    let greeted = flags.status().state() == State::Greeted;
+    Some(greeted && flags.status().queued() == 6 && flags.status().totals() == expected)
 }
 
 #[test]
