@@ -1,5 +1,5 @@
 -- The comparison of a journal with all traces, one question more.
-use Rattle.std.proofs.Common.{◌≡◌, ◌∙◌, ◌≢◌, ℕ, zero, suc, ◌+◌, ◌-◌, ◌<◌, ◌≤◌, ◌^◌, max, Bool, true, false, cond, List, [], ◌∷◌, ◌++◌, length, set, take, drop, Option, Some, None, refl, sym, ap, subst, inl, inr, arith}
+use Rattle.std.proofs.Common.{◌≡◌, ◌∙◌, ◌≢◌, ℕ, zero, suc, ◌+◌, ◌-◌, ◌<◌, ◌≤◌, ◌^◌, Bool, true, false, cond, List, [], ◌∷◌, ◌++◌, length, set, drop, Option, Some, None, refl, sym, ap, subst, inl, inr, arith}
 use Rattle.std.specs.Prelude.{◌⊎◌, IfSome, MatchOption, filter, get_or, is_some, map, min, slice_get}
 use Rattle.std.proofs.lemmas.List.{drop_all, length-append}
 use Rattle.std.proofs.lemmas.List.Elements.{filter-append}
@@ -14,7 +14,7 @@ use Rattle.cb_trace.specs.Fold.{number_of}
 use Rattle.cb_trace.specs.Trace.{StandsFor, TraceView}
 use Rattle.cb_audit.specs.declared.heard.Difference.{Difference}
 use Rattle.cb_audit.specs.declared.place.Place.{Place}
-use Rattle.cb_audit.specs.Comparing.{Agrees, AreFew, EndsAt, HasCome, PartsAt, Seen, SplitsAt, SplitsFirst, first_place, journal_turns, told_before, trace_turns}
+use Rattle.cb_audit.specs.Comparing.{Agrees, AreFew, EndsAt, HasCome, PartsAt, Seen, SplitsAt, first_place, told_before}
 use Rattle.cb_audit.specs.Counting.{HasTrace, IsEarlier, granted, told_by}
 use Rattle.cb_audit.specs.Heard.{ArePlaced, AreStrangers, IsDifference, IsFirstSplit, IsFirstStranger, IsHeard, IsSplit, IsSplitWithTrace, IsStranger, seen_more, skip_of, start_of}
 use Rattle.cb_audit.specs.Order.{AreInOrder, AuditedTrace, IsBefore, IsTraceAt, trace_of}

@@ -1,7 +1,6 @@
 -- The journal's entries, one behind another, and what is seen of each connection.
-use Rattle.std.proofs.Common.{◌≡◌, ◌∙◌, ◌≢◌, ℕ, zero, suc, ◌+◌, ◌-◌, ◌<◌, ◌≤◌, ◌^◌, Bool, true, false, cond, List, [], ◌∷◌, ◌++◌, length, take, drop, get_or, Option, Some, None, refl, sym, ap, subst, inl, inr, append_assoc, arith}
-use Rattle.std.specs.Prelude.{if◌then◌else◌}
-use Rattle.std.proofs.lemmas.List.{append-nil, drop_all, drop_more, length-append, take_all, take_more}
+use Rattle.std.proofs.Common.{◌≡◌, ◌∙◌, ℕ, ◌+◌, ◌<◌, ◌≤◌, Bool, true, false, cond, List, [], ◌∷◌, ◌++◌, length, drop, get_or, Option, Some, None, refl, sym, ap, subst, append_assoc, arith}
+use Rattle.std.proofs.lemmas.List.{append-nil, drop_all, drop_more, length-append}
 use Rattle.cb_state.specs.declared.connection.Connection.{Connection}
 use Rattle.cb_state.specs.Announcers.{same_connection}
 use Rattle.cb_journal.specs.declared.answer.Answer.{Answer}

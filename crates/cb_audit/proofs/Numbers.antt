@@ -1,5 +1,5 @@
 -- The first connection whose numbers differ.
-use Rattle.std.proofs.Common.{◌≡◌, ◌∙◌, ◌≢◌, ℕ, zero, suc, ◌+◌, ◌-◌, ◌<◌, ◌≤◌, ◌^◌, Bool, true, false, List, [], ◌∷◌, ◌++◌, length, replicate, Option, Some, None, refl, sym, ap, subst, inl, inr, arith}
+use Rattle.std.proofs.Common.{◌≡◌, ◌∙◌, ℕ, zero, suc, ◌+◌, ◌<◌, ◌≤◌, List, [], ◌∷◌, length, replicate, Option, Some, None, refl, sym, ap, subst, inl, inr, arith}
 use Rattle.std.specs.Prelude.{◌⊎◌, IfSome, MatchOption, get_or, option_and_then, slice_get}
 use Rattle.std.specs.Option.{option_map_or}
 use Rattle.std.proofs.lemmas.Option.{slice_get_read, slice_get_within}
@@ -8,12 +8,11 @@ use Rattle.cb_journal.specs.declared.answer.Answer.{Answer}
 use Rattle.cb_journal.specs.declared.connections.Connected.{Connected}
 use Rattle.cb_journal.specs.declared.entry.Entry.{Entry}
 use Rattle.cb_journal.specs.declared.entry.Entry.TheVariants.{Asked, Kick, Opened, Submitted}
-use Rattle.cb_journal.specs.Connections.{AreCounted, Slots, changed_at, connected_at, connected_of, first_slots, fresh, latest_of}
+use Rattle.cb_journal.specs.Connections.{AreCounted, Slots, connected_at, connected_of, fresh, latest_of}
 use Rattle.cb_journal.specs.Journal.{IsPast}
 use Rattle.cb_journal.specs.Replica.{Leads, ReplicaState, opening, slots_after}
 use Rattle.cb_journal.proofs.Leading.{step_slots}
 use Rattle.cb_journal.proofs.Slots.{length_changed}
-use Rattle.cb_trace.specs.Trace.{TraceView}
 use Rattle.cb_audit.specs.Counting.{AreEven, AreOf64, HasTrace, IsEarlier, IsEven, IsFirstAmong, IsFirstUneven, IsFoundAmong, IsOfPeer, IsOfPeers, granted, told_by}
 use Rattle.cb_audit.specs.Order.{AreInOrder, AuditedTrace, IsBefore, trace_of}
 use Rattle.cb_audit.proofs.Orders.{before_not, before_other, before_trans, has_or_not, less}

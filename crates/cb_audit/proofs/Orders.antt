@@ -1,12 +1,11 @@
 -- Connections in their order, and the list of traces.
-use Rattle.std.proofs.Common.{◌≡◌, ◌∙◌, ◌≢◌, ℕ, zero, suc, ◌+◌, ◌-◌, ◌/◌, ◌<◌, ◌≤◌, Bool, true, false, cond, List, [], ◌∷◌, length, Option, Some, None, refl, sym, ap, subst, inl, inr, arith, nat_eq}
+use Rattle.std.proofs.Common.{◌≡◌, ◌∙◌, ℕ, zero, suc, ◌+◌, ◌-◌, ◌<◌, ◌≤◌, Bool, true, false, cond, List, [], ◌∷◌, length, Some, None, refl, sym, ap, subst, inl, inr, arith, nat_eq}
 use Rattle.std.specs.Prelude.{◌⊎◌, ◌&&◌, get_or, slice_get}
 use Rattle.std.proofs.lemmas.Bool.Decides.{nat_tests}
 use Rattle.std.proofs.lemmas.Option.{get_or_from_slice_get, slice_get_read, slice_get_within}
 use Rattle.cb_state.specs.declared.connection.Connection.{Connection}
 use Rattle.cb_state.specs.Announcers.{same_connection}
 use Rattle.cb_hall.proofs.Lookups.{is_same}
-use Rattle.cb_trace.specs.Trace.{TraceView}
 use Rattle.cb_audit.specs.Counting.{HasTrace}
 use Rattle.cb_audit.specs.Order.{AreInOrder, AuditedTrace, IsBefore, IsTraceAt, trace_of}
 

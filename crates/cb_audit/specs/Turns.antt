@@ -1,6 +1,6 @@
 -- A connection's questions and answers: as the hall's journal tells them, and as its trace does. The
 -- journal is the log of the hall's calls, the trace that of a connection's events.
-use Rattle.std.specs.Prelude.{ℕ, List, [], ◌∷◌, ◌++◌, Option, None, Some, if◌then◌else◌}
+use Rattle.std.specs.Prelude.{List, [], ◌∷◌, ◌++◌, Option, None, Some, if◌then◌else◌}
 use Rattle.cb_state.specs.declared.connection.Connection.{Connection}
 use Rattle.cb_state.specs.Announcers.{same_connection}
 use Rattle.cb_journal.specs.declared.answer.Answer.{Answer}

@@ -1,4 +1,4 @@
-use Rattle.std.proofs.Common.{◌≡◌, drop, length}
+use Rattle.std.proofs.Common.{drop}
 use Rattle.cb_audit.proofs.Journals.{IsSoFar}
 use Rattle.cb_audit.proofs.comparing.compare.Given as goal
 

@@ -1,4 +1,4 @@
-use Rattle.std.proofs.Common.{◌≡◌, ◌∙◌, ap, length, subst}
+use Rattle.std.proofs.Common.{◌≡◌, ◌∙◌, ap, subst}
 use Rattle.cb_journal.specs.Connections.{Slots}
 use Rattle.cb_journal.specs.Replica.{ReplicaState}
 use Rattle.cb_audit.specs.Counting.{HasTrace, IsFoundAmong, IsOfPeers}

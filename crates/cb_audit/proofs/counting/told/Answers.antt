@@ -1,5 +1,4 @@
 use Rattle.std.proofs.Common.{◌∙◌, ap, sym}
-use Rattle.std.specs.Prelude.{Option}
 use Rattle.cb_trace.specs.declared.trace.Counts.{Counts}
 use Rattle.cb_trace.specs.Trace.{TraceView}
 use Rattle.cb_audit.specs.Counting.{told_by}

@@ -1,4 +1,4 @@
-use Rattle.std.proofs.Common.{◌∙◌, List, Option, sym, subst}
+use Rattle.std.proofs.Common.{List, Option, sym, subst}
 use Rattle.cb_state.specs.declared.connection.Connection.{Connection}
 use Rattle.cb_audit.specs.declared.heard.Difference.{Difference}
 use Rattle.cb_audit.specs.declared.place.Place.{Place}

@@ -1,4 +1,4 @@
-use Rattle.std.proofs.Common.{◌∙◌, length, refl, sym, subst, ◌<◌, ℕ}
+use Rattle.std.proofs.Common.{◌∙◌, length, sym}
 use Rattle.std.specs.Prelude.{Some}
 use Rattle.std.proofs.lemmas.Option.{slice_get_read}
 use Rattle.cb_audit.proofs.Accounts.{all_at, heard_known, heard_unknown}
