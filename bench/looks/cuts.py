@@ -21,6 +21,7 @@ from bench.models.plain_block import AnyTx, Block
 from bench.tools import relay_rows as rows
 from bench.tools.blocks import NOBODY
 from bench.tools.command_line import usage
+from bench.tools.looks import Looks
 from bench.tools.messages import envelope
 from bench.tools.network import GENESIS
 from bench.tools.programs import built
@@ -61,17 +62,8 @@ def beginnings():
             yield name, payload[:size], "F2 Truncated"
 
 
-class Looks:
-    """Runs of one program, and how many of them came out otherwise than they should."""
-
-    def __init__(self, program):
-        self.program, self.count, self.failed = program, 0, 0
-
-    def look(self, name, got, wanted):
-        self.count += 1
-        if got != wanted:
-            self.failed += 1
-            print(f"cuts: {name}: {got} for {wanted}")
+class Cuts(Looks):
+    """Runs of the program on what is cut short, and on counts that lie."""
 
     def run(self, word, given):
         """The status, standard output and standard error of a run."""
@@ -113,14 +105,13 @@ class Looks:
 
 def main():
     usage(__doc__).parse_args()
-    looks = Looks(built(None, "cbrelay"))
+    looks = Cuts("cuts", built(None, "cbrelay"))
     cases = [*beginnings(), *LYING]
     looks.whole()
     looks.decoded(cases)
     looks.served(cases)
     looks.pings_cut()
-    print(f"cuts: {looks.count - looks.failed} as they should be, {looks.failed} not")
-    return 1 if looks.failed else 0
+    return looks.told()
 
 
 if __name__ == "__main__":

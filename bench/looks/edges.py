@@ -21,6 +21,7 @@ if not __package__:  # called as a file
     sys.path.insert(0, str(Path(__file__).resolve().parents[2]))
 
 from bench.tools.command_line import usage
+from bench.tools.looks import Looks
 from bench.tools.messages import envelope
 from bench.tools.programs import built
 from bench.tools.slow_writes import build
@@ -68,17 +69,8 @@ STANDS = "height 0 tip 0f9188f13cb7b2c71f2a335e3a4fc328bf5beb436012afca590b1a114
 STOOD = f"node 0 {STANDS}\nnode 1 {STANDS}\n".encode()
 
 
-class Looks:
-    """Runs of one program, and how many of them came out otherwise than they should."""
-
-    def __init__(self, program):
-        self.program, self.count, self.failed = program, 0, 0
-
-    def look(self, name, got, wanted):
-        self.count += 1
-        if got != wanted:
-            self.failed += 1
-            print(f"edges: {name}: {shown(got)} for {shown(wanted)}")
+class Edges(Looks):
+    """Runs of the program."""
 
     def run(self, words, given, **streams):
         """The status, standard output and standard error of a run; an output that goes elsewhere is empty."""
@@ -219,14 +211,9 @@ def unread_pipe():
     return os.fdopen(writing, "wb")
 
 
-def shown(value):
-    text = repr(value)
-    return text if len(text) <= 200 else f"{text[:200]}.."
-
-
 def main():
     usage(__doc__).parse_args()
-    looks = Looks(built(None, "cbrelay"))
+    looks = Edges("edges", built(None, "cbrelay"))
     looks.words_that_are_refused()
     looks.lines_that_cannot_be_read()
     looks.nodes_that_are_refused()
@@ -237,8 +224,7 @@ def main():
     looks.one_byte_a_write()
     looks.a_hundred_thousand_acts()
     looks.pings_past_checkpoints()
-    print(f"edges: {looks.count - looks.failed} as they should be, {looks.failed} not")
-    return 1 if looks.failed else 0
+    return looks.told()
 
 
 if __name__ == "__main__":

@@ -6,7 +6,7 @@ It needs the built program (crates/cbrelay/out/cbrelay, as ./build leaves it), p
 
 - A node's 32 slots are used up, and one is freed by a kick and used again. With --all each slot is used until it has had 256 connections, and
   then there is none: that takes a minute more.
-- A peer asks for many blocks and reads nothing. The others go on meanwhile; its connection ends with WriteFault after 20 seconds.
+- A peer asks for many blocks and reads nothing. The others go on meanwhile; its connection ends with WriteFault once a write finds no room for 20 seconds.
 - While a node's only handler waits in such a write, a slot whose reader was told to stop can't put its end mark in, since its inbox is full, and
   in another the end mark has filled the inbox. The next connection goes to the next slot that was left, and then there is no slot.
 - Peers end in the middle of a message, once with the end of the stream and once by a reset, and others send bytes that are no message, a
@@ -29,6 +29,7 @@ from bench.models import plain_wire as wire
 from bench.models.plain_block import sized
 from bench.models.plain_session import Settings
 from bench.tools.command_line import usage
+from bench.tools.looks import Looks
 from bench.tools.messages import envelope
 from bench.tools.network import GENESIS
 from bench.tools.node_scripts import GIVEN, OUTBOUND, mined
@@ -53,17 +54,8 @@ PEERS, FULL_TRIES = ("1", "2", "3", "4", "5"), 3
 MUCH, LOOKS_AT_REST = 10_000, 5
 
 
-class Looks:
-    """How many things came out otherwise than they should."""
-
-    def __init__(self, program):
-        self.program, self.count, self.failed = program, 0, 0
-
-    def look(self, name, got, wanted):
-        self.count += 1
-        if got != wanted:
-            self.failed += 1
-            print(f"node_peers: {name}: {got!r} for {wanted!r}")
+class Peers(Looks):
+    """Runs of nodes with peers that are no nodes."""
 
     def ends(self, name, nodes, height, status):
         """The input ends: all nodes must stand at one tip of this height, with audits that say yes."""
@@ -306,7 +298,7 @@ def main():
     parser = usage(__doc__, program="the program")
     parser.add_argument("--all", action="store_true", help="use up all connections of all slots too")
     words = parser.parse_args()
-    looks = Looks(built(words.program, "cbrelay"))
+    looks = Peers("node_peers", built(words.program, "cbrelay"))
     looks.one_slot_again()
     for act, end in ((looks.silent, None), (looks.cut, "Bye"), (looks.reset, "Bye"), (looks.noise, "BadStream"),
                      (looks.unreadable, "BadMessage"), (looks.many_pings, "Bye")):
@@ -315,8 +307,7 @@ def main():
     looks.full_inboxes()
     if words.all:
         looks.every_connection()
-    print(f"node_peers: {looks.count - looks.failed} as they should be, {looks.failed} not")
-    return 1 if looks.failed else 0
+    return looks.told()
 
 
 if __name__ == "__main__":

@@ -38,7 +38,7 @@ pub struct NodeEnd<R: Wait + Drop> {
 /// connection is served by the lowest slot of its kind that never had a socket, or else by the
 /// lowest whose latest connection was read to its end and whose inbox has room.
 ///
-/// A write to a peer that takes more than `WRITE_MILLISECONDS` fails, which ends the connection.
+/// A write to a peer that finds no room for `WRITE_MILLISECONDS` fails, which ends the connection.
 #[derive(Drop)]
 pub struct Node<R: Wait + Drop> {
     pub(crate) service: Service<R>,
@@ -213,8 +213,9 @@ impl<
         }
     }
 
-    /// Kicks a slot's latest connection. From then on each of its questions to the hall is answered
-    /// `Kicked`, which ends it. A tick of it is due.
+    /// Kicks the latest connection that the hall opened for a slot: the one that is served, or the one
+    /// that stands ready since its opening was refused. From then on each of its questions to the hall
+    /// is answered `Kicked`, which ends it. A tick of the slot is due.
     ///
     /// Fails with `NodeFault::NoSlot` if the node doesn't have the slot, with `Fault::JournalFull`
     /// of the hall, and with `NodeFault::Memory`.
