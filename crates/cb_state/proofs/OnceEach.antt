@@ -1,9 +1,9 @@
 -- Entries of which each different one counts once.
-use Rattle.std.proofs.Common.{◌≡◌, ℕ, ◌+◌, ◌<◌, ◌≤◌, get_or, take, Bool, true, false, cond, ◌&&◌, ◌||◌, not, eqb, List, [], ◌∷◌, ◌++◌, length, Option, Some, None, refl, sym, ap, ◌∙◌, arith, inl, inr}
+use Rattle.std.proofs.Common.{◌≡◌, ℕ, ◌+◌, ◌<◌, ◌≤◌, get_or, take, drop, Bool, true, false, cond, ◌&&◌, ◌||◌, not, eqb, List, [], ◌∷◌, ◌++◌, length, Option, Some, None, refl, sym, ap, ◌∙◌, append_assoc, arith, inl, inr}
 use Rattle.std.specs.Prelude.{filter}
 use Rattle.std.specs.List.{list_any}
 use Rattle.std.proofs.lemmas.Bool.{cases_Bool, eqb-true, false≢true}
-use Rattle.std.proofs.lemmas.List.{append-nil, length-append, take_more}
+use Rattle.std.proofs.lemmas.List.{append-nil, length-append, take-append-drop, take_more}
 use Rattle.std.proofs.lemmas.List.Elements.{filter-append}
 use Rattle.cb_base.specs.declared.hash.Hash256.{Hash256}
 use Rattle.cb_chain.specs.Entries.{same}
@@ -135,6 +135,35 @@ wanted_long state listed e =
       | inl is ↦ rw is (with_long (is_listed listed e) listed e)
       | inr isnt ↦ rw isnt (omega arith)
     ]
+
+-- ---- nothing is wanted
+
+some_left : (b : Bool) (x e : Inventory) (xs : List Inventory) → cond b (x ∷ xs) (x ∷ xs ++ e ∷ []) ≡ [] → ⊥
+some_left true x e xs none = let is : x ∷ xs ≡ [] = none in cc
+some_left false x e xs none = let is : x ∷ (xs ++ e ∷ []) ≡ [] = none in cc
+
+with_some : (listed : List Inventory) (e : Inventory) → with_entry listed e ≡ [] → ⊥
+with_some [] e none = let is : e ∷ [] ≡ [] = none in cc
+with_some (x ∷ xs) e none = some_left (is_listed (x ∷ xs) e) x e xs none
+
+none_left : (b : Bool) (listed : List Inventory) (e : Inventory) → cond b (with_entry listed e) listed ≡ [] → (listed ≡ []) × (b ≡ false)
+none_left true listed e none = absurd (with_some listed e none)
+none_left false listed e none = (none, refl)
+
+none_before : (state : NodeState) (xs ys : List Inventory) → wanted_of state (xs ++ ys) ≡ [] → wanted_of state xs ≡ []
+none_before state xs [] none = ap (wanted_of state) (sym (append-nil xs)) ∙ none
+none_before state xs (e ∷ ys) none =
+    let one : wanted_of state (xs ++ e ∷ []) ≡ [] = none_before state (xs ++ e ∷ []) ys (ap (wanted_of state) (append_assoc xs (e ∷ []) ys) ∙ none) in
+    (none_left (is_wanted state e) (wanted_of state xs) e (wanted_more state xs e ∙ one)).0
+
+-- each of them isn't
+pub unwanted_at : (state : NodeState) (entries : List Inventory) (i : ℕ) (d : Inventory) → i < length entries → wanted_of state entries ≡ [] → is_wanted state (get_or entries i d) ≡ false
+unwanted_at state entries i d lt none =
+    let e = get_or entries i d in
+    let all : wanted_of state (take (i + 1) entries ++ drop (i + 1) entries) ≡ [] = ap (wanted_of state) (take-append-drop (i + 1) entries) ∙ none in
+    let front : wanted_of state (take (i + 1) entries) ≡ [] = none_before state (take (i + 1) entries) (drop (i + 1) entries) all in
+    let more : wanted_of state (take i entries ++ e ∷ []) ≡ [] = ap (wanted_of state) (sym (take_more entries i d lt)) ∙ front in
+    (none_left (is_wanted state e) (wanted_of state (take i entries)) e (wanted_more state (take i entries) e ∙ more)).1
 
 pub none_noted : (keys : List Hash256) (listed : List Inventory) (hash : Hash256) (e : Inventory) → keys ≡ [] → listed ≡ [] → list_any (same hash) keys ≡ is_listed listed e
 none_noted keys listed hash e none empty = ap (list_any (same hash)) none ∙ sym (ap (λ (l : List Inventory). is_listed l e) empty)

@@ -4,7 +4,7 @@ use Rattle.std.specs.Prelude.{◌≢◌, nat_eq, filter, filter_map, option_map,
 use Rattle.std.proofs.lemmas.Bool.{eqb-true, false≢true}
 use Rattle.std.proofs.lemmas.List.{reverse-reverse}
 use Rattle.cb_base.specs.declared.fault.Fault.{Fault}
-use Rattle.cb_base.specs.declared.fault.Fault.TheVariants.{Memory}
+use Rattle.cb_base.specs.declared.fault.Fault.TheVariants.{BadWork, Memory, NoParent}
 use Rattle.cb_base.specs.declared.hash.Hash256.{Hash256}
 use Rattle.cb_block.specs.declared.block.Block.{Block}
 use Rattle.cb_block.specs.declared.header.Header.{Header}
@@ -27,7 +27,8 @@ use Rattle.cb_state.specs.declared.accepting.Heads.{Heads}
 use Rattle.cb_state.specs.declared.accepting.Outlook.{Outlook}
 use Rattle.cb_state.specs.declared.accepting.Outlook.TheVariants.{Folds, Stays}
 use Rattle.cb_state.specs.declared.accepting.Taken.{Taken}
-use Rattle.cb_state.specs.Accepting.{Follows, TakesBlock, TakesHeads, TakesTx, TakesTxOver, announcers_after, became_tip, has_some, locator_for, txs_above, txs_in, txs_put_off}
+use Rattle.cb_state.specs.Accepting.{Follows, MayLackMemory, TakesBlock, TakesHeads, TakesTx, TakesTxOver, announcers_after, became_tip, has_some, locator_for, txs_above, txs_in, txs_put_off}
+use Rattle.cb_state.specs.Judging.{RefusesHeading}
 use Rattle.cb_state.specs.Outlooks.{IsOutlookOn, IsReady, first_of}
 use Rattle.cb_state.specs.State.{NodeState, IsUnspent, WaitOn}
 use Rattle.cb_state.proofs.Growing.{grown_on}
@@ -89,6 +90,30 @@ block_refused old tree block from fault locator (Ok taken) (inr accepts) same_ch
   refused = ok.0;
   locator = ok.1 ∙ ap (locator_for (Some fault)) (located ∙ locator_stays old.tree tree same_chain) ∙ ap (λ (r : Option Fault). locator_for r (locator_of tree)) (sym ok.0);
 }
+
+-- the chain refuses a block by its header, and nothing changes
+refused_by : (tree : Tree) (block : Block) (fault : Fault) → RefusesHeading tree block.header fault → AcceptsBlock tree block (Err fault) tree
+refused_by tree block fault (RefusesHeading.without_work without is) = AcceptsBlock.without_work without (ap (λ (f : Fault). Err f) is) refl
+refused_by tree block fault (RefusesHeading.with_work work against) = AcceptsBlock.refused work fault against refl refl
+
+pub block_unheard : (old : NodeState) (block : Block) (from : Option Connection) (fault : Fault) (told : Result Taken Fault)
+    → RefusesHeading old.tree block.header fault
+    → IfOk told (λ taken. (taken.refused ≡ Some fault) × (taken.locator ≡ locator_for (Some fault) (locator_of old.tree)))
+    → IfOk told (λ taken. TakesBlock old block from taken old)
+block_unheard old block from fault (Err error) why ok = tt
+block_unheard old block from fault (Ok taken) why ok = record {
+  answer = Err fault;
+  chain = refused_by old.tree block fault why;
+  pool = Follows.stays refl refl;
+  announcers = refl;
+  refused = ok.0;
+  locator = ok.1 ∙ ap (λ (r : Option Fault). locator_for r (locator_of old.tree)) (sym ok.0);
+}
+
+-- memory lacks for its locator alone
+pub lacks_parent : (tree : Tree) (header : Header) (fault : Fault) → RefusesHeading tree header fault → fault ≡ NoParent → MayLackMemory tree header
+lacks_parent tree header fault (RefusesHeading.without_work without is) missing = absurd (let other : BadWork ≡ NoParent = sym is ∙ missing in cc)
+lacks_parent tree header fault (RefusesHeading.with_work work against) missing = (work, inr (against ∙ ap (λ (f : Fault). Some f) missing))
 
 tip_not : (change : Change) → change.on ≡ [] → became_tip (Ok change) ≡ false
 tip_not change none = ap has_some none

@@ -1,16 +1,17 @@
 -- What a transaction, a block and headers do to the shared state, and what the answer is (Bitcoin's
 -- protocol).
-use Rattle.std.specs.Prelude.{◌≡◌, Bool, true, false, List, [], ◌∷◌, drop, filter, map, reverse, Option, None, Some, Result, Ok, Err}
+use Rattle.std.specs.Prelude.{◌≡◌, ◌⊎◌, Bool, true, false, List, [], ◌∷◌, drop, filter, map, reverse, Option, None, Some, Result, Ok, Err}
 use Rattle.std.specs.List.{flat_map}
 use Rattle.cb_base.specs.declared.fault.Fault.{Fault}
 use Rattle.cb_base.specs.declared.fault.Fault.TheVariants.{NoParent}
 use Rattle.cb_base.specs.declared.hash.Hash256.{Hash256}
 use Rattle.cb_block.specs.declared.block.Block.{Block}
 use Rattle.cb_block.specs.declared.header.Header.{Header}
+use Rattle.cb_block.specs.Work.{HasWork}
 use Rattle.cb_tx.specs.declared.tx.Tx.{Tx}
 use Rattle.cb_ledger.specs.Unspent.{Unspent}
 use Rattle.cb_chain.specs.declared.change.Change.{Change}
-use Rattle.cb_chain.specs.Calls.{AcceptsBlock}
+use Rattle.cb_chain.specs.Calls.{AcceptsBlock, block_fault}
 use Rattle.cb_chain.specs.Entries.{Tree, block_hash, block_of, is_lacking}
 use Rattle.cb_chain.specs.Following.{headers_above}
 use Rattle.cb_chain.specs.Headers.{TakesHeaders}
@@ -100,6 +101,11 @@ pub record TakesBlock (old : NodeState) (block : Block) (from : Option Connectio
   pub announcers : new.announcers ≡ announcers_after old.announcers (became_tip answer) from
   pub refused : taken.refused ≡ refused_for answer
   pub locator : taken.locator ≡ locator_for taken.refused (locator_of new.tree)
+
+-- Memory may lack for a block: nothing speaks against its header, or its parent is missing, and a
+-- locator is told.
+abbrev pub MayLackMemory : Tree → Header → Type 0
+MayLackMemory tree header = HasWork header × ((block_fault tree header ≡ None) ⊎ (block_fault tree header ≡ Some NoParent))
 
 -- ---- headers
 

@@ -1,5 +1,6 @@
 pub mod Announcers
 pub mod Accepting
+pub mod Judging
 pub mod Mining
 pub mod News
 pub mod Outlooks

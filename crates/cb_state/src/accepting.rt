@@ -1,16 +1,19 @@
-ghost use Rattle.std.specs.Prelude.{◌≡◌, ◌≢◌, ◌⊎◌, ◌≤◌, ◌++◌, [], drop, filter, length, option_copied, IfErr, IfOk, IfSome, IsOk, IsOkUnless, MatchOption, MatchResult, OnErr, OnOk, Some, true};
-ghost use Rattle.cb_base.specs.declared.fault.Fault.TheVariants.{Memory};
+ghost use Rattle.std.specs.Prelude.{◌≡◌, ◌≢◌, ◌⊎◌, ◌≤◌, ◌++◌, [], drop, filter, length, option_copied, IfErr, IfOk, IfSome, IsOk, IsOkUnless, MatchOption, MatchResult, None, OnErr, OnOk, Err, Some, true};
+ghost use Rattle.cb_base.specs.declared.fault.Fault.TheVariants.{Memory, NoParent};
 ghost use Rattle.cb_block.specs.Blocks.{MeetsBlockRules};
 ghost use Rattle.cb_chain.specs.Entries.{is_lacking};
 ghost use Rattle.cb_chain.specs.Laws.{MayLead};
+ghost use Rattle.cb_chain.specs.Locator.{locator_of};
 ghost use Rattle.cb_ledger.specs.Spend.{spend};
 ghost use Rattle.cb_pool.specs.Folding.{Refolds};
 ghost use Rattle.cb_pool.specs.Listing.{txs_of};
-ghost use Rattle.cb_state.specs.Accepting.{TakesBlock, TakesHeads, TakesTx, announcers_after, locator_for, txs_above, txs_under};
+ghost use Rattle.cb_pool.specs.Rules.{IsUntold};
+ghost use Rattle.cb_state.specs.Accepting.{MayLackMemory, TakesBlock, TakesHeads, TakesTx, announcers_after, locator_for, txs_above, txs_under};
 ghost use Rattle.cb_state.specs.Outlooks.{IsOutlookOn, IsReady, first_of};
 
 use crate::announcers::Announcers;
 use crate::connection::Connection;
+use crate::judging::fault_of_block;
 use crate::locator::locator_of;
 use crate::state::State;
 use cb_base::{Fault, Hash256, Shared};
@@ -78,6 +81,19 @@ fn refusal(alloc: Global, fault: Fault, locator: Locator) -> Result<Taken, Fault
     })
 }
 
+/// The outcome of no headers.
+fn no_heads(alloc: Global) -> Heads
+    ensures refused { result.refused ≡ None }
+    ensures lack { result.lack ≡ [] }
+    ensures locator { result.locator ≡ [] }
+{
+    Heads {
+        refused: None,
+        lack: Hashes::new(Vec::new(alloc)),
+        locator: Locator::from_few(Vec::new(alloc)),
+    }
+}
+
 /// Pushes the block's transactions except the coinbase; without a block, nothing. Fails only with
 /// `Fault::Memory`.
 fn push_candidates(first: &mut Vec<Candidate>, block: Option<&SoundBlock>) -> Result<(), Fault>
@@ -143,11 +159,14 @@ impl State {
     /// Adds a transaction to the mempool. Returns `None` if it was added, or else why it was
     /// refused (`Pool::insert` lists the reasons). A refused transaction changes nothing.
     ///
-    /// Fails only with `Fault::Memory`; the state is then unchanged.
+    /// Fails only with `Fault::Memory`, and never if a check that needs no memory speaks against the
+    /// transaction; the state is then unchanged.
     pub fn take_tx(&mut self, tx: Shared<Tx>) -> Result<Option<Fault>, Fault>
         ensures taken { IfOk result (λ refused. TakesTx self.old tx refused self.new) }
         ensures err { OnErr result (self.new ≡ self.old) }
         ensures memory { IsOkUnless result Memory }
+        // Refusals that are found without memory come before `Fault::Memory`.
+        ensures unpaid { result ≡ Err Memory → IsUntold tx }
     {
         if let Err(fault) = self.pool.insert(self.chain.ledger(), tx) {
             return told(fault);
@@ -159,13 +178,16 @@ impl State {
     /// parent isn't known.
     ///
     /// `Chain::accept_block` lists the refusals, and which of them mark the block bad in the header
-    /// tree. No refusal changes the mempool or the announcers.
+    /// tree. No refusal changes the mempool or the announcers. A header that the chain refuses is
+    /// told before anything is worked out for the mempool, so it costs as much however long the
+    /// chain is and whatever the mempool holds.
     ///
     /// If the block becomes the tip, the mempool is rebuilt: the transactions of disconnected
     /// blocks come first, then those that were in it, and each is kept if it still applies. The
     /// connection that gave the block, if one is named, becomes the last announcer.
     ///
-    /// Fails only with `Fault::Memory`; the state is then unchanged.
+    /// Fails only with `Fault::Memory`; the state is then unchanged. It doesn't fail if the chain
+    /// refuses the block's header, except where the parent is missing: a locator is told then.
     pub fn take_block(
         &mut self,
         block: SoundBlock,
@@ -174,7 +196,12 @@ impl State {
         ensures taken { IfOk result (λ taken. TakesBlock self.old block from taken self.new) }
         ensures err { OnErr result (self.new ≡ self.old) }
         ensures memory { IsOkUnless result Memory }
+        // The chain judges the header before memory is taken.
+        ensures unpaid { result ≡ Err Memory → MayLackMemory self.old.tree block.header }
     {
+        if let Some(fault) = fault_of_block(&self.chain, &block.block().header) {
+            return self.refused(fault);
+        }
         let locator = locator_of(&self.chain)?;
         let outlook = self.outlook_on(&block)?;
         let change = match self.chain.accept_block(block) {
@@ -197,19 +224,53 @@ impl State {
     /// other refusal ends it (`Chain::accept_header` lists the reasons); the headers before it
     /// stay.
     ///
-    /// Fails only with `Fault::Memory`; the state is then unchanged and none of the headers is
-    /// kept.
+    /// Fails only with `Fault::Memory`, and never without headers; the state is then unchanged and
+    /// none of the headers is kept.
     pub fn take_headers(&mut self, headers: &[Header]) -> Result<Heads, Fault>
         ensures taken { IfOk result (λ heads. TakesHeads self.old headers.now heads self.new) }
         ensures err { OnErr result (self.new ≡ self.old) }
         ensures memory { IsOkUnless result Memory }
+        ensures none { headers.now ≡ [] → IsOk result }
     {
+        if headers.is_empty() {
+            return Ok(no_heads(self.alloc));
+        }
         let locator = locator_of(&self.chain)?;
         let accepted = self.chain.accept_headers(headers)?;
         Ok(Heads {
             refused: accepted.refused,
             lack: lacking(&self.chain, accepted.met),
             locator: told_locator(self.alloc, accepted.refused, locator),
+        })
+    }
+
+    /// The chain's block locator if the refusal is `Fault::NoParent`, else an empty one. Fails only
+    /// with `Fault::Memory`, and for no other refusal.
+    fn locator_after(&self, refused: Option<Fault>) -> Result<Locator, Fault>
+        ensures exact { IfOk result
+            (λ locator. locator ≡ locator_for refused (locator_of self.now.tree)) }
+        ensures memory { IsOkUnless result Memory }
+        ensures unpaid { result ≡ Err Memory → refused ≡ Some NoParent }
+    {
+        match refused {
+            Some(fault) if fault == Fault::NoParent => locator_of(&self.chain),
+            _ => Ok(Locator::from_few(Vec::new(self.alloc))),
+        }
+    }
+
+    /// The outcome of a block whose header the chain refuses. Fails only with `Fault::Memory`, and
+    /// only if the parent is missing.
+    fn refused(&self, fault: Fault) -> Result<Taken, Fault>
+        ensures told { IfOk result
+            (λ taken. (taken.refused ≡ Some fault)
+            × (taken.locator ≡ locator_for (Some fault) (locator_of self.now.tree))) }
+        ensures memory { IsOkUnless result Memory }
+        ensures unpaid { result ≡ Err Memory → fault ≡ NoParent }
+    {
+        let refused = Some(fault);
+        Ok(Taken {
+            refused,
+            locator: self.locator_after(refused)?,
         })
     }
 

@@ -8,6 +8,7 @@ mod announcers;
 mod bounded;
 mod connection;
 mod inventory;
+mod judging;
 mod laws;
 mod locator;
 mod matching;

@@ -1,11 +1,11 @@
-ghost use Rattle.std.specs.Prelude.{◌≡◌, ◌≤◌, [], if◌then◌else◌, length, IfOk, IsOkUnless, OnOk};
+ghost use Rattle.std.specs.Prelude.{◌≡◌, ◌≤◌, [], if◌then◌else◌, length, false, IfOk, IsOk, IsOkUnless, OnOk};
 ghost use Rattle.std.specs.HashSet.{contains};
 ghost use Rattle.std.specs.List.{list_any};
 ghost use Rattle.cb_base.specs.declared.fault.Fault.TheVariants.{Memory};
 ghost use Rattle.cb_chain.specs.Entries.{entry_of, same};
 ghost use Rattle.cb_chain.specs.Locator.{locator_of};
 ghost use Rattle.cb_state.specs.declared.inventory.Inventory.TheVariants as entry;
-ghost use Rattle.cb_state.specs.Wanting.{AreNoted, IsNeed, blocks_of, is_block, is_near, only_block, stands_on_tip, wanted_of, with_entry, with_wanted};
+ghost use Rattle.cb_state.specs.Wanting.{AreNoted, IsNeed, blocks_of, is_block, is_near, is_wanted, only_block, stands_on_tip, wanted_of, with_entry, with_wanted};
 
 use crate::inventory::{Inventories, Inventory};
 use crate::locator::locator_of;
@@ -94,10 +94,11 @@ impl State {
     /// are neither kept nor marked bad. Entries of other types are never wanted. Each different
     /// entry is returned once, in order.
     ///
-    /// Fails only with `Fault::Memory`.
+    /// Fails only with `Fault::Memory`, and never if none is wanted.
     pub fn want(&self, entries: &Inventories) -> Result<Need, Fault>
         ensures need { IfOk result (IsNeed self.now entries.now) }
         ensures memory { IsOkUnless result Memory }
+        ensures none { wanted_of self.now entries.now ≡ [] → IsOk result }
     {
         let wanted = self.wanted(entries.as_slice())?;
         let near = self.is_near(wanted.as_slice());
@@ -109,11 +110,13 @@ impl State {
         })
     }
 
-    /// The wanted entries, each once, in order. Fails only with `Fault::Memory`.
+    /// The wanted entries, each once, in order. Fails only with `Fault::Memory`, and never if there
+    /// are none.
     fn wanted(&self, entries: &[Inventory]) -> Result<Vec<Inventory>, Fault>
         ensures wanted { IfOk result (λ wanted. wanted.items ≡ wanted_of self.now entries.now) }
         ensures few { IfOk result (λ wanted. length wanted.items ≤ length entries.now) }
         ensures memory { IsOkUnless result Memory }
+        ensures none { wanted_of self.now entries.now ≡ [] → IsOk result }
     {
         let mut wanted = Wanted {
             list: Vec::new(self.alloc),
@@ -126,7 +129,8 @@ impl State {
         Ok(wanted.list)
     }
 
-    /// Appends an entry if it is wanted and isn't listed. Fails only with `Fault::Memory`.
+    /// Appends an entry if it is wanted and isn't listed. Fails only with `Fault::Memory`, and never
+    /// if it isn't wanted.
     fn look_at(&self, wanted: &mut Wanted, entry: Inventory) -> Result<(), Fault>
         requires { AreNoted (contains same wanted.old.txs)
             (contains same wanted.old.blocks) wanted.old.list.items }
@@ -136,6 +140,7 @@ impl State {
             (AreNoted (contains same wanted.new.txs)
             (contains same wanted.new.blocks) wanted.new.list.items) }
         ensures memory { IsOkUnless result Memory }
+        ensures none { is_wanted self.now entry ≡ false → IsOk result }
     {
         match entry {
             Inventory::Tx(txid) => {
@@ -177,12 +182,13 @@ impl State {
     }
 
     /// The chain's block locator if a block is among the entries, else empty. Fails only with
-    /// `Fault::Memory`.
+    /// `Fault::Memory`, and never without a block.
     fn block_locator(&self, entries: &[Inventory]) -> Result<Locator, Fault>
         ensures locator { IfOk result
             (λ locator. locator
             ≡ (if list_any is_block entries.now then locator_of self.now.tree else [])) }
         ensures memory { IsOkUnless result Memory }
+        ensures none { list_any is_block entries.now ≡ false → IsOk result }
     {
         if !has_block(entries) {
             return Ok(Locator::from_few(Vec::new(self.alloc)));

@@ -1,9 +1,23 @@
 use Rattle.std.proofs.Common.{◌≡◌, ◌∙◌, [], List, subst, sym}
 use Rattle.std.specs.Prelude.{◌≢◌}
 use Rattle.cb_base.specs.declared.hash.Hash256.{Hash256}
+use Rattle.cb_block.specs.declared.block.Block.{Block}
+use Rattle.cb_state.specs.Judging.{RefusesHeading}
 use Rattle.cb_state.specs.State.{NodeState}
-use Rattle.cb_state.proofs.Takings.{block_aside, block_leads, block_refused, foreseen_for, leads_waits, nothing_on, ready_for, something_on, waits_on}
+use Rattle.cb_state.proofs.Takings.{block_aside, block_leads, block_refused, block_unheard, foreseen_for, lacks_parent, leads_waits, nothing_on, ready_for, something_on, waits_on}
 use Rattle.cb_state.proofs.state.State.take_block.Goals as goal
+
+pub returns-in-Some-clause-taken : goal.returns-in-Some-clause-taken
+returns-in-Some-clause-taken c =
+    let shown : RefusesHeading c.self.inside.chain c.args.block.header c.in-Some.fault = subst (λ (b : Block). RefusesHeading c.self.inside.chain b.header c.in-Some.fault) c.block-2.ensures.same c.in-Some.ensures in
+    let heading : RefusesHeading c.args.self.now.tree c.args.block.header c.in-Some.fault = subst (λ (s : NodeState). RefusesHeading s.tree c.args.block.header c.in-Some.fault) c.self.view_is shown in
+    block_unheard c.args.self.now c.args.block c.args.from c.in-Some.fault c.refused.result heading c.refused.ensures.told
+
+pub returns-in-Some-clause-unpaid : goal.returns-in-Some-clause-unpaid
+returns-in-Some-clause-unpaid c = λ lacks.
+    let shown : RefusesHeading c.self.inside.chain c.args.block.header c.in-Some.fault = subst (λ (b : Block). RefusesHeading c.self.inside.chain b.header c.in-Some.fault) c.block-2.ensures.same c.in-Some.ensures in
+    let heading : RefusesHeading c.args.self.now.tree c.args.block.header c.in-Some.fault = subst (λ (s : NodeState). RefusesHeading s.tree c.args.block.header c.in-Some.fault) c.self.view_is shown in
+    lacks_parent c.args.self.now.tree c.args.block.header c.in-Some.fault heading (c.refused.ensures.unpaid lacks)
 
 pub returns-in-Err-clause-taken : goal.returns-in-Err-clause-taken
 returns-in-Err-clause-taken c =

@@ -1,8 +1,9 @@
 use Rattle.std.proofs.Common.{List, [], length, get_or, ap, arith}
+use Rattle.std.proofs.lemmas.Bool.{false≢true}
 use Rattle.cb_state.specs.declared.inventory.Inventory.{Inventory}
 use Rattle.cb_state.specs.declared.inventory.Inventory.TheVariants.{Tx, Block}
 use Rattle.cb_state.specs.Wanting.{once}
-use Rattle.cb_state.proofs.OnceEach.{few_more, listed_more, none_noted}
+use Rattle.cb_state.proofs.OnceEach.{few_more, listed_more, none_noted, unwanted_at}
 use Rattle.cb_state.proofs.state.State.wanted.Goals as goal
 
 pub loop-entry-init : goal.loop-entry-init
@@ -24,3 +25,8 @@ loop-entry-preserved c = record {
   few = few_more c.args.self.now c.loop-entry.wanted.list.items c.look_at.new.wanted.list.items (get_or c.args.entries.now c.loop-entry.entry-index (Tx (record { 0 = [] }))) c.loop-entry.entry-index c.loop-entry.invariant.few
       c.in_ok-look_at.ensures.list;
 }
+
+-- an entry that isn't wanted needs no memory
+pub returns-in_err-look_at-clause-none : goal.returns-in_err-look_at-clause-none
+returns-in_err-look_at-clause-none c = λ none.
+    absurd (false≢true (c.in_err-look_at.ensures.none (unwanted_at c.args.self.now c.args.entries.now c.loop-entry.entry-index (Tx (record { 0 = [] })) c.loop-entry-test.true none)))
