@@ -5,6 +5,7 @@ pub mod Mining
 pub mod News
 pub mod Outlooks
 pub mod Parts
+pub mod Seeding
 pub mod Serving
 pub mod State
 pub mod Wanting

@@ -7,6 +7,7 @@ mod accepting;
 mod announcers;
 mod bounded;
 mod connection;
+mod entry_seed;
 mod inventory;
 mod judging;
 mod laws;

@@ -1,12 +1,14 @@
-ghost use Rattle.std.specs.Prelude.{◌≡◌, ◌≤◌, [], if◌then◌else◌, length, false, IfOk, IsOk, IsOkUnless, OnOk};
-ghost use Rattle.std.specs.HashSet.{contains};
+ghost use Rattle.std.specs.Prelude.{◌≡◌, ◌<◌, ◌≤◌, [], if◌then◌else◌, length, false, IfOk, IsOk, IsOkUnless, OnOk};
+ghost use Rattle.std.specs.HashSet.{contains, hasher_of};
 ghost use Rattle.std.specs.List.{list_any};
 ghost use Rattle.cb_base.specs.declared.fault.Fault.TheVariants.{Memory};
 ghost use Rattle.cb_chain.specs.Entries.{entry_of, same};
 ghost use Rattle.cb_chain.specs.Locator.{locator_of};
 ghost use Rattle.cb_state.specs.declared.inventory.Inventory.TheVariants as entry;
+ghost use Rattle.cb_state.specs.Seeding.{seed_of};
 ghost use Rattle.cb_state.specs.Wanting.{AreNoted, IsNeed, blocks_of, is_block, is_near, is_wanted, only_block, stands_on_tip, wanted_of, with_entry, with_wanted};
 
+use crate::entry_seed::EntrySeed;
 use crate::inventory::{Inventories, Inventory};
 use crate::locator::locator_of;
 use crate::state::State;
@@ -31,11 +33,28 @@ pub struct Need {
 #[derive(Drop)]
 struct Wanted {
     list: Vec<Inventory>,
-    txs: HashSet<Hash256>,
-    blocks: HashSet<Hash256>,
+    txs: HashSet<Hash256, EntrySeed>,
+    blocks: HashSet<Hash256, EntrySeed>,
 }
 
 impl Wanted {
+    /// No entries so far, of these. The sets stand under the seed of all of them.
+    fn none_of(alloc: Global, entries: &[Inventory]) -> Wanted
+        ensures list { result.list.items ≡ [] }
+        ensures noted { AreNoted (contains same result.txs)
+            (contains same result.blocks) result.list.items }
+        // The seed decides only how long a look-up takes. No result shows it, so it is fixed here.
+        ensures txs { 64 < length entries.now → hasher_of result.txs ≡ seed_of entries.now }
+        ensures blocks { 64 < length entries.now → hasher_of result.blocks ≡ seed_of entries.now }
+    {
+        let seed = EntrySeed::of(entries);
+        Wanted {
+            list: Vec::new(alloc),
+            txs: HashSet::with_hasher(alloc, seed),
+            blocks: HashSet::with_hasher(alloc, seed),
+        }
+    }
+
     /// Appends a wanted transaction, unless it is listed. Fails only with `Fault::Memory`; the list
     /// is then of no use.
     fn put_tx(&mut self, txid: Hash256) -> Result<(), Fault>
@@ -118,11 +137,7 @@ impl State {
         ensures memory { IsOkUnless result Memory }
         ensures none { wanted_of self.now entries.now ≡ [] → IsOk result }
     {
-        let mut wanted = Wanted {
-            list: Vec::new(self.alloc),
-            txs: HashSet::new(self.alloc),
-            blocks: HashSet::new(self.alloc),
-        };
+        let mut wanted = Wanted::none_of(self.alloc, entries);
         for entry in entries {
             self.look_at(&mut wanted, *entry)?;
         }

@@ -1,20 +1,17 @@
 use Rattle.std.proofs.Common.{List, [], length, get_or, ap, arith}
 use Rattle.std.proofs.lemmas.Bool.{false≢true}
 use Rattle.cb_state.specs.declared.inventory.Inventory.{Inventory}
-use Rattle.cb_state.specs.declared.inventory.Inventory.TheVariants.{Tx, Block}
+use Rattle.cb_state.specs.declared.inventory.Inventory.TheVariants.{Tx}
 use Rattle.cb_state.specs.Wanting.{once}
-use Rattle.cb_state.proofs.OnceEach.{few_more, listed_more, none_noted, unwanted_at}
+use Rattle.cb_state.proofs.OnceEach.{few_more, listed_more, unwanted_at}
 use Rattle.cb_state.proofs.state.State.wanted.Goals as goal
 
 pub loop-entry-init : goal.loop-entry-init
 unfolding once
 loop-entry-init c = record {
-  noted = record {
-    txs = λ txid. none_noted c.new-2.result.keys c.new.result.items txid (Tx txid) c.new-2.ensures.empty c.new.ensures.items;
-    blocks = λ hash. none_noted c.new-3.result.keys c.new.result.items hash (Block hash) c.new-3.ensures.empty c.new.ensures.items;
-  };
-  listed = c.new.ensures.items;
-  few = omega (arith, ap (λ (l : List Inventory). length l) c.new.ensures.items);
+  noted = c.none_of-wanted.ensures.noted;
+  listed = c.none_of-wanted.ensures.list;
+  few = omega (arith, ap (λ (l : List Inventory). length l) c.none_of-wanted.ensures.list);
 }
 
 pub loop-entry-preserved : goal.loop-entry-preserved
