@@ -1,0 +1,183 @@
+#!/usr/bin/env python3
+"""Measures what a hostile peer can cost, each as a ratio within one run: python3 bench/hostile.py [--limit N] [PROGRAM]
+
+It needs the built program crates/bench_hall/out/bench_hall (as ./build bench_hall leaves it) and python3, and takes some twenty seconds.
+Times are of the processor: the least of some runs with a call, less that of as many that only read it. What is crafted and what isn't
+take turns.
+
+- Entries: an `inv` of 50,000 hashes that all collide in a table whose seed is known, beside 50,000 that were drawn.
+- Inputs: a transaction of 24,000 inputs that all collide so, beside one of inputs that were drawn.
+- Parents: a block on a header whose block isn't kept and that is as high as the tip, over a chain of 20,000 transactions, beside a block
+  on an unknown parent. A second row has a block that is known to be bad, and a third one without work.
+- Touched: a block that takes one transaction of a pool of large ones, beside a block that takes none.
+- Headers: the memory of 40,000 headers in a hall, over all states that it keeps.
+
+The status is 1 where a ratio of the entries or the parents is above the limit, 5 if none is given. The other rows are told alone: the
+table of inputs stands under a seed that is known, a fold of the pool tries all of it, and the states of a journal share nothing.
+"""
+
+import argparse
+import random
+import struct
+import sys
+import tempfile
+from pathlib import Path
+from typing import NamedTuple
+
+if not __package__:  # called as a file
+    sys.path.insert(0, str(Path(__file__).resolve().parents[1]))
+
+from bench.models.plain_block import AnyTx, Block, Header, Tx, paying
+from bench.tools.hall_play import asked, repeated
+from bench.tools.network import GENESIS, header_text
+from bench.tools.programs import built
+from bench.tools.records import record
+from bench.tools.timed_plays import Play, Runs, seconds_of
+from bench.tools.turns import adopt
+
+ENTRIES, INPUTS = 50_000, 24_000
+# A chain of so many blocks with so many transactions each, and how often a refused block comes.
+BLOCKS, TXS, REFUSED = 20, 1_000, 2_000
+# Headers, and how many of them one message holds.
+HEADERS, FULL = 40_000, 2_000
+# A pool of so many transactions with so many outputs each.
+POOLED, OUTPUTS = 12, 20_000
+TURNS, LIMIT = 5, 5
+
+# The table's hasher with no seed: its first state, and what it multiplies by at a write of eight bytes.
+STATE, MULTIPLIER, WORD = 0x243F_6A88_85A3_08D3, 0x9E37_79B9_7F4A_7C15 ^ 16, 2**64 - 1
+
+
+def mixed(state, word):
+    """The hasher's state after a write of eight bytes."""
+    product = (state ^ word) * MULTIPLIER
+    return (product & WORD) ^ (product >> 64)
+
+
+def crafted(rng):
+    """A hash whose second eight bytes take back what the first made of the state: all such collide."""
+    first = rng.getrandbits(64)
+    return struct.pack("<QQQQ", first, mixed(STATE, first), 0, 0)
+
+
+def drawn(rng):
+    return rng.randbytes(32)
+
+
+class Row(NamedTuple):
+    """What a hostile call takes beside one that is not."""
+
+    name: str
+    hostile: Play
+    plain: Play
+    judged: bool = True
+
+
+def given(*question):
+    return record(*asked(*question))
+
+
+def beside(ground, call, count=1):
+    """The call so many times behind a ground, beside the ground with the call read and not made."""
+    return Play(ground + repeated(count, *call), ground + repeated(0, *call))
+
+
+def entries(rng):
+    """An inventory of hashes of transactions."""
+    plays = [beside(b"", asked("want", [(1, make(rng)) for _ in range(ENTRIES)])) for make in (crafted, drawn)]
+    return Row(f"an inventory of {ENTRIES:,} crafted hashes", *plays)
+
+
+def inputs(rng):
+    """A transaction of inputs that aren't there."""
+    plays = [beside(b"", asked("tx", AnyTx([((make(rng), 0), b"") for _ in range(INPUTS)], [1]))) for make in (crafted, drawn)]
+    return Row(f"a transaction of {INPUTS:,} crafted inputs", *plays, judged=False)
+
+
+def headers_up(count):
+    """So many headers on the first block, one on the other."""
+    headers, prev = [], GENESIS
+    for place in range(count):
+        headers.append(Header(header_text(prev, struct.pack("<I", place) + bytes(28))))
+        prev = headers[-1].name
+    return headers
+
+
+class Chain:
+    """A chain of many transactions, and headers alone from the first block up to its height."""
+
+    def __init__(self):
+        coins = Tx(0, [], [1] * (BLOCKS * TXS))
+        blocks = [Block(GENESIS, [coins])]
+        for height in range(BLOCKS):
+            txs = [paying(place, [(coins.name, height * TXS + place)], [1]) for place in range(TXS)]
+            blocks.append(Block(blocks[-1].header.name, [Tx(height + 1, [], [50])] + txs))
+        self.tip = blocks[-1].header.name
+        headers = headers_up(len(blocks))
+        self.top = headers[-1].name
+        self.records = b"".join(given("block", block, False) for block in blocks) + given("headers", headers)
+
+
+def one_tx(mark, prev, works=True):
+    """A block of a coinbase alone."""
+    return Block(prev, [Tx(mark, [], [50])], works)
+
+
+def parents(rng):
+    """Blocks that are refused by their headers."""
+    chain = Chain()
+    bad = Block(chain.tip, [Tx(1, [], [50]), paying(0, [(drawn(rng), 0)], [1])])
+    ground = chain.records + given("block", bad, False)
+    unknown = beside(ground, asked("block", one_tx(0, drawn(rng)), False), REFUSED)
+    for name, block in (("a block on a header alone", one_tx(0, chain.top)), ("a block that is known to be bad", bad),
+                        ("a block without work", one_tx(0, chain.tip, works=False))):
+        yield Row(f"{name} at the tip's height", beside(ground, asked("block", block, False), REFUSED), unknown)
+
+
+def touched():
+    """A block that takes one small transaction beside a pool of large ones, or none."""
+    coins = Tx(0, [], [OUTPUTS * (POOLED + 1)] * (POOLED + 1))
+    low = Block(GENESIS, [coins])
+    pool = [paying(place, [(coins.name, place)], [1] * OUTPUTS) for place in range(POOLED)]
+    small = paying(POOLED, [(coins.name, POOLED)], [1])
+    ground = given("block", low, False) + b"".join(given("tx", tx) for tx in [*pool, small])
+    plays = [beside(ground, asked("block", Block(low.header.name, txs), False)) for txs in
+             ([Tx(1, [], [50]), small], [Tx(1, [], [50])])]
+    return Row(f"a block that takes one of a pool of {POOLED} with {POOLED * OUTPUTS:,} outputs", *plays, judged=False)
+
+
+def memory(runs):
+    """Tells what headers take, before and after a checkpoint."""
+    headers = headers_up(HEADERS)
+    calls = b"".join(given("headers", headers[place:place + FULL]) for place in range(0, HEADERS, FULL))
+    for name, data in (("", calls), (" and a checkpoint", calls + record(b"p"))):
+        took = runs.memory(data)
+        print(f"{HEADERS:,} headers{name}: {took / 1e6:,.1f} MB at the greatest, {took / HEADERS:,.0f} bytes a header", flush=True)
+
+
+def told(row, hostile, plain, limit):
+    """Tells a row, and whether it is within the limit."""
+    ratio = hostile / max(plain, 1e-6)
+    within = not row.judged or ratio <= limit
+    print(f"{row.name}: {hostile * 1e3:,.2f} ms for {plain * 1e3:,.2f}, {ratio:,.1f} times{'' if within else ': ABOVE ' + str(limit)}", flush=True)
+    return within
+
+
+def main():
+    parser = argparse.ArgumentParser(description=__doc__, formatter_class=argparse.RawDescriptionHelpFormatter)
+    parser.add_argument("--limit", type=float, default=LIMIT, help=f"the greatest ratio, if not {LIMIT}")
+    parser.add_argument("program", nargs="?", help="the program, if not crates/bench_hall/out/bench_hall")
+    words = parser.parse_args()
+    adopt()
+    rng = random.Random(1)
+    rows = [entries(rng), inputs(rng), *parents(rng), touched()]
+    with tempfile.TemporaryDirectory() as folder:
+        runs = Runs(built(words.program, "bench_hall"), folder)
+        took = seconds_of([(runs, play) for row in rows for play in (row.hostile, row.plain)], TURNS)
+        memory(runs)
+    within = [told(row, hostile, plain, words.limit) for row, hostile, plain in zip(rows, took[::2], took[1::2])]
+    return 0 if all(within) else 1
+
+
+if __name__ == "__main__":
+    sys.exit(main())
