@@ -2,3 +2,4 @@ pub mod Falling
 pub mod Limits
 pub mod Needed
 pub mod Once
+pub mod Still

@@ -1,4 +1,4 @@
-ghost use Rattle.std.specs.Prelude.{◌≡◌, ◌≤◌, ◌<◌, false, fold, length, map, nat_lt, IfOk, IsOk, IsOkUnless, OnErr, OnOk};
+ghost use Rattle.std.specs.Prelude.{◌≡◌, ◌≤◌, ◌<◌, [], false, fold, length, map, nat_lt, IfOk, IsOk, IsOkUnless, OnErr, OnOk};
 ghost use Rattle.cb_base.specs.declared.fault.Fault.TheVariants.{Memory};
 ghost use Rattle.cb_fetch.specs.Fetching.{as_blocks, asks_now, block_in, blocks_in, fallen_back, has, idle, is_due, is_fetched, landed, request_kind, requests_of, taken_on, taking_on, wanting, wanting_all, with_flight, with_wanted};
 
@@ -132,10 +132,11 @@ impl Fetch {
     }
 
     /// Appends a block to the wanted ones, unless it is in flight or wanted, or 2,000 are wanted.
-    /// Fails only with `Fault::Memory`.
+    /// Fails only with `Fault::Memory`, and never if nothing is to change.
     fn want_one(&mut self, hash: Hash256) -> Result<(), Fault>
         ensures wanted { OnOk result (self.new ≡ wanting self.old hash) }
         ensures memory { IsOkUnless result Memory }
+        ensures unpaid { wanting self.old hash ≡ self.old → IsOk result }
     {
         if self.is_fetched(&hash) {
             return Ok(());
@@ -162,12 +163,13 @@ impl Fetch {
     /// Queues missing blocks for download: each becomes wanted, in order, unless it is in flight or
     /// wanted, or 2,000 are wanted.
     ///
-    /// Fails only with `Fault::Memory`, and never without hashes. What is wanted after that error
-    /// isn't specified, so the value is then of no use.
+    /// Fails only with `Fault::Memory`, and never if no block becomes wanted. What is wanted after
+    /// that error isn't specified, so the value is then of no use.
     pub fn want(&mut self, hashes: &[Hash256]) -> Result<(), Fault>
         ensures wanted { OnOk result (self.new ≡ wanting_all self.old hashes.now) }
         ensures memory { IsOkUnless result Memory }
         ensures unpaid { length hashes.now ≡ 0 → IsOk result }
+        ensures known { wanting_all self.old hashes.now ≡ self.old → IsOk result }
     {
         for hash in hashes {
             self.want_one(*hash)?;
@@ -204,10 +206,11 @@ impl Fetch {
     }
 
     /// Takes the block of an `Inventory::Block` entry as `take_one` does. Another entry changes
-    /// nothing. Fails only with `Fault::Memory`.
+    /// nothing. Fails only with `Fault::Memory`, and never for another entry.
     fn take_entry(&mut self, entry: Inventory) -> Result<(), Fault>
         ensures taken { OnOk result (self.new ≡ fold taking_on self.old (block_in entry)) }
         ensures memory { IsOkUnless result Memory }
+        ensures unpaid { block_in entry ≡ [] → IsOk result }
     {
         match entry {
             Inventory::Block(hash) => self.take_one(hash),
@@ -220,12 +223,14 @@ impl Fetch {
     /// Replaces everything by the blocks that are still needed: the first 16 different ones are in
     /// flight, and the next 2,000 are wanted. Entries other than `Inventory::Block` are skipped.
     ///
-    /// Fails only with `Fault::Memory`, and never without entries; nothing has then changed.
+    /// Fails only with `Fault::Memory`, and never without an `Inventory::Block` among the entries;
+    /// nothing has then changed.
     pub fn take_on(&mut self, needed: &[Inventory]) -> Result<(), Fault>
         ensures taken { OnOk result (self.new ≡ taken_on (blocks_in needed.now)) }
         ensures memory { IsOkUnless result Memory }
         ensures err { OnErr result (self.new ≡ self.old) }
         ensures unpaid { length needed.now ≡ 0 → IsOk result }
+        ensures blockless { blocks_in needed.now ≡ [] → IsOk result }
     {
         let mut next = Fetch::new(self.alloc);
         for entry in needed {
