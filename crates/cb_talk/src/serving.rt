@@ -18,10 +18,11 @@ use std::alloc::Global;
 /// one under the next. Transactions and blocks are shared; for a `cmpctblock` no transaction is
 /// hashed.
 ///
-/// Fails only with `Fault::Memory`.
+/// Fails only with `Fault::Memory`, and never without pieces.
 pub fn served(alloc: Global, pieces: &Pieces, nonce: u64) -> Result<Vec<BoundedMessage>, Fault>
     ensures messages { IfOk result (λ messages. messages.items ≡ served nonce pieces.now) }
     ensures memory { IsOkUnless result Memory }
+    ensures unpaid { pieces.now ≡ [] → IsOk result }
 {
     let mut messages = sent(alloc, pieces.as_slice(), nonce)?;
     let lacking = lacking(alloc, pieces.as_slice())?;
@@ -51,10 +52,12 @@ fn count_shorts(pieces: &[Piece]) -> u64
     count
 }
 
-/// The messages of the pieces that are there, in order. Fails only with `Fault::Memory`.
+/// The messages of the pieces that are there, in order. Fails only with `Fault::Memory`, and never
+/// without pieces.
 fn sent(alloc: Global, pieces: &[Piece], nonce: u64) -> Result<Vec<BoundedMessage>, Fault>
     ensures messages { IfOk result (λ messages. messages.items ≡ sent nonce pieces.now) }
     ensures memory { IsOkUnless result Memory }
+    ensures unpaid { length pieces.now ≡ 0 → IsOk result }
 {
     let mut messages = Vec::new(alloc);
     let mut next = nonce;
@@ -110,11 +113,13 @@ fn block_message(block: &BoundedBlock) -> Result<BoundedMessage, Fault>
     Ok(BoundedMessage::new(Message::Block(shared)))
 }
 
-/// The entries that aren't there, in order. Fails only with `Fault::Memory`.
+/// The entries that aren't there, in order. Fails only with `Fault::Memory`, and never if all are
+/// there.
 fn lacking(alloc: Global, pieces: &[Piece]) -> Result<Vec<InvEntry>, Fault>
     ensures entries { IfOk result (λ entries. entries.items ≡ filter_map lacking_in pieces.now) }
     ensures few { IfOk result (λ entries. length entries.items ≤ length pieces.now) }
     ensures memory { IsOkUnless result Memory }
+    ensures unpaid { filter_map lacking_in pieces.now ≡ [] → IsOk result }
 {
     let mut entries = Vec::new(alloc);
     for piece in pieces {
