@@ -31,7 +31,7 @@ use Rattle.cb_hall.proofs.Lookups.{comes_fresh, is_same, opened_keeps, put_eithe
 
 -- ---- one entry
 
-same_self : (c : Connection) → same_connection c c ≡ true
+pub same_self : (c : Connection) → same_connection c c ≡ true
 same_self c =
     let peer : nat_eq c.peer c.peer ≡ true = grind (arith, nat_tests) in
     let generation : nat_eq c.generation c.generation ≡ true = grind (arith, nat_tests) in
@@ -45,7 +45,7 @@ not_same : (d c : Connection) → d ≢ c → same_connection d c ≡ false
 not_same d c differ = not_true (same_connection d c) (λ e. differ (is_same d c e))
 
 -- what becomes of a connection that is there
-abbrev after_entry : Connection → Entry → Connected → Connected
+abbrev pub after_entry : Connection → Entry → Connected → Connected
 after_entry c (Asked d question) x = if same_connection d c then counted x else x
 after_entry c (Kick d) x = if same_connection d c then kicked x else x
 after_entry c other x = x
@@ -58,7 +58,7 @@ put_known f slots d c x (inr (same, is)) =
     let here : same_connection d c ≡ true = subst (λ (k : Connection). same_connection k c ≡ true) (sym same) (same_self c) in
     rw here is
 
-does_known : (old new : NodeState) (slots after : Slots) (entry : Entry) (told : Option Answer) (c : Connection) (x : Connected) → Does old slots entry told new after
+pub does_known : (old new : NodeState) (slots after : Slots) (entry : Entry) (told : Option Answer) (c : Connection) (x : Connected) → Does old slots entry told new after
     → connected_of slots c ≡ Some x → connected_of after c ≡ Some (after_entry c entry x)
 does_known old new slots after (Asked d question) told c x does is =
     subst (λ (s : Slots). connected_of s c ≡ Some (if same_connection d c then counted x else x)) (sym does.1) (put_known counted slots d c x (put_either counted slots d c x is))
@@ -80,7 +80,7 @@ does_unknown old new slots after (Submitted local) told c y does none is =
 
 -- ---- questions are counted
 
-abbrev one_if : Bool → ℕ
+abbrev pub one_if : Bool → ℕ
 one_if b = if b then 1 else 0
 
 count_by : (b : Bool) (x : Connected) → (if b then counted x else x).count ≡ x.count + one_if b
@@ -91,7 +91,7 @@ kept_by : (b : Bool) (x : Connected) → (if b then kicked x else x).count ≡ x
 kept_by true x = omega arith
 kept_by false x = omega arith
 
-count_after : (c : Connection) (entry : Entry) (x : Connected) → (after_entry c entry x).count ≡ x.count + one_if (is_question_of c entry)
+pub count_after : (c : Connection) (entry : Entry) (x : Connected) → (after_entry c entry x).count ≡ x.count + one_if (is_question_of c entry)
 count_after c (Asked d question) x = count_by (same_connection d c) x
 count_after c (Kick d) x = kept_by (same_connection d c) x
 count_after c (Opened d) x = omega arith

@@ -1,6 +1,7 @@
 pub mod Badges
 pub mod Extending
 pub mod Growing
+pub mod Held
 pub mod Histories
 pub mod Kicks
 pub mod Lookups
@@ -8,3 +9,4 @@ pub mod LowBlocks
 pub mod Namesakes
 pub mod NextTip
 pub mod Replaying
+pub mod Rewarded

@@ -36,7 +36,7 @@ one_on : {A : Type 0} (f : A → A) (x : A) (o : Option A) (i j : ℕ) → ((i �
 one_on f x o i j (inl (differ, same)) = inl ((λ (e : suc i ≡ suc j). differ (omega (arith, e))), same)
 one_on f x o i j (inr (here, is)) = inr (ap suc here, is)
 
-at_either : {A : Type 0} (f : A → A) (xs : List A) (i j : ℕ) (x : A) → slice_get xs j ≡ Some x
+pub at_either : {A : Type 0} (f : A → A) (xs : List A) (i j : ℕ) (x : A) → slice_get xs j ≡ Some x
     → ((i ≢ j) × (slice_get (changed_at f i xs) j ≡ Some x)) ⊎ ((i ≡ j) × (slice_get (changed_at f i xs) j ≡ Some (f x)))
 unfolding changed_at
 at_either f [] i j x is = absurd (let never : None ≡ Some x = is in cc)
@@ -57,7 +57,7 @@ both_in : (o : Option (List Connected)) (generation : ℕ) (x : Connected) → o
 both_in None generation x is = absurd (let never : None ≡ Some x = is in cc)
 both_in (Some slot) generation x is = (slot, refl, is)
 
-found_by : (slots : Slots) (c : Connection) (slot : List Connected) (o : Option Connected) → slice_get slots c.peer ≡ Some slot → connected_at slot c.generation ≡ o → connected_of slots c ≡ o
+pub found_by : (slots : Slots) (c : Connection) (slot : List Connected) (o : Option Connected) → slice_get slots c.peer ≡ Some slot → connected_at slot c.generation ≡ o → connected_of slots c ≡ o
 found_by slots c slot o at is = ap (λ (s : Option (List Connected)). option_and_then (λ slot. connected_at slot c.generation) s) at ∙ is
 
 slot_either : (f : Connected → Connected) (slot : List Connected) (d c : ℕ) (x : Connected) → connected_at slot c ≡ Some x

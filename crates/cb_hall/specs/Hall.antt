@@ -33,6 +33,11 @@ pub record Grows (old : JournalState) (entry : Entry) (told : Option Answer) (ne
   pub notes : Notes old entry told new
   pub history : (past : List Entry) (answers : List Answer) → HasHistory old past answers → HasHistory new (past ++ entry ∷ []) (answers ++ heard entry told)
 
+-- These calls are noted one after another.
+abbrev pub NotesAll : JournalState → List Entry → JournalState → Type 0
+NotesAll old [] new = new ≡ old
+NotesAll old (call ∷ calls) new = (told : Option Answer) × (next : JournalState) × Notes old call told next × NotesAll next calls new
+
 -- ---- calls
 
 -- A peer's latest connection, and its next one.

@@ -1,4 +1,4 @@
-ghost use Rattle.std.specs.Prelude.{◌≡◌, ◌≢◌, ◌↔◌, ◌⊎◌, ◌^◌, ◌-◌, ◌<◌, ◌≤◌, List, [], None, Option, IfErr, IfOk, IsErrOf, IsOkUnless, OnErr, OnOk};
+ghost use Rattle.std.specs.Prelude.{◌≡◌, ◌≢◌, ◌↔◌, ◌⊎◌, ◌^◌, ◌-◌, ◌<◌, ◌≤◌, List, [], None, Option, IfErr, IfOk, IsErrOf, IsOkUnless, OnErr, OnOk, length};
 ghost use Rattle.cb_base.specs.declared.fault.Fault.TheVariants.{JournalFull, Memory, NoMore};
 ghost use Rattle.cb_journal.specs.declared.answer.Answer.{Answer};
 ghost use Rattle.cb_journal.specs.declared.entry.Entry.{Entry};
@@ -8,7 +8,7 @@ ghost use Rattle.cb_journal.specs.Journal.{IsBounded, Notes, new_journal};
 ghost use Rattle.cb_journal.specs.Replica.{AreFit, IsFit, Leads};
 ghost use Rattle.cb_state.specs.Mining.{CannotMine, IsMined};
 ghost use Rattle.cb_hall.specs.Badge.{AreBadges, fresh_badge, marked};
-ghost use Rattle.cb_hall.specs.Hall.{Grants, Grows, HasHistory, IsFull, Submitted, look_of, latest_connection, next_connection};
+ghost use Rattle.cb_hall.specs.Hall.{Grants, Grows, HasHistory, IsFull, NotesAll, Submitted, look_of, latest_connection, next_connection};
 
 use crate::badge::{Badge, first_badges};
 use crate::summary::Look;
@@ -249,16 +249,24 @@ impl Hall {
         Ok((Hall { journal }, answers))
     }
 
-    /// Returns the hall that these calls lead to. Each call must be one that can come after those
-    /// before it.
+    /// Returns the hall that these calls lead to: a new journal notes them one after another. Each
+    /// call must be one that can come after those before it.
     ///
-    /// Fails with `Fault::JournalFull` if there are more than 2^62 calls, and with `Fault::Memory`.
+    /// Fails with the first of these that applies:
+    /// - `Fault::JournalFull` if there are more than 2^62 calls;
+    /// - `Fault::Memory`.
     pub fn replay(alloc: Global, calls: &[Entry]) -> Result<Hall, Fault>
         requires { AreFit first_slots calls.now }
         ensures past { IfOk result
             (λ hall. (answers : List Answer) × HasHistory hall calls.now answers) }
+        // This fixes the state before the entries, the entries and the latest state.
+        ensures notes { IfOk result (λ hall. NotesAll new_journal calls.now hall) }
+        ensures full { IsErrOf result JournalFull ↔ (2 ^ 62 < length calls.now) }
         ensures kinds { IfErr result (λ fault. (fault ≡ JournalFull) ⊎ (fault ≡ Memory)) }
     {
+        if calls.len() as u64 > MOST_CALLS {
+            return Err(Fault::JournalFull);
+        }
         let mut journal = Journal::new(alloc)?;
         for call in calls {
             play(alloc, &mut journal, call)?;
@@ -272,6 +280,7 @@ fn play(alloc: Global, journal: &mut Journal, call: &Entry) -> Result<(), Fault>
     requires { IsFit journal.old.latest.connections call.now }
     ensures ok { OnOk result
         ((told : Option Answer) × Notes journal.old call.now told journal.new) }
+    ensures full { IsErrOf result JournalFull → 2 ^ 62 ≤ journal.old.latest.entries }
     ensures kinds { IfErr result (λ fault. (fault ≡ JournalFull) ⊎ (fault ≡ Memory)) }
 {
     journal.note(call.copy(alloc)?)?;

@@ -1,11 +1,12 @@
 //! Laws of every hall. Each law is the contract of a function that does nothing.
-ghost use Rattle.std.specs.Prelude.{◌≡◌, true, false, List, None};
+ghost use Rattle.std.specs.Prelude.{◌≡◌, ◌≤◌, length, true, false, List, None};
 ghost use Rattle.cb_journal.specs.declared.answer.Answer.{Answer};
 ghost use Rattle.cb_journal.specs.declared.entry.Entry.{Entry};
 ghost use Rattle.cb_journal.specs.Journal.{JournalState};
 ghost use Rattle.cb_journal.specs.Replica.{Leads, ReplicaState, opening};
-ghost use Rattle.cb_hall.specs.Hall.{HasHistory};
-ghost use Rattle.cb_hall.specs.Laws.{AreTurnedAway, CountsItsQuestions, IsLetIn, WasKicked};
+ghost use Rattle.cb_hall.specs.Hall.{HasHistory, NotesAll};
+ghost use Rattle.cb_hall.specs.Badge.{BadgeState};
+ghost use Rattle.cb_hall.specs.Laws.{AreApart, AreTurnedAway, CountsAlike, CountsItsQuestions, IsHeld, IsLetIn, WasKicked};
 ghost use Rattle.cb_hall.specs.MinedBlock.{FaresAsMined};
 ghost use Rattle.cb_journal.specs.Connections.{is_kicked};
 ghost use Rattle.cb_state.specs.declared.connection.Connection.{Connection};
@@ -49,6 +50,28 @@ pub fn who_was_kicked()
 pub fn each_question_is_counted()
     ensures { (old new : ReplicaState) (calls : List Entry) (answers : List Answer) (connection : Connection)
         → Leads old calls answers new → CountsItsQuestions old calls connection new }
+{}
+
+/// A badge counts as many questions as the hall counts of its connection, whatever else is called.
+pub fn each_badge_counts_its_questions()
+    ensures { (hall : JournalState) (badge : BadgeState) → IsHeld hall badge →
+        CountsAlike hall badge }
+{}
+
+/// At most three connections are asked to announce new blocks as compact blocks (BIP 152), and no
+/// two of them are equal.
+pub fn few_announcers()
+    ensures few { (hall : JournalState) (past : List Entry) (answers : List Answer) →
+        HasHistory hall past answers → length hall.latest.node.announcers ≤ 3 }
+    ensures apart { (hall : JournalState) (past : List Entry) (answers : List Answer) →
+        HasHistory hall past answers → AreApart hall.latest.node.announcers }
+{}
+
+/// The calls determine the hall that a new journal of them is: the state before its entries, the
+/// entries and the latest state.
+pub fn one_replay()
+    ensures { (old new other : JournalState) (calls : List Entry) → NotesAll old calls new →
+        NotesAll old calls other → new ≡ other }
 {}
 
 /// A mined block that is submitted at once becomes the tip, and the active chain grows by its

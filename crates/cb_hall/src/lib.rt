@@ -10,5 +10,8 @@ mod summary;
 
 pub use badge::Badge;
 pub use hall::Hall;
-pub use laws::{each_question_is_counted, mined_is_next_tip, one_hall, who_was_kicked};
+pub use laws::{
+    each_badge_counts_its_questions, each_question_is_counted, few_announcers, mined_is_next_tip,
+    one_hall, one_replay, who_was_kicked,
+};
 pub use summary::Look;

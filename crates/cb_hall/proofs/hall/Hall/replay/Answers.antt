@@ -1,8 +1,8 @@
-use Rattle.std.proofs.Common.{◌≡◌, ◌⊎◌, ◌∙◌, rules, refl, subst, sym}
+use Rattle.std.proofs.Common.{◌≡◌, ◌⊎◌, rules, refl, subst, sym}
 use Rattle.std.proofs.lemmas.Result.{err_from_is_err_and}
 use Rattle.cb_base.specs.declared.fault.Fault.{Fault}
 use Rattle.cb_base.specs.declared.fault.Fault.TheVariants.{JournalFull, Memory}
-use Rattle.cb_hall.proofs.Replaying.{played_all, played_fit, played_more, played_none}
+use Rattle.cb_hall.proofs.Replaying.{played_all, played_fit, played_more, played_none, played_notes}
 use Rattle.cb_hall.proofs.hall.Hall.replay.Goals as goal
 
 pub loop-call-init : goal.loop-call-init
@@ -21,6 +21,9 @@ pub loop-call-preserved : goal.loop-call-preserved
 loop-call-preserved c =
     played_more c.loop-call.journal c.play.new.journal c.args.calls.now c.args.calls.now c.loop-call.call-index _ c.call-item.result c.call-item.result c.in_ok-play.ensures.ok.0 c.loop-call.invariant
     c.loop-call-test.true c.call-item.is refl c.in_ok-play.ensures.ok.1
+
+pub returns-clause-notes : goal.returns-clause-notes
+returns-clause-notes c = played_notes c.loop-call.journal c.args.calls.now c.args.calls.now c.loop-call.call-index c.loop-call.invariant (search rules)
 
 pub returns-clause-past : goal.returns-clause-past
 returns-clause-past c = played_all c.loop-call.journal c.args.calls.now c.args.calls.now c.loop-call.call-index c.loop-call.invariant (search rules)
