@@ -1,11 +1,11 @@
 -- Where no block becomes wanted, and where no block is named.
 use Rattle.std.proofs.Common.{◌≡◌, ◌⊎◌, ℕ, zero, suc, ◌+◌, ◌≤◌, ◌<◌, Bool, true, false, cond, List, [], ◌∷◌, ◌++◌, length, take, get_or, refl, sym, ap, ◌∙◌, arith, inl, inr}
+use Rattle.std.specs.Prelude.{nat_lt}
 use Rattle.std.proofs.lemmas.List.{length-append}
 use Rattle.cb_base.specs.declared.hash.Hash256.{Hash256}
 use Rattle.cb_state.specs.declared.inventory.Inventory.{Inventory}
 use Rattle.cb_state.specs.declared.inventory.Inventory.TheVariants.{Block, CompactBlock, Other, Tx}
 use Rattle.cb_fetch.specs.Fetching.{FetchState, block_in, blocks_in, is_fetched, wanting, wanting_all}
-use Rattle.std.specs.Prelude.{nat_lt}
 
 -- nothing changes, or one more is wanted
 same_or_more : (found room : Bool) (fetch more : FetchState) → length more.wanted ≡ length fetch.wanted + 1
