@@ -2,4 +2,5 @@ pub mod CompactSize
 pub mod DoubleHash
 pub mod Fault
 pub mod Reading
+pub mod Seeding
 pub mod SipHash

@@ -20,9 +20,10 @@ impl Hash for Hash256 {
 
     ghost respects_eq = { Prim.search (hashing, rules) };
 
-    /// Feeds the 32 bytes to a hash table's hasher in four writes of 8 bytes. The hasher of std
-    /// multiplies the bytes of one write with each other. With a single write, somebody who chooses
-    /// the bytes could cancel some of them out.
+    /// Feeds the 32 bytes to a hash table's hasher in four writes of 8 bytes. Somebody who chooses
+    /// the bytes and knows the table's seed can make hashes that all collide: a later write can
+    /// take back what an earlier one did to the hasher. So a table of such hashes has a `Seed` that
+    /// its sender can't know.
     fn hash<H: Hasher>(&self, state: &mut H) {
         let (words, _) = self.0.as_slice().as_chunks::<8>();
         for word in words {

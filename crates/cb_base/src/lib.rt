@@ -7,6 +7,7 @@ mod copying;
 mod cursor;
 mod fault;
 mod hash;
+mod seed;
 mod shared;
 mod sip_hash;
 
@@ -15,6 +16,7 @@ pub use copying::copy_bytes;
 pub use cursor::Cursor;
 pub use fault::{Fault, TxRule};
 pub use hash::{Hash256, dsha, sha};
+pub use seed::{Keys, Seed};
 pub use shared::Shared;
 pub use sip_hash::sip24;
 
