@@ -7,7 +7,7 @@ ghost use Rattle.cb_chain.specs.Keeping.{entry_from};
 use crate::node::Node;
 use crate::side_chain::Side;
 use crate::tree::Tree;
-use cb_base::{Fault, Hash256};
+use cb_base::{Fault, Hash256, Seed};
 use cb_block::{Header, SoundBlock};
 use cb_ledger::Ledger;
 use std::alloc::Global;
@@ -48,16 +48,25 @@ impl Model for Chain {
 }
 
 impl Chain {
-    /// The chain of the genesis block alone. Its UTXO set is empty. Fails only with
-    /// `Fault::Memory`.
+    /// The chain of the genesis block alone. Its UTXO set is empty. Its tables have the fixed seed.
+    /// Fails only with `Fault::Memory`.
     pub fn new(alloc: Global) -> Result<Chain, Fault>
         ensures first { IfOk result (λ chain. chain ≡ []) }
         ensures memory { IsOkUnless result Memory }
     {
-        let tree = Tree::new(alloc)?;
+        Chain::with_seed(alloc, Seed::fixed())
+    }
+
+    /// The chain of the genesis block alone. Its UTXO set is empty. Its tables have this seed,
+    /// which changes no result. Fails only with `Fault::Memory`.
+    pub fn with_seed(alloc: Global, seed: Seed) -> Result<Chain, Fault>
+        ensures first { IfOk result (λ chain. chain ≡ []) }
+        ensures memory { IsOkUnless result Memory }
+    {
+        let tree = Tree::new(alloc, seed)?;
         let mut active = Vec::with_capacity(alloc, 1)?;
         active.push(0)?;
-        let ledger = Ledger::new(alloc);
+        let ledger = Ledger::with_seed(alloc, seed);
         Ok(Chain {
             alloc,
             tree,

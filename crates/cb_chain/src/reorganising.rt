@@ -180,7 +180,8 @@ fn switch(
     active.reserve(branch.len() + 1)?;
     ledger.exchange(&mut back);
     let tip = active[active.len() - 1];
-    let last = side.take().unwrap_or(Side::at(alloc, tip));
+    let fresh = Side::at(alloc, ledger.seed(), tip);
+    let last = side.take().unwrap_or(fresh);
     *side = rest_on(Some(last), &back);
     put_on(active, fork, branch, tree.len());
     Ok(change)
@@ -245,7 +246,15 @@ impl Chain {
     {
         self.tree.reserve(1)?;
         let tip = self.active[self.active.len() - 1];
-        let mut side = starts_from(self.alloc, &self.tree, tip, &mut self.side, spot.parent);
+        let seed = self.ledger.seed();
+        let mut side = starts_from(
+            self.alloc,
+            seed,
+            &self.tree,
+            tip,
+            &mut self.side,
+            spot.parent,
+        );
         let tried = side.try_on(self.alloc, &self.ledger, &mut self.tree, spot.parent, &kept);
         let undo = match tried {
             Ok(undo) => undo,

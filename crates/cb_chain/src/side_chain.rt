@@ -8,7 +8,7 @@ ghost use Rattle.cb_chain.specs.Sides.{AreUndos, FailsAt, IsKeptPlace, IsRested,
 
 use crate::node::Kept;
 use crate::tree::Tree;
-use cb_base::Fault;
+use cb_base::{Fault, Seed};
 use cb_ledger::{Ledger, Overlay, Undo};
 use std::alloc::Global;
 
@@ -39,14 +39,14 @@ pub(crate) struct Side {
 }
 
 impl Side {
-    /// The branch that ends at the tip, without changes.
-    pub(crate) fn at(alloc: Global, tip: usize) -> Side
+    /// The branch that ends at the tip, without changes. The table of its changes has this seed.
+    pub(crate) fn at(alloc: Global, seed: Seed, tip: usize) -> Side
         ensures end { result.end ≡ tip }
         ensures overlay { result.overlay ≡ [] }
     {
         Side {
             end: tip,
-            overlay: Overlay::new(alloc),
+            overlay: Overlay::with_seed(alloc, seed),
         }
     }
 
@@ -286,9 +286,10 @@ fn is_found_first(tree: &Tree, end: usize, tip: usize, block: usize) -> bool
 
 /// From where a block on `parent` is tried. Near the tip it is the tip, and the branch that was
 /// tried last is left as it is: its changes may be many more than those of a few blocks. Otherwise
-/// it is that branch, or the tip if that is nearer.
+/// it is that branch, or the tip if that is nearer. A branch that begins at the tip has this seed.
 pub(crate) fn starts_from(
     alloc: Global,
+    seed: Seed,
     tree: &Tree,
     tip: usize,
     side: &mut Option<Side>,
@@ -301,7 +302,7 @@ pub(crate) fn starts_from(
     ensures from { (result ≡ record { end = tip; overlay = [] }) ⊎ (side.old ≡ Some result) }
     ensures side { (side.new ≡ None) ⊎ (side.new ≡ side.old) }
 {
-    let fresh = Side::at(alloc, tip);
+    let fresh = Side::at(alloc, seed, tip);
     let Some(last) = side.take() else {
         return fresh;
     };

@@ -7,7 +7,7 @@ ghost use Rattle.cb_chain.specs.Sides.{record_at};
 ghost use Rattle.cb_chain.specs.declared.node.Node.{Node};
 
 use crate::node::{Kept, Node};
-use cb_base::{Fault, Hash256};
+use cb_base::{Fault, Hash256, Seed};
 use cb_block::genesis;
 use cb_ledger::Undo;
 use std::alloc::Global;
@@ -22,7 +22,7 @@ pub(crate) struct Tree {
     alloc: Global,
     nodes: Vec<Node>,
     // The place of each hash's newest node.
-    places: HashMap<Hash256, usize>,
+    places: HashMap<Hash256, usize, Seed>,
     // For each node, the place of the newest kept block on top of it, or 0 if there is none.
     newest: Vec<usize>,
     // For each kept block, the place of the one before it on the same parent, or 0 if there is
@@ -71,8 +71,9 @@ fn first_node(alloc: Global) -> Result<Node, Fault>
 }
 
 impl Tree {
-    /// The tree of the genesis block alone. Fails only with `Fault::Memory`.
-    pub(crate) fn new(alloc: Global) -> Result<Tree, Fault>
+    /// The tree of the genesis block alone. Its table has this seed. Fails only with
+    /// `Fault::Memory`.
+    pub(crate) fn new(alloc: Global, seed: Seed) -> Result<Tree, Fault>
         ensures nodes { IfOk result (λ tree. tree_of tree.nodes ≡ []) }
         ensures undos { IfOk result (λ tree. tree.undos ≡ None ∷ []) }
         ensures tree { IfOk result (λ tree. IsTree tree.nodes) }
@@ -87,7 +88,7 @@ impl Tree {
         undos.push(None)?;
         let mut nodes = Vec::with_capacity(alloc, 1)?;
         let first = first_node(alloc)?;
-        let mut places = HashMap::new(alloc);
+        let mut places = HashMap::with_hasher(alloc, seed);
         places.insert(first.hash, 0)?;
         nodes.push(first)?;
         Ok(Tree {

@@ -6,7 +6,7 @@ ghost use Rattle.cb_ledger.specs.Undo.{changed, values_of};
 use crate::ledger::Ledger;
 use crate::overlay::Overlay;
 use crate::undo::{CoinChange, Undo};
-use cb_base::Fault;
+use cb_base::{Fault, Seed};
 use cb_tx::OutPoint;
 use std::alloc::Global;
 use std::marker::Model;
@@ -37,6 +37,11 @@ impl<'a> Base<'a> {
         ensures { result ≡ changed ledger.entry.now.unspent changes.entry.now }
     {
         Base { ledger, changes }
+    }
+
+    /// The seed of the ledger's table.
+    pub(crate) fn seed(&self) -> Seed {
+        self.ledger.seed()
     }
 
     /// The value of an unspent output in satoshis. None if it isn't unspent.

@@ -126,7 +126,7 @@ pub(crate) fn changes_over(
     ensures unpaid { Touches base.now block.now.txs
         ⊎ (IfOk result (λ changes. changes ≡ []) × (result ≢ Err Memory)) }
 {
-    let mut draft = Overlay::new(alloc);
+    let mut draft = Overlay::with_seed(alloc, base.seed());
     let txs = block.block().txs.as_slice();
     spend_txs(base, &mut draft, txs, block.txids())?;
     draft.into_undo(alloc)

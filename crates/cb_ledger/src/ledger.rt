@@ -3,7 +3,7 @@ ghost use Rattle.std.specs.FinMap as map;
 ghost use Rattle.cb_base.specs.declared.fault.Fault.TheVariants.{Memory};
 ghost use Rattle.cb_ledger.specs.Undo.{set_at};
 
-use cb_base::Fault;
+use cb_base::{Fault, Seed};
 use cb_tx::OutPoint;
 use std::alloc::Global;
 use std::collections::HashMap;
@@ -14,7 +14,7 @@ use std::marker::Model;
 #[derive(Drop)]
 pub struct Ledger {
     pub(crate) alloc: Global,
-    outputs: HashMap<OutPoint, i64>,
+    outputs: HashMap<OutPoint, i64, Seed>,
 }
 
 impl Model for Ledger {
@@ -30,14 +30,27 @@ impl Model for Ledger {
 }
 
 impl Ledger {
-    /// An empty ledger: nothing is unspent.
+    /// An empty ledger: nothing is unspent. Its table has the fixed seed.
     pub fn new(alloc: Global) -> Ledger
+        ensures { result.unspent ≡ map.empty }
+    {
+        Ledger::with_seed(alloc, Seed::fixed())
+    }
+
+    /// An empty ledger whose table has this seed, and so the tables of all changes over it. The
+    /// seed changes no result.
+    pub fn with_seed(alloc: Global, seed: Seed) -> Ledger
         ensures { result.unspent ≡ map.empty }
     {
         Ledger {
             alloc,
-            outputs: HashMap::new(alloc),
+            outputs: HashMap::with_hasher(alloc, seed),
         }
+    }
+
+    /// The seed of the ledger's table.
+    pub fn seed(&self) -> Seed {
+        *self.outputs.hasher()
     }
 
     /// The value of an unspent output in satoshis. None if it isn't unspent.
@@ -91,7 +104,7 @@ impl Ledger {
         ensures memory { IsOkUnless result Memory }
     {
         if self.outputs.is_empty() {
-            return Ok(Ledger::new(self.alloc));
+            return Ok(Ledger::with_seed(self.alloc, self.seed()));
         }
         let outputs = self.outputs.clone()?;
         Ok(Ledger {

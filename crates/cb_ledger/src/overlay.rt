@@ -11,7 +11,7 @@ use crate::base::Base;
 use crate::checking::changes_over;
 use crate::ledger::Ledger;
 use crate::undo::{CoinChange, Undo};
-use cb_base::Fault;
+use cb_base::{Fault, Seed};
 use cb_block::SoundBlock;
 use cb_tx::OutPoint;
 use std::alloc::Global;
@@ -23,7 +23,7 @@ use std::marker::Model;
 /// Contracts see the list of these changes.
 #[derive(Drop)]
 pub struct Overlay {
-    touched: HashMap<OutPoint, Option<i64>>,
+    touched: HashMap<OutPoint, Option<i64>, Seed>,
 }
 
 impl Model for Overlay {
@@ -38,7 +38,7 @@ impl Model for Overlay {
 
 /// Adds later changes on top: at an outpoint that both have, theirs wins. There must be room for
 /// each of them.
-fn put_over(touched: &mut HashMap<OutPoint, Option<i64>>, changes: &[CoinChange])
+fn put_over(touched: &mut HashMap<OutPoint, Option<i64>, Seed>, changes: &[CoinChange])
     requires { length changes.now ≤ spare touched.old }
     ensures { (u : Unspent) →
         changed u (changes_of touched.new.entries)
@@ -55,7 +55,7 @@ fn put_over(touched: &mut HashMap<OutPoint, Option<i64>>, changes: &[CoinChange]
 
 /// Adds earlier changes below: at an outpoint that both have, the one that is there already wins.
 /// There must be room for each of them.
-fn put_under(touched: &mut HashMap<OutPoint, Option<i64>>, changes: &[CoinChange])
+fn put_under(touched: &mut HashMap<OutPoint, Option<i64>, Seed>, changes: &[CoinChange])
     requires { length changes.now ≤ spare touched.old }
     ensures { (u : Unspent) →
         changed u (changes_of touched.new.entries)
@@ -70,12 +70,19 @@ fn put_under(touched: &mut HashMap<OutPoint, Option<i64>>, changes: &[CoinChange
 }
 
 impl Overlay {
-    /// An overlay that changes nothing.
+    /// An overlay that changes nothing. Its table has the fixed seed.
     pub fn new(alloc: Global) -> Overlay
         ensures { result ≡ [] }
     {
+        Overlay::with_seed(alloc, Seed::fixed())
+    }
+
+    /// An overlay that changes nothing. Its table has this seed, which changes no result.
+    pub fn with_seed(alloc: Global, seed: Seed) -> Overlay
+        ensures { result ≡ [] }
+    {
         Overlay {
-            touched: HashMap::new(alloc),
+            touched: HashMap::with_hasher(alloc, seed),
         }
     }
 

@@ -10,13 +10,13 @@ ghost use Rattle.cb_pool.specs.Touching.{AreApart, IsTouchedBy};
 ghost use Rattle.cb_pool.specs.Listing.{txs_of};
 
 use crate::pool::Pool;
-use cb_base::Hash256;
+use cb_base::{Hash256, Seed};
 use cb_block::SoundBlock;
 use cb_tx::{OutPoint, Tx, TxIn, TxOut};
 use std::collections::HashMap;
 
 /// Whether `coins` has no output that one of these inputs spends.
-fn keep_inputs(coins: &HashMap<OutPoint, Option<i64>>, inputs: &[TxIn]) -> bool
+fn keep_inputs(coins: &HashMap<OutPoint, Option<i64>, Seed>, inputs: &[TxIn]) -> bool
     ensures kept { IsTrue result → (u : Unspent) (point : OutPoint) → IsNamed inputs.now point
         → map.get (changed u (changes_of coins.now.entries)) point ≡ map.get u point }
     ensures seen { result ≡ false →
@@ -32,7 +32,11 @@ fn keep_inputs(coins: &HashMap<OutPoint, Option<i64>>, inputs: &[TxIn]) -> bool
 
 /// Whether `coins` has no output that a transaction with this txid and these outputs makes. An
 /// output whose index is above 4,294,967,295 counts as one that `coins` has.
-fn keep_outputs(coins: &HashMap<OutPoint, Option<i64>>, txid: Hash256, outputs: &[TxOut]) -> bool
+fn keep_outputs(
+    coins: &HashMap<OutPoint, Option<i64>, Seed>,
+    txid: Hash256,
+    outputs: &[TxOut],
+) -> bool
     ensures kept { IsTrue result → (u : Unspent) (place : ℕ) → place < length outputs.now
         → map.get (changed u (changes_of coins.now.entries)) (record { txid = txid; index = place })
         ≡ map.get u (record { txid = txid; index = place }) }
@@ -52,7 +56,7 @@ fn keep_outputs(coins: &HashMap<OutPoint, Option<i64>>, txid: Hash256, outputs: 
 }
 
 /// Whether `coins` has no output that the transaction spends or makes.
-pub(crate) fn keeps(coins: &HashMap<OutPoint, Option<i64>>, txid: Hash256, tx: &Tx) -> bool
+pub(crate) fn keeps(coins: &HashMap<OutPoint, Option<i64>, Seed>, txid: Hash256, tx: &Tx) -> bool
     requires name { txid ≡ txid_of tx.now }
     ensures kept { IsTrue result → (u : Unspent) (point : OutPoint) → IsTouchedBy tx.now point
         → map.get (changed u (changes_of coins.now.entries)) point ≡ map.get u point }

@@ -7,14 +7,18 @@ ghost use Rattle.cb_pool.specs.Leaving.{after_tx, with_outputs, without_inputs};
 ghost use Rattle.cb_pool.specs.Rules.{StandsAlone, txid_of};
 
 use crate::coins::value_of;
-use cb_base::{Fault, Hash256};
+use cb_base::{Fault, Hash256, Seed};
 use cb_ledger::{Ledger, sum_of};
 use cb_tx::{OutPoint, Tx, TxIn, TxOut};
 use std::collections::HashMap;
 
 /// The sum of the values that the inputs spend, or `None` if one of the outputs isn't unspent. The
 /// inputs must spend different outputs. The UTXO set is `ledger` with the changes `coins`.
-fn worth(coins: &HashMap<OutPoint, Option<i64>>, ledger: &Ledger, inputs: &[TxIn]) -> Option<i128>
+fn worth(
+    coins: &HashMap<OutPoint, Option<i64>, Seed>,
+    ledger: &Ledger,
+    inputs: &[TxIn],
+) -> Option<i128>
     requires { ¬ SpendsTwice inputs.now }
     ensures { MatchOption result
         (inputs_spent (changed ledger.now.unspent (changes_of coins.now.entries)) inputs.now
@@ -45,7 +49,7 @@ fn is_spent_by(inputs: &[TxIn], point: &OutPoint) -> bool
 
 /// Whether one of the transaction's outputs is already unspent once its inputs are spent.
 fn is_remade(
-    coins: &HashMap<OutPoint, Option<i64>>,
+    coins: &HashMap<OutPoint, Option<i64>, Seed>,
     ledger: &Ledger,
     txid: Hash256,
     inputs: &[TxIn],
@@ -76,7 +80,7 @@ fn is_remade(
 /// `Fault::NoInput`, `Fault::Overspent` or `Fault::Remade`. `None` if it can be spent. Each input
 /// and each output is looked up once, and nothing is allocated.
 pub(crate) fn fault_over(
-    coins: &HashMap<OutPoint, Option<i64>>,
+    coins: &HashMap<OutPoint, Option<i64>, Seed>,
     ledger: &Ledger,
     txid: Hash256,
     tx: &Tx,

@@ -5,7 +5,7 @@ ghost use Rattle.cb_ledger.specs.Undo.{changed, changes_of};
 ghost use Rattle.cb_ledger.specs.Unspent.{Unspent};
 ghost use Rattle.cb_pool.specs.Leaving.{with_outputs, without_inputs};
 
-use cb_base::Hash256;
+use cb_base::{Hash256, Seed};
 use cb_ledger::Ledger;
 use cb_tx::{OutPoint, TxIn, TxOut};
 use std::collections::HashMap;
@@ -13,7 +13,7 @@ use std::collections::HashMap;
 /// The value of an output in `ledger` with the changes `coins`, or `None` if it isn't unspent
 /// there.
 pub(crate) fn value_of(
-    coins: &HashMap<OutPoint, Option<i64>>,
+    coins: &HashMap<OutPoint, Option<i64>, Seed>,
     ledger: &Ledger,
     point: &OutPoint,
 ) -> Option<i64>
@@ -28,7 +28,7 @@ pub(crate) fn value_of(
 
 /// Notes in `coins` that the outputs named by the inputs are spent. There must be room for each of
 /// them.
-pub(crate) fn spend_outputs(coins: &mut HashMap<OutPoint, Option<i64>>, inputs: &[TxIn])
+pub(crate) fn spend_outputs(coins: &mut HashMap<OutPoint, Option<i64>, Seed>, inputs: &[TxIn])
     requires { length inputs.now ≤ spare coins.old }
     ensures after { (u : Unspent) →
         changed u (changes_of coins.new.entries)
@@ -44,7 +44,7 @@ pub(crate) fn spend_outputs(coins: &mut HashMap<OutPoint, Option<i64>>, inputs: 
 /// Notes in `coins` that the outputs of a transaction are unspent. There must be room for each of
 /// them.
 pub(crate) fn make_outputs(
-    coins: &mut HashMap<OutPoint, Option<i64>>,
+    coins: &mut HashMap<OutPoint, Option<i64>, Seed>,
     txid: Hash256,
     outputs: &[TxOut],
 )

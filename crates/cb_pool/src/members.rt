@@ -10,7 +10,7 @@ use crate::apart::keeps;
 use crate::candidate::Candidate;
 use crate::checking::fault_over;
 use crate::coins::{make_outputs, spend_outputs};
-use cb_base::{Fault, Hash256};
+use cb_base::{Fault, Hash256, Seed};
 use cb_compact::NamedTx;
 use cb_ledger::Ledger;
 use cb_tx::{OutPoint, Tx};
@@ -48,8 +48,8 @@ impl Clone for Pooled {
 /// transactions, and how many more entries there is room for.
 #[derive(Drop)]
 pub(crate) struct Members {
-    pub(crate) entries: IndexMap<Hash256, Pooled>,
-    coins: HashMap<OutPoint, Option<i64>>,
+    pub(crate) entries: IndexMap<Hash256, Pooled, Seed>,
+    coins: HashMap<OutPoint, Option<i64>, Seed>,
 }
 
 impl Model for Members {
@@ -67,13 +67,19 @@ impl Model for Members {
 }
 
 impl Members {
-    pub(crate) fn new(alloc: Global) -> Members
+    /// No transactions. The tables have this seed.
+    pub(crate) fn new(alloc: Global, seed: Seed) -> Members
         ensures { result.list ≡ [] }
     {
         Members {
-            entries: IndexMap::new(alloc),
-            coins: HashMap::new(alloc),
+            entries: IndexMap::with_hasher(alloc, seed),
+            coins: HashMap::with_hasher(alloc, seed),
         }
+    }
+
+    /// The seed of the tables.
+    pub(crate) fn seed(&self) -> Seed {
+        *self.entries.hasher()
     }
 
     /// Reserves room for `places` more transactions and `coins` more outputs that they spend or
@@ -205,7 +211,7 @@ impl Members {
         ensures memory { IsOkUnless result Memory }
     {
         if self.entries.is_empty() {
-            return Ok(Members::new(alloc));
+            return Ok(Members::new(alloc, self.seed()));
         }
         Ok(Members {
             entries: self.entries.clone()?,

@@ -8,7 +8,7 @@ ghost use Rattle.cb_pool.specs.Rules.{Applies, IsUntold, Refuses, is_named_in, n
 use crate::candidate::Candidate;
 use crate::members::Members;
 use crate::pairs::{Pairs, ShortIds};
-use cb_base::{Fault, Hash256, Shared};
+use cb_base::{Fault, Hash256, Seed, Shared};
 use cb_compact::NamedTx;
 use cb_ledger::Ledger;
 use cb_tx::Tx;
@@ -45,14 +45,23 @@ impl Model for Pool {
 }
 
 impl Pool {
-    /// An empty pool. The first transaction gets the number 0.
+    /// An empty pool. The first transaction gets the number 0. Its tables have the fixed seed.
     pub fn new(alloc: Global) -> Pool
+        ensures list { result.list ≡ [] }
+        ensures next { result.next ≡ 0 }
+    {
+        Pool::with_seed(alloc, Seed::fixed())
+    }
+
+    /// An empty pool. The first transaction gets the number 0. Its tables have this seed, which
+    /// changes no result.
+    pub fn with_seed(alloc: Global, seed: Seed) -> Pool
         ensures list { result.list ≡ [] }
         ensures next { result.next ≡ 0 }
     {
         Pool {
             alloc,
-            members: Members::new(alloc),
+            members: Members::new(alloc, seed),
             next: 0,
             named: None,
         }

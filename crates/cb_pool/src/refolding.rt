@@ -126,7 +126,7 @@ impl Pool {
     {
         let coins = touched_by_first(first.as_slice())?;
         let coins = touched_by_members(&self.members, coins)?;
-        let mut members = Members::new(self.alloc);
+        let mut members = Members::new(self.alloc, self.members.seed());
         members.reserve(first.len() + self.members.len(), coins)?;
         Ok(Refolding { first, members })
     }
@@ -146,7 +146,8 @@ impl Pool {
         let Refolding { first, members } = plan;
         let mut members = members;
         let next = take_new(&mut members, ledger, first, self.next);
-        let old = mem::replace(&mut self.members, Members::new(self.alloc));
+        let none = Members::new(self.alloc, members.seed());
+        let old = mem::replace(&mut self.members, none);
         take_old(&mut members, ledger, old, next);
         self.members = members;
         self.next = next;

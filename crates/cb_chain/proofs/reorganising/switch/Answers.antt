@@ -20,6 +20,6 @@ returns-clause-side c =
     let last : c.len-3.result - 1 ≡ length path - 1 = omega (arith, c.len-3.ensures, c.reserve-2.new.self.ok.0, ap length items) in
     let read : c.index-tip.result.now ≡ get_or path (length path - 1) c.index-tip.result.now =
     c.index-tip.ensures ∙ ap (λ (ps : List ℕ). get_or ps (c.len-3.result - 1) c.index-tip.result.now) items ∙ ap (λ (n : ℕ). get_or path n c.index-tip.result.now) last in
-    rests path c.args.ledger.now.unspent c.exchange.new.self.unspent c.exchange.new.undo c.args.side.now c.unwrap_or-last.result c.at.result c.rest_on.result (c.exchange.ensures.back ∙ c.in_ok-reserve.ensures.same)
-    (c.unwrap_or-last.ensures ∙ ap (λ (o : Option Side). unwrap_or o c.at.result) c.take.ensures.value)
-    (slice_get-get_or path (length path - 1) c.index-tip.result.now low ∙ ap Some (sym read ∙ sym c.at.ensures.end)) c.at.ensures.overlay c.rest_on.ensures
+    rests path c.args.ledger.now.unspent c.exchange.new.self.unspent c.exchange.new.undo c.args.side.now c.unwrap_or-last.result c.at-fresh.result c.rest_on.result (c.exchange.ensures.back ∙ c.in_ok-reserve.ensures.same)
+    (c.unwrap_or-last.ensures ∙ ap (λ (o : Option Side). unwrap_or o c.at-fresh.result) c.take.ensures.value)
+    (slice_get-get_or path (length path - 1) c.index-tip.result.now low ∙ ap Some (sym read ∙ sym c.at-fresh.ensures.end)) c.at-fresh.ensures.overlay c.rest_on.ensures
