@@ -4,6 +4,7 @@ use Rattle.std.specs.Prelude.{◌≡◌, ℕ, ◌<◌, ◌^◌, List, ◌++◌, 
 use Rattle.std.specs.List.{flat_map}
 use Rattle.std.specs.Int.{w32, w64, to_le_bytes, cast_unsigned}
 use Rattle.cb_base.specs.CompactSize.{compact_text}
+use Rattle.cb_tx.specs.declared.tx.OutPoint.{OutPoint}
 use Rattle.cb_tx.specs.declared.tx.TxIn.{TxIn}
 use Rattle.cb_tx.specs.declared.tx.TxOut.{TxOut}
 use Rattle.cb_tx.specs.declared.tx.Tx.{Tx}
@@ -27,6 +28,13 @@ list_text text items = compact_text (length items) ++ flat_map text items
 -- a transaction
 unfoldable pub tx_text : Tx → List ℕ
 tx_text t = to_le_bytes w32 (cast_unsigned w32 t.version) ++ (list_text input_text t.inputs ++ (list_text output_text t.outputs ++ to_le_bytes w32 t.lock_time))
+
+-- an outpoint, and those that inputs spend, one after the other
+abbrev pub point_text : OutPoint → List ℕ
+point_text point = point.txid.0 ++ to_le_bytes w32 point.index
+
+abbrev pub points_text : List TxIn → List ℕ
+points_text inputs = flat_map (λ input. point_text input.prev) inputs
 
 -- What holds of every value in the program: each number fits its field, each hash has 32 bytes.
 pub record IsInput (i : TxIn) : Type 0 where

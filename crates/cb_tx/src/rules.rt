@@ -1,11 +1,14 @@
-ghost use Rattle.std.specs.Prelude.{◌≡◌, ◌<◌, ◌≤◌, ◌⊎◌, ◌↔◌, pos, ◌<ℤ◌, length, Any, IfOk, IsOk, IsOkUnless, IsTrue, MatchOption, MatchResult, Err};
+ghost use Rattle.std.specs.Prelude.{◌≡◌, ◌++◌, ℕ, List, ◌<◌, ◌≤◌, ◌⊎◌, ◌↔◌, pos, ◌<ℤ◌, length, Any, IfOk, IsOk, IsOkUnless, IsTrue, MatchOption, MatchResult, Err};
+ghost use Rattle.std.specs.HashSet.{IsEmpty, hasher_of};
 ghost use Rattle.cb_base.specs.Fault.{rule_number};
 ghost use Rattle.cb_base.specs.declared.fault.Fault.TheVariants.{BadTx, Memory};
 ghost use Rattle.cb_base.specs.declared.fault.TxRule.{TxRule};
+ghost use Rattle.cb_base.specs.Seeding.{AreKeys, fixed_seed, seed_of_keys};
 ghost use Rattle.cb_tx.specs.Rules.{HasBadScript, IsCoinbase, IsLeastBroken, IsNull, IsOutsideMoney, MeetsFirst, MeetsRules, SpendsTwice, value_sum};
+ghost use Rattle.cb_tx.specs.Text.{point_text, points_text};
 
 use crate::tx::{OutPoint, Tx, TxIn, TxOut};
-use cb_base::{Fault, Hash256, TxRule};
+use cb_base::{Fault, Hash256, Keys, Seed, TxRule};
 use std::alloc::Global;
 use std::collections::HashSet;
 
@@ -50,6 +53,60 @@ fn has_bad_sum(outputs: &[TxOut]) -> bool
     sum > i128::from(MAX_MONEY)
 }
 
+/// Up to this number of inputs a table of them has the fixed seed. Even if they all collide, their
+/// lookups cost less than a seed that is made of them.
+const FEW_INPUTS: usize = 64;
+
+/// The seed for a table of the outputs that these inputs spend: that of all of them, so that a
+/// sender can't choose outputs that collide. Up to 64 inputs have the fixed seed.
+fn seed_for(inputs: &[TxIn]) -> Seed
+    ensures few { length inputs.now ≤ 64 → result ≡ fixed_seed }
+    ensures many { 64 < length inputs.now → result ≡ seed_of_keys (points_text inputs.now) }
+{
+    if inputs.len() <= FEW_INPUTS {
+        return Seed::fixed();
+    }
+    seed_of_points(inputs)
+}
+
+/// Adds an outpoint to the keys.
+fn add_point(keys: &mut Keys, point: OutPoint)
+    ensures { (text : List ℕ) → AreKeys keys.old text →
+        AreKeys keys.new (text ++ point_text point) }
+{
+    keys.add(point.txid.0.as_slice());
+    keys.add(point.index.to_le_bytes().as_slice());
+}
+
+/// The seed that is made of all outputs which these inputs spend.
+fn seed_of_points(inputs: &[TxIn]) -> Seed
+    ensures { result ≡ seed_of_keys (points_text inputs.now) }
+{
+    let mut keys = Keys::new();
+    for input in inputs {
+        add_point(&mut keys, input.prev);
+    }
+    keys.seed()
+}
+
+/// Whether two inputs spend the same output. The set is empty, and notes what is seen. Its seed is
+/// that of all outputs which the inputs spend. No result shows the seed, so it is fixed here.
+fn repeats_in(spent: HashSet<OutPoint, Seed>, inputs: &[TxIn]) -> Result<bool, Fault>
+    requires empty { IsEmpty spent }
+    requires seed { 64 < length inputs.now →
+        hasher_of spent ≡ seed_of_keys (points_text inputs.now) }
+    ensures ok { IfOk result (λ twice. IsTrue twice ↔ SpendsTwice inputs.now) }
+    ensures memory { IsOkUnless result Memory }
+{
+    let mut spent = spent;
+    for input in inputs {
+        if !spent.insert(input.prev)? {
+            return Ok(true);
+        }
+    }
+    Ok(false)
+}
+
 /// Whether two inputs spend the same output. Fewer than two inputs need no memory.
 fn spends_twice(alloc: Global, inputs: &[TxIn]) -> Result<bool, Fault>
     ensures ok { IfOk result (λ twice. IsTrue twice ↔ SpendsTwice inputs.now) }
@@ -59,13 +116,8 @@ fn spends_twice(alloc: Global, inputs: &[TxIn]) -> Result<bool, Fault>
     if inputs.len() < 2 {
         return Ok(false);
     }
-    let mut spent = HashSet::with_capacity(alloc, inputs.len())?;
-    for input in inputs {
-        if !spent.insert(input.prev)? {
-            return Ok(true);
-        }
-    }
-    Ok(false)
+    let spent = HashSet::with_capacity_and_hasher(alloc, inputs.len(), seed_for(inputs))?;
+    repeats_in(spent, inputs)
 }
 
 /// Whether the script of the first input has fewer than 2 bytes or more than 100.

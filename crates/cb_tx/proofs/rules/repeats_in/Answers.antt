@@ -1,7 +1,7 @@
 use Rattle.std.proofs.Common.{refl}
 use Rattle.std.specs.HashSet.{contains}
 use Rattle.cb_tx.proofs.Repeats.{same, seen_next, seen_repeat}
-use Rattle.cb_tx.proofs.rules.spends_twice.Goals as goal
+use Rattle.cb_tx.proofs.rules.repeats_in.Goals as goal
 
 pub returns-then-not-branch-clause-ok : goal.returns-then-not-branch-clause-ok
 returns-then-not-branch-clause-ok c = (
