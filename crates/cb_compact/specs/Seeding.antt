@@ -1,14 +1,13 @@
--- The seed under which a table hashes short ids: a hasher that was fed the SHA-256 (FIPS 180-4) of
--- all ids. So a sender who chooses the ids can't know beforehand which of them will collide.
+-- The seed under which a table hashes short ids: that of all ids. So a sender who chooses the ids
+-- can't know beforehand which of them will collide.
 use Rattle.std.specs.Prelude.{ℕ, List, flat_map}
 use Rattle.std.specs.Int.{w64, to_le_bytes}
-use Rattle.std.specs.Hash.FoldHasher.{initial, write}
 use Rattle.std.specs.declared.hash.FoldHasher.{FoldHasher}
-use Rattle.sha2.specs.Sha256.{sha256}
+use Rattle.cb_base.specs.Seeding.{seed_of_keys}
 
 -- the ids one after the other, each as eight little-endian bytes
 abbrev pub seed_text : List ℕ → List ℕ
 seed_text ids = flat_map (to_le_bytes w64) ids
 
 unfoldable pub seed_of : List ℕ → FoldHasher
-seed_of ids = write initial (sha256 (seed_text ids))
+seed_of ids = seed_of_keys (seed_text ids)

@@ -1,19 +1,15 @@
 ghost use Rattle.std.specs.Prelude.{◌≡◌};
 ghost use Rattle.cb_compact.specs.Seeding.{seed_of};
 
-use sha2::{Digest, Sha256};
-use std::hash::{BuildHasher, FoldHasher, Hasher};
+use cb_base::{Keys, Seed};
+use std::hash::{BuildHasher, FoldHasher};
 use std::marker::Model;
 
-/// The seed under which a table hashes the short ids of a compact block. It decides how long a
-/// lookup takes, and no result. Contracts see a hasher that was fed the seed.
-///
-/// The sender of a block chooses its short ids. If it knew the seed beforehand, it could choose ids
-/// that all collide in the table. So the seed is the SHA-256 of all ids: another id makes another
-/// seed.
+/// The seed under which a table hashes the short ids of a compact block: that of all ids (`Keys`),
+/// since the sender of the block chooses them. Contracts see a hasher that was fed the seed.
 #[derive(Clone, Copy)]
 pub struct IdSeed {
-    hasher: FoldHasher,
+    seed: Seed,
 }
 
 impl Model for IdSeed {
@@ -22,9 +18,9 @@ impl Model for IdSeed {
 
     ghost Value = { FoldHasher };
 
-    ghost view = { λ seed. seed.hasher };
+    ghost view = { λ ids. ids.seed };
 
-    ghost inverse = { λ hasher. record { hasher = hasher } };
+    ghost inverse = { λ hasher. record { seed = hasher } };
 }
 
 impl IdSeed {
@@ -33,13 +29,11 @@ impl IdSeed {
     pub fn of(ids: &[u64]) -> IdSeed
         ensures { result ≡ seed_of ids.now }
     {
-        let mut digest = Sha256::new();
+        let mut keys = Keys::new();
         for id in ids {
-            digest.update(id.to_le_bytes().as_slice());
+            keys.add(id.to_le_bytes().as_slice());
         }
-        let mut hasher = FoldHasher::default();
-        hasher.write(digest.finalize().as_slice());
-        IdSeed { hasher }
+        IdSeed { seed: keys.seed() }
     }
 }
 
@@ -49,6 +43,6 @@ impl BuildHasher for IdSeed {
     ghost build_hasher = { λ seed. seed };
 
     fn build_hasher(&self) -> FoldHasher {
-        self.hasher
+        self.seed.build_hasher()
     }
 }

@@ -1,18 +1,19 @@
 ghost use Rattle.std.specs.Prelude.{◌≡◌, ◌<◌, ◌≤◌, [], if◌then◌else◌, length, false, IfOk, IsOk, IsOkUnless, OnOk};
 ghost use Rattle.std.specs.HashSet.{contains, hasher_of};
 ghost use Rattle.std.specs.List.{list_any};
+ghost use Rattle.cb_base.specs.Seeding.{seed_of_keys};
 ghost use Rattle.cb_base.specs.declared.fault.Fault.TheVariants.{Memory};
 ghost use Rattle.cb_chain.specs.Entries.{entry_of, same};
 ghost use Rattle.cb_chain.specs.Locator.{locator_of};
 ghost use Rattle.cb_state.specs.declared.inventory.Inventory.TheVariants as entry;
-ghost use Rattle.cb_state.specs.Seeding.{seed_of};
+ghost use Rattle.cb_state.specs.Seeding.{hashes_text};
 ghost use Rattle.cb_state.specs.Wanting.{AreNoted, IsNeed, blocks_of, is_block, is_near, is_wanted, only_block, stands_on_tip, wanted_of, with_entry, with_wanted};
 
-use crate::entry_seed::EntrySeed;
+use crate::entry_seed::seed_of_entries;
 use crate::inventory::{Inventories, Inventory};
 use crate::locator::locator_of;
 use crate::state::State;
-use cb_base::{Fault, Hash256};
+use cb_base::{Fault, Hash256, Seed};
 use cb_payload::Locator;
 use std::alloc::Global;
 use std::collections::HashSet;
@@ -33,21 +34,23 @@ pub struct Need {
 #[derive(Drop)]
 struct Wanted {
     list: Vec<Inventory>,
-    txs: HashSet<Hash256, EntrySeed>,
-    blocks: HashSet<Hash256, EntrySeed>,
+    txs: HashSet<Hash256, Seed>,
+    blocks: HashSet<Hash256, Seed>,
 }
 
 impl Wanted {
-    /// No entries so far, of these. The sets stand under the seed of all of them.
+    /// No entries so far, of these. The sets have the seed of all of them.
     fn none_of(alloc: Global, entries: &[Inventory]) -> Wanted
         ensures list { result.list.items ≡ [] }
         ensures noted { AreNoted (contains same result.txs)
             (contains same result.blocks) result.list.items }
         // The seed decides only how long a look-up takes. No result shows it, so it is fixed here.
-        ensures txs { 64 < length entries.now → hasher_of result.txs ≡ seed_of entries.now }
-        ensures blocks { 64 < length entries.now → hasher_of result.blocks ≡ seed_of entries.now }
+        ensures txs { 64 < length entries.now →
+            hasher_of result.txs ≡ seed_of_keys (hashes_text entries.now) }
+        ensures blocks { 64 < length entries.now →
+            hasher_of result.blocks ≡ seed_of_keys (hashes_text entries.now) }
     {
-        let seed = EntrySeed::of(entries);
+        let seed = seed_of_entries(entries);
         Wanted {
             list: Vec::new(alloc),
             txs: HashSet::with_hasher(alloc, seed),
