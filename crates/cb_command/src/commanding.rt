@@ -4,7 +4,7 @@ ghost use Rattle.std.specs.Prelude.{◌≡◌, ◌⊎◌, ◌≤◌, ℕ, true, 
 ghost use Rattle.std.specs.Io.KnownBytes.{Appends};
 ghost use Rattle.cb_peer_state.specs.declared.state.CloseReason.{CloseReason};
 ghost use Rattle.cb_peer_state.specs.declared.state.CloseReason.TheVariants as reasons;
-ghost use Rattle.cb_run.specs.declared.ending.Halt.TheVariants.{Memory, WriteFailed};
+ghost use Rattle.cb_run.specs.declared.ending.Halt.TheVariants.{Memory, ReadFailed, WriteFailed};
 ghost use Rattle.cb_run.specs.declared.ending.Status.TheVariants.{Usage};
 ghost use Rattle.cb_command.specs.Command.{PrintsReport, EndsEarly, Halts, Refuses, TellsPeer, code_of};
 ghost use Rattle.cb_run.specs.Ending.{halt_status, halt_line};
@@ -17,6 +17,7 @@ ghost use Rattle.clap.specs.Words.{FailsBy, app_of, fault_of, kind_of, rule_of, 
 ghost use Rattle.clap.specs.declared.error.kind.ErrorKind.TheVariants.{OutOfMemory};
 
 use crate::serve::serve_peer;
+use cb_base::Seed;
 use cb_decode::decode;
 use cb_io::{Sink, Source};
 use cb_run::{Halt, Status, write_all};
@@ -83,7 +84,8 @@ Example:
 ///
 /// The first word is the program's name. All input is read from `reader`. Output goes to `writer`.
 /// Messages about the command line, and about a failed read or write, go to `errors`; `serve` also
-/// prints there why its session ended.
+/// prints there why its session ended. The tables of the halls of `serve` and `run` have the fixed
+/// seed, so that a run takes the same steps each time.
 pub fn command<N: Host, R: Source, W: Sink, E: Sink>(
     rt: N,
     alloc: Global,
@@ -143,13 +145,72 @@ pub fn command<N: Host, R: Source, W: Sink, E: Sink>(
         × (takes program (name ∷ codes "run" ∷ codes "--nodes" ∷ codes "8" ∷ codes "--handlers"
         ∷ codes "16" ∷ []) ≡ true) }
 {
+    seeded_command(rt, alloc, Seed::fixed(), words, reader, writer, errors)
+}
+
+/// As `command`. The tables of the halls of `serve` and `run` have this seed, which changes no
+/// result. Peers choose the keys of these tables, so a seed that no peer knows keeps a lookup short.
+pub fn seeded_command<N: Host, R: Source, W: Sink, E: Sink>(
+    rt: N,
+    alloc: Global,
+    seed: Seed,
+    words: Vec<String>,
+    reader: &mut R,
+    writer: &mut W,
+    errors: &mut E,
+) -> u8
+    // For every reader, writer and standard error: if the status is 1, clap refuses the words.
+    // Nothing was read, and nothing was written to `writer`.
+    ensures refused { result ≡ 1 →
+        AreRefused (map string_bytes words.items) × (reader.new ≡ reader.old)
+        × (writer.new ≡ writer.old) }
+    // Either the words were refused. Or memory ran out before the command began. Or clap finds no
+    // fault in the words, and the command ended normally or ended early for a cause.
+    ensures ran { (AreRefused (map string_bytes words.items)
+        × Refuses (E.has_failed errors.new) result × (reader.new ≡ reader.old)
+        × (writer.new ≡ writer.old))
+        ⊎ ((EndsEarly (E.contents errors.old) (E.contents errors.new)
+        (E.has_failed errors.new) result Memory × (reader.new ≡ reader.old)
+        × (writer.new ≡ writer.old))
+        ⊎ ((fault_of program (map string_bytes words.items) ≡ [])
+        × ((orders : RunOrders) × AreWithin orders
+        × ByTask (task_in orders (map string_bytes words.items))
+        ((PrintsReport (R.remaining reader.old) (W.contents writer.old)
+        (W.contents writer.new) result × (errors.new ≡ errors.old))
+        ⊎ Halts (R.remaining reader.old) (R.has_failed reader.new) (W.has_failed writer.new)
+        (E.contents errors.old) (E.contents errors.new) (E.has_failed errors.new) result)
+        ((reason : CloseReason)
+        × (WasServed (R.remaining reader.old) (R.remaining reader.new) (R.has_failed reader.new)
+        (W.contents writer.old) (W.contents writer.new) (W.has_failed writer.old)
+        (W.has_failed writer.new) reason
+        ⊎ ((reason ≡ reasons.Memory) × (reader.new ≡ reader.old) × (writer.new ≡ writer.old)))
+        × TellsPeer (R.has_failed reader.new) (W.has_failed writer.new) (E.contents errors.old)
+        (E.contents errors.new) (E.has_failed errors.new) result reason)
+        ((SimulatesKnown (R.remaining reader.old) (W.contents writer.old)
+        (W.contents writer.new) result × (errors.new ≡ errors.old))
+        ⊎ Halts (R.remaining reader.old) (R.has_failed reader.new) (W.has_failed writer.new)
+        (E.contents errors.old) (E.contents errors.new) (E.has_failed errors.new) result)
+        ((RunsKnown orders.sizes.nodes orders.stats (R.remaining reader.old)
+        (W.contents writer.old) (W.contents writer.new) result × (errors.new ≡ errors.old))
+        ⊎ Halts (R.remaining reader.old) (R.has_failed reader.new) (W.has_failed writer.new)
+        (E.contents errors.old) (E.contents errors.new) (E.has_failed errors.new) result)))) }
+{
     match task_of(alloc, words.as_slice()) {
         Ok(Task::Decode) => settle(code_of(decode(alloc, reader, writer)), errors),
-        Ok(Task::Serve) => answer_peer(alloc, reader, writer, errors),
+        Ok(Task::Serve) => answer_peer(alloc, seed, reader, writer, errors),
         Ok(Task::Sim) => settle(simulate(alloc, reader, writer), errors),
-        Ok(Task::Run(orders)) => settle(run_nodes(rt, alloc, orders, reader, writer), errors),
+        Ok(Task::Run(orders)) => settle(run_nodes(rt, alloc, seed, orders, reader, writer), errors),
         Err(error) => settle_refusal(alloc, &error, errors),
     }
+}
+
+/// Tells on `errors` that the random source for a seed failed, as a failed read, and returns the
+/// exit status 3.
+pub fn refuse_unseeded<E: Sink>(errors: &mut E) -> u8
+    ensures { EndsEarly (E.contents errors.old) (E.contents errors.new)
+        (E.has_failed errors.new) result ReadFailed }
+{
+    settle(Err(Halt::ReadFailed), errors)
 }
 
 /// Refuses a command line with a word that isn't UTF-8: reports it on `errors`, and returns the
@@ -169,6 +230,7 @@ pub fn refuse_foreign<E: Sink>(errors: &mut E) -> u8
 /// Serves a peer, reports on `errors` what failed, and returns the exit status.
 fn answer_peer<R: Source, W: Sink, E: Sink>(
     alloc: Global,
+    seed: Seed,
     reader: &mut R,
     writer: &mut W,
     errors: &mut E,
@@ -181,7 +243,7 @@ fn answer_peer<R: Source, W: Sink, E: Sink>(
         × TellsPeer (R.has_failed reader.new) (W.has_failed writer.new) (E.contents errors.old)
         (E.contents errors.new) (E.has_failed errors.new) result reason }
 {
-    let ended = serve_peer(alloc, reader, writer, errors);
+    let ended = serve_peer(alloc, seed, reader, writer, errors);
     settle(code_of(ended), errors)
 }
 

@@ -4,4 +4,4 @@
 mod commanding;
 mod serve;
 
-pub use commanding::{Task, command, refuse_foreign};
+pub use commanding::{Task, command, refuse_foreign, refuse_unseeded, seeded_command};

@@ -13,6 +13,7 @@ ghost use Rattle.cb_peer_state.specs.declared.state.State.TheVariants.{Closed};
 ghost use Rattle.cb_run.specs.declared.ending.Halt.TheVariants.{WriteFailed};
 ghost use Rattle.cb_command.specs.Peer.{WasServed, PeerEnds, closed_text, peer_end, reason_status};
 
+use cb_base::Seed;
 use cb_io::{Sink, Source};
 use cb_run::{Halt, Status, write_all};
 use cb_session::{Badge, CloseReason, Hall, Settings, State, serve};
@@ -28,11 +29,13 @@ const SETTINGS: Settings = Settings {
     salt: 0,
 };
 
-/// Serves a peer until its session is over, and prints the reason on standard error.
+/// Serves a peer until its session is over, and prints the reason on standard error. The tables of
+/// its hall have this seed.
 ///
 /// Fails if a read or a write failed. If memory runs out, the session ends and the status says so.
 pub fn serve_peer<R: Source, W: Sink, E: Sink>(
     alloc: Global,
+    seed: Seed,
     reader: &mut R,
     writer: &mut W,
     errors: &mut E,
@@ -47,20 +50,25 @@ pub fn serve_peer<R: Source, W: Sink, E: Sink>(
         × PeerEnds (R.has_failed reader.new) (W.has_failed writer.new) (E.contents errors.old)
         (E.contents errors.new) (E.has_failed errors.new) reason result }
 {
-    let reason = connection(alloc, reader, writer);
+    let reason = connection(alloc, seed, reader, writer);
     tell_closed(errors, reason)?;
     end_of(reader, writer, reason)
 }
 
 /// Serves the connection with a hall of its own. If memory runs out before the first read, the
 /// reason is `Memory`, as it is later.
-fn connection<R: Source, W: Sink>(alloc: Global, reader: &mut R, writer: &mut W) -> CloseReason
+fn connection<R: Source, W: Sink>(
+    alloc: Global,
+    seed: Seed,
+    reader: &mut R,
+    writer: &mut W,
+) -> CloseReason
     ensures { WasServed (R.remaining reader.old) (R.remaining reader.new) (R.has_failed reader.new)
         (W.contents writer.old) (W.contents writer.new) (W.has_failed writer.old)
         (W.has_failed writer.new) result
         ⊎ ((result ≡ reasons.Memory) × (reader.new ≡ reader.old) × (writer.new ≡ writer.old)) }
 {
-    let Some((mut hall, mut badge)) = new_node(alloc) else {
+    let Some((mut hall, mut badge)) = new_node(alloc, seed) else {
         return CloseReason::Memory;
     };
     let reason = converse(alloc, reader, writer, &mut hall, &mut badge);
@@ -68,12 +76,13 @@ fn connection<R: Source, W: Sink>(alloc: Global, reader: &mut R, writer: &mut W)
     reason
 }
 
-/// A new hall and the badge of its only peer, or `None` if memory runs out.
-fn new_node(alloc: Global) -> Option<(Hall, Badge)>
+/// A new hall whose tables have this seed, and the badge of its only peer, or `None` if memory runs
+/// out.
+fn new_node(alloc: Global, seed: Seed) -> Option<(Hall, Badge)>
     ensures hall { IfSome result (λ made. made.0 ≡ new_journal) }
     ensures badge { IfSome result (λ made. made.1 ≡ fresh_badge (first_of 0)) }
 {
-    let Ok((hall, badges)) = Hall::new(alloc, 1) else {
+    let Ok((hall, badges)) = Hall::with_seed(alloc, 1, seed) else {
         return None;
     };
     let Some(badge) = last_of(badges) else {

@@ -2,7 +2,7 @@ ghost use Rattle.std.specs.Prelude.{◌≡◌, ◌≤◌, ◌<◌, [], false, fo
 ghost use Rattle.cb_base.specs.declared.fault.Fault.TheVariants.{Memory};
 ghost use Rattle.cb_fetch.specs.Fetching.{as_blocks, asks_now, block_in, blocks_in, fallen_back, has, idle, is_due, is_fetched, landed, request_kind, requests_of, taken_on, taking_on, wanting, wanting_all, with_flight, with_wanted};
 
-use cb_base::{Fault, Hash256};
+use cb_base::{Fault, Hash256, Seed};
 use cb_payload::InvEntry;
 use cb_state::{Inventories, Inventory};
 use indexmap::IndexSet;
@@ -31,7 +31,7 @@ const COMPACT_BLOCK: u32 = 4;
 pub struct Fetch {
     alloc: Global,
     pub(crate) flight: Vec<Hash256>,
-    wanted: IndexSet<Hash256>,
+    wanted: IndexSet<Hash256, Seed>,
 }
 
 impl Model for Fetch {
@@ -45,15 +45,29 @@ impl Model for Fetch {
 }
 
 impl Fetch {
-    /// Nothing is in flight, and nothing is wanted. Allocates nothing.
+    /// Nothing is in flight, and nothing is wanted. The set of the wanted blocks has the fixed
+    /// seed. Allocates nothing.
     pub fn new(alloc: Global) -> Fetch
+        ensures { result ≡ idle }
+    {
+        Fetch::with_seed(alloc, Seed::fixed())
+    }
+
+    /// Nothing is in flight, and nothing is wanted. The set of the wanted blocks has this seed,
+    /// which changes no result. Allocates nothing.
+    pub fn with_seed(alloc: Global, seed: Seed) -> Fetch
         ensures { result ≡ idle }
     {
         Fetch {
             alloc,
             flight: Vec::new(alloc),
-            wanted: IndexSet::new(alloc),
+            wanted: IndexSet::with_hasher(alloc, seed),
         }
+    }
+
+    /// The seed of the set of the wanted blocks.
+    fn seed(&self) -> Seed {
+        *self.wanted.hasher()
     }
 
     /// Whether it is time to request more blocks: nothing is in flight, and something is wanted.
@@ -232,7 +246,7 @@ impl Fetch {
         ensures unpaid { length needed.now ≡ 0 → IsOk result }
         ensures blockless { blocks_in needed.now ≡ [] → IsOk result }
     {
-        let mut next = Fetch::new(self.alloc);
+        let mut next = Fetch::with_seed(self.alloc, self.seed());
         for entry in needed {
             next.take_entry(*entry)?;
         }
@@ -274,7 +288,7 @@ impl Fetch {
         ensures unpaid { self.now ≡ idle → IsOk result }
     {
         if self.flight.is_empty() && self.wanted.is_empty() {
-            return Ok(Fetch::new(alloc));
+            return Ok(Fetch::with_seed(alloc, self.seed()));
         }
         let mut flight = Vec::with_capacity(alloc, self.flight.len())?;
         flight.extend_from_slice(self.flight.as_slice())?;

@@ -12,7 +12,7 @@ ghost use Rattle.cb_hall.specs.Hall.{Grants, Grows, HasHistory, IsFull, NotesAll
 
 use crate::badge::{Badge, first_badges};
 use crate::summary::Look;
-use cb_base::Fault;
+use cb_base::{Fault, Seed};
 use cb_block::SoundBlock;
 use cb_journal::{Answer, Connections, Entry, Journal, Local, MOST_CALLS, Question};
 use cb_state::{Connection, State};
@@ -43,7 +43,7 @@ impl Model for Hall {
 
 impl Hall {
     /// Returns a hall without calls, and the badges of the first connections of the peers 0, 1, and
-    /// so on. Fails only with `Fault::Memory`.
+    /// so on. The hall's tables have the fixed seed. Fails only with `Fault::Memory`.
     pub fn new(alloc: Global, peers: u16) -> Result<(Hall, Vec<Badge>), Fault>
         requires some { 1 ≤ peers }
         requires limit { peers ≤ 64 }
@@ -51,8 +51,20 @@ impl Hall {
         ensures badges { IfOk result (λ made. AreBadges peers made.1.items) }
         ensures memory { IsOkUnless result Memory }
     {
+        Hall::with_seed(alloc, peers, Seed::fixed())
+    }
+
+    /// As `new`. The hall's tables have this seed, which changes no result. Peers choose the keys
+    /// of these tables, so a seed that no peer knows keeps a lookup short.
+    pub fn with_seed(alloc: Global, peers: u16, seed: Seed) -> Result<(Hall, Vec<Badge>), Fault>
+        requires some { 1 ≤ peers }
+        requires limit { peers ≤ 64 }
+        ensures hall { IfOk result (λ made. made.0 ≡ new_journal) }
+        ensures badges { IfOk result (λ made. AreBadges peers made.1.items) }
+        ensures memory { IsOkUnless result Memory }
+    {
         let badges = first_badges(alloc, peers)?;
-        let journal = Journal::new(alloc)?;
+        let journal = Journal::with_seed(alloc, seed)?;
         Ok((Hall { journal }, badges))
     }
 
@@ -200,6 +212,11 @@ impl Hall {
         self.journal.latest().state()
     }
 
+    /// The seed of the hall's tables. A session of it uses it too.
+    pub fn seed(&self) -> Seed {
+        self.state().chain().ledger().seed()
+    }
+
     /// A summary of the current state.
     pub fn look(&self) -> Look
         ensures { result ≡ look_of self.now.latest.node }
@@ -250,7 +267,7 @@ impl Hall {
     }
 
     /// Returns the hall that these calls lead to: a new journal notes them one after another. Each
-    /// call must be one that can come after those before it.
+    /// call must be one that can come after those before it. The hall's tables have the fixed seed.
     ///
     /// Fails with the first of these that applies:
     /// - `Fault::JournalFull` if there are more than 2^62 calls;
@@ -264,10 +281,22 @@ impl Hall {
         ensures full { IsErrOf result JournalFull ↔ (2 ^ 62 < length calls.now) }
         ensures kinds { IfErr result (λ fault. (fault ≡ JournalFull) ⊎ (fault ≡ Memory)) }
     {
+        Hall::replay_with_seed(alloc, calls, Seed::fixed())
+    }
+
+    /// As `replay`. The hall's tables have this seed, which changes no result.
+    pub fn replay_with_seed(alloc: Global, calls: &[Entry], seed: Seed) -> Result<Hall, Fault>
+        requires { AreFit first_slots calls.now }
+        ensures past { IfOk result
+            (λ hall. (answers : List Answer) × HasHistory hall calls.now answers) }
+        ensures notes { IfOk result (λ hall. NotesAll new_journal calls.now hall) }
+        ensures full { IsErrOf result JournalFull ↔ (2 ^ 62 < length calls.now) }
+        ensures kinds { IfErr result (λ fault. (fault ≡ JournalFull) ⊎ (fault ≡ Memory)) }
+    {
         if calls.len() as u64 > MOST_CALLS {
             return Err(Fault::JournalFull);
         }
-        let mut journal = Journal::new(alloc)?;
+        let mut journal = Journal::with_seed(alloc, seed)?;
         for call in calls {
             play(alloc, &mut journal, call)?;
         }

@@ -7,7 +7,7 @@ use crate::answer::Answer;
 use crate::copying::copy_entries;
 use crate::entry::Entry;
 use crate::replica::{MOST_CALLS, Replica};
-use cb_base::Fault;
+use cb_base::{Fault, Seed};
 use std::alloc::Global;
 use std::marker::Model;
 
@@ -44,17 +44,27 @@ impl Model for Journal {
 }
 
 impl Journal {
-    /// A journal without calls. Fails only with `Fault::Memory`.
+    /// A journal without calls. The tables of its states have the fixed seed. Fails only with
+    /// `Fault::Memory`.
     pub fn new(alloc: Global) -> Result<Journal, Fault>
+        ensures new { IfOk result (λ journal. journal ≡ new_journal) }
+        ensures memory { IsOkUnless result Memory }
+    {
+        Journal::with_seed(alloc, Seed::fixed())
+    }
+
+    /// A journal without calls. The tables of its states have this seed, which changes no result.
+    /// Fails only with `Fault::Memory`.
+    pub fn with_seed(alloc: Global, seed: Seed) -> Result<Journal, Fault>
         ensures new { IfOk result (λ journal. journal ≡ new_journal) }
         ensures memory { IsOkUnless result Memory }
     {
         Ok(Journal {
             alloc,
-            base: Replica::new(alloc)?,
+            base: Replica::with_seed(alloc, seed)?,
             entries: Vec::new(alloc),
             weight: 0,
-            latest: Replica::new(alloc)?,
+            latest: Replica::with_seed(alloc, seed)?,
         })
     }
 

@@ -9,7 +9,7 @@ use crate::connections::Connections;
 use crate::entry::Entry;
 use crate::question::Question;
 use crate::replying::{reply, submit};
-use cb_base::Fault;
+use cb_base::{Fault, Seed};
 use cb_state::{Connection, State};
 use std::alloc::Global;
 use std::marker::Model;
@@ -41,14 +41,24 @@ impl Model for Replica {
 }
 
 impl Replica {
-    /// The state before any entry. Fails only with `Fault::Memory`.
+    /// The state before any entry. Its tables have the fixed seed. Fails only with
+    /// `Fault::Memory`.
     pub fn new(alloc: Global) -> Result<Replica, Fault>
+        ensures opening { IfOk result (λ replica. replica ≡ opening) }
+        ensures memory { IsOkUnless result Memory }
+    {
+        Replica::with_seed(alloc, Seed::fixed())
+    }
+
+    /// The state before any entry. Its tables have this seed, which changes no result. Fails only
+    /// with `Fault::Memory`.
+    pub fn with_seed(alloc: Global, seed: Seed) -> Result<Replica, Fault>
         ensures opening { IfOk result (λ replica. replica ≡ opening) }
         ensures memory { IsOkUnless result Memory }
     {
         Ok(Replica {
             alloc,
-            state: State::new(alloc)?,
+            state: State::with_seed(alloc, seed)?,
             connections: Connections::new(alloc)?,
             entries: 0,
         })

@@ -7,7 +7,7 @@ use crate::node::Node;
 use crate::opening::{NodeWork, new_work};
 use crate::serving::Service;
 use crate::settings::{NodeSettings, session_settings};
-use cb_base::{Fault, Shared};
+use cb_base::{Fault, Seed, Shared};
 use cb_crew::Fresh;
 use cb_hall::{Badge, Hall};
 use cb_slots::{Crewed, Link, Links, NodeFault, crew_slots, shared, start_handlers};
@@ -44,7 +44,8 @@ impl<
         + Drop
         + 'static,
 > Node<R> {
-    /// Starts a node without connections, which doesn't listen. Its handlers' threads run.
+    /// Starts a node without connections, which doesn't listen. Its handlers' threads run. The
+    /// tables of its hall have the fixed seed.
     ///
     /// Fails with `NodeFault::Memory`, and with `NodeFault::Io` if a thread can't be started. Each
     /// thread that was started has returned then.
@@ -54,7 +55,24 @@ impl<
         requires handlers { (1 ≤ settings.handlers) × (settings.handlers ≤ 16) }
         ensures { IfOk result (IsNewNode settings.inbound settings.outbound settings.handlers) }
     {
-        match parts_of(rt, alloc, &settings) {
+        Node::start_with_seed(rt, alloc, settings, Seed::fixed())
+    }
+
+    /// As `start`. The tables of the node's hall and of its sessions have this seed, which changes
+    /// no result. Peers choose the keys of these tables, so a seed that no peer knows keeps a lookup
+    /// short.
+    pub fn start_with_seed(
+        rt: R,
+        alloc: Global,
+        settings: NodeSettings,
+        seed: Seed,
+    ) -> Result<Node<R>, NodeFault>
+        requires slots { (1 ≤ settings.inbound + settings.outbound)
+            × (settings.inbound + settings.outbound ≤ 64) }
+        requires handlers { (1 ≤ settings.handlers) × (settings.handlers ≤ 16) }
+        ensures { IfOk result (IsNewNode settings.inbound settings.outbound settings.handlers) }
+    {
+        match parts_of(rt, alloc, &settings, seed) {
             Ok(parts) => man(rt, alloc, settings, parts),
             Err(fault) => Err(fault),
         }
@@ -112,11 +130,12 @@ fn man<R: Threads + Wait + Copy + Send + Drop + 'static>(
 }
 
 #[tactic(auto, using(crate::proofs::Slots::badges_new, crate::proofs::Slots::badges_count))]
-/// What a node is made of.
+/// What a node is made of. The tables of its hall have this seed.
 fn parts_of<R: Threads + Wait + Copy + Send + Drop + 'static>(
     rt: R,
     alloc: Global,
     settings: &NodeSettings,
+    seed: Seed,
 ) -> Result<Parts<R>, NodeFault>
     requires slots { (1 ≤ settings.now.inbound + settings.now.outbound)
         × (settings.now.inbound + settings.now.outbound ≤ 64) }
@@ -130,7 +149,7 @@ fn parts_of<R: Threads + Wait + Copy + Send + Drop + 'static>(
 {
     let count = settings.inbound + settings.outbound;
     let links = shared(alloc, Links::new(alloc, count)?)?;
-    let (hall, badges) = Hall::new(alloc, count)?;
+    let (hall, badges) = Hall::with_seed(alloc, count, seed)?;
     let hall = shared(alloc, Mutex::new(hall))?;
     let Works {
         works,

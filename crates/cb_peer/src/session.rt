@@ -7,7 +7,8 @@ ghost use Rattle.cb_peer_state.specs.Session.{closes, is_light, openings, spares
 ghost use Rattle.cb_peer_state.specs.State.{opening, over};
 
 use crate::stepping::{arrive, end_of, hear_answer, starve};
-use cb_base::Fault;
+use cb_base::{Fault, Seed};
+use cb_fetch::Fetch;
 use cb_journal::Question;
 use cb_peer_state::{CloseReason, Event, Peer, SessionState, Settings, State, one_message};
 use cb_talk::our_version;
@@ -36,10 +37,24 @@ impl Model for Session {
 
 impl Session {
     /// A new session, and the messages that open it: our `version` if this node made the
-    /// connection, and none otherwise.
+    /// connection, and none otherwise. The table of its wanted blocks has the fixed seed.
     ///
     /// Fails only with `Fault::Memory`, and never for an inbound connection.
     pub fn new(alloc: Global, settings: Settings) -> Result<(Session, Vec<BoundedMessage>), Fault>
+        ensures session { IfOk result (λ made. made.0 ≡ opening settings) }
+        ensures messages { IfOk result (λ made. made.1.items ≡ openings settings) }
+        ensures memory { IsOkUnless result Memory }
+        ensures unpaid { openings settings ≡ [] → IsOk result }
+    {
+        Session::with_seed(alloc, settings, Seed::fixed())
+    }
+
+    /// As `new`. The table of the session's wanted blocks has this seed, which changes no result.
+    pub fn with_seed(
+        alloc: Global,
+        settings: Settings,
+        seed: Seed,
+    ) -> Result<(Session, Vec<BoundedMessage>), Fault>
         ensures session { IfOk result (λ made. made.0 ≡ opening settings) }
         ensures messages { IfOk result (λ made. made.1.items ≡ openings settings) }
         ensures memory { IsOkUnless result Memory }
@@ -51,7 +66,8 @@ impl Session {
             let version = our_version(alloc, settings.nonce, settings.time, settings.height)?;
             one_message(alloc, version)?
         };
-        let kept = SessionState::bare(alloc, settings, State::Start);
+        let mut kept = SessionState::bare(alloc, settings, State::Start);
+        kept.fetch = Fetch::with_seed(alloc, seed);
         Ok((Session { kept }, messages))
     }
 

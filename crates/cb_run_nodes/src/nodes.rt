@@ -7,7 +7,7 @@ ghost use Rattle.cb_slots.specs.declared.fault.NodeFault.TheVariants as faults;
 ghost use Rattle.cb_script.specs.ScriptLine.{IsAmong};
 ghost use Rattle.cb_run_nodes.specs.Playing.{CanBecome, HasSlots};
 
-use cb_base::{Fault, Shared};
+use cb_base::{Fault, Seed, Shared};
 use cb_block::{Block, sound};
 use cb_journal::{Answer, Local};
 use cb_node::{Node, NodeEnd, NodeFault, NodeSettings};
@@ -74,14 +74,14 @@ pub struct Nodes<R: Wait + Drop> {
 }
 
 impl<R: Host> Nodes<R> {
-    /// Starts the nodes. Fails with `NodeFault::Io` if a thread can't be started, and with
-    /// `NodeFault::Memory`. No node runs then.
-    pub fn start(rt: R, alloc: Global, sizes: Sizes) -> Result<Nodes<R>, NodeFault>
+    /// Starts the nodes. Their tables have this seed. Fails with `NodeFault::Io` if a thread can't
+    /// be started, and with `NodeFault::Memory`. No node runs then.
+    pub fn start(rt: R, alloc: Global, sizes: Sizes, seed: Seed) -> Result<Nodes<R>, NodeFault>
         requires handlers { (1 ≤ sizes.handlers) × (sizes.handlers ≤ 16) }
         ensures count { IfOk result (λ nodes. vec_len nodes.list ≡ sizes.nodes) }
     {
         let (mut list, ends) = new_lists(alloc, usize::from(sizes.nodes))?;
-        match start_all(rt, alloc, sizes, &mut list) {
+        match start_all(rt, alloc, sizes, seed, &mut list) {
             Ok(()) => Ok(Nodes {
                 rt,
                 alloc,
@@ -262,6 +262,7 @@ fn start_all<R: Host>(
     rt: R,
     alloc: Global,
     sizes: Sizes,
+    seed: Seed,
     list: &mut Vec<Node<R>>,
 ) -> Result<(), NodeFault>
     requires handlers { (1 ≤ sizes.handlers) × (sizes.handlers ≤ 16) }
@@ -273,7 +274,7 @@ fn start_all<R: Host>(
 {
     for number in 0..sizes.nodes {
         let settings = settings_of(number, sizes.handlers);
-        list.push_reserved(Node::start(rt, alloc, settings)?);
+        list.push_reserved(Node::start_with_seed(rt, alloc, settings, seed)?);
     }
     Ok(())
 }

@@ -14,6 +14,7 @@ use crate::nodes::{Host, Nodes, Sizes};
 use crate::playing::{Played, play};
 use crate::report::{NodeReport, print_reports, tally_reported};
 use crate::stats::print_stats;
+use cb_base::Seed;
 use cb_crew::Desk;
 use cb_desks::{Audited, Split, are_in_order, audit, traces};
 use cb_hall::Hall;
@@ -35,12 +36,14 @@ pub struct RunOrders {
 
 /// Runs nodes over loopback sockets by a script, one line after another, and prints at the end how
 /// each node stands. Returns the exit status: 0; 2 if a node refused something; 3 if a line can't be
-/// read, or a slot, a socket, a wait or an audit failed.
+/// read, or a slot, a socket, a wait or an audit failed. The nodes' tables have this seed, which
+/// changes no result.
 ///
 /// Fails if memory runs out, a read or a write fails, or there are too many lines.
 pub fn run_nodes<N: Host, R: Source, W: Sink>(
     rt: N,
     alloc: Global,
+    seed: Seed,
     orders: RunOrders,
     reader: &mut R,
     writer: &mut W,
@@ -56,7 +59,7 @@ pub fn run_nodes<N: Host, R: Source, W: Sink>(
     ensures halts { IfErr result
         (HasCause (R.remaining reader.old) (R.has_failed reader.new) (W.has_failed writer.new)) }
 {
-    let mut nodes = match Nodes::start(rt, alloc, orders.sizes) {
+    let mut nodes = match Nodes::start(rt, alloc, orders.sizes, seed) {
         Ok(nodes) => nodes,
         Err(NodeFault::Memory) => return Err(Halt::Memory),
         Err(_) => return refuse(writer),

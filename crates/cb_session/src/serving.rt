@@ -86,7 +86,7 @@ pub fn serve_by<R: Source, W: Sink, H: Oracle>(
     ensures ungranted { OnErr result (badge.new ≡ badge.old) }
 {
     let mut buffer = vec![in alloc; 0u8; READ_SIZE]?;
-    let (mut trace, messages) = Trace::new(alloc, settings)?;
+    let (mut trace, messages) = Trace::with_seed(alloc, settings, hall.seed())?;
     let mut assembler = Assembler::new(alloc);
     let mut reading = Reading::new(reader, buffer.as_mut_slice(), &mut assembler);
     let mut conversation = Conversation::new(&mut trace, writer, hall, badge, 0);

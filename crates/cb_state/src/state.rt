@@ -5,7 +5,7 @@ ghost use Rattle.cb_state.specs.State.{NodeState, WaitOn, opening};
 
 use crate::announcers::Announcers;
 use crate::connection::Connection;
-use cb_base::Fault;
+use cb_base::{Fault, Seed};
 use cb_chain::Chain;
 use cb_pool::Pool;
 use std::alloc::Global;
@@ -32,16 +32,25 @@ impl Model for State {
 }
 
 impl State {
-    /// A state with the genesis block alone, an empty mempool and no announcers. Fails only with
-    /// `Fault::Memory`.
+    /// A state with the genesis block alone, an empty mempool and no announcers. Its tables have
+    /// the fixed seed. Fails only with `Fault::Memory`.
     pub fn new(alloc: Global) -> Result<State, Fault>
+        ensures opening { IfOk result (λ state. state ≡ opening) }
+        ensures memory { IsOkUnless result Memory }
+    {
+        State::with_seed(alloc, Seed::fixed())
+    }
+
+    /// A state with the genesis block alone, an empty mempool and no announcers. Its tables have
+    /// this seed, which changes no result. Fails only with `Fault::Memory`.
+    pub fn with_seed(alloc: Global, seed: Seed) -> Result<State, Fault>
         ensures opening { IfOk result (λ state. state ≡ opening) }
         ensures memory { IsOkUnless result Memory }
     {
         Ok(State {
             alloc,
-            chain: Chain::new(alloc)?,
-            pool: Pool::new(alloc),
+            chain: Chain::with_seed(alloc, seed)?,
+            pool: Pool::with_seed(alloc, seed),
             announcers: Announcers::new(alloc)?,
         })
     }

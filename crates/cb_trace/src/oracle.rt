@@ -5,7 +5,7 @@ ghost use Rattle.cb_hall.specs.Badge.{BadgeState};
 ghost use Rattle.cb_hall.specs.Histories.{Asks, IsRefused, Reply};
 ghost use Rattle.cb_peer_state.specs.Questions.{fits};
 
-use cb_base::Fault;
+use cb_base::{Fault, Seed};
 use cb_hall::{Badge, Hall};
 use cb_journal::{Answer, Question};
 
@@ -35,6 +35,9 @@ pub trait Oracle {
         ensures refused { IfErr result (λ fault. refused self.new badge.new fault) }
         ensures kinds { IfErr result (λ fault. (fault ≡ JournalFull) ⊎ (fault ≡ Memory)) };
 
+    /// The seed of the tables of its sessions. It changes no result.
+    fn seed(&self) -> Seed;
+
     /// If nothing was asked, there are no replies.
     ghost told_none: { (a : Self) (x : BadgeState) → told a x [] a x };
 
@@ -63,6 +66,10 @@ impl Oracle for Hall {
 
     fn ask(&mut self, badge: &mut Badge, question: Question) -> Result<Answer, Fault> {
         self.call(badge, question)
+    }
+
+    fn seed(&self) -> Seed {
+        Hall::seed(self)
     }
 
     ghost told_none = { λ a x. asks_none a x };

@@ -7,7 +7,7 @@ ghost use Rattle.cb_peer_state.specs.State.{is_closed};
 ghost use Rattle.cb_trace.specs.Fold.{entry_step};
 
 use crate::asking::questions_asked;
-use cb_base::Fault;
+use cb_base::{Fault, Seed};
 use cb_journal::Question;
 use cb_peer::{CloseReason, Event, Session, Settings, State};
 use cb_wire::BoundedMessage;
@@ -94,7 +94,8 @@ impl Trace {
     ghost use Rattle.cb_peer_state.specs.declared.event.Event.TheVariants as events;
     ghost use Rattle.cb_trace.specs.Trace.{AskedLast, Grows, IsOpen, NeedsBase, Readied, Rests, StandsFor, TraceSteps, TraceView, asked_from, base_account, held_of, is_due};
 
-    /// A trace without entries and with room for one, and the messages that open its session.
+    /// A trace without entries and with room for one, and the messages that open its session. The
+    /// table of the session's wanted blocks has the fixed seed.
     ///
     /// Fails only with `Fault::Memory`.
     pub fn new(alloc: Global, settings: Settings) -> Result<(Trace, Vec<BoundedMessage>), Fault>
@@ -104,7 +105,22 @@ impl Trace {
         ensures messages { IfOk result (λ made. made.1.items ≡ openings settings) }
         ensures memory { IsOkUnless result Memory }
     {
-        let (session, messages) = Session::new(alloc, settings)?;
+        Trace::with_seed(alloc, settings, Seed::fixed())
+    }
+
+    /// As `new`. The table of the session's wanted blocks has this seed, which changes no result.
+    pub fn with_seed(
+        alloc: Global,
+        settings: Settings,
+        seed: Seed,
+    ) -> Result<(Trace, Vec<BoundedMessage>), Fault>
+        ensures settings { IfOk result (λ made. made.0.settings ≡ settings) }
+        ensures history { IfOk result (λ made. StandsFor made.0 []) }
+        ensures room { IfOk result (λ made. 1 ≤ made.0.room) }
+        ensures messages { IfOk result (λ made. made.1.items ≡ openings settings) }
+        ensures memory { IsOkUnless result Memory }
+    {
+        let (session, messages) = Session::with_seed(alloc, settings, seed)?;
         let base = session.copy(alloc)?;
         let entries = Vec::with_capacity(alloc, 1)?;
         let none = Counts {

@@ -105,7 +105,7 @@ impl<S: Sink + Drop, H: Oracle + Drop, F: Flags> PeerWork<S, H, F> {
             × (parts.flags ≡ flags)) }
         ensures memory { IfErr result (λ parts. parts.cause ≡ Memory) }
     {
-        match Trace::new(alloc, settings) {
+        match Trace::with_seed(alloc, settings, hall.seed()) {
             Ok((trace, unsent)) => Ok(PeerWork {
                 alloc,
                 trace,

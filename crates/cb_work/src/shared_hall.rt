@@ -1,5 +1,5 @@
 use crate::connection_status::ConnectionStatus;
-use cb_base::{Fault, Shared};
+use cb_base::{Fault, Seed, Shared};
 use cb_hall::{Badge, Hall};
 use cb_journal::{Answer, Question};
 use cb_trace::Oracle;
@@ -49,6 +49,11 @@ impl<R: Wait + Drop> Oracle for SharedHall<R> {
         }
         let mut guard = self.hall.lock(&self.rt);
         guard.ask(badge, question)
+    }
+
+    fn seed(&self) -> Seed {
+        let guard = self.hall.lock(&self.rt);
+        guard.seed()
     }
 
     ghost told_none = { λ a x. counted_none x };

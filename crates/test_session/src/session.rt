@@ -2,7 +2,7 @@
 ghost use Rattle.std.specs.Prelude.{◌≤◌, ⊤};
 
 use crate::shared::{PING, PONG, SETTINGS, TWO_PINGS};
-use cb_base::Fault;
+use cb_base::{Fault, Seed};
 use cb_session::{
     Answer, Badge, CloseReason, Hall, In, Oracle, Out, Question, ReadEnd, Served, Settings, Sink,
     Source, State, serve, serve_by,
@@ -392,6 +392,10 @@ impl Oracle for TwoAnswers {
             }
         }
         self.hall.ask(badge, question)
+    }
+
+    fn seed(&self) -> Seed {
+        self.hall.seed()
     }
 
     ghost told_none = { λ hall badge. counted_none badge };

@@ -3,7 +3,7 @@ use Rattle.std.proofs.lemmas.Result.{err_from_is_err_and}
 use Rattle.cb_base.specs.declared.fault.Fault.{Fault}
 use Rattle.cb_base.specs.declared.fault.Fault.TheVariants.{JournalFull, Memory}
 use Rattle.cb_hall.proofs.Replaying.{played_all, played_fit, played_more, played_none, played_notes}
-use Rattle.cb_hall.proofs.hall.Hall.replay.Goals as goal
+use Rattle.cb_hall.proofs.hall.Hall.replay_with_seed.Goals as goal
 
 pub loop-call-init : goal.loop-call-init
 loop-call-init c = played_none c.in_ok-journal.journal c.args.calls.now c.args.calls.now c.in_ok-journal.ensures.new refl c.requires

@@ -3,7 +3,7 @@ use Rattle.std.specs.Prelude.{vec_capacity}
 use Rattle.cb_trace.specs.declared.trace.TraceEntry.{TraceEntry}
 use Rattle.cb_trace.specs.Trace.{IsTrace, StandsFor, held_of}
 use Rattle.cb_trace.proofs.Traces.{stands_first, trace_first, view}
-use Rattle.cb_trace.proofs.trace.Trace.new.Goals as goal
+use Rattle.cb_trace.proofs.trace.Trace.with_seed.Goals as goal
 
 pub invariant_of-trace : goal.invariant_of-trace
 invariant_of-trace c =
