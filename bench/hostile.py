@@ -12,8 +12,8 @@ take turns.
 - Touched: a block that takes one transaction of a pool of large ones, beside a block that takes none.
 - Headers: the memory of 40,000 headers in a hall, over all states that it keeps.
 
-The status is 1 where a ratio of the entries or the parents is above the limit, 5 if none is given. The other rows are told alone: the
-table of inputs stands under a seed that is known, a fold of the pool tries all of it, and the states of a journal share nothing.
+The status is 1 where a ratio of the entries, the inputs or the parents is above the limit, 5 if none is given. The other rows are told
+alone: a fold of the pool tries all of it, and the states of a journal share nothing.
 """
 
 import argparse
@@ -91,7 +91,7 @@ def entries(rng):
 def inputs(rng):
     """A transaction of inputs that aren't there."""
     plays = [beside(b"", asked("tx", AnyTx([((make(rng), 0), b"") for _ in range(INPUTS)], [1]))) for make in (crafted, drawn)]
-    return Row(f"a transaction of {INPUTS:,} crafted inputs", *plays, judged=False)
+    return Row(f"a transaction of {INPUTS:,} crafted inputs", *plays)
 
 
 def headers_up(count):
