@@ -1,4 +1,4 @@
-ghost use Rattle.std.specs.Prelude.{◌≡◌, ◌↔◌, ◌++◌, ℕ, ◌^◌, ◌*◌, ◌≤◌, ◌<◌, List, length, slice_index, All, IfOk, IsTrue, MatchResult, Ok, Err};
+ghost use Rattle.std.specs.Prelude.{◌≡◌, ◌↔◌, ◌++◌, ℕ, ◌^◌, ◌*◌, ◌≤◌, ◌<◌, List, [], ◌∷◌, length, slice_index, All, IfOk, IsTrue, MatchResult, Ok, Err};
 ghost use Rattle.cb_base.specs.CompactSize.{Gives};
 ghost use Rattle.cb_base.specs.DoubleHash.{double_hash};
 ghost use Rattle.cb_base.specs.Reading.{Reads};
@@ -9,6 +9,7 @@ ghost use Rattle.cb_block.specs.Work.{HasWork, little_endian};
 ghost use Rattle.cb_block.specs.declared.header.Header.{Header};
 
 use cb_base::{Cursor, Fault, Hash256, dsha};
+use cb_lanes::dsha_80s;
 use cb_tx::read_hash;
 
 /// The bits of every header of the network: the target of regtest in compact form.
@@ -56,6 +57,20 @@ impl Header {
     {
         dsha(&self.text())
     }
+}
+
+/// The block hashes of four headers, hashed side by side. That takes less than half the instructions
+/// of four calls of `Header::hash`.
+pub fn hashes_of_four(
+    first: &Header,
+    second: &Header,
+    third: &Header,
+    fourth: &Header,
+) -> [Hash256; 4]
+    ensures { result ≡ double_hash (header_text first.now) ∷ double_hash (header_text second.now)
+        ∷ double_hash (header_text third.now) ∷ double_hash (header_text fourth.now) ∷ [] }
+{
+    dsha_80s(&first.text(), &second.text(), &third.text(), &fourth.text())
 }
 
 /// Reads a header. After an error the cursor may have advanced.
@@ -134,6 +149,19 @@ fn meets_target(hash: &[u8]) -> bool
         return are_zero(low);
     }
     high < 0x7f_ffff
+}
+
+/// Checks the proof of work of a header whose hash is known. Fails with `Fault::BadWork` if the bits
+/// aren't those of regtest (`BITS`) or if the hash is above their target.
+pub fn check_hashed_header(header: &Header, hash: &Hash256) -> Result<(), Fault>
+    requires { hash.now ≡ double_hash (header_text header.now) }
+    ensures { MatchResult result (λ _. HasWork header.now)
+        (λ fault. (fault ≡ BadWork) × (¬ HasWork header.now)) }
+{
+    if header.bits == BITS && meets_target(hash.0.as_slice()) {
+        return Ok(());
+    }
+    Err(Fault::BadWork)
 }
 
 /// Checks the proof of work of a header and returns its hash. Fails with `Fault::BadWork` if the

@@ -17,7 +17,9 @@ mod soundness;
 pub use block::{Block, Txs};
 pub use coding::{read_block, write_block};
 pub use decision::{sound_is_decided, sound_of};
-pub use header::{BITS, Header, check_header, hash_with_work, read_header};
+pub use header::{
+    BITS, Header, check_hashed_header, check_header, hash_with_work, hashes_of_four, read_header,
+};
 pub use laws::{
     beginning_of_block_is_truncated, beginning_of_header_is_truncated, one_block_text, one_root,
     one_sound_list,

@@ -1,5 +1,5 @@
 -- Headers that are given in turn.
-use Rattle.std.proofs.Common.{◌≡◌, ℕ, ◌+◌, ◌<◌, ◌≤◌, false, List, [], ◌∷◌, ◌++◌, append-nil, append_assoc, drop, get_or, length, Some, None, Option, refl, sym, ap, subst, ◌∙◌, inl, inr}
+use Rattle.std.proofs.Common.{◌≡◌, ℕ, ◌+◌, ◌-◌, ◌%◌, ◌<◌, ◌≤◌, false, List, [], ◌∷◌, ◌++◌, append-nil, append_assoc, take, drop, get_or, length, map, Some, None, Option, refl, sym, ap, subst, ◌∙◌, inl, inr, arith}
 use Rattle.std.proofs.lemmas.List.{drop_all, drop_more}
 use Rattle.cb_base.specs.declared.fault.Fault.{Fault}
 use Rattle.cb_base.specs.declared.fault.Fault.TheVariants.{Known}
@@ -13,7 +13,7 @@ use Rattle.cb_chain.specs.declared.node.Node.{Node}
 use Rattle.cb_chain.specs.declared.side_chain.Side.{Side}
 use Rattle.cb_chain.specs.Calls.{AcceptsHeader, header_entry, header_fault}
 use Rattle.cb_chain.specs.Entries.{Entry, Tree, block_hash}
-use Rattle.cb_chain.specs.Headers.{Meets, TakesHeaders, goes_on}
+use Rattle.cb_chain.specs.Headers.{HasFour, Meets, TakesHeaders, goes_on}
 use Rattle.cb_chain.specs.History.{IsHistoric}
 use Rattle.cb_chain.specs.Keeping.{Grown, IsNode, IsSpot, IsTree, entry_from, node_on, tree_of}
 use Rattle.cb_chain.specs.Laws.{Stays}
@@ -88,6 +88,12 @@ through_against old now next headers met k none fault through lt stop told =
     let one : TakesHeaders now (header ∷ drop (k + 1) headers) (Some fault) [] next = inr (stop, told, refl) in
     let here : TakesHeaders now (drop k headers) (Some fault) [] next = subst (λ (rest : List Header). TakesHeaders now rest (Some fault) [] next) (sym (drop_more headers k none lt)) one in
     subst (λ (hs : List Hash256). TakesHeaders old headers (Some fault) hs next) (append-nil met) (through (Some fault) [] next here)
+
+-- the hashes of four headers, from one of them to the next
+pub four_next : (headers : List Header) (i : ℕ) (hashes : List Hash256) → HasFour headers i hashes → 0 < (i + 1) % 4 → HasFour headers (i + 1) hashes
+four_next headers i hashes has later =
+    let same : i - i % 4 ≡ i + 1 - (i + 1) % 4 = omega arith in
+    subst (λ (first : ℕ). first + 4 ≤ length headers → hashes ≡ map block_hash (take 4 (drop first headers))) same has
 
 -- ---- what they leave
 

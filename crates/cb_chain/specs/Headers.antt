@@ -1,5 +1,5 @@
 -- What a list of headers does to the tree (Bitcoin's protocol, `headers`).
-use Rattle.std.specs.Prelude.{◌≡◌, ◌⊎◌, Bool, true, false, List, [], ◌∷◌, Option, None, Some}
+use Rattle.std.specs.Prelude.{◌≡◌, ◌⊎◌, ℕ, ◌+◌, ◌-◌, ◌%◌, ◌≤◌, Bool, true, false, List, [], ◌∷◌, length, map, take, drop, Option, None, Some}
 use Rattle.cb_base.specs.declared.fault.Fault.{Fault}
 use Rattle.cb_base.specs.declared.fault.Fault.TheVariants.{Known}
 use Rattle.cb_base.specs.declared.hash.Hash256.{Hash256}
@@ -25,3 +25,8 @@ TakesHeaders old [] against met new = (against ≡ None) × (met ≡ []) × (new
 TakesHeaders old (header ∷ headers) against met new =
     ((next : Tree) × (others : List Hash256) × Meets old header next × (met ≡ block_hash header ∷ others) × TakesHeaders next headers against others new)
     ⊎ ((goes_on against ≡ false) × AcceptsHeader old header against new × (met ≡ []))
+
+-- The headers are parted into fours from the first one on. `hashes` are those of the four that
+-- header i is one of, where there are four.
+abbrev pub HasFour : List Header → ℕ → List Hash256 → Type 0
+HasFour headers i hashes = i - i % 4 + 4 ≤ length headers → hashes ≡ map block_hash (take 4 (drop (i - i % 4) headers))

@@ -1,8 +1,9 @@
-ghost use Rattle.std.specs.Prelude.{◌≡◌, ◌+◌, ◌<◌, ◌≤◌, [], length, false, Some, vec_capacity, IfErr, IfOk, IsOkUnless, OnErr, OnOk};
+ghost use Rattle.std.specs.Prelude.{◌≡◌, ℕ, ◌+◌, ◌%◌, ◌<◌, ◌≤◌, [], length, slice_index_or, false, Some, vec_capacity, IfErr, IfOk, IsOkUnless, OnErr, OnOk};
 ghost use Rattle.cb_base.specs.declared.fault.Fault.TheVariants.{Memory};
+ghost use Rattle.cb_block.specs.declared.header.Header.{Header};
 ghost use Rattle.cb_chain.specs.Calls.{AcceptsHeader};
 ghost use Rattle.cb_chain.specs.Entries.{block_hash};
-ghost use Rattle.cb_chain.specs.Headers.{Meets, TakesHeaders, goes_on};
+ghost use Rattle.cb_chain.specs.Headers.{HasFour, Meets, TakesHeaders, goes_on};
 ghost use Rattle.cb_chain.specs.Keeping.{tree_of};
 ghost use Rattle.cb_chain.specs.Laws.{Stays};
 ghost use Rattle.cb_chain.specs.Sides.{KeepsChains};
@@ -11,7 +12,7 @@ use crate::chain::Chain;
 use crate::change::Hashes;
 use crate::tree::Tree;
 use cb_base::{Fault, Hash256};
-use cb_block::{Header, hash_with_work};
+use cb_block::{Header, check_hashed_header, hashes_of_four};
 
 /// The result of adding several headers in order.
 #[derive(Drop)]
@@ -22,11 +23,35 @@ pub struct Accepted {
     pub refused: Option<Fault>,
 }
 
-/// Adds a header, or skips it if it is known, and returns its hash. Fails if it is refused for any
-/// other reason. There must be room for it.
-fn meet_header(tree: &mut Tree, header: Header) -> Result<Hash256, Fault>
-    requires { 0 < tree.old.room }
-    ensures hash { IfOk result (λ hash. hash ≡ block_hash header) }
+/// The hash of the header at a place. The headers are taken by fours. At the first of four their
+/// hashes are written to `four`, and the next three are read from there. Those that are left behind
+/// the last four are hashed one by one.
+fn hash_at(headers: &[Header], i: usize, four: &mut [Hash256; 4]) -> Hash256
+    requires there { i < length headers.now }
+    requires four { 0 < i % 4 → HasFour headers.now i four.old }
+    ensures hash { (header : Header) → result ≡ block_hash (slice_index_or headers.now i header) }
+    ensures four { HasFour headers.now i four.new }
+{
+    let first = i - i % 4;
+    if headers.len() - first < 4 {
+        return headers[i].hash();
+    }
+    if i == first {
+        *four = hashes_of_four(
+            &headers[i],
+            &headers[i + 1],
+            &headers[i + 2],
+            &headers[i + 3],
+        );
+    }
+    four[i - first]
+}
+
+/// Adds a header with its hash, or skips it if it is known. Fails if it is refused for any other
+/// reason. There must be room for it.
+fn meet_header(tree: &mut Tree, header: Header, hash: Hash256) -> Result<(), Fault>
+    requires room { 0 < tree.old.room }
+    requires hash { hash ≡ block_hash header }
     ensures ok { OnOk result (Meets (tree_of tree.old.nodes) header (tree_of tree.new.nodes)) }
     ensures against { IfErr result (λ fault. goes_on (Some fault) ≡ false) }
     ensures err { IfErr result
@@ -35,13 +60,13 @@ fn meet_header(tree: &mut Tree, header: Header) -> Result<Hash256, Fault>
     ensures chains { KeepsChains tree.old tree.new }
     ensures room { tree.old.room ≤ tree.new.room + 1 }
 {
-    let hash = hash_with_work(&header)?;
+    check_hashed_header(&header, &hash)?;
     match tree.header_spot(header, hash) {
         Ok(spot) => {
             tree.add(spot.node(None, false), None);
-            Ok(hash)
+            Ok(())
         }
-        Err(fault) if fault == Fault::Known => Ok(hash),
+        Err(fault) if fault == Fault::Known => Ok(()),
         Err(fault) => Err(fault),
     }
 }
@@ -56,9 +81,11 @@ fn meet_headers(tree: &mut Tree, headers: &[Header], met: &mut Vec<Hash256>) -> 
         (tree_of tree.new.nodes) }
     ensures chains { KeepsChains tree.old tree.new }
 {
-    for header in headers {
-        match meet_header(tree, *header) {
-            Ok(hash) => met.push(hash).unwrap(),
+    let mut four = [Hash256([0; 32]); 4];
+    for i in 0..headers.len() {
+        let hash = hash_at(headers, i, &mut four);
+        match meet_header(tree, headers[i], hash) {
+            Ok(()) => met.push(hash).unwrap(),
             Err(fault) => return Some(fault),
         }
     }

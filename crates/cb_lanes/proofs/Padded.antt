@@ -1,7 +1,7 @@
 -- Padded messages, and their blocks.
 use Rattle.std.proofs.Common.{◌≡◌, ℕ, zero, suc, ◌+◌, ◌-◌, ◌*◌, ◌/◌, ◌%◌, ◌^◌, ◌<◌, ◌≤◌, List, [], ◌∷◌, ◌++◌, length, take, drop, replicate, get_or, slice_index, refl, sym, ap, subst, ◌∙◌, append_assoc, mod-lt, arith, inl, inr}
 use Rattle.std.proofs.lemmas.Bool.{cases_lt}
-use Rattle.std.proofs.lemmas.List.{length-append, length-replicate, take_at, take_all, drop_at}
+use Rattle.std.proofs.lemmas.List.{length-append, length-drop, length-replicate, take_at, take_all, take-append-le, drop_at, drop-append-le}
 use Rattle.std.proofs.lemmas.Nat.{from_be_bytes-to_be_bytes_4}
 use Rattle.std.specs.Int.{w64, to_be_bytes}
 use Rattle.sha2.specs.Sha256.{IsWindow, add_state, compress, digest_bytes, final_hash, hash_after, initial_hash_256, padded_message, padding, schedule, rounds, sha256}
@@ -85,6 +85,17 @@ hash_of_64 m long =
     let front : take 64 (m ++ padding 64) ≡ m = take_at m (padding 64) 64 long in
     let back : drop 64 (m ++ padding 64) ≡ padding 64 = drop_at m (padding 64) 64 long in
     rw (count, p, front, back) refl
+
+pub hash_of_80 : (m : List ℕ) → length m ≡ 80 → final_hash initial_hash_256 m ≡ compress (compress initial_hash_256 (take 64 m)) (drop 64 m ++ padding 80)
+unfolding hash_after
+hash_of_80 m long =
+    let p : padded_message m ≡ m ++ padding 80 = ap (λ (n : ℕ). m ++ padding n) long in
+    let count : length (padded_message m) / 64 ≡ 2 = omega (arith, length_padded m, long) in
+    let front : take 64 (m ++ padding 80) ≡ take 64 m = take-append-le 64 m (padding 80) (omega arith) in
+    let back : drop 64 (m ++ padding 80) ≡ drop 64 m ++ padding 80 = drop-append-le 64 m (padding 80) (omega arith) in
+    let tail : length (drop 64 m ++ padding 80) ≡ 64 = omega (arith, length-append (drop 64 m) (padding 80), length-drop 64 m, long) in
+    let all : take 64 (drop 64 m ++ padding 80) ≡ drop 64 m ++ padding 80 = take_all 64 (drop 64 m ++ padding 80) (omega (arith, tail)) in
+    rw (count, p, front, back, all) refl
 
 abbrev pub FitsWords : List ℕ → Type 0
 FitsWords h = (i : ℕ) → i < 8 → slice_index h i < 2 ^ 32
@@ -195,6 +206,12 @@ twice m h hash e d = ap (λ (x : List ℕ). record { 0 = x }) (d ∙ ap (λ (x :
 pub after_64 : (m start once state : List ℕ) → length m ≡ 64 → start ≡ initial_hash_256 → once ≡ compress start m → state ≡ compress once (padding 64) → state ≡ final_hash initial_hash_256 m
 after_64 m start once state long es eo e =
     e ∙ ap (λ (x : List ℕ). compress x (padding 64)) (eo ∙ ap (λ (x : List ℕ). compress x m) es) ∙ sym (hash_of_64 m long)
+
+-- two blocks of a message of 80 bytes
+pub after_80 : (m start once state : List ℕ) → length m ≡ 80 → start ≡ initial_hash_256 → once ≡ compress start (take 64 m)
+    → state ≡ compress once (drop 64 m ++ padding 80) → state ≡ final_hash initial_hash_256 m
+after_80 m start once state long es eo e =
+    e ∙ ap (λ (x : List ℕ). compress x (drop 64 m ++ padding 80)) (eo ∙ ap (λ (x : List ℕ). compress x (take 64 m)) es) ∙ sym (hash_of_80 m long)
 
 -- all blocks of a padded message
 pub after_all : (m text state : List ℕ) → text ≡ padded_message m → state ≡ hash_after initial_hash_256 text (length text / 64) → state ≡ final_hash initial_hash_256 m

@@ -7,7 +7,7 @@ ghost use Rattle.cb_lanes.specs.Lanes.{HasWholeBlocks, TakesBlock, lane};
 
 use crate::blocks::{block_at, block_words, has_block};
 use crate::compression::{choose_state, compress, compress_padding};
-use crate::padding::pad;
+use crate::padding::{pad, second_of_80};
 use cb_base::{Fault, Hash256, dsha};
 use std::simd::u32x4;
 
@@ -151,6 +151,27 @@ pub fn dsha_64s(
     let words = block_words(first, second, third, fourth);
     let once = compress(initial_state(), words);
     let state = compress_padding(once);
+    finish(state)
+}
+
+/// The double hashes of four texts of 80 bytes, such as block headers.
+pub fn dsha_80s(
+    first: &[u8; 80],
+    second: &[u8; 80],
+    third: &[u8; 80],
+    fourth: &[u8; 80],
+) -> [Hash256; 4]
+    ensures { result ≡ double_hash first.now ∷ double_hash second.now ∷ double_hash third.now
+        ∷ double_hash fourth.now ∷ [] }
+{
+    let words = block_words(&first[..64], &second[..64], &third[..64], &fourth[..64]);
+    let once = compress(initial_state(), words);
+    let a = second_of_80(first);
+    let b = second_of_80(second);
+    let c = second_of_80(third);
+    let d = second_of_80(fourth);
+    let ends = block_words(&a, &b, &c, &d);
+    let state = compress(once, ends);
     finish(state)
 }
 

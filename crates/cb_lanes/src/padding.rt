@@ -1,5 +1,5 @@
-ghost use Rattle.std.specs.Prelude.{◌≡◌, OnOk, IsOkUnless};
-ghost use Rattle.sha2.specs.Sha256.{padded_message};
+ghost use Rattle.std.specs.Prelude.{◌≡◌, ◌++◌, drop, OnOk, IsOkUnless};
+ghost use Rattle.sha2.specs.Sha256.{padded_message, padding};
 ghost use Rattle.cb_base.specs.declared.fault.Fault.TheVariants.{Memory};
 
 use cb_base::Fault;
@@ -19,4 +19,17 @@ pub(crate) fn pad(text: &mut Vec<u8>) -> Result<(), Fault>
     text.extend_from_slice(&ZEROS[..(119 - len % 64) % 64])?;
     text.extend_from_slice(&bits.to_be_bytes())?;
     Ok(())
+}
+
+/// The second of the two blocks of a message of 80 bytes: its last 16 bytes and the padding.
+pub(crate) fn second_of_80(text: &[u8; 80]) -> [u8; 64]
+    ensures { result ≡ drop 64 text.now ++ padding 80 }
+{
+    let [high, low] = 640u16.to_be_bytes();
+    let mut block = [0u8; 64];
+    block[16] = 0x80;
+    block[62] = high;
+    block[63] = low;
+    block[..16].copy_from_slice(&text[64..]);
+    block
 }

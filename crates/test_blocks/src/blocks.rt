@@ -1,8 +1,8 @@
 use super::texts::{COINBASE, PAYMENT, SIZE_64, bytes_of, stretched};
 use cb_base::{Cursor, Fault, Hash256, Shared, dsha};
 use cb_block::{
-    Block, SoundBlock, check_block, check_header, genesis, mutated, read_block, root, sound,
-    write_block,
+    Block, SoundBlock, check_block, check_header, genesis, hashes_of_four, mutated, read_block,
+    read_header, root, sound, write_block,
 };
 use std::alloc::Global;
 use std::test::*;
@@ -96,6 +96,42 @@ fn row_6(rt: HostRuntime) -> Result<(), Fail> {
     let txid = bytes_of(rt.alloc(), &[FIRST_TXID])?;
     let hash = bytes_of(rt.alloc(), &[FIRST_HASH])?;
     assert!(rt; is_genesis(rt.alloc(), txid.as_slice(), hash.as_slice()));
+    Ok(())
+}
+
+// The headers of the blocks 0, 1, 2 and 170 of the main network.
+const FOUR_HEADERS: &[&str] = &[
+    FRONT,
+    FIRST_TXID,
+    "29ab5f49ffff001d1dac2b7c",
+    "010000006fe28c0ab6f1b372c1a6a246ae63f74f931e8365e15a089c68d6190000000000982051fd1e4ba744bbbe680e1fee14677ba1a3c3540bf7b1cdb606e857233e0e61bc6649ffff001d01e36299",
+    "010000004860eb18bf1b1620e37e9490fc8a427514416fd75159ab86688e9a8300000000d5fdcc541e25de1c7a5addedf24858b8bb665c9f36ef744ee42c316022c90f9bb0bc6649ffff001d08d2bd61",
+    HEADER_170,
+];
+
+// Their hashes, as they are sent.
+const FOUR_HASHES: &[&str] = &[
+    "6fe28c0ab6f1b372c1a6a246ae63f74f931e8365e15a089c68d6190000000000",
+    "4860eb18bf1b1620e37e9490fc8a427514416fd75159ab86688e9a8300000000",
+    "bddd99ccfda39da1b108ce1a5d70038d0a967bacb68b6b63065f626a00000000",
+    "eea2d48d2fced4346842835c659e493d323f06d4034469a8905714d100000000",
+];
+
+// Whether four headers that are hashed side by side have these hashes.
+fn are_hashed(bytes: &[u8], hashes: &[Hash256]) -> Result<bool, Fault> {
+    let mut cursor = Cursor::new(bytes);
+    let first = read_header(&mut cursor)?;
+    let second = read_header(&mut cursor)?;
+    let third = read_header(&mut cursor)?;
+    let fourth = read_header(&mut cursor)?;
+    Ok(hashes_of_four(&first, &second, &third, &fourth).as_slice() == hashes)
+}
+
+#[test]
+fn four_headers(rt: HostRuntime) -> Result<(), Fail> {
+    let bytes = bytes_of(rt.alloc(), FOUR_HEADERS)?;
+    let hashes = hashes_of(rt.alloc(), FOUR_HASHES)?;
+    assert!(rt; are_hashed(bytes.as_slice(), hashes.as_slice())?);
     Ok(())
 }
 

@@ -1,26 +1,27 @@
 use Rattle.std.proofs.Common.{rules}
 use Rattle.cb_chain.specs.Keeping.{tree_of}
-use Rattle.cb_chain.proofs.Headings.{through_against, through_all, through_more}
+use Rattle.cb_chain.proofs.Headings.{four_next, through_against, through_all, through_more}
 use Rattle.cb_chain.proofs.headers.meet_headers.Goals as goal
 
-pub loop-header-preserved : goal.loop-header-preserved
-loop-header-preserved c = (
-  through_more (tree_of c.args.tree.now.nodes) (tree_of c.loop-header.tree.nodes) (tree_of c.meet_header.new.tree.nodes) c.args.headers.now c.loop-header.met.items c.push.new.self.items c.loop-header.header-index _
-      c.loop-header.invariant.0 c.loop-header-test.true c.in-Ok.ensures.ok (search rules),
-  λ path unspent side is. c.in-Ok.ensures.chains path unspent side (c.loop-header.invariant.1 path unspent side is),
+pub loop-i-preserved : goal.loop-i-preserved
+loop-i-preserved c = (
+  through_more (tree_of c.args.tree.now.nodes) (tree_of c.loop-i.tree.nodes) (tree_of c.meet_header.new.tree.nodes) c.args.headers.now c.loop-i.met.items c.push.new.self.items c.loop-i.i _
+      c.loop-i.invariant.0 c.loop-i-test.true c.in-Ok.ensures.ok (search rules),
+  λ path unspent side is. c.in-Ok.ensures.chains path unspent side (c.loop-i.invariant.1 path unspent side is),
   search rules,
   search rules,
   search rules,
+  λ later. four_next c.args.headers.now c.loop-i.i _ c.hash_at-hash.ensures.four later,
 )
 
 pub returns-in-Err-clause-takes : goal.returns-in-Err-clause-takes
 returns-in-Err-clause-takes c =
-    through_against (tree_of c.args.tree.now.nodes) (tree_of c.loop-header.tree.nodes) (tree_of c.meet_header.new.tree.nodes) c.args.headers.now c.loop-header.met.items c.loop-header.header-index _ c.in-Err.fault
-    c.loop-header.invariant.0 c.loop-header-test.true c.in-Err.ensures.against c.in-Err.ensures.err
+    through_against (tree_of c.args.tree.now.nodes) (tree_of c.loop-i.tree.nodes) (tree_of c.meet_header.new.tree.nodes) c.args.headers.now c.loop-i.met.items c.loop-i.i _ c.in-Err.fault
+    c.loop-i.invariant.0 c.loop-i-test.true c.in-Err.ensures.against c.in-Err.ensures.err
 
 pub returns-in-Err-clause-chains : goal.returns-in-Err-clause-chains
-returns-in-Err-clause-chains c = λ path unspent side is. c.in-Err.ensures.chains path unspent side (c.loop-header.invariant.1 path unspent side is)
+returns-in-Err-clause-chains c = λ path unspent side is. c.in-Err.ensures.chains path unspent side (c.loop-i.invariant.1 path unspent side is)
 
 pub returns-clause-takes : goal.returns-clause-takes
 returns-clause-takes c =
-    through_all (tree_of c.args.tree.now.nodes) (tree_of c.loop-header.tree.nodes) c.args.headers.now c.loop-header.met.items c.loop-header.header-index c.loop-header.invariant.0 c.loop-header-test.false
+    through_all (tree_of c.args.tree.now.nodes) (tree_of c.loop-i.tree.nodes) c.args.headers.now c.loop-i.met.items c.loop-i.i c.loop-i.invariant.0 c.loop-i-test.false
