@@ -5,16 +5,8 @@ use Rattle.std.specs.Prelude.{ℕ, List, flat_map}
 use Rattle.std.specs.Hash.FoldHasher.{initial, write}
 use Rattle.std.specs.declared.hash.FoldHasher.{FoldHasher}
 use Rattle.sha2.specs.Sha256.{sha256}
-use Rattle.cb_base.specs.declared.hash.Hash256.{Hash256}
-use Rattle.cb_state.specs.declared.inventory.Inventory.{Inventory}
-use Rattle.cb_state.specs.declared.inventory.Inventory.TheVariants.{Tx, Block, CompactBlock, Other}
-
--- the hash of an entry
-abbrev pub hash_in : Inventory → Hash256
-hash_in (Tx hash) = hash
-hash_in (Block hash) = hash
-hash_in (CompactBlock hash) = hash
-hash_in (Other kind hash) = hash
+use Rattle.cb_payload.specs.declared.inventory.Inventory.{Inventory}
+use Rattle.cb_payload.specs.Lists.{hash_in}
 
 -- the hashes one after the other
 abbrev pub seed_text : List Inventory → List ℕ

@@ -1,9 +1,8 @@
 ghost use Rattle.std.specs.Prelude.{◌≡◌, ◌≤◌, ◌<◌, length};
 ghost use Rattle.std.specs.Hash.FoldHasher.{initial};
-ghost use Rattle.cb_state.specs.Seeding.{hash_in, seed_of};
+ghost use Rattle.cb_state.specs.Seeding.{seed_of};
 
-use crate::inventory::Inventory;
-use cb_base::Hash256;
+use cb_payload::Inventory;
 use sha2::{Digest, Sha256};
 use std::hash::{BuildHasher, FoldHasher, Hasher};
 use std::marker::Model;
@@ -55,7 +54,7 @@ impl EntrySeed {
     {
         let mut digest = Sha256::new();
         for entry in entries {
-            let hash = hash_in(*entry);
+            let hash = entry.hash();
             digest.update(hash.0.as_slice());
         }
         let mut hasher = FoldHasher::default();
@@ -71,17 +70,5 @@ impl BuildHasher for EntrySeed {
 
     fn build_hasher(&self) -> FoldHasher {
         self.hasher
-    }
-}
-
-/// The hash of an entry.
-fn hash_in(entry: Inventory) -> Hash256
-    ensures { result ≡ hash_in entry }
-{
-    match entry {
-        Inventory::Tx(hash) => hash,
-        Inventory::Block(hash) => hash,
-        Inventory::CompactBlock(hash) => hash,
-        Inventory::Other(_, hash) => hash,
     }
 }
