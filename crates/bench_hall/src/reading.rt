@@ -6,8 +6,8 @@ use bench_records::{read_hashes, read_numbers, read_sound};
 use cb_base::{Cursor, Fault, Shared};
 use cb_block::{Header, read_header};
 use cb_journal::{Given, Local, Question, Request, Sought, Told};
-use cb_payload::{HeaderList, Listed, Locator};
-use cb_state::{Connection, Inventories, Inventory};
+use cb_payload::{Entries, HeaderList, Inventory, Listed, Locator};
+use cb_state::Connection;
 use cb_tx::{Tx, read_hash, read_tx};
 use std::alloc::Global;
 
@@ -22,15 +22,10 @@ fn read_connection(cursor: &mut Cursor) -> Result<Connection, Fault> {
 fn read_entry(cursor: &mut Cursor) -> Result<Inventory, Fault> {
     let kind = cursor.u32()?;
     let hash = read_hash(cursor)?;
-    Ok(match kind {
-        1 => Inventory::Tx(hash),
-        2 => Inventory::Block(hash),
-        4 => Inventory::CompactBlock(hash),
-        _ => Inventory::Other(kind, hash),
-    })
+    Ok(Inventory::of(kind, hash))
 }
 
-fn read_entries(alloc: Global, cursor: &mut Cursor) -> Result<Inventories, Fault> {
+fn read_entries(alloc: Global, cursor: &mut Cursor) -> Result<Entries, Fault> {
     let mut entries = Vec::new(alloc);
     for _ in 0..cursor.left() / 36 {
         entries.push(read_entry(cursor)?)?;

@@ -4,8 +4,9 @@ use cb_base::{Fault, Hash256};
 use cb_block::SoundBlock;
 use cb_compact::Pair;
 use cb_journal::Answer;
+use cb_payload::Inventory;
 use cb_pool::Pairs;
-use cb_state::{Excerpt, Heads, Inventory, Need, News, Part, Piece};
+use cb_state::{Excerpt, Heads, Need, News, Part, Piece};
 use cb_tx::Tx;
 use std::alloc::Global;
 
@@ -20,14 +21,9 @@ fn push_refusal(line: &mut String, word: &str, refused: Option<Fault>) -> Result
 
 /// Appends an inventory entry: its type and its hash.
 fn push_entry(alloc: Global, line: &mut String, entry: &Inventory) -> Result<(), Fault> {
-    let (kind, hash) = match entry {
-        Inventory::Tx(txid) => (1, txid),
-        Inventory::Block(hash) => (2, hash),
-        Inventory::CompactBlock(hash) => (4, hash),
-        Inventory::Other(kind, hash) => (*kind, hash),
-    };
+    let kind = entry.kind();
     write!(line, " {kind}")?;
-    push_hash(alloc, line, hash)
+    push_hash(alloc, line, &entry.hash())
 }
 
 /// Appends a word, a hash, and a size in bytes.

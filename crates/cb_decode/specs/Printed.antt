@@ -17,7 +17,8 @@ use Rattle.cb_wire.specs.declared.message.Message.TheVariants.{Version, Verack, 
 use Rattle.cb_payload.specs.declared.block_transactions.BlockTransactions.{BlockTransactions}
 use Rattle.cb_payload.specs.declared.block_transactions.BlockTransactionsRequest.{BlockTransactionsRequest}
 use Rattle.cb_payload.specs.declared.compact_block.HeaderAndShortIds.{HeaderAndShortIds}
-use Rattle.cb_payload.specs.declared.inventory.InvEntry.{InvEntry}
+use Rattle.cb_payload.specs.declared.inventory.Inventory.{Inventory}
+use Rattle.cb_payload.specs.Lists.{hash_in, kind_of}
 use Rattle.cb_payload.specs.declared.requests.CompactRelay.{CompactRelay}
 use Rattle.cb_payload.specs.declared.requests.HeadersRequest.{HeadersRequest}
 use Rattle.cb_payload.specs.declared.version.Version as versions
@@ -67,11 +68,11 @@ abbrev pub request_line : HeadersRequest → List ℕ
 request_line request = counted_line (length request.locator) request.stop
 
 -- an inventory entry: two spaces, its type and its hash
-abbrev pub entry_line : InvEntry → List ℕ
-entry_line entry = codes "  " ++ decimal entry.kind ++ codes " " ++ hash_shown entry.hash ++ codes "\n"
+abbrev pub entry_line : Inventory → List ℕ
+entry_line entry = codes "  " ++ decimal (kind_of entry) ++ codes " " ++ hash_shown (hash_in entry) ++ codes "\n"
 
 -- an inventory list: the message's name, how many entries there are, then the entries
-abbrev pub entries_text : List ℕ → List InvEntry → List ℕ
+abbrev pub entries_text : List ℕ → List Inventory → List ℕ
 entries_text name entries = name ++ codes " " ++ decimal (length entries) ++ codes "\n" ++ flat_map entry_line entries
 
 -- a block header: two spaces and its hash

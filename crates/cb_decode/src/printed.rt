@@ -12,7 +12,7 @@ use cb_run::Halt;
 use cb_tx::{Tx, write_tx};
 use cb_wire::{
     Agent, BlockTransactions, BlockTransactionsRequest, CompactRelay, Differences,
-    HeaderAndShortIds, HeadersRequest, InvEntry, Item, Locator, Message, Version,
+    HeaderAndShortIds, HeadersRequest, Inventory, Item, Locator, Message, Version,
 };
 use std::alloc::Global;
 
@@ -155,7 +155,7 @@ fn push_entries(
     alloc: Global,
     text: &mut String,
     name: &str,
-    entries: &[InvEntry],
+    entries: &[Inventory],
 ) -> Result<(), Halt>
     ensures text { OnOk result
         (string_bytes text.new ≡ string_bytes text.old ++ entries_text name.now entries.now) }
@@ -170,13 +170,13 @@ fn push_entries(
 }
 
 /// Appends the line of an inventory entry.
-fn push_entry(alloc: Global, text: &mut String, entry: &InvEntry) -> Result<(), Halt>
+fn push_entry(alloc: Global, text: &mut String, entry: &Inventory) -> Result<(), Halt>
     ensures text { OnOk result
         (string_bytes text.new ≡ string_bytes text.old ++ entry_line entry.now) }
     ensures memory { IsOkUnless result Memory }
 {
-    let kind = entry.kind;
-    let hash = entry.hash.show(alloc).map_err(Halt::of_memory)?;
+    let kind = entry.kind();
+    let hash = entry.hash().show(alloc).map_err(Halt::of_memory)?;
     writeln!(text, "  {kind} {hash}")?;
     Ok(())
 }

@@ -3,8 +3,8 @@ use Rattle.std.proofs.Common.{◌≡◌, ◌⊎◌, ℕ, zero, suc, ◌+◌, ◌
 use Rattle.std.specs.Prelude.{nat_lt}
 use Rattle.std.proofs.lemmas.List.{length-append}
 use Rattle.cb_base.specs.declared.hash.Hash256.{Hash256}
-use Rattle.cb_state.specs.declared.inventory.Inventory.{Inventory}
-use Rattle.cb_state.specs.declared.inventory.Inventory.TheVariants.{Block, CompactBlock, Other, Tx}
+use Rattle.cb_payload.specs.declared.inventory.Inventory.{Inventory}
+use Rattle.cb_payload.specs.declared.inventory.Inventory.TheVariants.{Block, CompactBlock, Other, Tx}
 use Rattle.cb_fetch.specs.Fetching.{FetchState, block_in, blocks_in, is_fetched, wanting, wanting_all}
 
 -- nothing changes, or one more is wanted

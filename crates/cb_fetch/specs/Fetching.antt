@@ -5,9 +5,8 @@ use Rattle.std.specs.Prelude.{◌≡◌, ◌≤◌, ℕ, ⊤, Bool, false, ◌&&
 use Rattle.std.specs.List.{list_any}
 use Rattle.cb_base.specs.declared.hash.Hash256.{Hash256}
 use Rattle.cb_chain.specs.Entries.{same}
-use Rattle.cb_payload.specs.declared.inventory.InvEntry.{InvEntry}
-use Rattle.cb_state.specs.declared.inventory.Inventory.{Inventory}
-use Rattle.cb_state.specs.declared.inventory.Inventory.TheVariants.{Block}
+use Rattle.cb_payload.specs.declared.inventory.Inventory.{Inventory}
+use Rattle.cb_payload.specs.declared.inventory.Inventory.TheVariants.{Block, CompactBlock}
 
 -- What a session downloads, by the hashes of the blocks, each list in order.
 pub record FetchState : Type 0 where
@@ -93,13 +92,13 @@ abbrev pub blocks_in : List Inventory → List Hash256
 blocks_in [] = []
 blocks_in (entry ∷ entries) = block_in entry ++ blocks_in entries
 
--- the type of a `getdata` entry that requests a compact block (4, BIP 152) or a whole one (2)
-abbrev pub request_kind : Bool → ℕ
-request_kind compact = if compact then 4 else 2
+-- the `getdata` entry that requests a block, as a compact one (BIP 152) or whole
+abbrev pub request_of : Bool → Hash256 → Inventory
+request_of compact hash = if compact then CompactBlock hash else Block hash
 
--- the `getdata` entries that request blocks, as compact ones or whole
-abbrev pub requests_of : Bool → List Hash256 → List InvEntry
-requests_of compact hashes = map (λ hash. record { kind = request_kind compact; hash = hash }) hashes
+-- the same for several blocks
+abbrev pub requests_of : Bool → List Hash256 → List Inventory
+requests_of compact hashes = map (request_of compact) hashes
 
 -- ---- what always holds
 

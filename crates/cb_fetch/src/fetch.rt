@@ -1,10 +1,9 @@
-ghost use Rattle.std.specs.Prelude.{◌≡◌, ◌≤◌, ◌<◌, [], false, fold, length, map, nat_lt, IfOk, IsOk, IsOkUnless, OnErr, OnOk};
+ghost use Rattle.std.specs.Prelude.{◌≡◌, ◌≤◌, ◌<◌, [], false, fold, length, nat_lt, IfOk, IsOk, IsOkUnless, OnErr, OnOk};
 ghost use Rattle.cb_base.specs.declared.fault.Fault.TheVariants.{Memory};
-ghost use Rattle.cb_fetch.specs.Fetching.{as_blocks, asks_now, block_in, blocks_in, fallen_back, has, idle, is_due, is_fetched, landed, request_kind, requests_of, taken_on, taking_on, wanting, wanting_all, with_flight, with_wanted};
+ghost use Rattle.cb_fetch.specs.Fetching.{as_blocks, asks_now, block_in, blocks_in, fallen_back, has, idle, is_due, is_fetched, landed, request_of, requests_of, taken_on, taking_on, wanting, wanting_all, with_flight, with_wanted};
 
 use cb_base::{Fault, Hash256, Seed};
-use cb_payload::InvEntry;
-use cb_state::{Inventories, Inventory};
+use cb_payload::{Entries, Inventory};
 use indexmap::IndexSet;
 use std::alloc::Global;
 use std::marker::Model;
@@ -15,12 +14,6 @@ pub const MOST_IN_FLIGHT: usize = 16;
 /// The largest number of wanted blocks, not counting those in flight. This limit is the program's
 /// own.
 pub const MOST_WANTED: usize = 2_000;
-
-/// The inventory type of a whole block in `getdata`.
-const BLOCK: u32 = 2;
-
-/// The inventory type of a compact block in `getdata` (BIP 152).
-const COMPACT_BLOCK: u32 = 4;
 
 /// The blocks that a session downloads from its peer, by hash (Bitcoin's peer-to-peer protocol,
 /// `getdata`). A block is wanted if it is queued for download: at most 2,000 are. A block is in
@@ -258,26 +251,26 @@ impl Fetch {
     /// needed.
     ///
     /// Fails only with `Fault::Memory`, and never if nothing is wanted.
-    pub fn wanted(&self, alloc: Global) -> Result<Inventories, Fault>
+    pub fn wanted(&self, alloc: Global) -> Result<Entries, Fault>
         ensures entries { IfOk result (λ entries. entries ≡ as_blocks self.now.wanted) }
         ensures memory { IsOkUnless result Memory }
         ensures unpaid { length self.now.wanted ≡ 0 → IsOk result }
     {
         let entries = block_entries(alloc, self.wanted.as_slice())?;
-        Ok(Inventories::from_few(entries))
+        Ok(Entries::from_few(entries))
     }
 
     /// The `getdata` entries that request the blocks in flight, in order: as compact blocks (type
     /// 4, BIP 152) if `compact`, or else whole (type 2).
     ///
     /// Fails only with `Fault::Memory`, and never if nothing is in flight.
-    pub fn flight_entries(&self, alloc: Global, compact: bool) -> Result<cb_payload::Entries, Fault>
+    pub fn flight_entries(&self, alloc: Global, compact: bool) -> Result<Entries, Fault>
         ensures entries { IfOk result (λ entries. entries ≡ requests_of compact self.now.flight) }
         ensures memory { IsOkUnless result Memory }
         ensures unpaid { length self.now.flight ≡ 0 → IsOk result }
     {
-        let entries = request_entries(alloc, request_kind(compact), self.flight.as_slice())?;
-        Ok(cb_payload::Entries::from_few(entries))
+        let entries = request_entries(alloc, compact, self.flight.as_slice())?;
+        Ok(Entries::from_few(entries))
     }
 
     /// An equal value. Fails only with `Fault::Memory`, and never if nothing is in flight or
@@ -315,24 +308,31 @@ fn block_entries(alloc: Global, hashes: &[Hash256]) -> Result<Vec<Inventory>, Fa
     Ok(entries)
 }
 
-/// The inventory type under which a block is requested.
-fn request_kind(compact: bool) -> u32
-    ensures { result ≡ request_kind compact }
+/// The `getdata` entry that requests a block, as a compact block if `compact`, or else whole.
+fn request_of(compact: bool, hash: Hash256) -> Inventory
+    ensures { result ≡ request_of compact hash }
 {
-    if compact { COMPACT_BLOCK } else { BLOCK }
+    if compact {
+        Inventory::CompactBlock(hash)
+    } else {
+        Inventory::Block(hash)
+    }
 }
 
-/// The `getdata` entries of this type that request the blocks with these hashes. Fails only with
+/// The `getdata` entries that request the blocks with these hashes. Fails only with
 /// `Fault::Memory`, and never without hashes.
-fn request_entries(alloc: Global, kind: u32, hashes: &[Hash256]) -> Result<Vec<InvEntry>, Fault>
-    ensures entries { IfOk result (λ entries. entries.items
-        ≡ map (λ hash. record { kind = kind; hash = hash }) hashes.now) }
+fn request_entries(
+    alloc: Global,
+    compact: bool,
+    hashes: &[Hash256],
+) -> Result<Vec<Inventory>, Fault>
+    ensures entries { IfOk result (λ entries. entries.items ≡ requests_of compact hashes.now) }
     ensures memory { IsOkUnless result Memory }
     ensures unpaid { length hashes.now ≡ 0 → IsOk result }
 {
     let mut entries = Vec::with_capacity(alloc, hashes.len())?;
     for hash in hashes {
-        entries.push(InvEntry { kind, hash: *hash })?;
+        entries.push(request_of(compact, *hash))?;
     }
     Ok(entries)
 }

@@ -2,7 +2,7 @@
 use Rattle.std.proofs.Common.{◌≡◌, ◌∙◌, ℕ, Bool, true, false, List, [], ◌∷◌, ◌++◌, Option, None, Some, refl, sym, ap, subst}
 use Rattle.cb_base.specs.declared.hash.Hash256.{Hash256}
 use Rattle.cb_state.specs.declared.connection.Connection.{Connection}
-use Rattle.cb_state.specs.declared.inventory.Inventory.{Inventory}
+use Rattle.cb_payload.specs.declared.inventory.Inventory.{Inventory}
 use Rattle.cb_state.specs.declared.news.News.{News}
 use Rattle.cb_state.specs.declared.wanting.Need.{Need}
 use Rattle.cb_state.specs.News.{IsNews}

@@ -3,9 +3,8 @@ ghost use Rattle.cb_journal.specs.Weight.{question_weight, request_weight};
 
 use cb_base::{Hash256, Shared};
 use cb_block::{Header, SoundBlock};
-use cb_payload::{Differences, HeaderList, Locator};
+use cb_payload::{Differences, Entries, HeaderList, Locator};
 use cb_pool::ShortIds;
-use cb_state::Inventories;
 use cb_tx::Tx;
 
 /// The bytes that each entry of a list counts for in a journal.
@@ -35,7 +34,7 @@ pub struct Sought {
 #[derive(Drop)]
 pub enum Request {
     /// Transactions and blocks (Bitcoin's protocol, `getdata`).
-    Items(Inventories),
+    Items(Entries),
     /// The headers of the best chain after a block locator, up to a stop hash (Bitcoin's protocol,
     /// `getheaders`).
     After(Locator, Hash256),
@@ -65,7 +64,7 @@ pub enum Question {
     /// What is the chain's block locator?
     Locator,
     /// The peer announced transactions and blocks: which are wanted?
-    Want(Inventories),
+    Want(Entries),
     /// The peer sent a transaction.
     GiveTx(Shared<Tx>),
     /// The peer sent a block.

@@ -2,7 +2,7 @@
 use Rattle.std.proofs.Common.{◌≡◌, ℕ, zero, suc, ◌+◌, ◌*◌, ◌^◌, ◌<◌, ◌≤◌, Bool, true, false, cond, ltb, eqb, List, [], ◌∷◌, ◌++◌, length, drop, min, ◌-◌, All, Result, Ok, Err, refl, sym, ap, subst, ◌∙◌, append_assoc, arith}
 use Rattle.std.specs.List.{flat_map, AllByRecursion}
 use Rattle.std.specs.Int.{w16, w32, w64, to_le_bytes}
-use Rattle.std.proofs.lemmas.Bool.{ltb-false, le-ltb, eqb-true}
+use Rattle.std.proofs.lemmas.Bool.{ltb-false, le-ltb, eqb-true, ne_eqb}
 use Rattle.std.proofs.lemmas.List.{length-append, drop_at}
 use Rattle.std.proofs.lemmas.List.Concat.{flat_map-cons}
 use Rattle.std.proofs.lemmas.List.Elements.{All-from_recursion, recursion_from_All}
@@ -20,8 +20,10 @@ use Rattle.cb_block.specs.declared.header.Header.{Header}
 use Rattle.cb_block.specs.Reading.{header_at}
 use Rattle.cb_block.specs.Text.{IsHeader, header_text}
 use Rattle.cb_block.proofs.Headers.{header_again, header_laws_at}
-use Rattle.cb_payload.specs.declared.inventory.InvEntry.{InvEntry}
-use Rattle.cb_payload.specs.Lists.{IsEntry, IsHash, entry_at, entry_text, hash_text, limited_at, listed_at, listed_header_at, listed_header_text}
+use Rattle.cb_payload.specs.declared.inventory.Inventory.{Inventory}
+use Rattle.cb_payload.specs.declared.inventory.Inventory.TheVariants as kinds
+use Rattle.cb_payload.specs.Kinds.{IsOtherKind}
+use Rattle.cb_payload.specs.Lists.{IsEntry, IsHash, entry_at, entry_text, hash_in, hash_text, kind_of, named, limited_at, listed_at, listed_header_at, listed_header_text}
 
 -- a test that met no fault, with what was read behind it
 pub refused_not : {A : Type 0} (b : Bool) (d : Fault) (r : Result A Fault) (y : A) → cond b (Err d) r ≡ Ok y → (b ≡ false) × (r ≡ Ok y)
@@ -97,29 +99,57 @@ hash_kind = record { takes = hash_takes; again = hash_again; long = λ h is. ome
 
 -- ---- entries of inventory
 
-entry_takes : (bytes : List ℕ) (x : InvEntry) (rest : List ℕ) → AreBytes bytes → entry_at bytes ≡ Ok (x, rest) → Takes bytes (entry_text x) rest × IsEntry x
+by_kind : (k : ℕ) (h : Hash256) (a b c : Bool) → eqb k 1 ≡ a → eqb k 2 ≡ b → eqb k 4 ≡ c
+    → (kind_of (cond a (kinds.Tx h) (cond b (kinds.Block h) (cond c (kinds.CompactBlock h) (kinds.Other k h)))) ≡ k)
+    × (hash_in (cond a (kinds.Tx h) (cond b (kinds.Block h) (cond c (kinds.CompactBlock h) (kinds.Other k h)))) ≡ h)
+by_kind k h true b c p q r = (sym (eqb-true k 1 p), refl)
+by_kind k h false true c p q r = (sym (eqb-true k 2 q), refl)
+by_kind k h false false true p q r = (sym (eqb-true k 4 r), refl)
+by_kind k h false false false p q r = (refl, refl)
+
+-- an entry is of the type and the hash that it was made of
+kind_named : (k : ℕ) (h : Hash256) → kind_of (named k h) ≡ k
+kind_named k h = (by_kind k h (eqb k 1) (eqb k 2) (eqb k 4) refl refl refl).0
+
+hash_named : (k : ℕ) (h : Hash256) → hash_in (named k h) ≡ h
+hash_named k h = (by_kind k h (eqb k 1) (eqb k 2) (eqb k 4) refl refl refl).1
+
+-- a type without a name stands as it came
+pub other_named : (k : ℕ) (h : Hash256) → IsOtherKind k → named k h ≡ kinds.Other k h
+other_named k h is =
+    rw (ne_eqb k 1 is.tx, ne_eqb k 2 is.block, ne_eqb k 4 is.compact) refl
+
+entry_takes : (bytes : List ℕ) (x : Inventory) (rest : List ℕ) → AreBytes bytes → entry_at bytes ≡ Ok (x, rest) → Takes bytes (entry_text x) rest × IsEntry x
 unfolding entry_at entry_text
 entry_takes bytes x rest are e =
-    let a = bind_ok (number_at w32 bytes) (λ kind. hash_at kind.1 >>= λ hash. Ok (record { kind = kind.0; hash = hash.0 }, hash.1)) (x, rest) e in
-    let b = bind_ok (hash_at a.0.1) (λ hash. Ok (record { kind = a.0.0; hash = hash.0 }, hash.1)) (x, rest) a.2 in
+    let a = bind_ok (number_at w32 bytes) (λ kind. hash_at kind.1 >>= λ hash. Ok (named kind.0 hash.0, hash.1)) (x, rest) e in
+    let b = bind_ok (hash_at a.0.1) (λ hash. Ok (named a.0.0 hash.0, hash.1)) (x, rest) a.2 in
     let t = number_takes w32 (2 ^ 32) wide32 bytes a.0.0 a.0.1 are a.1 in
     let u = hash_takes a.0.1 b.0.0 b.0.1 t.0.rest_bytes b.1 in
     let both = Takes-then bytes (to_le_bytes w32 a.0.0) a.0.1 b.0.0.0 b.0.1 t.0 u.0 in
-    let made : InvEntry × List ℕ = (record { kind = a.0.0; hash = b.0.0 }, b.0.1) in
-    let is : IsEntry made.0 = record { kind = t.1; hash = u.1 } in
-    subst (λ (y : InvEntry × List ℕ). Takes bytes (entry_text y.0) y.1 × IsEntry y.0) (ok_is made (x, rest) b.2) (both, is)
+    let made : Inventory × List ℕ = (named a.0.0 b.0.0, b.0.1) in
+    let kind : kind_of made.0 ≡ a.0.0 = kind_named a.0.0 b.0.0 in
+    let hash : hash_in made.0 ≡ b.0.0 = hash_named a.0.0 b.0.0 in
+    let is : IsEntry made.0 = record {
+      kind = subst (λ (n : ℕ). n < 2 ^ 32) (sym kind) t.1;
+      known = ap (λ (n : ℕ). named n (hash_in made.0)) kind ∙ ap (named a.0.0) hash;
+      hash = ap (λ (h : Hash256). length h.0) hash ∙ u.1;
+    } in
+    let text : to_le_bytes w32 a.0.0 ++ b.0.0.0 ≡ entry_text made.0 =
+    ap (λ (n : ℕ). to_le_bytes w32 n ++ b.0.0.0) (sym kind) ∙ ap (λ (h : Hash256). to_le_bytes w32 (kind_of made.0) ++ h.0) (sym hash) in
+    subst (λ (y : Inventory × List ℕ). Takes bytes (entry_text y.0) y.1 × IsEntry y.0) (ok_is made (x, rest) b.2) (subst (λ (t : List ℕ). Takes bytes t b.0.1) text both, is)
 
-entry_again : (x : InvEntry) (rest : List ℕ) → IsEntry x → entry_at (entry_text x ++ rest) ≡ Ok (x, rest)
+entry_again : (x : Inventory) (rest : List ℕ) → IsEntry x → entry_at (entry_text x ++ rest) ≡ Ok (x, rest)
 unfolding entry_at entry_text
 entry_again x rest is =
-    ap entry_at (append_assoc (to_le_bytes w32 x.kind) x.hash.0 rest)
-    ∙ rw (number_again w32 (2 ^ 32) wide32 x.kind (x.hash.0 ++ rest) is.kind, hash_again x.hash rest is.hash) refl
+    ap entry_at (append_assoc (to_le_bytes w32 (kind_of x)) (hash_in x).0 rest)
+    ∙ rw (number_again w32 (2 ^ 32) wide32 (kind_of x) ((hash_in x).0 ++ rest) is.kind, hash_again (hash_in x) rest is.hash) (ap (λ (y : Inventory). Ok (y, rest)) is.known)
 
-entry_long : (x : InvEntry) → IsEntry x → length (entry_text x) ≡ 36
+entry_long : (x : Inventory) → IsEntry x → length (entry_text x) ≡ 36
 unfolding entry_text
-entry_long x is = omega (arith, is.hash, length-append (to_le_bytes w32 x.kind) x.hash.0)
+entry_long x is = omega (arith, is.hash, length-append (to_le_bytes w32 (kind_of x)) (hash_in x).0)
 
-pub entry_kind : IsKind InvEntry entry_text entry_at IsEntry 36
+pub entry_kind : IsKind Inventory entry_text entry_at IsEntry 36
 entry_kind = record { takes = entry_takes; again = entry_again; long = λ x is. omega (arith, entry_long x is) }
 
 -- ---- headers in a list
@@ -189,7 +219,7 @@ list_most text Is size each xs are =
 pub hashes_most : (xs : List Hash256) → length xs ≤ 101 → All IsHash xs → length (list_text hash_text xs) ≤ 3241
 hashes_most xs few are = let m = list_most hash_text IsHash 32 (λ x is. is) xs are in omega (arith, m, few)
 
-pub entries_most : (xs : List InvEntry) → length xs ≤ 50000 → All IsEntry xs → length (list_text entry_text xs) ≤ 1800009
+pub entries_most : (xs : List Inventory) → length xs ≤ 50000 → All IsEntry xs → length (list_text entry_text xs) ≤ 1800009
 entries_most xs few are = let m = list_most entry_text IsEntry 36 entry_long xs are in omega (arith, m, few)
 
 pub headers_most : (xs : List Header) → length xs ≤ 2000 → All IsHeader xs → length (list_text listed_header_text xs) ≤ 162009
@@ -205,10 +235,10 @@ sized text most slice xs r same le small is =
     let exact : r ≡ length (list_text text slice) = exact_size (length (list_text text slice)) r is (omega (arith, le, small)) in
     (exact ∙ ap (λ ys. length (list_text text ys)) same, omega (arith, exact, le))
 
-pub entries_sized : (slice xs : List InvEntry) (r : ℕ) → slice ≡ xs → length xs ≤ 50000 → r ≡ min (length (list_text entry_text slice)) (2 ^ 64 - 1) → All IsEntry slice
+pub entries_sized : (slice xs : List Inventory) (r : ℕ) → slice ≡ xs → length xs ≤ 50000 → r ≡ min (length (list_text entry_text slice)) (2 ^ 64 - 1) → All IsEntry slice
     → (r ≡ length (list_text entry_text xs)) × (r ≤ 1800009)
 entries_sized slice xs r same few is kept =
-    sized entry_text 1800009 slice xs r same (entries_most slice (subst (λ (ys : List InvEntry). length ys ≤ 50000) (sym same) few) kept) (omega arith) is
+    sized entry_text 1800009 slice xs r same (entries_most slice (subst (λ (ys : List Inventory). length ys ≤ 50000) (sym same) few) kept) (omega arith) is
 
 pub headers_sized : (slice xs : List Header) (r : ℕ) → slice ≡ xs → length xs ≤ 2000 → r ≡ min (length (list_text listed_header_text slice)) (2 ^ 64 - 1) → All IsHeader slice
     → (r ≡ length (list_text listed_header_text xs)) × (r ≤ 162009)

@@ -1,5 +1,6 @@
 pub mod BlockTransactions
 pub mod CompactBlocks
+pub mod Kinds
 pub mod Lists
 pub mod Requests
 pub mod RoundTrip

@@ -1,6 +1,6 @@
 -- Lists in messages of Bitcoin's peer-to-peer protocol (inv, getdata, notfound, headers,
 -- getheaders, getblocktxn): a count, which has a limit, then the items.
-use Rattle.std.specs.Prelude.{◌≡◌, ℕ, ◌*◌, ◌^◌, ◌<◌, List, ◌++◌, length, nat_lt, ◌==◌, if◌then◌else◌, Ok, Err}
+use Rattle.std.specs.Prelude.{◌≡◌, ℕ, ◌*◌, ◌^◌, ◌<◌, List, ◌++◌, length, nat_eq, nat_lt, ◌==◌, if◌then◌else◌, Ok, Err}
 use Rattle.std.specs.Int.{w32, to_le_bytes}
 use Rattle.cb_base.specs.declared.fault.Fault.TheVariants.{Truncated, TooMany, BadBool}
 use Rattle.cb_base.specs.declared.hash.Hash256.{Hash256}
@@ -10,7 +10,8 @@ use Rattle.cb_tx.specs.Reading.{hash_at, items_at}
 use Rattle.cb_block.specs.declared.header.Header.{Header}
 use Rattle.cb_block.specs.Reading.{header_at}
 use Rattle.cb_block.specs.Text.{header_text}
-use Rattle.cb_payload.specs.declared.inventory.InvEntry.{InvEntry}
+use Rattle.cb_payload.specs.declared.inventory.Inventory.{Inventory}
+use Rattle.cb_payload.specs.declared.inventory.Inventory.TheVariants as kinds
 
 -- Reads a count of items that have at least `size` bytes each. A count above the limit is refused
 -- first. A count whose items don't fit in the remaining bytes is refused next.
@@ -37,20 +38,40 @@ hash_text hash = hash.0
 abbrev pub IsHash : Hash256 → Type 0
 IsHash hash = length hash.0 ≡ 32
 
--- ---- an inventory vector: a type and a hash
+-- ---- an inventory entry: a type and a hash
 
-unfoldable pub entry_text : InvEntry → List ℕ
-entry_text entry = to_le_bytes w32 entry.kind ++ entry.hash.0
+abbrev pub kind_of : Inventory → ℕ
+kind_of (kinds.Tx txid) = 1
+kind_of (kinds.Block hash) = 2
+kind_of (kinds.CompactBlock hash) = 4
+kind_of (kinds.Other kind hash) = kind
 
-unfoldable pub entry_at : List ℕ → Read InvEntry
+abbrev pub hash_in : Inventory → Hash256
+hash_in (kinds.Tx txid) = txid
+hash_in (kinds.Block hash) = hash
+hash_in (kinds.CompactBlock hash) = hash
+hash_in (kinds.Other kind hash) = hash
+
+-- The entry of a type and a hash.
+abbrev pub named : ℕ → Hash256 → Inventory
+named kind hash =
+    if nat_eq kind 1 then kinds.Tx hash else if nat_eq kind 2 then kinds.Block hash
+    else if nat_eq kind 4 then kinds.CompactBlock hash else kinds.Other kind hash
+
+unfoldable pub entry_text : Inventory → List ℕ
+entry_text entry = to_le_bytes w32 (kind_of entry) ++ (hash_in entry).0
+
+unfoldable pub entry_at : List ℕ → Read Inventory
 entry_at bytes = do
   kind ← number_at w32 bytes
   hash ← hash_at kind.1
-  Ok (record { kind = kind.0; hash = hash.0 }, hash.1)
+  Ok (named kind.0 hash.0, hash.1)
 
-pub record IsEntry (entry : InvEntry) : Type 0 where
-  pub kind : entry.kind < 2 ^ 32
-  pub hash : length entry.hash.0 ≡ 32
+-- A known type stands under its name.
+pub record IsEntry (entry : Inventory) : Type 0 where
+  pub kind : kind_of entry < 2 ^ 32
+  pub known : named (kind_of entry) (hash_in entry) ≡ entry
+  pub hash : length (hash_in entry).0 ≡ 32
 
 -- ---- a header in `headers`: its 80 bytes, and a count of transactions that is 0
 

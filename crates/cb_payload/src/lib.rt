@@ -28,7 +28,7 @@ pub use compact_block::{HeaderAndShortIds, put_compact_block, read_compact_block
 pub use compact_laws::{
     beginnings_of_compact_blocks_are_truncated, compact_blocks_are_read_as_written,
 };
-pub use inventory::{Entries, HeaderList, InvEntry, Locator};
+pub use inventory::{Entries, HeaderList, Inventory, Locator, MOST_ENTRIES, OtherKind};
 pub use laws::{
     lists_are_read_as_written, requests_are_read_as_written, versions_are_read_as_spelled,
 };

@@ -8,7 +8,7 @@ ghost use Rattle.cb_tx.specs.Reading.{GivesInMemory, items_at};
 ghost use Rattle.cb_tx.specs.Text.{list_text};
 ghost use Rattle.cb_payload.specs.Lists.{CountsSome, IsEntry, entry_at, entry_text, hash_text, limited_at, listed_at, listed_header_at, listed_header_text};
 
-use crate::inventory::{Entries, HeaderList, InvEntry, Locator};
+use crate::inventory::{Entries, HeaderList, Inventory, Locator};
 use crate::listed::Listed;
 use cb_base::{Cursor, Fault, Hash256, put_compact};
 use cb_block::{Header, read_header};
@@ -82,7 +82,7 @@ impl ListItem for Hash256 {
     }
 }
 
-impl ListItem for InvEntry {
+impl ListItem for Inventory {
     ghost use Rattle.cb_payload.specs.Lists.{IsEntry, entry_at, entry_text};
 
     ghost text = { entry_text };
@@ -95,7 +95,7 @@ impl ListItem for InvEntry {
 
     const WIDTH: u32 = 36;
 
-    fn read(cursor: &mut Cursor) -> Result<InvEntry, Fault> {
+    fn read(cursor: &mut Cursor) -> Result<Inventory, Fault> {
         read_entry(cursor)
     }
 
@@ -136,31 +136,34 @@ impl ListItem for Header {
 }
 
 #[tactic(auto, unfolding(crate::specs::Lists::entry_at))]
-fn read_entry(cursor: &mut Cursor) -> Result<InvEntry, Fault>
+fn read_entry(cursor: &mut Cursor) -> Result<Inventory, Fault>
     ensures { Gives (entry_at cursor.old) result cursor.new }
 {
     let kind = cursor.u32()?;
     let hash = read_hash(cursor)?;
-    Ok(InvEntry { kind, hash })
+    Ok(Inventory::of(kind, hash))
 }
 
 #[tactic(auto, unfolding(crate::specs::Lists::entry_text), using(cb_tx::proofs::Appends::appends))]
-fn put_entry(entry: InvEntry, out: &mut Vec<u8>) -> Result<(), Fault>
+fn put_entry(entry: Inventory, out: &mut Vec<u8>) -> Result<(), Fault>
     ensures ok { OnOk result (out.new.items ≡ out.old.items ++ entry_text entry) }
     ensures memory { IsOkUnless result Memory }
     ensures kept { IsEntry entry }
 {
-    out.extend_from_slice(&entry.kind.to_le_bytes())?;
-    out.extend_from_slice(entry.hash.0.as_slice())?;
+    let kind = entry.kind();
+    let hash = entry.hash();
+    out.extend_from_slice(&kind.to_le_bytes())?;
+    out.extend_from_slice(hash.0.as_slice())?;
     Ok(())
 }
 
 #[tactic(auto, unfolding(crate::specs::Lists::entry_text))]
-fn entry_size(entry: InvEntry) -> u64
+fn entry_size(entry: Inventory) -> u64
     ensures size { result ≡ length (entry_text entry) }
     ensures kept { IsEntry entry }
 {
-    entry.hash.0.as_slice().len() as u64 + 4
+    let hash = entry.hash();
+    hash.0.as_slice().len() as u64 + 4
 }
 
 /// Reads a header of `headers`: 80 bytes and a count of transactions. Fails with `Fault::BadBool`

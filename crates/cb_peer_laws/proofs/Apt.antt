@@ -18,7 +18,8 @@ use Rattle.cb_journal.specs.declared.answer.Answer.{Answer}
 use Rattle.cb_journal.specs.declared.answer.Answer.TheVariants as answers
 use Rattle.cb_payload.specs.declared.block_transactions.BlockTransactions.{BlockTransactions}
 use Rattle.cb_payload.specs.declared.compact_block.HeaderAndShortIds.{HeaderAndShortIds}
-use Rattle.cb_payload.specs.declared.inventory.InvEntry.{InvEntry}
+use Rattle.cb_payload.specs.declared.inventory.Inventory.{Inventory}
+use Rattle.cb_payload.specs.declared.inventory.Inventory.TheVariants as entry
 use Rattle.cb_payload.specs.declared.requests.CompactRelay.{CompactRelay}
 use Rattle.cb_payload.specs.declared.version.Version.{Version}
 use Rattle.cb_rebuild.specs.Completing.{completed_of, judged_of}
@@ -117,11 +118,13 @@ compact_fetch relay s = elim (cases_Bool (relay.version == 1)) [ inl one ↦ rw 
 compact_fetched : (relay : CompactRelay) (s : SessionState) → IsFetched s.fetch → IsFetched (by_compact relay s).fetch
 compact_fetched relay s f = subst IsFetched (sym (compact_fetch relay s)) f
 
-one_given_up : (fetch : FetchState) (e : InvEntry) → IsFetched fetch → IsFetched (gives_up fetch e)
-one_given_up fetch e f =
-    elim (cases_Bool ((e.kind == 2) || (e.kind == 4))) [ inl block ↦ rw block (lands fetch e.hash f) | inr other ↦ rw other f ]
+one_given_up : (fetch : FetchState) (e : Inventory) → IsFetched fetch → IsFetched (gives_up fetch e)
+one_given_up fetch (entry.Block hash) f = lands fetch hash f
+one_given_up fetch (entry.CompactBlock hash) f = lands fetch hash f
+one_given_up fetch (entry.Tx txid) f = f
+one_given_up fetch (entry.Other kind hash) f = f
 
-given_up_fetched : (entries : List InvEntry) (fetch : FetchState) → IsFetched fetch → IsFetched (given_up entries fetch)
+given_up_fetched : (entries : List Inventory) (fetch : FetchState) → IsFetched fetch → IsFetched (given_up entries fetch)
 given_up_fetched [] fetch f = f
 given_up_fetched (e ∷ entries) fetch f = given_up_fetched entries (gives_up fetch e) (one_given_up fetch e f)
 

@@ -23,7 +23,7 @@ use Rattle.cb_journal.specs.declared.answer.Answer.TheVariants as answers
 use Rattle.cb_payload.specs.declared.block_transactions.BlockTransactions.{BlockTransactions}
 use Rattle.cb_payload.specs.declared.block_transactions.BlockTransactionsRequest.{BlockTransactionsRequest}
 use Rattle.cb_payload.specs.declared.compact_block.HeaderAndShortIds.{HeaderAndShortIds}
-use Rattle.cb_payload.specs.declared.inventory.InvEntry.{InvEntry}
+use Rattle.cb_payload.specs.declared.inventory.Inventory.{Inventory}
 use Rattle.cb_payload.specs.declared.requests.CompactRelay.{CompactRelay}
 use Rattle.cb_payload.specs.declared.version.Version.{Version}
 use Rattle.cb_rebuild.specs.Completing.{completed_of}
@@ -146,7 +146,7 @@ plain_both first others f o =
 plain_headers : (locator : List Hash256) → IsPlain (asking_headers locator ∷ [])
 plain_headers locator = record { no_nonce = refl; no_high = refl; no_request = refl }
 
-plain_for : (entries : List InvEntry) → IsPlain (asking_for entries)
+plain_for : (entries : List Inventory) → IsPlain (asking_for entries)
 plain_for [] = plain_nothing
 plain_for (first ∷ others) = record { no_nonce = refl; no_high = refl; no_request = refl }
 
@@ -204,7 +204,7 @@ no_request_sent nonce (piece.Whole block ∷ pieces) = no_request_sent nonce pie
 no_request_sent nonce (piece.Short block ∷ pieces) = no_request_sent ((nonce + 1) % 2 ^ 64) pieces
 no_request_sent nonce (piece.Lacking asked ∷ pieces) = no_request_sent nonce pieces
 
-no_request_lacking : (entries : List InvEntry) → requests_in (not_found entries) ≡ []
+no_request_lacking : (entries : List Inventory) → requests_in (not_found entries) ≡ []
 no_request_lacking [] = refl
 no_request_lacking (first ∷ others) = refl
 
@@ -220,7 +220,7 @@ no_high_sent nonce (piece.Whole block ∷ pieces) = no_high_sent nonce pieces
 no_high_sent nonce (piece.Short block ∷ pieces) = no_high_sent ((nonce + 1) % 2 ^ 64) pieces
 no_high_sent nonce (piece.Lacking asked ∷ pieces) = no_high_sent nonce pieces
 
-no_high_lacking : (entries : List InvEntry) → highs_in (not_found entries) ≡ []
+no_high_lacking : (entries : List Inventory) → highs_in (not_found entries) ≡ []
 no_high_lacking [] = refl
 no_high_lacking (first ∷ others) = refl
 

@@ -31,7 +31,7 @@ use Rattle.cb_wire.specs.declared.item.Item.{Item}
 use Rattle.cb_wire.specs.declared.item.Item.TheVariants.{Good}
 use Rattle.cb_wire.specs.declared.message.Message.{Message}
 use Rattle.cb_wire.specs.declared.message.Message.TheVariants as messages
-use Rattle.cb_peer_laws.specs.Compact.{IsAskedWhole, announces_block, is_block_entry, is_compact, txs_come, whole_if}
+use Rattle.cb_peer_laws.specs.Compact.{IsAskedWhole, announces_block, is_compact, txs_come, whole_if}
 use Rattle.cb_peer_state.specs.declared.event.Event.TheVariants as events
 use Rattle.cb_peer_state.specs.declared.pending.Pending.{Pending}
 use Rattle.cb_peer_state.specs.declared.session_state.SessionState.{SessionState}
@@ -40,7 +40,7 @@ use Rattle.cb_peer_state.specs.declared.stage.Stage.TheVariants.{Admit, About, M
 use Rattle.cb_peer_state.specs.declared.stage.Subject.TheVariants as subjects
 use Rattle.cb_peer_state.specs.Questions.{is_nil, pending_question, question_at, question_of}
 use Rattle.cb_peer_state.specs.Receiving.{ends, falls_back, filled_by}
-use Rattle.cb_peer_state.specs.Replying.{answered, differ, is_heard, is_untold, news_told, rebuilt_by, tip_by, tip_told, wish_told, without_brought}
+use Rattle.cb_peer_state.specs.Replying.{answered, differ, is_block, is_heard, is_untold, news_told, rebuilt_by, tip_by, tip_told, wish_told, without_brought}
 use Rattle.cb_peer_state.specs.Session.{Stepped, for_item, step_of}
 use Rattle.cb_peer_state.specs.State.{freed, is_closed, is_ready, with_fetch, with_partial, with_pending}
 use Rattle.cb_peer_laws.proofs.CompactSteps.{by_test, end_session, ready_is, ready_open, sent_at_end, told_by}
@@ -141,7 +141,7 @@ heard_untold s news heard =
     let is : is_heard s.marks.heard news.tip ≡ true = ap (λ (h : Option Hash256). is_heard h news.tip) heard ∙ same-refl news.tip in
     ap (λ (untold : Bool). cond untold [] (tip_by s news news.block)) (or_true (is_nil news.path) (is_heard s.marks.heard news.tip) is)
 
-no_block_named : (txids : List Hash256) → list_any is_block_entry (map tx_entry txids) ≡ false
+no_block_named : (txids : List Hash256) → list_any is_block (map tx_entry txids) ≡ false
 no_block_named [] = refl
 no_block_named (first ∷ others) = no_block_named others
 

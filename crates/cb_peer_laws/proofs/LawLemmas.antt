@@ -16,10 +16,9 @@ use Rattle.cb_journal.specs.declared.answer.Answer.TheVariants as answers
 use Rattle.cb_journal.specs.declared.question.Given.{Given}
 use Rattle.cb_journal.specs.declared.question.Question.{Question}
 use Rattle.cb_journal.specs.declared.question.Question.TheVariants as questions
-use Rattle.cb_payload.specs.declared.inventory.InvEntry.{InvEntry}
+use Rattle.cb_payload.specs.declared.inventory.Inventory.{Inventory}
 use Rattle.cb_payload.specs.declared.requests.CompactRelay.{CompactRelay}
-use Rattle.cb_state.specs.declared.inventory.Inventory.{Inventory}
-use Rattle.cb_state.specs.declared.inventory.Inventory.TheVariants as entry
+use Rattle.cb_payload.specs.declared.inventory.Inventory.TheVariants as entry
 use Rattle.cb_state.specs.declared.news.News.{News}
 use Rattle.cb_state.specs.declared.serving.Piece.{Piece}
 use Rattle.cb_talk.specs.Announcing.{announcing, telling}
@@ -140,7 +139,7 @@ headers_mild =
       txs = λ _. refl;
     }
 
-no_headers_asked : (entries : List InvEntry) → None_of is_headers (asking_for entries)
+no_headers_asked : (entries : List Inventory) → None_of is_headers (asking_for entries)
 no_headers_asked [] = refl
 no_headers_asked (first ∷ others) = refl
 
@@ -197,7 +196,7 @@ no_block_among_txs hash (entry.Block other ∷ others) = no_block_among_txs hash
 no_block_among_txs hash (entry.CompactBlock other ∷ others) = no_block_among_txs hash others
 no_block_among_txs hash (entry.Other kind other ∷ others) = no_block_among_txs hash others
 
-asked_by_entries : (hash : Hash256) (entries : List InvEntry) → list_any (names_block hash) entries ≡ false → None_of (asks_for_block hash) (asking_for entries)
+asked_by_entries : (hash : Hash256) (entries : List Inventory) → list_any (names_block hash) entries ≡ false → None_of (asks_for_block hash) (asking_for entries)
 asked_by_entries hash [] none = refl
 asked_by_entries hash (first ∷ others) none = rw none refl
 

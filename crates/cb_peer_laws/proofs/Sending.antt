@@ -20,7 +20,7 @@ use Rattle.cb_journal.specs.declared.answer.Answer.TheVariants as answers
 use Rattle.cb_payload.specs.declared.block_transactions.BlockTransactions.{BlockTransactions}
 use Rattle.cb_payload.specs.declared.block_transactions.BlockTransactionsRequest.{BlockTransactionsRequest}
 use Rattle.cb_payload.specs.declared.compact_block.HeaderAndShortIds.{HeaderAndShortIds}
-use Rattle.cb_payload.specs.declared.inventory.InvEntry.{InvEntry}
+use Rattle.cb_payload.specs.declared.inventory.Inventory.{Inventory}
 use Rattle.cb_payload.specs.declared.requests.CompactRelay.{CompactRelay}
 use Rattle.cb_payload.specs.declared.requests.HeadersRequest.{HeadersRequest}
 use Rattle.cb_payload.specs.declared.version.Version.{Version}
@@ -76,8 +76,8 @@ pub record IsMild (test : Message → Bool) : Type 0 where
   pub pong : (nonce : ℕ) → test (messages.Pong nonce) ≡ false
   pub send_headers : test messages.SendHeaders ≡ false
   pub send_compact : (relay : CompactRelay) → test (messages.SendCmpct relay) ≡ false
-  pub inv : (entries : List InvEntry) → test (messages.Inv entries) ≡ false
-  pub not_found : (entries : List InvEntry) → test (messages.NotFound entries) ≡ false
+  pub inv : (entries : List Inventory) → test (messages.Inv entries) ≡ false
+  pub not_found : (entries : List Inventory) → test (messages.NotFound entries) ≡ false
   pub get_headers : (request : HeadersRequest) → test (messages.GetHeaders request) ≡ false
   pub tx : (tx : Tx) → test (messages.Tx tx) ≡ false
   pub block : (block : Block) → test (messages.Block block) ≡ false
@@ -125,7 +125,7 @@ there_none test nonce (piece.Whole block ∷ others) m = rw (m.block block) (the
 there_none test nonce (piece.Short block ∷ others) m = rw (m.short (shortened_of block nonce)) (there_none test (nonce_behind nonce (piece.Short block)) others m)
 there_none test nonce (piece.Lacking asked ∷ others) m = there_none test nonce others m
 
-lacking_none : (test : Message → Bool) (entries : List InvEntry) → IsMild test → None_of test (not_found entries)
+lacking_none : (test : Message → Bool) (entries : List Inventory) → IsMild test → None_of test (not_found entries)
 lacking_none test [] m = refl
 lacking_none test (first ∷ others) m = none_of_one test _ (m.not_found (first ∷ others))
 

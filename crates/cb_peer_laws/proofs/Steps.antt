@@ -19,7 +19,7 @@ use Rattle.cb_journal.specs.declared.answer.Answer.TheVariants as answers
 use Rattle.cb_journal.specs.declared.question.Question.{Question}
 use Rattle.cb_payload.specs.declared.block_transactions.BlockTransactions.{BlockTransactions}
 use Rattle.cb_payload.specs.declared.compact_block.HeaderAndShortIds.{HeaderAndShortIds}
-use Rattle.cb_payload.specs.declared.inventory.InvEntry.{InvEntry}
+use Rattle.cb_payload.specs.declared.inventory.Inventory.{Inventory}
 use Rattle.cb_payload.specs.declared.requests.CompactRelay.{CompactRelay}
 use Rattle.cb_payload.specs.declared.version.Version.{Version}
 use Rattle.cb_rebuild.specs.Completing.{completed_of}
@@ -123,19 +123,19 @@ more_headers_plain : (item : Option Item) → pongs (more_headers item) ≡ []
 more_headers_plain (Some (Good (messages.Headers headers))) = more_plain headers
 more_headers_plain item = refl
 
-asking_plain : (entries : List InvEntry) → pongs (asking_for entries) ≡ []
+asking_plain : (entries : List Inventory) → pongs (asking_for entries) ≡ []
 asking_plain [] = refl
 asking_plain (first ∷ others) = refl
 
 pongs_append : (xs ys : List Message) → pongs xs ≡ [] → pongs ys ≡ [] → pongs (xs ++ ys) ≡ []
 pongs_append xs ys e f = filter_map-append pong_nonce xs ys ∙ ap (λ (ns : List ℕ). ns ++ pongs ys) e ∙ f
 
-need_plain : (entries : List InvEntry) (b : Bool) (locator : List Hash256) → pongs (asking_for entries ++ cond b (asking_headers locator ∷ []) []) ≡ []
+need_plain : (entries : List Inventory) (b : Bool) (locator : List Hash256) → pongs (asking_for entries ++ cond b (asking_headers locator ∷ []) []) ≡ []
 need_plain entries b locator =
     pongs_append (asking_for entries) (cond b (asking_headers locator ∷ []) []) (asking_plain entries)
     (if_either (λ (sent : List Message). pongs sent ≡ []) b (asking_headers locator ∷ []) [] refl refl)
 
-not_found_plain : (entries : List InvEntry) → pongs (not_found entries) ≡ []
+not_found_plain : (entries : List Inventory) → pongs (not_found entries) ≡ []
 not_found_plain [] = refl
 not_found_plain (first ∷ others) = refl
 

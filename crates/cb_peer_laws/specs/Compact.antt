@@ -16,7 +16,7 @@ use Rattle.cb_journal.specs.declared.question.Question.TheVariants as questions
 use Rattle.cb_payload.specs.declared.block_transactions.BlockTransactions.{BlockTransactions}
 use Rattle.cb_payload.specs.declared.block_transactions.BlockTransactionsRequest.{BlockTransactionsRequest}
 use Rattle.cb_payload.specs.declared.compact_block.HeaderAndShortIds.{HeaderAndShortIds}
-use Rattle.cb_payload.specs.declared.inventory.InvEntry.{InvEntry}
+use Rattle.cb_payload.specs.declared.inventory.Inventory.TheVariants as entry
 use Rattle.cb_rebuild.specs.Places.{has_places}
 use Rattle.cb_state.specs.declared.accepting.Heads.{Heads}
 use Rattle.cb_wire.specs.declared.item.Item.{Item}
@@ -27,7 +27,7 @@ use Rattle.cb_peer_state.specs.declared.event.Event.{Event}
 use Rattle.cb_peer_state.specs.declared.event.Event.TheVariants as events
 use Rattle.cb_peer_state.specs.declared.session_state.SessionState.{SessionState}
 use Rattle.cb_peer_state.specs.Questions.{short_in}
-use Rattle.cb_peer_state.specs.Replying.{is_workless}
+use Rattle.cb_peer_state.specs.Replying.{is_block, is_workless}
 use Rattle.cb_peer_state.specs.Session.{Stepped, pending_item, step_of}
 use Rattle.cb_peer_state.specs.State.{is_closed, is_ready}
 
@@ -157,9 +157,9 @@ pub data Fate (partial : Unfilled) (s : SessionState) (step : Stepped) : Type 0 
 
 -- ---- a block that is requested whole
 
--- One `getdata` entry of type 2, if it is to be sent.
+-- One `getdata` entry for a block, if it is to be sent.
 abbrev pub whole_if : Bool → Hash256 → List Message
-whole_if true hash = messages.GetData (record { kind = 2; hash = hash } ∷ []) ∷ []
+whole_if true hash = messages.GetData (entry.Block hash ∷ []) ∷ []
 whole_if false hash = []
 
 -- It is requested whole exactly if it is in flight then, as one of at most 16.
@@ -178,15 +178,11 @@ abbrev pub is_compact : Message → Bool
 is_compact (messages.CmpctBlock short) = true
 is_compact other = false
 
--- A `getdata` or `inv` entry for a block: type 2.
-abbrev pub is_block_entry : InvEntry → Bool
-is_block_entry e = e.kind == 2
-
 -- Whether a message announces a block: by its header, as a compact block, or by its hash.
 abbrev pub announces_block : Message → Bool
 announces_block (messages.Headers headers) = true
 announces_block (messages.CmpctBlock short) = true
-announces_block (messages.Inv entries) = list_any is_block_entry entries
+announces_block (messages.Inv entries) = list_any is_block entries
 announces_block other = false
 
 -- What each `sendcmpct` among messages asks for: compact blocks unasked, or not.

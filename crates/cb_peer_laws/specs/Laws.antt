@@ -1,5 +1,5 @@
 -- The terms of the laws for every session, in the words of the protocol.
-use Rattle.std.specs.Prelude.{◌&&◌, ◌||◌, ◌==◌, Bool, true, false, Option, None, Some}
+use Rattle.std.specs.Prelude.{◌&&◌, Bool, true, false, Option, None, Some}
 use Rattle.std.specs.List.{list_any}
 use Rattle.cb_base.specs.declared.hash.Hash256.{Hash256}
 use Rattle.cb_chain.specs.Entries.{block_hash, same}
@@ -7,7 +7,8 @@ use Rattle.cb_compact.specs.Slots.{Unfilled}
 use Rattle.cb_journal.specs.declared.answer.Answer.{Answer}
 use Rattle.cb_journal.specs.declared.answer.Answer.TheVariants.{Following, Go, Pairs}
 use Rattle.cb_payload.specs.declared.compact_block.HeaderAndShortIds.{HeaderAndShortIds}
-use Rattle.cb_payload.specs.declared.inventory.InvEntry.{InvEntry}
+use Rattle.cb_payload.specs.declared.inventory.Inventory.{Inventory}
+use Rattle.cb_payload.specs.declared.inventory.Inventory.TheVariants as entry
 use Rattle.cb_wire.specs.declared.item.Item.{Item}
 use Rattle.cb_wire.specs.declared.item.Item.TheVariants.{Good}
 use Rattle.cb_wire.specs.declared.message.Message.{Message}
@@ -53,8 +54,10 @@ is_headers (messages.Headers headers) = true
 is_headers other = false
 
 -- A `getdata` entry for the block with this hash, as a block or a compact block.
-abbrev pub names_block : Hash256 → InvEntry → Bool
-names_block hash e = (e.kind == 2 || e.kind == 4) && same hash e.hash
+abbrev pub names_block : Hash256 → Inventory → Bool
+names_block hash (entry.Block other) = same hash other
+names_block hash (entry.CompactBlock other) = same hash other
+names_block hash other = false
 
 abbrev pub asks_for_block : Hash256 → Message → Bool
 asks_for_block hash (messages.GetData entries) = list_any (names_block hash) entries

@@ -1,12 +1,11 @@
 //! How a session handles its peer's messages: one arm for each message.
-ghost use Rattle.std.specs.Prelude.{◌≡◌, ◌≤◌, [], ◌∷◌, List, Option, None, Some, length, map, false, IfOk, IsOk, IsOkUnless};
+ghost use Rattle.std.specs.Prelude.{◌≡◌, ◌≤◌, [], ◌∷◌, List, Option, None, Some, length, false, IfOk, IsOk, IsOkUnless};
 ghost use Rattle.cb_block.specs.declared.header.Header.{Header};
 ghost use Rattle.cb_base.specs.declared.fault.Fault.TheVariants.{Memory};
 ghost use Rattle.cb_wire.specs.declared.item.Item.{Item};
 ghost use Rattle.cb_wire.specs.declared.item.Item.TheVariants.{Good};
 ghost use Rattle.cb_wire.specs.declared.message.Message.TheVariants as messages;
-ghost use Rattle.cb_talk.specs.Inventory.{understood};
-ghost use Rattle.cb_peer_state.specs.Questions.{known, told_of};
+ghost use Rattle.cb_peer_state.specs.Questions.{is_known_type, told_of};
 ghost use Rattle.cb_peer_state.specs.Outcomes.{IsLightOutcome, Makes};
 ghost use Rattle.cb_peer_state.specs.Session.{weighs_item};
 ghost use Rattle.cb_peer_state.specs.Receiving.{brought, by_compact, given_up, gives_up, greeting, in_greeted, in_ready, in_start, introduced, processed, received};
@@ -16,12 +15,11 @@ use cb_base::{Fault, Hash256, Shared};
 use cb_block::{Block, Header, sound_of};
 use cb_fetch::Fetch;
 use cb_journal::{Given, Question, Request};
-use cb_payload::{CompactRelay, Entries, HeaderList, HeadersRequest, InvEntry, Version};
+use cb_payload::{CompactRelay, Entries, HeaderList, HeadersRequest, Inventory, Version};
 use cb_peer_state::{
     CloseReason, Reaction, SessionState, Settings, State, Subject, hash_of_last, one_message,
 };
-use cb_state::Inventory;
-use cb_talk::{our_version, understood, wishes};
+use cb_talk::{our_version, wishes};
 use cb_wire::{BoundedMessage, Item, Message};
 use std::alloc::Global;
 
@@ -292,7 +290,7 @@ fn ask_items(session: &SessionState, alloc: Global, entries: &Entries) -> Result
         (Some (Good (messages.GetData entries.now))) session.now made.messages.items made.next) }
     ensures memory { IsOkUnless result Memory }
 {
-    let asked = understood_of(alloc, entries)?;
+    let asked = entries.copy(alloc)?;
     Ok(Reaction::about(
         alloc,
         Subject::Items,
@@ -369,40 +367,19 @@ fn greeting_of(alloc: Global, settings: Settings) -> Result<Vec<BoundedMessage>,
     Ok(made)
 }
 
-/// What each inventory entry names. Fails only with `Fault::Memory`.
-fn understood_of(alloc: Global, entries: &Entries) -> Result<cb_state::Inventories, Fault>
-    ensures entries { IfOk result (λ made. made ≡ map understood entries.now) }
-    ensures memory { IsOkUnless result Memory }
-{
-    let made = all_understood(alloc, entries.as_slice())?;
-    Ok(cb_state::Inventories::from_few(made))
-}
-
-/// The same for a slice.
-fn all_understood(alloc: Global, entries: &[InvEntry]) -> Result<Vec<Inventory>, Fault>
-    ensures entries { IfOk result (λ made. made.items ≡ map understood entries.now) }
-    ensures memory { IsOkUnless result Memory }
-{
-    let mut made = Vec::with_capacity(alloc, entries.len())?;
-    for entry in entries {
-        made.push(understood(*entry))?;
-    }
-    Ok(made)
-}
-
 /// The entries that name a transaction or a block. Fails only with `Fault::Memory`, and never if
 /// there is no such entry.
-fn known_of(alloc: Global, entries: &Entries) -> Result<cb_state::Inventories, Fault>
+fn known_of(alloc: Global, entries: &Entries) -> Result<Entries, Fault>
     ensures entries { IfOk result (λ made. made ≡ told_of entries.now) }
     ensures memory { IsOkUnless result Memory }
     ensures unpaid { told_of entries.now ≡ [] → IsOk result }
 {
     let made = all_known(alloc, entries.as_slice())?;
-    Ok(cb_state::Inventories::from_few(made))
+    Ok(Entries::from_few(made))
 }
 
 /// The same for a slice.
-fn all_known(alloc: Global, entries: &[InvEntry]) -> Result<Vec<Inventory>, Fault>
+fn all_known(alloc: Global, entries: &[Inventory]) -> Result<Vec<Inventory>, Fault>
     ensures entries { IfOk result (λ made. made.items ≡ told_of entries.now) }
     ensures few { IfOk result (λ made. length made.items ≤ length entries.now) }
     ensures memory { IsOkUnless result Memory }
@@ -410,26 +387,25 @@ fn all_known(alloc: Global, entries: &[InvEntry]) -> Result<Vec<Inventory>, Faul
 {
     let mut made = Vec::new(alloc);
     for entry in entries {
-        if let Some(read) = known(*entry) {
-            made.push(read)?;
+        if is_known(*entry) {
+            made.push(*entry)?;
         }
     }
     Ok(made)
 }
 
-/// What the entry names, if that is a transaction or a block.
-fn known(entry: InvEntry) -> Option<Inventory>
-    ensures { result ≡ known entry }
+/// Whether the entry names a transaction or a block: types 1 and 2.
+fn is_known(entry: Inventory) -> bool
+    ensures { result ≡ is_known_type entry }
 {
-    let read = understood(entry);
-    match read {
-        Inventory::Tx(_) | Inventory::Block(_) => Some(read),
-        Inventory::CompactBlock(_) | Inventory::Other(_, _) => None,
+    match entry {
+        Inventory::Tx(_) | Inventory::Block(_) => true,
+        Inventory::CompactBlock(_) | Inventory::Other(_, _) => false,
     }
 }
 
 /// Blocks of a `notfound` are no longer in flight.
-fn give_up(fetch: &mut Fetch, entries: &[InvEntry])
+fn give_up(fetch: &mut Fetch, entries: &[Inventory])
     ensures { fetch.new ≡ given_up entries.now fetch.old }
 {
     for entry in entries {
@@ -437,11 +413,13 @@ fn give_up(fetch: &mut Fetch, entries: &[InvEntry])
     }
 }
 
-/// The same for one entry: type 2 is a block, type 4 a compact block.
-fn give_one_up(fetch: &mut Fetch, entry: InvEntry)
+/// The same for one entry.
+fn give_one_up(fetch: &mut Fetch, entry: Inventory)
     ensures { fetch.new ≡ gives_up fetch.old entry }
 {
-    if entry.kind == 2 || entry.kind == 4 {
-        fetch.land(&entry.hash);
+    match entry {
+        Inventory::Block(hash) => fetch.land(&hash),
+        Inventory::CompactBlock(hash) => fetch.land(&hash),
+        Inventory::Tx(_) | Inventory::Other(_, _) => {}
     }
 }

@@ -21,14 +21,13 @@ ghost use Rattle.cb_peer_state.specs.Replying.{answered, differ, heads_for, head
 use crate::compact::{answer_places, hear_given, hear_pairs, hear_short_heads, short_in};
 use cb_base::{Fault, Hash256, Shared};
 use cb_journal::Answer;
-use cb_payload::{HeaderList, InvEntry, Listed, Locator};
+use cb_payload::{Entries, HeaderList, Inventory, Listed, Locator};
 use cb_peer_state::{
     CloseReason, Reaction, SessionState, Stage, hash_of_last, one_message, push_some,
 };
-use cb_state::{Heads, Inventory, Need, News, Pieces, Taken, Txids};
+use cb_state::{Heads, Need, News, Pieces, Taken, Txids};
 use cb_talk::{
     announce_block, announce_tip, announce_txs, asking_for, asking_headers, served, shorts, wish,
-    written,
 };
 use cb_tx::Tx;
 use cb_wire::{BoundedMessage, Item, Message};
@@ -412,22 +411,19 @@ fn locator_of(alloc: Global, hash: Hash256) -> Result<Locator, Fault>
 
 /// The `getdata` for the transactions among the entries, if any. Fails only with `Fault::Memory`,
 /// and never if there are no entries.
-fn requests_of_txs(
-    alloc: Global,
-    entries: &cb_state::Inventories,
-) -> Result<Option<BoundedMessage>, Fault>
+fn requests_of_txs(alloc: Global, entries: &Entries) -> Result<Option<BoundedMessage>, Fault>
     ensures message { IfOk result
         (λ made. as_list made ≡ asking_for (filter_map tx_request entries.now)) }
     ensures memory { IsOkUnless result Memory }
     ensures unpaid { entries.now ≡ [] → IsOk result }
 {
     let wanted = tx_requests(alloc, entries.as_slice())?;
-    Ok(asking_for(cb_payload::Entries::from_few(wanted)))
+    Ok(asking_for(Entries::from_few(wanted)))
 }
 
 /// The `getdata` entries for the transactions among the entries. Fails only with `Fault::Memory`,
 /// and never if there are no entries.
-fn tx_requests(alloc: Global, entries: &[Inventory]) -> Result<Vec<InvEntry>, Fault>
+fn tx_requests(alloc: Global, entries: &[Inventory]) -> Result<Vec<Inventory>, Fault>
     ensures wanted { IfOk result (λ made. made.items ≡ filter_map tx_request entries.now) }
     ensures few { IfOk result (λ made. length made.items ≤ length entries.now) }
     ensures memory { IsOkUnless result Memory }
@@ -436,7 +432,7 @@ fn tx_requests(alloc: Global, entries: &[Inventory]) -> Result<Vec<InvEntry>, Fa
     let mut wanted = Vec::new(alloc);
     for entry in entries {
         if let Inventory::Tx(_) = entry {
-            wanted.push(written(*entry))?;
+            wanted.push(*entry)?;
         }
     }
     Ok(wanted)

@@ -10,7 +10,7 @@ use Rattle.cb_chain.specs.Entries.{block_hash}
 use Rattle.cb_journal.specs.declared.answer.Answer.{Answer}
 use Rattle.cb_journal.specs.declared.answer.Answer.TheVariants as answers
 use Rattle.cb_journal.specs.declared.question.Question.{Question}
-use Rattle.cb_state.specs.declared.inventory.Inventory.{Inventory}
+use Rattle.cb_payload.specs.declared.inventory.Inventory.{Inventory}
 use Rattle.cb_talk.specs.Inventory.{asking_headers}
 use Rattle.cb_wire.specs.declared.item.Item.{Item}
 use Rattle.cb_wire.specs.declared.message.Message.{Message}

@@ -1,6 +1,6 @@
 -- What a session asks the hall (Bitcoin Core: ChainstateManager and CTxMemPool), by the item that
 -- it processes and how far it is with it, and which answers fit a question.
-use Rattle.std.specs.Prelude.{ℕ, pos, Bool, true, false, List, [], ◌∷◌, map, filter_map, replicate, if◌then◌else◌, Option, Some, None}
+use Rattle.std.specs.Prelude.{ℕ, pos, Bool, true, false, List, [], ◌∷◌, filter, replicate, Option, Some, None}
 use Rattle.cb_base.specs.declared.hash.Hash256.{Hash256}
 use Rattle.cb_block.specs.declared.block.Block.{Block}
 use Rattle.cb_block.specs.declared.header.Header.{Header}
@@ -14,10 +14,8 @@ use Rattle.cb_payload.specs.declared.block_transactions.BlockTransactionsRequest
 use Rattle.cb_payload.specs.declared.compact_block.HeaderAndShortIds.{HeaderAndShortIds}
 use Rattle.cb_journal.specs.declared.question.Question.TheVariants as questions
 use Rattle.cb_journal.specs.declared.question.Request.TheVariants.{Items, After, Places}
-use Rattle.cb_payload.specs.declared.inventory.InvEntry.{InvEntry}
-use Rattle.cb_state.specs.declared.inventory.Inventory.{Inventory}
-use Rattle.cb_state.specs.declared.inventory.Inventory.TheVariants as entry
-use Rattle.cb_talk.specs.Inventory.{understood}
+use Rattle.cb_payload.specs.declared.inventory.Inventory.{Inventory}
+use Rattle.cb_payload.specs.declared.inventory.Inventory.TheVariants as entry
 use Rattle.cb_tx.specs.declared.tx.Tx.{Tx}
 use Rattle.cb_wire.specs.declared.item.Item.{Item}
 use Rattle.cb_wire.specs.declared.item.Item.TheVariants.{Good}
@@ -39,13 +37,9 @@ is_known_type (entry.Tx txid) = true
 is_known_type (entry.Block hash) = true
 is_known_type other = false
 
--- What an entry names, if that is a transaction or a block.
-abbrev pub known : InvEntry → Option Inventory
-known e = if is_known_type (understood e) then Some (understood e) else None
-
 -- The entries that name a transaction or a block.
-abbrev pub told_of : List InvEntry → List Inventory
-told_of entries = filter_map known entries
+abbrev pub told_of : List Inventory → List Inventory
+told_of entries = filter is_known_type entries
 
 -- ---- what an item holds. A session asks about a part for an item of that kind alone, so the last
 -- line of each definition doesn't come up.
@@ -55,7 +49,7 @@ item_headers (Some (Good (messages.Headers headers))) = headers
 item_headers (Some (Good (messages.CmpctBlock short))) = short.header ∷ []
 item_headers item = []
 
-abbrev pub item_inventory : Option Item → List InvEntry
+abbrev pub item_inventory : Option Item → List Inventory
 item_inventory (Some (Good (messages.Inv entries))) = entries
 item_inventory item = []
 
@@ -67,7 +61,7 @@ abbrev pub item_block : Option Item → Block
 item_block (Some (Good (messages.Block block))) = block
 item_block item = genesis_block
 
-abbrev pub item_requests : Option Item → List InvEntry
+abbrev pub item_requests : Option Item → List Inventory
 item_requests (Some (Good (messages.GetData entries))) = entries
 item_requests item = []
 
@@ -101,7 +95,7 @@ about subjects.Locator s item = questions.Locator
 about subjects.Inventory s item = questions.Want (told_of (item_inventory item))
 about subjects.Tx s item = questions.GiveTx (item_tx item)
 about subjects.Block s item = questions.GiveBlock (record { block = item_block item; capable = s.peer.capable })
-about subjects.Items s item = questions.Serve (Items (map understood (item_requests item)))
+about subjects.Items s item = questions.Serve (Items (item_requests item))
 about subjects.After s item = questions.Serve (After (item_locator item) (item_stop item))
 about subjects.Places s item = questions.Serve (Places (item_places item).block (item_places item).differences)
 

@@ -1,7 +1,7 @@
 -- How a session handles its peer's messages: one line for each message. Sources: Bitcoin's
 -- peer-to-peer protocol; BIP 31 (pong), BIP 130 (sendheaders), BIP 152 (sendcmpct, cmpctblock,
 -- getblocktxn, blocktxn). 'Own' marks a choice of this node.
-use Rattle.std.specs.Prelude.{pos, true, not, ◌||◌, ◌==◌, int_lt, if◌then◌else◌, List, [], ◌∷◌, fold, Option, Some, None, Result, Ok, Err}
+use Rattle.std.specs.Prelude.{pos, true, not, ◌==◌, int_lt, if◌then◌else◌, List, [], ◌∷◌, fold, Option, Some, None, Result, Ok, Err}
 use Rattle.cb_base.specs.declared.hash.Hash256.{Hash256}
 use Rattle.cb_block.specs.declared.block.Block.{Block}
 use Rattle.cb_block.specs.declared.header.Header.{Header}
@@ -16,7 +16,8 @@ use Rattle.cb_payload.specs.declared.compact_block.HeaderAndShortIds.{HeaderAndS
 use Rattle.cb_rebuild.specs.Completing.{completed_of}
 use Rattle.cb_rebuild.specs.Places.{has_places}
 use Rattle.cb_talk.specs.Inventory.{asking_block}
-use Rattle.cb_payload.specs.declared.inventory.InvEntry.{InvEntry}
+use Rattle.cb_payload.specs.declared.inventory.Inventory.{Inventory}
+use Rattle.cb_payload.specs.declared.inventory.Inventory.TheVariants as entry
 use Rattle.cb_payload.specs.declared.requests.CompactRelay.{CompactRelay}
 use Rattle.cb_payload.specs.declared.version.Version.{Version}
 use Rattle.cb_talk.specs.Greeting.{our_version, wishes}
@@ -108,10 +109,12 @@ brought s block =
     else ended reasons.BadBlock s
 
 -- A block of a `notfound` is no longer in flight; it is named as a block or a compact block.
-abbrev pub gives_up : FetchState → InvEntry → FetchState
-gives_up fetch e = if e.kind == 2 || e.kind == 4 then landed e.hash fetch else fetch
+abbrev pub gives_up : FetchState → Inventory → FetchState
+gives_up fetch (entry.Block hash) = landed hash fetch
+gives_up fetch (entry.CompactBlock hash) = landed hash fetch
+gives_up fetch other = fetch
 
-abbrev pub given_up : List InvEntry → FetchState → FetchState
+abbrev pub given_up : List Inventory → FetchState → FetchState
 given_up entries fetch = fold gives_up fetch entries
 
 -- The hash of the last header.

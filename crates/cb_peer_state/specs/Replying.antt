@@ -14,14 +14,13 @@ use Rattle.cb_fetch.specs.Fetching.{blocks_in, requests_of, taken_on, wanting_al
 use Rattle.cb_journal.specs.declared.answer.Answer.{Answer}
 use Rattle.cb_journal.specs.declared.answer.Answer.TheVariants as answers
 use Rattle.cb_payload.specs.declared.compact_block.HeaderAndShortIds.{HeaderAndShortIds}
-use Rattle.cb_payload.specs.declared.inventory.InvEntry.{InvEntry}
+use Rattle.cb_payload.specs.declared.inventory.Inventory.{Inventory}
 use Rattle.cb_rebuild.specs.Places.{has_places}
 use Rattle.cb_rebuild.specs.Rebuilding.{rebuilt_of}
 use Rattle.cb_rebuild.specs.declared.rebuilding.Rebuilt.{Rebuilt}
 use Rattle.cb_rebuild.specs.declared.rebuilding.Rebuilt.TheVariants as rebuilts
 use Rattle.cb_state.specs.declared.accepting.Heads.{Heads}
-use Rattle.cb_state.specs.declared.inventory.Inventory.{Inventory}
-use Rattle.cb_state.specs.declared.inventory.Inventory.TheVariants as entry
+use Rattle.cb_payload.specs.declared.inventory.Inventory.TheVariants as entry
 use Rattle.cb_state.specs.declared.news.News.{News}
 use Rattle.cb_state.specs.declared.serving.Piece.{Piece}
 use Rattle.cb_state.specs.declared.serving_places.Excerpt.{Excerpt}
@@ -29,7 +28,7 @@ use Rattle.cb_state.specs.declared.serving_places.Excerpt.TheVariants as excerpt
 use Rattle.cb_state.specs.declared.wanting.Need.{Need}
 use Rattle.cb_talk.specs.Announcing.{announcing, announcing_block, telling}
 use Rattle.cb_talk.specs.Greeting.{wish}
-use Rattle.cb_talk.specs.Inventory.{asking_for, asking_headers, asking_txs, written}
+use Rattle.cb_talk.specs.Inventory.{asking_for, asking_headers, asking_txs}
 use Rattle.cb_talk.specs.Serving.{excerpt_told, served, shorts}
 use Rattle.cb_tx.specs.Text.{tx_text}
 use Rattle.cb_wire.specs.declared.item.Item.{Item}
@@ -127,8 +126,8 @@ unfoldable pub served_told : SessionState → List Piece → Outcome
 served_told s pieces = ends (with_made (shorts pieces) s) (served (next_nonce s) pieces)
 
 -- The `getdata` entry for a transaction.
-abbrev pub tx_request : Inventory → Option InvEntry
-tx_request (entry.Tx txid) = Some (written (entry.Tx txid))
+abbrev pub tx_request : Inventory → Option Inventory
+tx_request (entry.Tx txid) = Some (entry.Tx txid)
 tx_request other = None
 
 abbrev pub is_block : Inventory → Bool

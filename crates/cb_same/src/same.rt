@@ -1,7 +1,7 @@
 //! What equality is, for single values.
 use cb_base::{Hash256, Shared};
 use cb_block::Header;
-use cb_state::Inventory;
+use cb_payload::Inventory;
 use cb_tx::OutPoint;
 
 /// A value that can be compared with another one. Contracts of `==` speak of a test that may be any

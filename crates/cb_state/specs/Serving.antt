@@ -14,8 +14,8 @@ use Rattle.cb_pool.specs.Listing.{txs_of}
 use Rattle.cb_pool.specs.Rules.{named_in}
 use Rattle.cb_state.specs.declared.serving_places.Excerpt.{Excerpt}
 use Rattle.cb_state.specs.declared.serving_places.Excerpt.TheVariants as excerpt
-use Rattle.cb_state.specs.declared.inventory.Inventory.{Inventory}
-use Rattle.cb_state.specs.declared.inventory.Inventory.TheVariants as entry
+use Rattle.cb_payload.specs.declared.inventory.Inventory.{Inventory}
+use Rattle.cb_payload.specs.declared.inventory.Inventory.TheVariants as entry
 use Rattle.cb_state.specs.declared.serving.Piece.{Piece}
 use Rattle.cb_state.specs.declared.serving.Piece.TheVariants as piece
 use Rattle.cb_state.specs.Parts.{txs_at}

@@ -1,25 +1,13 @@
 ghost use Rattle.std.specs.Prelude.{◌≡◌, ◌≤◌, ◌<◌, length};
 ghost use Rattle.cb_base.specs.Seeding.{fixed_seed, seed_of_keys};
-ghost use Rattle.cb_state.specs.Seeding.{hash_in, hashes_text};
+ghost use Rattle.cb_state.specs.Seeding.{hashes_text};
 
-use crate::inventory::Inventory;
-use cb_base::{Hash256, Keys, Seed};
+use cb_base::{Keys, Seed};
+use cb_payload::Inventory;
 
 /// Up to this number of entries, tables of them have the fixed seed. Even if all of them collide,
 /// their lookups cost less than a seed that is made of them.
 const FEW_ENTRIES: usize = 64;
-
-/// The hash of an entry.
-fn hash_in(entry: Inventory) -> Hash256
-    ensures { result ≡ hash_in entry }
-{
-    match entry {
-        Inventory::Tx(hash) => hash,
-        Inventory::Block(hash) => hash,
-        Inventory::CompactBlock(hash) => hash,
-        Inventory::Other(_, hash) => hash,
-    }
-}
 
 /// The seed that is made of the hashes of all entries.
 fn seed_of_many(entries: &[Inventory]) -> Seed
@@ -27,7 +15,7 @@ fn seed_of_many(entries: &[Inventory]) -> Seed
 {
     let mut keys = Keys::new();
     for entry in entries {
-        let hash = hash_in(*entry);
+        let hash = entry.hash();
         keys.add(hash.0.as_slice());
     }
     keys.seed()

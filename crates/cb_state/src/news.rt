@@ -7,11 +7,10 @@ ghost use Rattle.cb_state.specs.News.{IsNews, announced, way_from};
 
 use crate::bounded::{BoundedBlock, kept_block};
 use crate::connection::Connection;
-use crate::inventory::MOST_ENTRIES;
 use crate::state::State;
 use cb_base::{Fault, Hash256};
 use cb_block::Header;
-use cb_payload::Listed;
+use cb_payload::{Listed, MOST_ENTRIES};
 use std::alloc::Global;
 
 /// The most headers that are announced at once.

@@ -3,14 +3,13 @@ ghost use Rattle.cb_base.specs.declared.fault.Fault.TheVariants.{Memory};
 ghost use Rattle.cb_chain.specs.Entries.{block_of};
 ghost use Rattle.cb_pool.specs.Listing.{txs_of};
 ghost use Rattle.cb_pool.specs.Rules.{named_in};
-ghost use Rattle.cb_state.specs.declared.inventory.Inventory.TheVariants as entry;
+ghost use Rattle.cb_payload.specs.declared.inventory.Inventory.TheVariants as entry;
 ghost use Rattle.cb_state.specs.Serving.{is_within, piece_of, pieces_of, short_piece, tx_piece, whole_piece};
 
 use crate::bounded::{BoundedBlock, kept_block};
-use crate::inventory::{Inventories, Inventory, MOST_ENTRIES};
 use crate::state::State;
 use cb_base::{Fault, Hash256};
-use cb_payload::Listed;
+use cb_payload::{Entries, Inventory, Listed, MOST_ENTRIES};
 use cb_pool::Candidate;
 
 /// The greatest depth below the tip at which a block is served as a compact block (this node's own
@@ -38,7 +37,7 @@ impl State {
     /// Transactions and blocks are shared, not copied.
     ///
     /// Fails only with `Fault::Memory`.
-    pub fn serve(&self, entries: &Inventories) -> Result<Pieces, Fault>
+    pub fn serve(&self, entries: &Entries) -> Result<Pieces, Fault>
         ensures pieces { IfOk result (λ pieces. pieces ≡ pieces_of self.now entries.now) }
         ensures memory { IsOkUnless result Memory }
     {

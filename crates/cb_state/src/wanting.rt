@@ -5,16 +5,15 @@ ghost use Rattle.cb_base.specs.Seeding.{seed_of_keys};
 ghost use Rattle.cb_base.specs.declared.fault.Fault.TheVariants.{Memory};
 ghost use Rattle.cb_chain.specs.Entries.{entry_of, same};
 ghost use Rattle.cb_chain.specs.Locator.{locator_of};
-ghost use Rattle.cb_state.specs.declared.inventory.Inventory.TheVariants as entry;
+ghost use Rattle.cb_payload.specs.declared.inventory.Inventory.TheVariants as entry;
 ghost use Rattle.cb_state.specs.Seeding.{hashes_text};
 ghost use Rattle.cb_state.specs.Wanting.{AreNoted, IsNeed, blocks_of, is_block, is_near, is_wanted, only_block, stands_on_tip, wanted_of, with_entry, with_wanted};
 
 use crate::entry_seed::seed_of_entries;
-use crate::inventory::{Inventories, Inventory};
 use crate::locator::locator_of;
 use crate::state::State;
 use cb_base::{Fault, Hash256, Seed};
-use cb_payload::Locator;
+use cb_payload::{Entries, Inventory, Locator};
 use std::alloc::Global;
 use std::collections::HashSet;
 
@@ -22,7 +21,7 @@ use std::collections::HashSet;
 #[derive(Drop)]
 pub struct Need {
     /// The wanted entries, each once, in order.
-    pub entries: Inventories,
+    pub entries: Entries,
     /// Whether exactly one block is wanted, and its header is known and its parent is the tip.
     pub near: bool,
     /// The chain's block locator if a block is wanted, else empty.
@@ -117,7 +116,7 @@ impl State {
     /// entry is returned once, in order.
     ///
     /// Fails only with `Fault::Memory`, and never if none is wanted.
-    pub fn want(&self, entries: &Inventories) -> Result<Need, Fault>
+    pub fn want(&self, entries: &Entries) -> Result<Need, Fault>
         ensures need { IfOk result (IsNeed self.now entries.now) }
         ensures memory { IsOkUnless result Memory }
         ensures none { wanted_of self.now entries.now ≡ [] → IsOk result }
@@ -126,7 +125,7 @@ impl State {
         let near = self.is_near(wanted.as_slice());
         let locator = self.block_locator(wanted.as_slice())?;
         Ok(Need {
-            entries: Inventories::from_few(wanted),
+            entries: Entries::from_few(wanted),
             near,
             locator,
         })

@@ -4,7 +4,7 @@ use Rattle.std.specs.Prelude.{◌%◌, filter_map}
 use Rattle.std.proofs.lemmas.List.{append-nil}
 use Rattle.std.proofs.lemmas.List.Elements.{filter_map-append}
 use Rattle.cb_block.specs.declared.block.Block as blocks
-use Rattle.cb_payload.specs.declared.inventory.InvEntry.{InvEntry}
+use Rattle.cb_payload.specs.declared.inventory.Inventory.{Inventory}
 use Rattle.cb_rebuild.specs.Shortening.{shortened_of}
 use Rattle.cb_state.specs.declared.serving.Piece.{Piece}
 use Rattle.cb_state.specs.declared.serving.Piece.TheVariants as piece
@@ -14,7 +14,7 @@ form_nonce : (block : blocks.Block) (nonce : ℕ) → (shortened_of block nonce)
 unfolding shortened_of
 form_nonce block nonce = refl
 
-none_told : (entries : List InvEntry) → nonces_in (not_found entries) ≡ []
+none_told : (entries : List Inventory) → nonces_in (not_found entries) ≡ []
 none_told [] = refl
 none_told (entry ∷ entries) = refl
 

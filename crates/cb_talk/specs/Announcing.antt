@@ -4,21 +4,20 @@ use Rattle.std.specs.Prelude.{ℕ, Bool, List, [], ◌∷◌, map, if◌then◌e
 use Rattle.cb_base.specs.declared.hash.Hash256.{Hash256}
 use Rattle.cb_block.specs.declared.block.Block as blocks
 use Rattle.cb_block.specs.declared.header.Header.{Header}
-use Rattle.cb_payload.specs.declared.inventory.InvEntry.{InvEntry}
-use Rattle.cb_state.specs.declared.inventory.Inventory.TheVariants as entry
+use Rattle.cb_payload.specs.declared.inventory.Inventory.{Inventory}
+use Rattle.cb_payload.specs.declared.inventory.Inventory.TheVariants as entry
 use Rattle.cb_rebuild.specs.Shortening.{shortened_of}
-use Rattle.cb_talk.specs.Inventory.{written}
 use Rattle.cb_wire.specs.declared.message.Message.{Message}
 use Rattle.cb_wire.specs.declared.message.Message.TheVariants.{CmpctBlock, Inv, Headers}
 
 -- The inventory entry of a transaction.
-abbrev pub tx_entry : Hash256 → InvEntry
-tx_entry txid = written (entry.Tx txid)
+abbrev pub tx_entry : Hash256 → Inventory
+tx_entry txid = entry.Tx txid
 
 -- A new tip is announced by its headers if `headers` is true, else by the tip's hash. The caller
 -- sets `headers` for a peer that asked for headers, if they aren't too many.
 abbrev pub announced_by : Bool → Hash256 → List Header → Message
-announced_by headers tip path = if headers then Headers path else Inv (written (entry.Block tip) ∷ [])
+announced_by headers tip path = if headers then Headers path else Inv (entry.Block tip ∷ [])
 
 -- The announcement of a new tip. Without new headers there is none.
 abbrev pub announcing : Bool → Hash256 → List Header → List Message

@@ -1,7 +1,7 @@
 -- The messages that answer a `getdata` or a `getblocktxn` (Bitcoin's peer-to-peer protocol,
 -- `getdata`, `notfound`; BIP 152, `cmpctblock`, `blocktxn`).
 use Rattle.std.specs.Prelude.{ℕ, zero, suc, ◌+◌, ◌%◌, ◌^◌, List, [], ◌∷◌, ◌++◌, filter_map, Option, Some, None}
-use Rattle.cb_payload.specs.declared.inventory.InvEntry.{InvEntry}
+use Rattle.cb_payload.specs.declared.inventory.Inventory.{Inventory}
 use Rattle.cb_state.specs.declared.serving.Piece.{Piece}
 use Rattle.cb_state.specs.declared.serving.Piece.TheVariants as piece
 use Rattle.cb_state.specs.declared.serving_places.Excerpt.{Excerpt}
@@ -9,7 +9,6 @@ use Rattle.cb_state.specs.declared.serving_places.Excerpt.TheVariants as excerpt
 use Rattle.cb_wire.specs.declared.message.Message.{Message}
 use Rattle.cb_wire.specs.declared.message.Message.TheVariants.{NotFound, Tx, Block, BlockTxn, CmpctBlock}
 use Rattle.cb_talk.specs.Announcing.{announcing_block}
-use Rattle.cb_talk.specs.Inventory.{written}
 
 -- What is there is sent: a block that is near the tip and was asked for as a compact block is sent
 -- as one, under this nonce.
@@ -48,11 +47,11 @@ abbrev pub nonces_from : ℕ → ℕ → List ℕ
 nonces_from nonce zero = []
 nonces_from nonce (suc count) = nonce ∷ nonces_from ((nonce + 1) % 2 ^ 64) count
 
-abbrev pub lacking_in : Piece → Option InvEntry
-lacking_in (piece.Lacking asked) = Some (written asked)
+abbrev pub lacking_in : Piece → Option Inventory
+lacking_in (piece.Lacking asked) = Some asked
 lacking_in other = None
 
-abbrev pub not_found : List InvEntry → List Message
+abbrev pub not_found : List Inventory → List Message
 not_found [] = []
 not_found (first ∷ others) = NotFound (first ∷ others) ∷ []
 

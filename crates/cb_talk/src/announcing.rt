@@ -2,11 +2,10 @@ ghost use Rattle.std.specs.Prelude.{◌≡◌, ◌∷◌, ◌≤◌, [], length,
 ghost use Rattle.cb_base.specs.declared.fault.Fault.TheVariants.{Memory};
 ghost use Rattle.cb_talk.specs.Announcing.{announcing, announcing_block, telling, tx_entry};
 
-use crate::inventory::written;
 use cb_base::{Fault, Hash256};
-use cb_payload::{Entries, HeaderList, InvEntry};
+use cb_payload::{Entries, HeaderList, Inventory};
 use cb_rebuild::shortened;
-use cb_state::{Announced, BoundedBlock, Inventory, Txids};
+use cb_state::{Announced, BoundedBlock, Txids};
 use cb_wire::{BoundedMessage, Message};
 use std::alloc::Global;
 
@@ -35,7 +34,7 @@ pub fn announce_tip(
         return Ok(Some(BoundedMessage::new(Message::Headers(HeaderList::from_few(headers)))));
     }
     let mut entries = Vec::with_capacity(alloc, 1)?;
-    entries.push(written(Inventory::Block(tip)))?;
+    entries.push(Inventory::Block(tip))?;
     Ok(Some(BoundedMessage::new(Message::Inv(Entries::from_few(entries)))))
 }
 
@@ -75,13 +74,13 @@ pub fn announce_txs(alloc: Global, txids: &Txids) -> Result<Option<BoundedMessag
 }
 
 /// The inventory entries of transactions, in order. Fails only with `Fault::Memory`.
-fn tx_entries(alloc: Global, txids: &[Hash256]) -> Result<Vec<InvEntry>, Fault>
+fn tx_entries(alloc: Global, txids: &[Hash256]) -> Result<Vec<Inventory>, Fault>
     ensures entries { IfOk result (λ entries. entries.items ≡ map tx_entry txids.now) }
     ensures memory { IsOkUnless result Memory }
 {
     let mut entries = Vec::with_capacity(alloc, txids.len())?;
     for txid in txids {
-        entries.push(written(Inventory::Tx(*txid)))?;
+        entries.push(Inventory::Tx(*txid))?;
     }
     Ok(entries)
 }

@@ -1,39 +1,11 @@
 ghost use Rattle.std.specs.Prelude.{◌≡◌, ◌∷◌, [], IfOk, IsOkUnless, MatchOption};
 ghost use Rattle.cb_base.specs.declared.fault.Fault.TheVariants.{Memory};
-ghost use Rattle.cb_talk.specs.Inventory.{asking_block, asking_for, asking_headers, asking_txs, understood, written};
+ghost use Rattle.cb_talk.specs.Inventory.{asking_block, asking_for, asking_headers, asking_txs};
 
 use cb_base::{Fault, Hash256};
-use cb_payload::{BlockTransactionsRequest, Entries, HeadersRequest, InvEntry, Locator};
-use cb_state::Inventory;
+use cb_payload::{BlockTransactionsRequest, Entries, HeadersRequest, Inventory, Locator};
 use cb_wire::{BoundedMessage, Message};
 use std::alloc::Global;
-
-/// An inventory entry as it is sent: type 1 is a transaction, 2 a block, 4 a compact block
-/// (BIP 152).
-pub fn written(entry: Inventory) -> InvEntry
-    ensures { result ≡ written entry }
-{
-    let (kind, hash) = match entry {
-        Inventory::Tx(txid) => (1, txid),
-        Inventory::Block(hash) => (2, hash),
-        Inventory::CompactBlock(hash) => (4, hash),
-        Inventory::Other(kind, hash) => (kind, hash),
-    };
-    InvEntry { kind, hash }
-}
-
-/// A received inventory entry, by its type: 1, 2 and 4 as in `written`, and any other type as
-/// `Inventory::Other`.
-pub fn understood(entry: InvEntry) -> Inventory
-    ensures { result ≡ understood entry }
-{
-    match entry.kind {
-        1 => Inventory::Tx(entry.hash),
-        2 => Inventory::Block(entry.hash),
-        4 => Inventory::CompactBlock(entry.hash),
-        kind => Inventory::Other(kind, entry.hash),
-    }
-}
 
 /// Returns the message that asks for entries (`getdata`). Without entries there is none.
 pub fn asking_for(entries: Entries) -> Option<BoundedMessage>
@@ -54,7 +26,7 @@ pub fn asking_block(alloc: Global, hash: Hash256) -> Result<BoundedMessage, Faul
     ensures memory { IsOkUnless result Memory }
 {
     let mut entries = Vec::with_capacity(alloc, 1)?;
-    entries.push(written(Inventory::Block(hash)))?;
+    entries.push(Inventory::Block(hash))?;
     Ok(BoundedMessage::new(Message::GetData(Entries::from_few(entries))))
 }
 

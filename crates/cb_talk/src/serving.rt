@@ -4,9 +4,8 @@ ghost use Rattle.cb_wire.specs.declared.message.Message.TheVariants.{Block, Bloc
 ghost use Rattle.cb_talk.specs.Serving.{excerpt_told, lacking_in, nonce_behind, sent, served, served_as, shorts};
 
 use crate::announcing::announce_block;
-use crate::inventory::written;
 use cb_base::{Fault, Hash256};
-use cb_payload::{BlockTransactions, Entries, InvEntry};
+use cb_payload::{BlockTransactions, Entries, Inventory};
 use cb_pool::Candidate;
 use cb_state::{BoundedBlock, Excerpt, Part, Piece, Pieces};
 use cb_wire::{BoundedMessage, Message};
@@ -115,7 +114,7 @@ fn block_message(block: &BoundedBlock) -> Result<BoundedMessage, Fault>
 
 /// The entries that aren't there, in order. Fails only with `Fault::Memory`, and never if all are
 /// there.
-fn lacking(alloc: Global, pieces: &[Piece]) -> Result<Vec<InvEntry>, Fault>
+fn lacking(alloc: Global, pieces: &[Piece]) -> Result<Vec<Inventory>, Fault>
     ensures entries { IfOk result (λ entries. entries.items ≡ filter_map lacking_in pieces.now) }
     ensures few { IfOk result (λ entries. length entries.items ≤ length pieces.now) }
     ensures memory { IsOkUnless result Memory }
@@ -124,7 +123,7 @@ fn lacking(alloc: Global, pieces: &[Piece]) -> Result<Vec<InvEntry>, Fault>
     let mut entries = Vec::new(alloc);
     for piece in pieces {
         if let Piece::Lacking(entry) = piece {
-            entries.push(written(*entry))?;
+            entries.push(*entry)?;
         }
     }
     Ok(entries)

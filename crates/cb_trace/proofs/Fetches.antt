@@ -9,7 +9,8 @@ use Rattle.cb_chain.specs.Entries.{block_hash, same}
 use Rattle.cb_chain.proofs.Nodes.{same-true}
 use Rattle.cb_compact.specs.Slots.{Unfilled}
 use Rattle.cb_fetch.specs.Fetching.{FetchState, fallen_back, has, idle, is_fetched, landed, taking_on, wanting, wanting_all, with_flight, with_wanted}
-use Rattle.cb_payload.specs.declared.inventory.InvEntry.{InvEntry}
+use Rattle.cb_payload.specs.declared.inventory.Inventory.{Inventory}
+use Rattle.cb_payload.specs.declared.inventory.Inventory.TheVariants as entry
 use Rattle.cb_peer_state.specs.Receiving.{given_up, gives_up}
 use Rattle.cb_peer_state.proofs.Cases.{by_test}
 
@@ -116,10 +117,12 @@ back_fetches t fetch partial hash each f =
     by_test (λ (x : FetchState). Fetches t x partial) (has fetch.wanted hash) fetch (with_wanted fetch hash) (λ _. f)
     (λ _. wanted_fetches t fetch partial hash (λ other e. t.is_lacking other (each other e)) f)))
 
-gives_up_fetches : (t : Tests) (fetch : FetchState) (partial : Option Unfilled) (e : InvEntry) → Fetches t fetch partial → Fetches t (gives_up fetch e) partial
-gives_up_fetches t fetch partial e f =
-    by_test (λ (x : FetchState). Fetches t x partial) ((e.kind == 2) || (e.kind == 4)) (landed e.hash fetch) fetch (λ _. lands_fetches t fetch partial e.hash f) (λ _. f)
+gives_up_fetches : (t : Tests) (fetch : FetchState) (partial : Option Unfilled) (e : Inventory) → Fetches t fetch partial → Fetches t (gives_up fetch e) partial
+gives_up_fetches t fetch partial (entry.Block hash) f = lands_fetches t fetch partial hash f
+gives_up_fetches t fetch partial (entry.CompactBlock hash) f = lands_fetches t fetch partial hash f
+gives_up_fetches t fetch partial (entry.Tx txid) f = f
+gives_up_fetches t fetch partial (entry.Other kind hash) f = f
 
-pub given_up_fetches : (t : Tests) (entries : List InvEntry) (fetch : FetchState) (partial : Option Unfilled) → Fetches t fetch partial → Fetches t (given_up entries fetch) partial
+pub given_up_fetches : (t : Tests) (entries : List Inventory) (fetch : FetchState) (partial : Option Unfilled) → Fetches t fetch partial → Fetches t (given_up entries fetch) partial
 given_up_fetches t [] fetch partial f = f
 given_up_fetches t (e ∷ entries) fetch partial f = given_up_fetches t entries (gives_up fetch e) partial (gives_up_fetches t fetch partial e f)

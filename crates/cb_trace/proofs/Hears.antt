@@ -18,7 +18,7 @@ use Rattle.cb_journal.specs.declared.answer.Answer.{Answer}
 use Rattle.cb_journal.specs.declared.answer.Answer.TheVariants as answers
 use Rattle.cb_payload.specs.declared.block_transactions.BlockTransactions.{BlockTransactions}
 use Rattle.cb_payload.specs.declared.compact_block.HeaderAndShortIds.{HeaderAndShortIds}
-use Rattle.cb_payload.specs.declared.inventory.InvEntry.{InvEntry}
+use Rattle.cb_payload.specs.declared.inventory.Inventory.{Inventory}
 use Rattle.cb_payload.specs.declared.requests.CompactRelay.{CompactRelay}
 use Rattle.cb_payload.specs.declared.version.Version.{Version}
 use Rattle.cb_rebuild.specs.Completing.{completed_of}
@@ -95,7 +95,7 @@ rare =
       block_txs = λ _. refl;
     }
 
-asking_silent : (entries : List InvEntry) → Silent (asking_for entries)
+asking_silent : (entries : List Inventory) → Silent (asking_for entries)
 asking_silent [] = refl
 asking_silent (first ∷ others) = refl
 

@@ -19,7 +19,7 @@ use Rattle.cb_journal.specs.declared.answer.Answer.{Answer}
 use Rattle.cb_journal.specs.declared.answer.Answer.TheVariants as answers
 use Rattle.cb_payload.specs.declared.block_transactions.BlockTransactions.{BlockTransactions}
 use Rattle.cb_payload.specs.declared.compact_block.HeaderAndShortIds.{HeaderAndShortIds}
-use Rattle.cb_payload.specs.declared.inventory.InvEntry.{InvEntry}
+use Rattle.cb_payload.specs.declared.inventory.Inventory.{Inventory}
 use Rattle.cb_payload.specs.declared.requests.CompactRelay.{CompactRelay}
 use Rattle.cb_payload.specs.declared.version.Version.{Version}
 use Rattle.cb_rebuild.specs.Completing.{completed_of}
@@ -119,7 +119,7 @@ no_highs (message ∷ sent) none = no_highs sent none
 silent : IsPlain []
 silent = record { shorts = refl; relays = refl }
 
-asking_plain : (entries : List InvEntry) → IsPlain (asking_for entries)
+asking_plain : (entries : List Inventory) → IsPlain (asking_for entries)
 asking_plain [] = silent
 asking_plain (first ∷ others) = record { shorts = refl; relays = refl }
 

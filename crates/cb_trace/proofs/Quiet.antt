@@ -12,7 +12,7 @@ use Rattle.cb_block.specs.declared.header.Header.{Header}
 use Rattle.cb_payload.specs.declared.block_transactions.BlockTransactions.{BlockTransactions}
 use Rattle.cb_payload.specs.declared.block_transactions.BlockTransactionsRequest.{BlockTransactionsRequest}
 use Rattle.cb_payload.specs.declared.compact_block.HeaderAndShortIds.{HeaderAndShortIds}
-use Rattle.cb_payload.specs.declared.inventory.InvEntry.{InvEntry}
+use Rattle.cb_payload.specs.declared.inventory.Inventory.{Inventory}
 use Rattle.cb_payload.specs.declared.requests.CompactRelay.{CompactRelay}
 use Rattle.cb_payload.specs.declared.requests.HeadersRequest.{HeadersRequest}
 use Rattle.cb_payload.specs.declared.version.Version.{Version}
@@ -44,8 +44,8 @@ pub record IsRare (test : Message → Bool) : Type 0 where
   pub version : (v : Version) → test (messages.Version v) ≡ false
   pub verack : test messages.Verack ≡ false
   pub pong : (nonce : ℕ) → test (messages.Pong nonce) ≡ false
-  pub inv : (entries : List InvEntry) → test (messages.Inv entries) ≡ false
-  pub not_found : (entries : List InvEntry) → test (messages.NotFound entries) ≡ false
+  pub inv : (entries : List Inventory) → test (messages.Inv entries) ≡ false
+  pub not_found : (entries : List Inventory) → test (messages.NotFound entries) ≡ false
   pub get_headers : (request : HeadersRequest) → test (messages.GetHeaders request) ≡ false
   pub headers : (headers : List Header) → test (messages.Headers headers) ≡ false
   pub tx : (tx : Tx) → test (messages.Tx tx) ≡ false
@@ -100,7 +100,7 @@ sent_none test nonce (piece.Whole block ∷ others) m no_short = rw (m.block blo
 sent_none test nonce (piece.Short block ∷ others) m no_short = rw (no_short _) (sent_none test (nonce_behind nonce (piece.Short block)) others m no_short)
 sent_none test nonce (piece.Lacking asked ∷ others) m no_short = sent_none test nonce others m no_short
 
-lacking_none : (test : Message → Bool) (entries : List InvEntry) → IsRare test → NoneOf test (not_found entries)
+lacking_none : (test : Message → Bool) (entries : List Inventory) → IsRare test → NoneOf test (not_found entries)
 lacking_none test [] m = refl
 lacking_none test (first ∷ others) m = none_of_one test (messages.NotFound (first ∷ others)) (m.not_found (first ∷ others))
 

@@ -14,14 +14,14 @@ use Rattle.cb_compact.specs.Slots.{Unfilled, missing}
 use Rattle.cb_compact.specs.declared.named_tx.Pair.{Pair}
 use Rattle.cb_compact.specs.declared.partial.Filled.{Filled}
 use Rattle.cb_compact.specs.declared.partial.Filled.TheVariants as filling
-use Rattle.cb_fetch.specs.Fetching.{asks_now, blocks_in, fallen_back, has, requests_of, taken_on, wanting_all}
+use Rattle.cb_fetch.specs.Fetching.{asks_now, blocks_in, fallen_back, has, request_of, requests_of, taken_on, wanting_all}
 use Rattle.cb_journal.specs.declared.answer.Answer.{Answer}
 use Rattle.cb_journal.specs.declared.answer.Answer.TheVariants as answers
 use Rattle.cb_journal.specs.declared.question.Question.{Question}
 use Rattle.cb_journal.specs.declared.question.Question.TheVariants as questions
 use Rattle.cb_payload.specs.declared.block_transactions.BlockTransactions.{BlockTransactions}
 use Rattle.cb_payload.specs.declared.compact_block.HeaderAndShortIds.{HeaderAndShortIds}
-use Rattle.cb_payload.specs.declared.inventory.InvEntry.{InvEntry}
+use Rattle.cb_payload.specs.declared.inventory.Inventory.{Inventory}
 use Rattle.cb_payload.specs.declared.requests.CompactRelay.{CompactRelay}
 use Rattle.cb_payload.specs.declared.version.Version.{Version}
 use Rattle.cb_rebuild.specs.Completing.{completed_of}
@@ -30,8 +30,7 @@ use Rattle.cb_rebuild.specs.Rebuilding.{are_different, block_with, rebuilt_of, t
 use Rattle.cb_rebuild.specs.declared.rebuilding.Rebuilt.{Rebuilt}
 use Rattle.cb_rebuild.specs.declared.rebuilding.Rebuilt.TheVariants as rebuilts
 use Rattle.cb_state.specs.declared.accepting.Heads.{Heads}
-use Rattle.cb_state.specs.declared.inventory.Inventory.{Inventory}
-use Rattle.cb_state.specs.declared.inventory.Inventory.TheVariants as entry
+use Rattle.cb_payload.specs.declared.inventory.Inventory.TheVariants as entry
 use Rattle.cb_state.specs.declared.news.News.{News}
 use Rattle.cb_state.specs.declared.serving.Piece.{Piece}
 use Rattle.cb_state.specs.declared.serving_places.Excerpt.{Excerpt}
@@ -106,7 +105,7 @@ no_block_among_txs hash (entry.Block other ∷ others) = no_block_among_txs hash
 no_block_among_txs hash (entry.CompactBlock other ∷ others) = no_block_among_txs hash others
 no_block_among_txs hash (entry.Other kind other ∷ others) = no_block_among_txs hash others
 
-asked_by_entries : (hash : Hash256) (entries : List InvEntry) → list_any (names_block hash) entries ≡ false → NoneOf (asks_for_block hash) (asking_for entries)
+asked_by_entries : (hash : Hash256) (entries : List Inventory) → list_any (names_block hash) entries ≡ false → NoneOf (asks_for_block hash) (asking_for entries)
 asked_by_entries hash [] none = refl
 asked_by_entries hash (first ∷ others) none = rw none refl
 
@@ -118,7 +117,7 @@ need_asks need hash =
     (elim (cases_Bool (list_any is_block need.entries)) [ inl block ↦ rw block (request_none (asks_for_block hash) need.locator (rare hash)) | inr none ↦ rw none refl ])
 
 -- a request of a compact block or of a whole one names it alone
-named_is : (compact : Bool) (hash other : Hash256) (others : Bool) → (names_block hash (record { kind = cond compact 4 2; hash = other }) || others) ≡ (same hash other || others)
+named_is : (compact : Bool) (hash other : Hash256) (others : Bool) → (names_block hash (request_of compact other) || others) ≡ (same hash other || others)
 named_is true hash other others = refl
 named_is false hash other others = refl
 
@@ -126,7 +125,7 @@ requests_name : (compact : Bool) (hashes : List Hash256) (hash : Hash256) → li
 requests_name compact [] hash = refl
 requests_name compact (first ∷ others) hash = named_is compact hash first (list_any (names_block hash) (requests_of compact others)) ∙ ap (λ (b : Bool). same hash first || b) (requests_name compact others hash)
 
-entries_name : (entries : List InvEntry) (hash : Hash256) → list_any (asks_for_block hash) (asking_for entries) ≡ true → list_any (names_block hash) entries ≡ true
+entries_name : (entries : List Inventory) (hash : Hash256) → list_any (asks_for_block hash) (asking_for entries) ≡ true → list_any (names_block hash) entries ≡ true
 entries_name [] hash e = e
 entries_name (first ∷ others) hash e =
     elim (or_cases (list_any (names_block hash) (first ∷ others)) false e) [ inl is ↦ is | inr isnt ↦ absurd (let clash : false ≡ true = isnt in cc) ]

@@ -20,7 +20,7 @@ use Rattle.cb_block.specs.Reading.{block_at}
 use Rattle.cb_block.proofs.Headers.{block_spells, block_again}
 use Rattle.cb_wire.specs.declared.command.Command.{Command}
 use Rattle.cb_wire.specs.declared.command.Command.TheVariants as known
-use Rattle.cb_payload.specs.declared.inventory.InvEntry.{InvEntry}
+use Rattle.cb_payload.specs.declared.inventory.Inventory.{Inventory}
 use Rattle.cb_wire.specs.declared.message.Message.{Message}
 use Rattle.cb_wire.specs.declared.message.Message.TheVariants.{Version, Verack, Ping, Pong, SendHeaders, SendCmpct, Inv, GetData, NotFound, Headers, GetHeaders, Tx, Block, CmpctBlock, GetBlockTxn, BlockTxn, Unknown}
 use Rattle.cb_payload.specs.declared.block_transactions.BlockTransactions.{BlockTransactions}
@@ -97,10 +97,10 @@ nonce_field = record { takes = number_takes w64 (2 ^ 64) wide64; again = number_
 relay_field : IsField CompactRelay compact_relay_text compact_relay_at (λ relay. relay.version < 2 ^ 64)
 relay_field = record { takes = compact_relay_takes; again = compact_relay_again }
 
-entries_field : IsField (List InvEntry) (list_text entry_text) (listed_at 50000 36 entry_at) (λ entries. (length entries ≤ 50000) × All IsEntry entries)
+entries_field : IsField (List Inventory) (list_text entry_text) (listed_at 50000 36 entry_at) (λ entries. (length entries ≤ 50000) × All IsEntry entries)
 entries_field = record {
-  takes = listed_takes InvEntry entry_text entry_at IsEntry 50000 36 entry_kind;
-  again = listed_again InvEntry entry_text entry_at IsEntry 50000 36 entry_kind (omega arith);
+  takes = listed_takes Inventory entry_text entry_at IsEntry 50000 36 entry_kind;
+  again = listed_again Inventory entry_text entry_at IsEntry 50000 36 entry_kind (omega arith);
 }
 
 headers_field : IsField (List header.Header) (list_text listed_header_text) (listed_at 2000 81 listed_header_at) (λ headers. (length headers ≤ 2000) × All IsHeader headers)
@@ -175,11 +175,11 @@ payload_at-is known.Pong bytes message fits e =
 payload_at-is known.SendCmpct bytes message fits e =
     field_whole CompactRelay compact_relay_text compact_relay_at (λ relay. relay.version < 2 ^ 64) relay_field SendCmpct (command_name known.SendCmpct) (record { named = λ x. refl; spelled = λ x b p. p; kept = λ x is. is }) bytes message fits e
 payload_at-is known.Inv bytes message fits e =
-    field_whole (List InvEntry) (list_text entry_text) (listed_at 50000 36 entry_at) (λ entries. (length entries ≤ 50000) × All IsEntry entries) entries_field Inv (command_name known.Inv) (record { named = λ x. refl; spelled = λ x b p. p; kept = λ x is. is }) bytes message fits e
+    field_whole (List Inventory) (list_text entry_text) (listed_at 50000 36 entry_at) (λ entries. (length entries ≤ 50000) × All IsEntry entries) entries_field Inv (command_name known.Inv) (record { named = λ x. refl; spelled = λ x b p. p; kept = λ x is. is }) bytes message fits e
 payload_at-is known.GetData bytes message fits e =
-    field_whole (List InvEntry) (list_text entry_text) (listed_at 50000 36 entry_at) (λ entries. (length entries ≤ 50000) × All IsEntry entries) entries_field GetData (command_name known.GetData) (record { named = λ x. refl; spelled = λ x b p. p; kept = λ x is. is }) bytes message fits e
+    field_whole (List Inventory) (list_text entry_text) (listed_at 50000 36 entry_at) (λ entries. (length entries ≤ 50000) × All IsEntry entries) entries_field GetData (command_name known.GetData) (record { named = λ x. refl; spelled = λ x b p. p; kept = λ x is. is }) bytes message fits e
 payload_at-is known.NotFound bytes message fits e =
-    field_whole (List InvEntry) (list_text entry_text) (listed_at 50000 36 entry_at) (λ entries. (length entries ≤ 50000) × All IsEntry entries) entries_field NotFound (command_name known.NotFound) (record { named = λ x. refl; spelled = λ x b p. p; kept = λ x is. is }) bytes message fits e
+    field_whole (List Inventory) (list_text entry_text) (listed_at 50000 36 entry_at) (λ entries. (length entries ≤ 50000) × All IsEntry entries) entries_field NotFound (command_name known.NotFound) (record { named = λ x. refl; spelled = λ x b p. p; kept = λ x is. is }) bytes message fits e
 payload_at-is known.Headers bytes message fits e =
     field_whole (List header.Header) (list_text listed_header_text) (listed_at 2000 81 listed_header_at) (λ headers. (length headers ≤ 2000) × All IsHeader headers) headers_field Headers (command_name known.Headers) (record { named = λ x. refl; spelled = λ x b p. p; kept = λ x is. is }) bytes message fits e
 payload_at-is known.GetHeaders bytes message fits e =
@@ -223,9 +223,9 @@ payload_read SendHeaders bytes h p = empty_read SendHeaders bytes p
 payload_read (Ping nonce) bytes h p = field_read ℕ (to_le_bytes w64) (number_at w64) (λ n. n < 2 ^ 64) nonce_field Ping nonce bytes h p
 payload_read (Pong nonce) bytes h p = field_read ℕ (to_le_bytes w64) (number_at w64) (λ n. n < 2 ^ 64) nonce_field Pong nonce bytes h p
 payload_read (SendCmpct relay) bytes h p = field_read CompactRelay compact_relay_text compact_relay_at (λ relay. relay.version < 2 ^ 64) relay_field SendCmpct relay bytes h p
-payload_read (Inv entries) bytes h p = field_read (List InvEntry) (list_text entry_text) (listed_at 50000 36 entry_at) (λ entries. (length entries ≤ 50000) × All IsEntry entries) entries_field Inv entries bytes h p
-payload_read (GetData entries) bytes h p = field_read (List InvEntry) (list_text entry_text) (listed_at 50000 36 entry_at) (λ entries. (length entries ≤ 50000) × All IsEntry entries) entries_field GetData entries bytes h p
-payload_read (NotFound entries) bytes h p = field_read (List InvEntry) (list_text entry_text) (listed_at 50000 36 entry_at) (λ entries. (length entries ≤ 50000) × All IsEntry entries) entries_field NotFound entries bytes h p
+payload_read (Inv entries) bytes h p = field_read (List Inventory) (list_text entry_text) (listed_at 50000 36 entry_at) (λ entries. (length entries ≤ 50000) × All IsEntry entries) entries_field Inv entries bytes h p
+payload_read (GetData entries) bytes h p = field_read (List Inventory) (list_text entry_text) (listed_at 50000 36 entry_at) (λ entries. (length entries ≤ 50000) × All IsEntry entries) entries_field GetData entries bytes h p
+payload_read (NotFound entries) bytes h p = field_read (List Inventory) (list_text entry_text) (listed_at 50000 36 entry_at) (λ entries. (length entries ≤ 50000) × All IsEntry entries) entries_field NotFound entries bytes h p
 payload_read (Headers headers) bytes h p = field_read (List header.Header) (list_text listed_header_text) (listed_at 2000 81 listed_header_at) (λ headers. (length headers ≤ 2000) × All IsHeader headers) headers_field Headers headers bytes h p
 payload_read (GetHeaders request) bytes h p = field_read HeadersRequest request_text request_at IsRequest request_field GetHeaders request bytes h p
 payload_read (Tx tx) bytes h p = field_read transaction.Tx tx_text tx_at IsTx tx_field Tx tx bytes h p

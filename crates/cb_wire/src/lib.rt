@@ -20,7 +20,7 @@ pub use assembler::{Assembler, Fed};
 pub use bounded::BoundedMessage;
 pub use cb_payload::{
     Agent, BlockTransactions, BlockTransactionsRequest, CompactRelay, CompactTxs, Differences,
-    Entries, HeaderAndShortIds, HeaderList, HeadersRequest, InvEntry, Listed, Locator, NetAddress,
+    Entries, HeaderAndShortIds, HeaderList, HeadersRequest, Inventory, Listed, Locator, NetAddress,
     PrefilledTransaction, Version,
 };
 pub use codec::{decode, encode, encode_into};

@@ -10,7 +10,7 @@ use cb_io::Out;
 use cb_journal::Question;
 use cb_peer::Settings;
 use cb_reader::Input;
-use cb_state::{Connection, Inventories};
+use cb_state::Connection;
 use cb_wire::{Assembler, Item};
 use cb_work::{ConnectionStatus, Outlet, PeerFlags, PeerWork, SharedHall};
 use std::alloc::Global;
@@ -423,7 +423,7 @@ fn prepare(hall: &mut Hall, asking: &Asking, place: u64) -> bool {
 /// The question of a place, as it is asked.
 fn question_at(alloc: Global, asking: &Asking, place: u64, question: Question) -> Question {
     if place == asking.wants_nothing {
-        Question::Want(Inventories::from_few(Vec::new(alloc)))
+        Question::Want(Entries::from_few(Vec::new(alloc)))
     } else {
         question
     }

@@ -6,9 +6,7 @@ use cb_chain::Hashes;
 use cb_journal::Answer;
 use cb_payload::Listed;
 use cb_pool::{Pool, ShortIds};
-use cb_state::{
-    BoundedBlock, Excerpt, Heads, Inventory, Need, News, Piece, Taken, first_block_meets_rules,
-};
+use cb_state::{BoundedBlock, Excerpt, Heads, Need, News, Piece, Taken, first_block_meets_rules};
 use std::alloc::Global;
 use std::test::*;
 

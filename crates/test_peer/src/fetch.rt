@@ -1,8 +1,7 @@
 //! Blocks that are fetched: a copy of what steps lead to.
 use cb_base::{Fault, Hash256};
 use cb_fetch::Fetch;
-use cb_payload::InvEntry;
-use cb_state::Inventory;
+use cb_payload::Inventory;
 use std::alloc::Global;
 use std::test::*;
 
@@ -39,7 +38,7 @@ fn take_on(alloc: Global, fetch: &mut Fetch, from: u8, to: u8) -> Result<(), Fau
             Inventory::Block(hash(number)),
             Inventory::Tx(hash(0xf1)),
             Inventory::CompactBlock(hash(0xf2)),
-            Inventory::Other(3, hash(0xf3)),
+            Inventory::of(3, hash(0xf3)),
             Inventory::Block(hash(number)),
         ];
         entries.extend_from_slice(others.as_slice())?;
@@ -77,10 +76,10 @@ struct Row {
     is_due: bool,
 }
 
-fn are_asked(entries: &[InvEntry], kind: u32, numbers: &[u8]) -> bool {
+fn are_asked(entries: &[Inventory], kind: u32, numbers: &[u8]) -> bool {
     entries.len() == numbers.len()
-        && entries.iter().zip(numbers.iter()).all(|(entry, number)| entry.kind == kind
-            && entry.hash == hash(*number))
+        && entries.iter().zip(numbers.iter()).all(|(entry, number)| entry.kind() == kind
+            && entry.hash() == hash(*number))
 }
 
 fn are_wanted(entries: &[Inventory], numbers: &[u8]) -> bool {

@@ -84,7 +84,7 @@ fn letter(message: &Message) -> u8 {
         Message::Pong(_) => b'p',
         Message::Headers(headers) => b'0' + (headers.as_slice().len() % 9) as u8,
         Message::Inv(entries) => match entries.as_slice().first() {
-            Some(entry) if entry.kind == 2 && entry.hash == NAME => b'i',
+            Some(entry) if *entry == Inventory::Block(NAME) => b'i',
             _ => b'?',
         },
         _ => b'?',

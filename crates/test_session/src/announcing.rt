@@ -6,7 +6,7 @@ use crate::session::new_hall;
 use cb_base::{Fault, Shared};
 use cb_block::{Block, SoundBlock};
 use cb_journal::{Answer, Local, Question};
-use cb_payload::{CompactRelay, HeaderList, InvEntry};
+use cb_payload::{CompactRelay, HeaderList, Inventory};
 use cb_session::{Badge, Event, Hall, Session, Settings};
 use cb_talk::our_version;
 use cb_wire::{BoundedMessage, Item, Message};
@@ -65,10 +65,10 @@ fn relay_letter(relay: CompactRelay) -> u8 {
 }
 
 /// The letter of one entry: the first of type 2 (a block), the second of type 4 (a compact block).
-fn entry_letter(entries: &[InvEntry], whole: u8, short: u8) -> u8 {
+fn entry_letter(entries: &[Inventory], whole: u8, short: u8) -> u8 {
     match entries.first() {
-        Some(entry) if entries.len() == 1 && entry.kind == 2 => whole,
-        Some(entry) if entries.len() == 1 && entry.kind == 4 => short,
+        Some(entry) if entries.len() == 1 && entry.kind() == 2 => whole,
+        Some(entry) if entries.len() == 1 && entry.kind() == 4 => short,
         _ => b'?',
     }
 }

@@ -3,14 +3,14 @@ use Rattle.cb_base.specs.declared.hash.Hash256.{Hash256}
 use Rattle.cb_tx.specs.Reading.{hash_at}
 use Rattle.cb_block.specs.declared.header.Header.{Header}
 use Rattle.cb_block.specs.Text.{IsHeader}
-use Rattle.cb_payload.specs.declared.inventory.InvEntry.{InvEntry}
+use Rattle.cb_payload.specs.declared.inventory.Inventory.{Inventory}
 use Rattle.cb_payload.specs.Lists.{IsEntry, IsHash, entry_at, entry_text, hash_text, listed_header_at, listed_header_text}
 use Rattle.cb_payload.proofs.Counting.{entry_kind, hash_kind, listed_header_kind}
 use Rattle.cb_payload.proofs.RoundTrips.{list_trip}
 use Rattle.cb_payload.proofs.laws.lists_are_read_as_written.Goals as goal
 
 pub returns-clause-entries : goal.returns-clause-entries
-returns-clause-entries c = list_trip InvEntry entry_text entry_at IsEntry 50000 36 entry_kind (omega arith)
+returns-clause-entries c = list_trip Inventory entry_text entry_at IsEntry 50000 36 entry_kind (omega arith)
 
 pub returns-clause-headers : goal.returns-clause-headers
 returns-clause-headers c = list_trip Header listed_header_text listed_header_at IsHeader 2000 81 listed_header_kind (omega arith)

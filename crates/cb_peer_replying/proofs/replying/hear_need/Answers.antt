@@ -1,6 +1,6 @@
 use Rattle.std.proofs.Common.{List, ap, ◌∙◌}
 use Rattle.std.specs.List.{list_any}
-use Rattle.cb_state.specs.declared.inventory.Inventory.{Inventory}
+use Rattle.cb_payload.specs.declared.inventory.Inventory.{Inventory}
 use Rattle.cb_peer_state.specs.Replying.{is_block}
 use Rattle.cb_peer_state.proofs.Lights.{none_named}
 use Rattle.cb_peer_replying.proofs.replying.hear_need.Goals as goal

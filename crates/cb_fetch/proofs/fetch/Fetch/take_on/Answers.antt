@@ -1,5 +1,5 @@
 use Rattle.std.proofs.Common.{[]}
-use Rattle.cb_state.specs.declared.inventory.Inventory.TheVariants.{Tx}
+use Rattle.cb_payload.specs.declared.inventory.Inventory.TheVariants.{Tx}
 use Rattle.cb_fetch.proofs.Once.{takes_more}
 use Rattle.cb_fetch.proofs.Still.{none_named}
 use Rattle.cb_fetch.proofs.fetch.Fetch.take_on.Goals as goal

@@ -1,7 +1,7 @@
 use Rattle.std.proofs.Common.{List, [], length, get_or, ap, arith}
 use Rattle.std.proofs.lemmas.Bool.{false≢true}
-use Rattle.cb_state.specs.declared.inventory.Inventory.{Inventory}
-use Rattle.cb_state.specs.declared.inventory.Inventory.TheVariants.{Tx}
+use Rattle.cb_payload.specs.declared.inventory.Inventory.{Inventory}
+use Rattle.cb_payload.specs.declared.inventory.Inventory.TheVariants.{Tx}
 use Rattle.cb_state.specs.Wanting.{once}
 use Rattle.cb_state.proofs.OnceEach.{few_more, listed_more, unwanted_at}
 use Rattle.cb_state.proofs.state.State.wanted.Goals as goal
