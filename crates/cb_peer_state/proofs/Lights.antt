@@ -106,9 +106,9 @@ weighs_not false weighs is spare = absurd cc
 
 -- an answer that fits
 pub spared : (s : SessionState) (pending : Pending) (answer : Answer) → s.pending ≡ Some pending → fits (question_of s pending.item pending.stage) answer ≡ true
-    → spares s (events.Told answer) ≡ true → weighs_at s pending.item pending.stage answer ≡ false
+    → spares s (events.Told answer) ≡ true → weighs_at (freed s) pending.item pending.stage answer ≡ false
 spared s pending answer waiting met spare =
-    weighs_not (fits (question_of s pending.item pending.stage) answer) (weighs_at s pending.item pending.stage answer) met
+    weighs_not (fits (question_of s pending.item pending.stage) answer) (weighs_at (freed s) pending.item pending.stage answer) met
     (sym (ap (λ (st : Option Pending). spares_pending st s answer) waiting) ∙ spare)
 
 -- ---- a message that may be none

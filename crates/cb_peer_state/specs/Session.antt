@@ -142,7 +142,7 @@ pending_item (Some pending) = pending.item
 abbrev pub spares_pending : Option Pending → SessionState → Answer → Bool
 spares_pending None s answer = true
 spares_pending (Some pending) s answer =
-    not (fits (question_of s pending.item pending.stage) answer) || not (weighs_at s pending.item pending.stage answer)
+    not (fits (question_of s pending.item pending.stage) answer) || not (weighs_at (freed s) pending.item pending.stage answer)
 
 -- An answer that doesn't fit, or that leads to nothing that is hashed, copied or listed. It takes no
 -- memory if nothing is sent to it and nothing is asked but for the locator or what is new
