@@ -252,6 +252,14 @@ def headers_around_one_without_work():
     return play
 
 
+def served_of_50_000_entries():
+    """The first block for each of as many entries as a message may list."""
+    play = HallPlay()
+    told = play.ask((0, 1), "items", [(2, GENESIS)] * 50_000)
+    expect(told, "served" + f" whole {FIRST} 285" * 50_000)
+    return play
+
+
 def generated(seed, count, is_short, play=None):
     """A play of so many calls of a new hall, whose halls all stand as their calls lead to from the beginning."""
     play = play or HallPlay()
@@ -291,7 +299,7 @@ def main():
     program = built(words.program, "bench_hall")
     examples = HallPlay()
     worked_examples(examples)
-    plays = [(0, examples), (0, headers_around_one_without_work())] + [(seed, generated(seed, min(CALLS, count - (seed - first) * CALLS), False))
+    plays = [(0, examples), (0, headers_around_one_without_work()), (0, served_of_50_000_entries())] + [(seed, generated(seed, min(CALLS, count - (seed - first) * CALLS), False))
                                for seed in range(first, first + -(-count // CALLS))]
     differences = [f"seed {seed}: {difference}" for seed, play in plays for difference in play.differences(program)]
     differences += row_b_leaves_of_one_badge(program)

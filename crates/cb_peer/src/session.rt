@@ -137,9 +137,9 @@ impl Session {
         ensures err { OnErr result (self.new ≡ over reasons.Memory self.old) }
         ensures memory { IsOkUnless result Memory }
         ensures calm { takes_no_memory event.now ≡ true → IsOk result }
-        // An answer takes no memory if its item is no transaction, no block and no part of a block,
-        // it lists nothing missing or needed, no message is sent to it, and no question but the one
-        // for news follows.
+        // An answer takes no memory if it doesn't fit, or if nothing is hashed for it
+        // (`weighs_at`), it lists nothing missing or needed, no message is sent to it, and no
+        // question but for the locator or for news follows.
         ensures silent { spares self.old event.now ≡ true →
             (step_of self.old event.now).messages ≡ [] →
             is_light (step_of self.old event.now).question ≡ true → IsOk result }

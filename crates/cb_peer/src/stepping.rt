@@ -11,7 +11,7 @@ ghost use Rattle.cb_peer_state.specs.Event.{ends_at_once};
 ghost use Rattle.cb_peer_state.specs.Outcomes.{Answers, IsLightOutcome, Makes};
 ghost use Rattle.cb_peer_state.specs.Receiving.{Outcome};
 ghost use Rattle.cb_peer_state.specs.Replying.{answered};
-ghost use Rattle.cb_peer_state.specs.Session.{arrives, closes, for_item, is_light, open_step, spares, told, weighs_answer, weighs_item};
+ghost use Rattle.cb_peer_state.specs.Session.{arrives, closes, for_item, is_light, open_step, spares, told, weighs_at};
 ghost use Rattle.cb_peer_state.specs.State.{bare, over};
 
 use cb_base::{Fault, Shared};
@@ -84,7 +84,7 @@ fn follow(
     ensures err { OnErr result (session.new ≡ over reasons.Memory session.old) }
     ensures memory { IsOkUnless result Memory }
     ensures calm { answer.now ≡ answers.Kicked → IsOk result }
-    ensures silent { weighs_item pending.item ≡ false → weighs_answer answer.now ≡ false →
+    ensures silent { weighs_at session.old pending.item pending.stage answer.now ≡ false →
         IsLightOutcome (answered session.old pending.item pending.stage answer.now) → IsOk result }
 {
     let Pending { item, stage } = pending;
@@ -109,7 +109,7 @@ fn react(
         item.now session.new made.messages.items made.next) }
     ensures memory { IsOkUnless result Memory }
     ensures calm { answer.now ≡ answers.Kicked → IsOk result }
-    ensures silent { weighs_item item.now ≡ false → weighs_answer answer.now ≡ false →
+    ensures silent { weighs_at session.old item.now stage.now answer.now ≡ false →
         IsLightOutcome (answered session.old item.now stage.now answer.now) → IsOk result }
 {
     match stage {

@@ -1,10 +1,11 @@
 //! How a session handles the messages of compact blocks (BIP 152).
-ghost use Rattle.std.specs.Prelude.{◌≡◌, Option, IfOk, IsOkUnless};
+ghost use Rattle.std.specs.Prelude.{◌≡◌, Option, false, IfOk, IsOk, IsOkUnless};
 ghost use Rattle.cb_base.specs.declared.fault.Fault.TheVariants.{Memory};
 ghost use Rattle.cb_wire.specs.declared.item.Item.{Item};
 ghost use Rattle.cb_wire.specs.declared.item.Item.TheVariants.{Good};
 ghost use Rattle.cb_wire.specs.declared.message.Message.TheVariants as messages;
-ghost use Rattle.cb_peer_state.specs.Outcomes.{Makes};
+ghost use Rattle.cb_peer_state.specs.Outcomes.{IsLightOutcome, Makes};
+ghost use Rattle.cb_peer_state.specs.Session.{weighs_ready};
 ghost use Rattle.cb_peer_state.specs.Receiving.{in_ready, short_heard, txs_heard};
 
 use cb_base::Fault;
@@ -17,7 +18,7 @@ use std::alloc::Global;
 
 /// Handles `cmpctblock`: notes its block as the last heard of from the peer and asks the hall about
 /// its header. If a prefilled transaction has a place past the block's end, the session ends. Fails
-/// only with `Fault::Memory`.
+/// only with `Fault::Memory`, and never where the session ends.
 #[tactic(auto, unfolding(cb_peer_state::specs::Receiving::short_heard))]
 pub(crate) fn hear_short(
     session: &mut SessionState,
@@ -28,6 +29,7 @@ pub(crate) fn hear_short(
         (λ made. Makes (short_heard session.old short.now)
         (Some (Good (messages.CmpctBlock short.now))) session.new made.messages.items made.next) }
     ensures memory { IsOkUnless result Memory }
+    ensures silent { IsLightOutcome (short_heard session.old short.now) → IsOk result }
 {
     if check_places(&short.txs).is_err() {
         return Ok(session.end_by(alloc, CloseReason::BadMessage));
@@ -78,6 +80,8 @@ pub(crate) fn hear_txs(
         (λ made. Makes (txs_heard session.old given.now)
         item session.new made.messages.items made.next) }
     ensures memory { IsOkUnless result Memory }
+    ensures silent { weighs_ready session.old (messages.BlockTxn given.now) ≡ false →
+        IsLightOutcome (txs_heard session.old given.now) → IsOk result }
 {
     if !session.compact.is_partial(&given.block) {
         return session.end(alloc, Vec::new(alloc));

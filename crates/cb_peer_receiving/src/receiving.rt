@@ -1,18 +1,19 @@
 //! How a session handles its peer's messages: one arm for each message.
-ghost use Rattle.std.specs.Prelude.{◌≡◌, ◌≤◌, [], ◌∷◌, List, Option, None, Some, length, false, IfOk, IsOk, IsOkUnless};
+ghost use Rattle.std.specs.Prelude.{◌≡◌, ◌≤◌, [], ◌∷◌, List, Option, None, Some, length, not, false, true, IfOk, IsOk, IsOkUnless, MatchOption};
+ghost use Rattle.cb_block.specs.Decision.{is_sound_block};
 ghost use Rattle.cb_block.specs.declared.header.Header.{Header};
 ghost use Rattle.cb_base.specs.declared.fault.Fault.TheVariants.{Memory};
 ghost use Rattle.cb_wire.specs.declared.item.Item.{Item};
 ghost use Rattle.cb_wire.specs.declared.item.Item.TheVariants.{Good};
 ghost use Rattle.cb_wire.specs.declared.message.Message.TheVariants as messages;
-ghost use Rattle.cb_peer_state.specs.Questions.{is_known_type, told_of};
+ghost use Rattle.cb_peer_state.specs.Questions.{is_known_type, is_nil, told_of};
 ghost use Rattle.cb_peer_state.specs.Outcomes.{IsLightOutcome, Makes};
-ghost use Rattle.cb_peer_state.specs.Session.{weighs_item};
+ghost use Rattle.cb_peer_state.specs.Session.{weighs_admitted, weighs_heard, weighs_ready};
 ghost use Rattle.cb_peer_state.specs.Receiving.{brought, by_compact, given_up, gives_up, greeting, in_greeted, in_ready, in_start, introduced, processed, received};
 
 use crate::compact::{ask_places, hear_short, hear_txs};
 use cb_base::{Fault, Hash256, Shared};
-use cb_block::{Block, Header, sound_of};
+use cb_block::{Block, Header, SoundBlock, sound_of};
 use cb_fetch::Fetch;
 use cb_journal::{Given, Question, Request};
 use cb_payload::{CompactRelay, Entries, HeaderList, HeadersRequest, Inventory, Version};
@@ -37,7 +38,9 @@ pub fn process(
         (λ made. Makes
         (processed session.old item.now) item.now session.new made.messages.items made.next) }
     ensures memory { IsOkUnless result Memory }
-    ensures silent { weighs_item item.now ≡ false →
+    // Only a block that has transactions and the transactions of the block that is being rebuilt
+    // are hashed, both once the handshake is complete.
+    ensures silent { weighs_admitted session.old item.now ≡ false →
         IsLightOutcome (processed session.old item.now) →
         IsOk result }
 {
@@ -60,7 +63,7 @@ fn receive(session: &mut SessionState, alloc: Global, message: &Message) -> Resu
         (λ made. Makes (received session.old message.now)
         (Some (Good message.now)) session.new made.messages.items made.next) }
     ensures memory { IsOkUnless result Memory }
-    ensures silent { weighs_item (Some (Good message.now)) ≡ false →
+    ensures silent { weighs_heard session.old.state session.old message.now ≡ false →
         IsLightOutcome (received session.old message.now) → IsOk result }
 {
     if let Message::Ping(nonce) = message {
@@ -204,7 +207,7 @@ fn hear_ready(
         (λ made. Makes (in_ready session.old message.now)
         (Some (Good message.now)) session.new made.messages.items made.next) }
     ensures memory { IsOkUnless result Memory }
-    ensures silent { weighs_item (Some (Good message.now)) ≡ false →
+    ensures silent { weighs_ready session.old message.now ≡ false →
         IsLightOutcome (in_ready session.old message.now) → IsOk result }
 {
     match message {
@@ -323,6 +326,8 @@ fn ask_after(
 /// Handles `block`. If it isn't sound (no transaction, one of 64 bytes, equal neighbours in its
 /// Merkle tree, or another root than its header's), the session ends and the hall isn't given the
 /// block. Otherwise the block is no longer in flight and goes to the hall.
+///
+/// Fails only with `Fault::Memory`, and never for a block without transactions.
 #[tactic(auto, unfolding(cb_peer_state::specs::Receiving::brought))]
 fn bring(
     session: &mut SessionState,
@@ -333,8 +338,9 @@ fn bring(
         (λ made. Makes (brought session.old block.now)
         (Some (Good (messages.Block block.now))) session.new made.messages.items made.next) }
     ensures memory { IsOkUnless result Memory }
+    ensures silent { weighs_ready session.old (messages.Block block.now) ≡ false → IsOk result }
 {
-    let Some(sound) = sound_of(alloc, block)? else {
+    let Some(sound) = sound_with_txs(alloc, block)? else {
         return Ok(session.end_by(alloc, CloseReason::BadBlock));
     };
     let hash = block.header.hash();
@@ -351,6 +357,27 @@ fn bring(
             capable: session.peer.capable,
         }),
     ))
+}
+
+/// The block as a sound one, or `None` if it isn't sound. Fails only with `Fault::Memory`, and never
+/// for a block without transactions.
+fn sound_with_txs(alloc: Global, block: &Shared<Block>) -> Result<Option<SoundBlock>, Fault>
+    ensures decided { IfOk result (λ told. MatchOption told (is_sound_block block.now ≡ false)
+        (λ sound. (sound ≡ block.now) × (is_sound_block block.now ≡ true))) }
+    ensures memory { IsOkUnless result Memory }
+    ensures unpaid { not (is_nil block.now.txs) ≡ false → IsOk result }
+{
+    if has_no_txs(&**block) {
+        return Ok(None);
+    }
+    sound_of(alloc, block)
+}
+
+/// Whether a block has no transactions.
+fn has_no_txs(block: &Block) -> bool
+    ensures { result ≡ is_nil block.now.txs }
+{
+    block.txs.as_slice().is_empty()
 }
 
 /// The answer to the peer's `version`: `verack`, and before it our `version` if the peer made the

@@ -1,6 +1,6 @@
 -- Where nothing is sent and nothing is asked but what is new.
 use Rattle.std.proofs.Common.{◌≡◌, ◌≢◌, ℕ, Bool, true, false, cond, List, [], ◌∷◌, ◌++◌, Option, Some, None, refl, sym, ap, subst, ◌∙◌}
-use Rattle.std.specs.Prelude.{MatchOption}
+use Rattle.std.specs.Prelude.{MatchOption, ◌&&◌, length, not}
 use Rattle.cb_base.specs.declared.fault.Fault.{Fault}
 use Rattle.cb_base.specs.declared.fault.Fault.TheVariants as faults
 use Rattle.cb_base.specs.declared.hash.Hash256.{Hash256}
@@ -17,7 +17,6 @@ use Rattle.cb_talk.specs.Announcing.{announcing_block}
 use Rattle.cb_talk.specs.Inventory.{asking_headers}
 use Rattle.cb_talk.specs.Serving.{excerpt_told, sent, served, shorts}
 use Rattle.cb_wire.specs.declared.item.Item.{Item}
-use Rattle.cb_wire.specs.declared.item.Item.TheVariants.{Good, Damaged, Bad}
 use Rattle.cb_wire.specs.declared.message.Message.{Message}
 use Rattle.cb_wire.specs.declared.message.Message.TheVariants as messages
 use Rattle.cb_peer_state.specs.declared.stage.Stage.TheVariants.{Match}
@@ -26,19 +25,34 @@ use Rattle.cb_peer_state.specs.Outcomes.{IsLightOutcome, Makes}
 use Rattle.cb_peer_state.specs.Questions.{is_nil, short_in, sought_for}
 use Rattle.cb_peer_state.specs.Receiving.{Outcome, asks, ended, ends}
 use Rattle.cb_peer_state.specs.Replying.{before_parent, excerpt_answered, given_told, heads_by, heads_for, is_workless, more_headers, served_told, short_told}
-use Rattle.cb_peer_state.specs.Session.{weighs_item}
 use Rattle.cb_peer_state.specs.declared.session_state.SessionState.{SessionState}
 use Rattle.cb_peer_state.specs.State.{landing, next_nonce, with_made}
 use Rattle.cb_peer_state.proofs.Cases.{sent_at_end}
 use Rattle.cb_peer_state.proofs.Lights.{some_sent}
 
--- a compact block is hashed
-pub short_weighs : (item : Option Item) (short : HeaderAndShortIds) → short_in item ≡ Some short → weighs_item item ≡ true
-short_weighs (Some (Good (messages.CmpctBlock brought))) short is = refl
-short_weighs (Some (Good other)) short is = absurd cc
-short_weighs (Some Damaged) short is = absurd cc
-short_weighs (Some (Bad command fault)) short is = absurd cc
-short_weighs None short is = absurd cc
+-- headers that have work and of which no block is missing
+pub nothing_lacks : (workless : Bool) (lack : List Hash256) → workless ≡ false → (not workless && not (is_nil lack)) ≡ false → length lack ≡ 0
+nothing_lacks true lack works none = absurd cc
+nothing_lacks false [] works none = refl
+nothing_lacks false (hash ∷ hashes) works none = absurd cc
+
+-- The header of a compact block: nothing is sent and nothing searched.
+is_first : (test : Bool) (first next : Outcome) → (IsLightOutcome next → ⊥) → IsLightOutcome (cond test first next) → (test ≡ true) × IsLightOutcome first
+is_first true first next never light = (refl, light)
+is_first false first next never light = absurd (never light)
+
+pub short_light : (s : SessionState) (hash : Hash256) (heads : Heads) → is_workless heads.refused ≡ false → IsLightOutcome (short_told s hash heads)
+    → (is_nil heads.lack ≡ true) × IsLightOutcome (ends (landing hash s) (before_parent heads.refused heads.locator))
+unfolding short_told
+short_light s hash heads works light =
+    let end = ends (landing hash s) (before_parent heads.refused heads.locator) in
+    let next = asks s (before_parent heads.refused heads.locator) Match in
+    let here : IsLightOutcome (cond (is_nil heads.lack) end next) = subst (λ (b : Bool). IsLightOutcome (cond b (ended reasons.BadBlock s) (cond (is_nil heads.lack) end next))) works light in
+    is_first (is_nil heads.lack) end next (λ heavy. let e : false ≡ true = heavy.1 in cc) here
+
+pub short_sent : (s : SessionState) (hash : Hash256) (heads : Heads) → is_workless heads.refused ≡ false → IsLightOutcome (short_told s hash heads) → before_parent heads.refused heads.locator ≡ []
+short_sent s hash heads works light =
+    sym (sent_at_end (landing hash s) (before_parent heads.refused heads.locator)) ∙ (short_light s hash heads works light).1.0
 
 accepted_light : (s : SessionState) (item : Option Item) (refused : Option Fault) (locator : List Hash256) → refused ≡ None → IsLightOutcome (heads_by s item refused locator) → more_headers item ≡ []
 accepted_light s item None locator none light = sym (sent_at_end s (more_headers item)) ∙ light.0

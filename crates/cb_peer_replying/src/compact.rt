@@ -1,11 +1,11 @@
 //! How a session handles the hall's answers about compact blocks (BIP 152).
 ghost use Rattle.std.specs.Prelude.{◌≡◌, [], false, Option, None, Some, IfOk, IfSome, IsOk, IsOkUnless};
-ghost use Rattle.cb_base.specs.declared.fault.Fault.TheVariants.{Memory};
+ghost use Rattle.cb_base.specs.declared.fault.Fault.TheVariants.{BadWork, Memory};
 ghost use Rattle.cb_chain.specs.Entries.{block_hash};
 ghost use Rattle.cb_wire.specs.declared.item.Item.{Item};
 ghost use Rattle.cb_peer_state.specs.Outcomes.{IsLightOutcome, Makes};
 ghost use Rattle.cb_peer_state.specs.Questions.{short_in, sought_for};
-ghost use Rattle.cb_peer_state.specs.Session.{weighs_item};
+ghost use Rattle.cb_peer_state.specs.Session.{weighs_short};
 ghost use Rattle.cb_peer_state.specs.Replying.{before_parent, excerpt_answered, given_told, pairs_told, short_told};
 
 use cb_base::{Fault, Shared};
@@ -59,7 +59,7 @@ fn requests_before(
 /// For an unknown parent the headers before it are requested. If the block isn't missing, it is no
 /// longer in flight. Else the mempool is searched for its transactions.
 ///
-/// Fails only with `Fault::Memory`.
+/// Fails only with `Fault::Memory`, and never for a header without work.
 #[tactic(auto, unfolding(cb_peer_state::specs::Replying::short_told))]
 pub(crate) fn hear_short_heads(
     session: &mut SessionState,
@@ -71,6 +71,9 @@ pub(crate) fn hear_short_heads(
         (λ made. Makes (short_told session.old (block_hash short.now.header) heads.now)
         item session.new made.messages.items made.next) }
     ensures memory { IsOkUnless result Memory }
+    ensures calm { heads.now.refused ≡ Some BadWork → IsOk result }
+    ensures silent { IsLightOutcome
+        (short_told session.old (block_hash short.now.header) heads.now) → IsOk result }
 {
     if heads.refused == Some(Fault::BadWork) {
         return Ok(session.end_by(alloc, CloseReason::BadBlock));
@@ -124,7 +127,7 @@ pub(crate) fn hear_pairs(
         (λ made. Makes (pairs_told session.old item.now pairs.now)
         item.now session.new made.messages.items made.next) }
     ensures memory { IsOkUnless result Memory }
-    ensures silent { weighs_item item.now ≡ false → IsOk result }
+    ensures silent { weighs_short (short_in item.now) ≡ false → IsOk result }
 {
     let Some(short) = short_in(item) else {
         return Ok(Reaction::nothing(alloc));

@@ -1,11 +1,11 @@
 //! How a session handles the hall's answers: one arm for each kind of answer. The hall is what
 //! Bitcoin Core keeps in ChainstateManager and CTxMemPool.
-ghost use Rattle.std.specs.Prelude.{◌≡◌, [], ◌∷◌, ◌≤◌, None, Option, filter, filter_map, false, length, not, IfOk, IsOk, IsOkUnless};
+ghost use Rattle.std.specs.Prelude.{◌≡◌, [], ◌∷◌, ◌≤◌, None, Option, Some, filter, filter_map, false, length, not, IfOk, IsOk, IsOkUnless};
 ghost use Rattle.std.specs.List.{list_any};
 ghost use Rattle.cb_base.specs.DoubleHash.{double_hash};
 ghost use Rattle.cb_chain.specs.Entries.{same};
 ghost use Rattle.cb_tx.specs.Text.{tx_text};
-ghost use Rattle.cb_base.specs.declared.fault.Fault.TheVariants.{Memory};
+ghost use Rattle.cb_base.specs.declared.fault.Fault.TheVariants.{BadWork, Memory};
 ghost use Rattle.cb_talk.specs.Announcing.{telling};
 ghost use Rattle.cb_talk.specs.Inventory.{asking_for, asking_headers};
 ghost use Rattle.cb_wire.specs.declared.message.Message.TheVariants as messages;
@@ -14,7 +14,7 @@ ghost use Rattle.cb_peer_state.specs.declared.stage.Stage.TheVariants as stages;
 ghost use Rattle.cb_peer_state.specs.declared.stage.Subject.{Subject};
 ghost use Rattle.cb_journal.specs.declared.answer.Answer.TheVariants as answers;
 ghost use Rattle.cb_peer_state.specs.Outcomes.{IsLightOutcome, Makes, as_list};
-ghost use Rattle.cb_peer_state.specs.Session.{weighs_answer, weighs_item};
+ghost use Rattle.cb_peer_state.specs.Session.{weighs_answer, weighs_at, weighs_txids};
 ghost use Rattle.cb_peer_state.specs.Receiving.{ends};
 ghost use Rattle.cb_peer_state.specs.Replying.{answered, differ, heads_for, heads_told, is_block, is_leave, is_untold, more_headers, need_told, news_told, served_told, taken_told, tip_made, tip_told, tx_request, wanted_told, wish_told, without_brought};
 
@@ -52,7 +52,9 @@ pub fn reply(
         item.now session.new made.messages.items made.next) }
     ensures memory { IsOkUnless result Memory }
     ensures calm { answer.now ≡ answers.Kicked → IsOk result }
-    ensures silent { weighs_item item.now ≡ false → weighs_answer answer.now ≡ false →
+    // Only an answer that lists missing blocks or needed entries is worked through, and only a
+    // compact block and a transaction beside others that are new are hashed.
+    ensures silent { weighs_at session.old item.now stage.now answer.now ≡ false →
         IsLightOutcome (answered session.old item.now stage.now answer.now) → IsOk result }
 {
     if let Answer::Kicked = answer {
@@ -94,7 +96,7 @@ fn hear_about(
         item.now session.new made.messages.items made.next) }
     ensures memory { IsOkUnless result Memory }
     ensures silent { (subject : Subject) →
-        weighs_item item.now ≡ false → weighs_answer answer.now ≡ false →
+        weighs_answer answer.now ≡ false →
         IsLightOutcome (answered session.old item.now (stages.About subject) answer.now) →
         IsOk result }
 {
@@ -176,8 +178,8 @@ fn hear_heads(
         (λ made. Makes (heads_told session.old item.now heads.now)
         item.now session.new made.messages.items made.next) }
     ensures memory { IsOkUnless result Memory }
-    ensures silent { weighs_item item.now ≡ false →
-        weighs_answer (answers.Heads heads.now) ≡ false →
+    ensures calm { heads.now.refused ≡ Some BadWork → IsOk result }
+    ensures silent { weighs_answer (answers.Heads heads.now) ≡ false →
         IsLightOutcome (heads_told session.old item.now heads.now) → IsOk result }
 {
     match short_in(item) {
@@ -199,6 +201,7 @@ fn hear_headers(
         (λ made. Makes (heads_for session.old item.now None heads.now)
         item.now session.new made.messages.items made.next) }
     ensures memory { IsOkUnless result Memory }
+    ensures calm { heads.now.refused ≡ Some BadWork → IsOk result }
     ensures silent { weighs_answer (answers.Heads heads.now) ≡ false →
         IsLightOutcome (heads_for session.old item.now None heads.now) → IsOk result }
 {
@@ -293,7 +296,7 @@ fn hear_news(
         (λ made. Makes (news_told session.old item.now news.now)
         item.now session.new made.messages.items made.next) }
     ensures memory { IsOkUnless result Memory }
-    ensures silent { weighs_item item.now ≡ false →
+    ensures silent { weighs_txids item.now news.now.txids ≡ false →
         IsLightOutcome (news_told session.old item.now news.now) → IsOk result }
 {
     let mut messages = Vec::new(alloc);
@@ -457,7 +460,7 @@ fn told_txs(
     ensures message { IfOk result
         (λ made. as_list made ≡ telling (without_brought item.now txids.now)) }
     ensures memory { IsOkUnless result Memory }
-    ensures silent { weighs_item item.now ≡ false →
+    ensures silent { weighs_txids item.now txids.now ≡ false →
         telling (without_brought item.now txids.now) ≡ [] → IsOk result }
 {
     if txids.as_slice().is_empty() {

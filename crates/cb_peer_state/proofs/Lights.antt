@@ -1,6 +1,6 @@
 -- Where nothing is sent and nothing asked but what is new.
 use Rattle.std.proofs.Common.{◌≡◌, ℕ, Bool, true, false, cond, List, [], ◌∷◌, Option, Some, None, length, refl, sym, ap, subst, ◌∙◌}
-use Rattle.std.specs.Prelude.{◌&&◌, not, option_map, MatchOption}
+use Rattle.std.specs.Prelude.{◌||◌, not, option_map, MatchOption}
 use Rattle.std.specs.List.{list_any, slice_get}
 use Rattle.cb_base.specs.declared.fault.Fault.{Fault}
 use Rattle.cb_base.specs.declared.fault.Fault.TheVariants as faults
@@ -25,7 +25,7 @@ use Rattle.cb_peer_state.specs.Questions.{fits, is_nil, question_of}
 use Rattle.cb_peer_state.specs.Outcomes.{Answers, IsLightOutcome, as_list, is_light_stage}
 use Rattle.cb_peer_state.specs.Receiving.{ends, last_hash, received}
 use Rattle.cb_peer_state.specs.Replying.{answered, is_block, taken_told}
-use Rattle.cb_peer_state.specs.Session.{Stepped, for_item, is_light, spares, pending_item, stays, told, weighs_answer, weighs_item}
+use Rattle.cb_peer_state.specs.Session.{Stepped, for_item, is_light, spares, spares_pending, stays, told, weighs_at}
 use Rattle.cb_peer_state.specs.declared.session_state.SessionState.{SessionState}
 use Rattle.cb_peer_state.specs.State.{freed}
 use Rattle.cb_peer_state.proofs.Cases.{sent_at_end}
@@ -72,7 +72,7 @@ light_stage s item (Some Match) e = absurd cc
 light_stage s item (Some (Give block)) e = absurd cc
 light_stage s item (Some Wanted) e = absurd cc
 light_stage s item (Some (About subjects.Headers)) e = absurd cc
-light_stage s item (Some (About subjects.Locator)) e = absurd cc
+light_stage s item (Some (About subjects.Locator)) e = refl
 light_stage s item (Some (About subjects.Inventory)) e = absurd cc
 light_stage s item (Some (About subjects.Tx)) e = absurd cc
 light_stage s item (Some (About subjects.Block)) e = absurd cc
@@ -99,15 +99,17 @@ told_light s pending answer waiting met silent light =
       light_stage outcome.session pending.item outcome.next (sym (ap (λ (step : Stepped). is_light step.question) same) ∙ light),
     )
 
-both_not : (a b : Bool) → (not a && not b) ≡ true → (a ≡ false) × (b ≡ false)
-both_not false false e = (refl, refl)
-both_not false true e = absurd cc
-both_not true b e = absurd cc
+weighs_not : (met weighs : Bool) → met ≡ true → (not met || not weighs) ≡ true → weighs ≡ false
+weighs_not true false is spare = refl
+weighs_not true true is spare = absurd cc
+weighs_not false weighs is spare = absurd cc
 
-pub spared : (s : SessionState) (pending : Pending) (answer : Answer) → s.pending ≡ Some pending → spares s (events.Told answer) ≡ true → (weighs_item pending.item ≡ false) × (weighs_answer answer ≡ false)
-spared s pending answer waiting spare =
-    let parts = both_not (weighs_item (pending_item s.pending)) (weighs_answer answer) spare in
-    (sym (ap (λ (st : Option Pending). weighs_item (pending_item st)) waiting) ∙ parts.0, parts.1)
+-- an answer that fits
+pub spared : (s : SessionState) (pending : Pending) (answer : Answer) → s.pending ≡ Some pending → fits (question_of s pending.item pending.stage) answer ≡ true
+    → spares s (events.Told answer) ≡ true → weighs_at (freed s) pending.item pending.stage answer ≡ false
+spared s pending answer waiting met spare =
+    weighs_not (fits (question_of s pending.item pending.stage) answer) (weighs_at (freed s) pending.item pending.stage answer) met
+    (sym (ap (λ (st : Option Pending). spares_pending st s answer) waiting) ∙ spare)
 
 -- ---- a message that may be none
 

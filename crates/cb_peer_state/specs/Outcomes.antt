@@ -4,7 +4,8 @@ use Rattle.cb_journal.specs.declared.question.Question.{Question}
 use Rattle.cb_wire.specs.declared.item.Item.{Item}
 use Rattle.cb_wire.specs.declared.message.Message.{Message}
 use Rattle.cb_peer_state.specs.declared.stage.Stage.{Stage}
-use Rattle.cb_peer_state.specs.declared.stage.Stage.TheVariants.{Fresh}
+use Rattle.cb_peer_state.specs.declared.stage.Stage.TheVariants.{About, Fresh}
+use Rattle.cb_peer_state.specs.declared.stage.Subject.TheVariants as subjects
 use Rattle.cb_peer_state.specs.declared.reaction.NextQuestion.{NextQuestion}
 use Rattle.cb_peer_state.specs.Questions.{question_of}
 use Rattle.cb_peer_state.specs.Receiving.{Outcome}
@@ -31,12 +32,13 @@ pub record Answers (step : Stepped) (session : SessionState) (sent : List Messag
   pub messages : sent ≡ step.messages
   pub question : asked ≡ step.question
 
--- Nothing is asked, or only what is new.
+-- Nothing is asked, or only for the locator or what is new.
 abbrev pub is_light_stage : Option Stage → Bool
 is_light_stage None = true
 is_light_stage (Some Fresh) = true
+is_light_stage (Some (About subjects.Locator)) = true
 is_light_stage (Some other) = false
 
--- Nothing is sent, and nothing is asked but what is new.
+-- Nothing is sent, and nothing is asked but for the locator or what is new.
 abbrev pub IsLightOutcome : Outcome → Type 0
 IsLightOutcome outcome = (outcome.messages ≡ []) × (is_light_stage outcome.next ≡ true)

@@ -1,7 +1,9 @@
 -- One step of a session: the session after an event, what it sends, and what it asks the hall
 -- (Bitcoin's peer-to-peer protocol). Receiving says how messages are handled, Replying how answers
 -- are.
-use Rattle.std.specs.Prelude.{Bool, true, false, not, ◌&&◌, List, [], ◌∷◌, Option, Some, None, option_map, if◌then◌else◌}
+use Rattle.std.specs.Prelude.{Bool, true, false, not, ◌&&◌, ◌||◌, List, [], ◌∷◌, Option, Some, None, option_map, if◌then◌else◌}
+use Rattle.cb_base.specs.declared.hash.Hash256.{Hash256}
+use Rattle.cb_payload.specs.declared.compact_block.HeaderAndShortIds.{HeaderAndShortIds}
 use Rattle.cb_wire.specs.declared.item.Item.{Item}
 use Rattle.cb_wire.specs.declared.message.Message.{Message}
 use Rattle.cb_wire.specs.declared.item.Item.TheVariants.{Good}
@@ -12,18 +14,20 @@ use Rattle.cb_journal.specs.declared.question.Question.{Question}
 use Rattle.cb_journal.specs.declared.question.Question.TheVariants as questions
 use Rattle.cb_talk.specs.Greeting.{our_version}
 use Rattle.cb_peer_state.specs.declared.stage.Stage.{Stage}
-use Rattle.cb_peer_state.specs.declared.stage.Stage.TheVariants.{Admit}
+use Rattle.cb_peer_state.specs.declared.stage.Stage.TheVariants.{Admit, Fresh, Match}
 use Rattle.cb_peer_state.specs.declared.event.Event.{Event}
 use Rattle.cb_peer_state.specs.declared.event.Event.TheVariants as events
 use Rattle.cb_peer_state.specs.declared.settings.Settings.{Settings}
 use Rattle.cb_peer_state.specs.declared.pending.Pending.{Pending}
 use Rattle.cb_peer_state.specs.declared.state.CloseReason.{CloseReason}
 use Rattle.cb_peer_state.specs.declared.state.CloseReason.TheVariants as reasons
-use Rattle.cb_peer_state.specs.Questions.{fits, is_nil, question_of}
-use Rattle.cb_peer_state.specs.Replying.{answered}
+use Rattle.cb_peer_state.specs.declared.state.State.{State}
+use Rattle.cb_peer_state.specs.declared.state.State.TheVariants.{Ready}
+use Rattle.cb_peer_state.specs.Questions.{fits, is_nil, question_of, short_in}
+use Rattle.cb_peer_state.specs.Replying.{answered, is_workless}
 use Rattle.cb_peer_state.specs.Receiving.{Outcome, asks}
 use Rattle.cb_peer_state.specs.declared.session_state.SessionState.{SessionState}
-use Rattle.cb_peer_state.specs.State.{freed, is_closed, over, with_pending}
+use Rattle.cb_peer_state.specs.State.{freed, is_closed, is_partial, over, with_pending}
 
 -- The result of a step: the session after it, the messages to send, and the question to ask.
 pub record Stepped : Type 0 where
@@ -91,33 +95,64 @@ takes_no_memory other = true
 
 -- ---- answers that take no memory
 
--- An item that is hashed or copied: a transaction, a block, or part of a block.
-abbrev pub weighs_item : Option Item → Bool
-weighs_item (Some (Good (messages.Tx tx))) = true
-weighs_item (Some (Good (messages.Block block))) = true
-weighs_item (Some (Good (messages.CmpctBlock short))) = true
-weighs_item (Some (Good (messages.BlockTxn given))) = true
-weighs_item item = false
+-- What is hashed of an admitted message once the handshake is complete: a block that has
+-- transactions, and transactions of the block that is being rebuilt.
+abbrev pub weighs_ready : SessionState → Message → Bool
+weighs_ready s (messages.Block block) = not (is_nil block.txs)
+weighs_ready s (messages.BlockTxn given) = is_partial given.block s.compact.partial
+weighs_ready s other = false
 
--- An answer that lists missing blocks or needed entries.
+-- Before that nothing is hashed.
+abbrev pub weighs_heard : State → SessionState → Message → Bool
+weighs_heard Ready s message = weighs_ready s message
+weighs_heard other s message = false
+
+abbrev pub weighs_admitted : SessionState → Option Item → Bool
+weighs_admitted s (Some (Good message)) = weighs_heard s.state s message
+weighs_admitted s item = false
+
+-- A compact block is rebuilt.
+abbrev pub weighs_short : Option HeaderAndShortIds → Bool
+weighs_short None = false
+weighs_short (Some short) = true
+
+-- A transaction is hashed, because it isn't announced to its own peer.
+abbrev pub weighs_txids : Option Item → List Hash256 → Bool
+weighs_txids (Some (Good (messages.Tx tx))) txids = not (is_nil txids)
+weighs_txids item txids = false
+
+-- An answer that lists needed entries, or missing blocks unless a header has no work.
 abbrev pub weighs_answer : Answer → Bool
-weighs_answer (answers.Heads heads) = not (is_nil heads.lack)
+weighs_answer (answers.Heads heads) = not (is_workless heads.refused) && not (is_nil heads.lack)
 weighs_answer (answers.Need need) = not (is_nil need.entries)
 weighs_answer answer = false
+
+-- What an answer leads to at a stage is hashed, copied or listed.
+abbrev pub weighs_at : SessionState → Option Item → Stage → Answer → Bool
+weighs_at s item Admit answers.Go = weighs_admitted s item
+weighs_at s item Match (answers.Pairs pairs) = weighs_short (short_in item)
+weighs_at s item Fresh (answers.News news) = weighs_txids item news.txids
+weighs_at s item stage answer = weighs_answer answer
 
 -- The item whose question is open, if there is one.
 abbrev pub pending_item : Option Pending → Option Item
 pending_item None = None
 pending_item (Some pending) = pending.item
 
--- An answer that lists nothing missing or needed, to an item that is no transaction, no block and
--- no part of one. It takes no memory if nothing is sent to it and nothing is asked but what is new
+abbrev pub spares_pending : Option Pending → SessionState → Answer → Bool
+spares_pending None s answer = true
+spares_pending (Some pending) s answer =
+    not (fits (question_of s pending.item pending.stage) answer) || not (weighs_at (freed s) pending.item pending.stage answer)
+
+-- An answer that doesn't fit, or that leads to nothing that is hashed, copied or listed. It takes no
+-- memory if nothing is sent to it and nothing is asked but for the locator or what is new
 -- (`is_light`).
 abbrev pub spares : SessionState → Event → Bool
-spares s (events.Told answer) = not (weighs_item (pending_item s.pending)) && not (weighs_answer answer)
+spares s (events.Told answer) = spares_pending s.pending s answer
 spares s other = false
 
 abbrev pub is_light : Option Question → Bool
 is_light None = true
+is_light (Some questions.Locator) = true
 is_light (Some (questions.News since)) = true
 is_light (Some other) = false

@@ -101,9 +101,9 @@ abbrev pub AsksPending : SessionState → SessionState → Option Question → T
 AsksPending before after asked = (asked ≡ pending_question after) ⊎ ((asked ≡ None) × (after ≡ before))
 
 -- The trace was given an event, and returned what its session sent and asked. The entry is starved
--- only if the step takes memory. An answer is never starved if it lists nothing missing or needed,
--- its item is no transaction, no block and no part of a block, nothing is sent to it, and nothing is
--- asked but what is new.
+-- only if the step takes memory. An answer is never starved if it doesn't fit. Nor is one to which
+-- nothing is hashed, copied or listed (`weighs_at` of cb_peer_state), nothing is sent, and nothing is
+-- asked but for the locator or what is new.
 pub record TraceSteps (old new : TraceView) (event : Event) (sent : List Message) (asked : Option Question) : Type 0 where
   pub starved : Bool
   pub grows : Grows old new (record { event = event; starved = starved })
