@@ -95,7 +95,7 @@ fn meet_headers(tree: &mut Tree, headers: &[Header], met: &mut Vec<Hash256>) -> 
 impl Chain {
     /// Adds headers in order, as `accept_header` does. A known header is skipped. The first header
     /// that is refused for another reason ends it: the reason is in `Accepted::refused`, the
-    /// headers before it stay added, and those after it aren't looked at.
+    /// headers before it stay added, and none after it is added. Up to three of these may be hashed.
     ///
     /// The active chain stays. Fails only with `Fault::Memory`; nothing has then changed, and none
     /// of the headers is added.
