@@ -11,7 +11,7 @@ use cb_journal::Question;
 use cb_peer::Settings;
 use cb_reader::Input;
 use cb_state::Connection;
-use cb_wire::{Assembler, Item};
+use cb_wire::{Assembler, Entries, Item};
 use cb_work::{ConnectionStatus, Outlet, PeerFlags, PeerWork, SharedHall};
 use std::alloc::Global;
 use std::sync::{Mutex, Wait};

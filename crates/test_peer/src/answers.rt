@@ -4,7 +4,7 @@ use cb_base::{Fault, Hash256, Shared};
 use cb_block::genesis;
 use cb_chain::Hashes;
 use cb_journal::Answer;
-use cb_payload::Listed;
+use cb_payload::{Inventory, Listed};
 use cb_pool::{Pool, ShortIds};
 use cb_state::{BoundedBlock, Excerpt, Heads, Need, News, Piece, Taken, first_block_meets_rules};
 use std::alloc::Global;

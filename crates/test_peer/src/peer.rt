@@ -2,7 +2,7 @@
 use crate::shared::{HEADER, NAME};
 use cb_base::{Fault, Shared};
 use cb_journal::Answer;
-use cb_payload::Listed;
+use cb_payload::{Inventory, Listed};
 use cb_peer::{Event, Session, Settings};
 use cb_state::News;
 use cb_talk::our_version;
