@@ -16,4 +16,4 @@ returns-in-Some-clause-silent c = λ weighs light.
 pub returns-in_err-want-clause-silent : goal.returns-in_err-want-clause-silent
 returns-in_err-want-clause-silent c = λ weighs light.
     let works : is_workless c.args.heads.now.refused ≡ false = search rules in
-    absurd (let ok = c.in_err-want.ensures.unpaid (ap length c.as_slice.ensures.same ∙ nothing_lacks (is_workless c.args.heads.now.refused) c.args.heads.now.lack works weighs) in cc)
+    absurd (let ok = c.in_err-want.ensures.unpaid (ap length c.as_slice.ensures ∙ nothing_lacks (is_workless c.args.heads.now.refused) c.args.heads.now.lack works weighs) in cc)
