@@ -49,7 +49,7 @@ impl Clone for Pooled {
 #[derive(Drop)]
 pub(crate) struct Members {
     pub(crate) entries: IndexMap<Hash256, Pooled>,
-    coins: HashMap<OutPoint, Option<i64>>,
+    pub(crate) coins: HashMap<OutPoint, Option<i64>>,
 }
 
 impl Model for Members {
