@@ -26,7 +26,7 @@ use Rattle.cb_pool.proofs.Spent.{not_coinbase, ok_at}
 
 -- ---- transactions behind others
 
-spend_split : (u w : Unspent) (txs others : List Tx) → spend u (txs ++ others) ≡ Ok w → (v : Unspent) × (spend u txs ≡ Ok v) × (spend v others ≡ Ok w)
+pub spend_split : (u w : Unspent) (txs others : List Tx) → spend u (txs ++ others) ≡ Ok w → (v : Unspent) × (spend u txs ≡ Ok v) × (spend v others ≡ Ok w)
 unfolding spend
 spend_split u w [] others e = (u, refl, e)
 spend_split u w (tx ∷ txs) others e =
@@ -34,11 +34,11 @@ spend_split u w (tx ∷ txs) others e =
     let b = spend_split a.0 w txs others a.2 in
     (b.0, ap (λ (r : Result Unspent Fault). r >>= λ next. spend next txs) a.1 ∙ b.1, b.2)
 
-first_of : (u w : Unspent) (tx : Tx) (txs : List Tx) → spend u (tx ∷ txs) ≡ Ok w → (v : Unspent) × (spend_tx u tx ≡ Ok v) × (spend v txs ≡ Ok w)
+pub first_of : (u w : Unspent) (tx : Tx) (txs : List Tx) → spend u (tx ∷ txs) ≡ Ok w → (v : Unspent) × (spend_tx u tx ≡ Ok v) × (spend v txs ≡ Ok w)
 unfolding spend
 first_of u w tx txs e = bind_ok (spend_tx u tx) (λ next. spend next txs) w e
 
-needs : (u w : Unspent) (tx : Tx) (point : OutPoint) → is_coinbase tx.inputs ≡ false → spend_tx u tx ≡ Ok w → IsNamed tx.inputs point → finite.get u point ≢ None
+pub needs : (u w : Unspent) (tx : Tx) (point : OutPoint) → is_coinbase tx.inputs ≡ false → spend_tx u tx ≡ Ok w → IsNamed tx.inputs point → finite.get u point ≢ None
 needs u w tx point other e named = let t = two point u tx w other e in (inputs_take point u tx.inputs t.rest t.spent named).0
 
 pub spends_what_is_there : (u : Unspent) (before after : List Tx) (tx : Tx) (point : OutPoint) → StandsAlone tx → IsOk (spend u (before ++ tx ∷ after)) → IsNamed tx.inputs point → ¬ IsMade before point
@@ -80,7 +80,7 @@ one_refold u first old new other a b =
 
 -- ---- names
 
-same_symm : (a b : Hash256) → same a b ≡ false → same b a ≡ false
+pub same_symm : (a b : Hash256) → same a b ≡ false → same b a ≡ false
 same_symm a b e =
     elim (cases_Bool (same b a)) [
       | inl is ↦ absurd (false≢true (sym e ∙ (bytes_decides a.0 b.0).1 (sym ((bytes_decides b.0 a.0).0 is))))
@@ -114,11 +114,11 @@ cond_false : (b : Bool) (tx : Tx) (rest : Option Tx) → is_some (cond b (Some t
 cond_false true tx rest e = absurd (false≢true (sym e))
 cond_false false tx rest e = (refl, e)
 
-apart_in : (before after : List Tx) (tx : Tx) (txid : Hash256) → is_named_in (before ++ tx ∷ after) txid ≡ false → same txid (txid_of tx) ≡ false
+pub apart_in : (before after : List Tx) (tx : Tx) (txid : Hash256) → is_named_in (before ++ tx ∷ after) txid ≡ false → same txid (txid_of tx) ≡ false
 apart_in [] after tx txid e = (cond_false (same txid (txid_of tx)) tx (named_in after txid) e).0
 apart_in (first ∷ before) after tx txid e = apart_in before after tx txid (cond_false (same txid (txid_of first)) first (named_in (before ++ tx ∷ after) txid) e).1
 
-fresh_behind : (before after : List Tx) (tx : Tx) → NamesDiffer (before ++ tx ∷ after) → is_named_in before (txid_of tx) ≡ false
+pub fresh_behind : (before after : List Tx) (tx : Tx) → NamesDiffer (before ++ tx ∷ after) → is_named_in before (txid_of tx) ≡ false
 fresh_behind [] after tx differ = refl
 fresh_behind (first ∷ before) after tx differ =
     let back : same (txid_of tx) (txid_of first) ≡ false = same_symm (txid_of first) (txid_of tx) (apart_in before after tx (txid_of first) differ.0) in

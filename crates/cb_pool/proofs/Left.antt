@@ -105,12 +105,12 @@ pub seen_at : (u : Unspent) (inputs : List TxIn) (i : ℕ) (input : TxIn) → ¬
     → finite.get (without_inputs u (take i inputs)) input.prev ≡ finite.get u input.prev
 seen_at u inputs i input once lt is = without_other input.prev u (take i inputs) (λ named. once (named_twice inputs i input lt is named))
 
-named_any : (inputs : List TxIn) (q : OutPoint) → IsNamed inputs q → Any (λ (input : TxIn). input.prev ≡ q) inputs
+pub named_any : (inputs : List TxIn) (q : OutPoint) → IsNamed inputs q → Any (λ (input : TxIn). input.prev ≡ q) inputs
 named_any [] q named = absurd named
 named_any (first ∷ inputs) q (inl here) = (0, first, omega arith, refl, here)
 named_any (first ∷ inputs) q (inr rest) = let k = named_any inputs q rest in (suc k.0, k.1, omega (arith, k.2), k.3, k.4)
 
-any_at : (inputs : List TxIn) (q : OutPoint) (k : ℕ) (x : TxIn) → k < length inputs → get_or inputs k x ≡ x → x.prev ≡ q → IsNamed inputs q
+pub any_at : (inputs : List TxIn) (q : OutPoint) (k : ℕ) (x : TxIn) → k < length inputs → get_or inputs k x ≡ x → x.prev ≡ q → IsNamed inputs q
 any_at [] q k x lt at is = absurd (omega arith)
 any_at (first ∷ inputs) q zero x lt at is = inl (ap (λ (y : TxIn). y.prev) at ∙ is)
 any_at (first ∷ inputs) q (suc k) x lt at is = inr (any_at inputs q k x (omega arith) at is)

@@ -1,8 +1,11 @@
 pub mod LawLemmas
 pub mod Left
+pub mod Marking
 pub mod Matching
 pub mod Named
 pub mod Numbers
 pub mod Spent
 pub mod Taking
+pub mod Thinned
+pub mod Thinner
 pub mod Untouched

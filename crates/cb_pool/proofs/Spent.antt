@@ -50,7 +50,7 @@ not_coinbase tx alone =
       | inr isnt ↦ isnt
     ]
 
-tx_leaves : (u : Unspent) (tx : Tx) (w : Unspent) → is_coinbase tx.inputs ≡ false → spend_tx u tx ≡ Ok w → w ≡ after_tx u tx
+pub tx_leaves : (u : Unspent) (tx : Tx) (w : Unspent) → is_coinbase tx.inputs ≡ false → spend_tx u tx ≡ Ok w → w ≡ after_tx u tx
 unfolding spend_tx
 tx_leaves u tx w isnt e =
     let txid = txid_of tx in

@@ -38,19 +38,19 @@ module _ (q : OutPoint) where
   same_insert : (u v : Unspent) (k : OutPoint) (x : ℤ) → finite.get u q ≡ finite.get v q → finite.get (finite.insert u k x) q ≡ finite.get (finite.insert v k x) q
   same_insert u v k x e = get_insert u k x q ∙ ap (cond (is_same q k) (Some x)) e ∙ sym (get_insert v k x q)
 
-  same_without : (u v : Unspent) (inputs : List TxIn) → finite.get u q ≡ finite.get v q → finite.get (without_inputs u inputs) q ≡ finite.get (without_inputs v inputs) q
+  pub same_without : (u v : Unspent) (inputs : List TxIn) → finite.get u q ≡ finite.get v q → finite.get (without_inputs u inputs) q ≡ finite.get (without_inputs v inputs) q
   unfolding without_inputs
   same_without u v [] e = e
   same_without u v (input ∷ inputs) e = same_without (finite.remove u input.prev) (finite.remove v input.prev) inputs (same_remove u v input.prev e)
 
-  same_with : (u v : Unspent) (txid : Hash256) (place : ℕ) (outputs : List TxOut) → finite.get u q ≡ finite.get v q → finite.get (with_outputs u txid place outputs) q ≡ finite.get (with_outputs v txid place outputs) q
+  pub same_with : (u v : Unspent) (txid : Hash256) (place : ℕ) (outputs : List TxOut) → finite.get u q ≡ finite.get v q → finite.get (with_outputs u txid place outputs) q ≡ finite.get (with_outputs v txid place outputs) q
   unfolding with_outputs
   same_with u v txid place [] e = e
   same_with u v txid place (output ∷ outputs) e =
       let point : OutPoint = record { txid = txid; index = place } in
       same_with (finite.insert u point output.value) (finite.insert v point output.value) txid (suc place) outputs (same_insert u v point output.value e)
 
-  same_after : (u v : Unspent) (txs : List Tx) → finite.get u q ≡ finite.get v q → finite.get (after_txs u txs) q ≡ finite.get (after_txs v txs) q
+  pub same_after : (u v : Unspent) (txs : List Tx) → finite.get u q ≡ finite.get v q → finite.get (after_txs u txs) q ≡ finite.get (after_txs v txs) q
   unfolding after_txs
   same_after u v [] e = e
   same_after u v (tx ∷ txs) e =
@@ -58,7 +58,7 @@ module _ (q : OutPoint) where
 
   -- ---- behind what touches it the same stands there, whatever did
 
-  insert_here : (u : Unspent) (k : OutPoint) (x : ℤ) → k ≡ q → finite.get (finite.insert u k x) q ≡ Some x
+  pub insert_here : (u : Unspent) (k : OutPoint) (x : ℤ) → k ≡ q → finite.get (finite.insert u k x) q ≡ Some x
   insert_here u k x is = subst (λ (p : OutPoint). finite.get (finite.insert u k x) p ≡ Some x) is (get_insert u k x k ∙ rw (is_same-refl k) refl)
 
   fixed_with : (u v : Unspent) (txid : Hash256) (place : ℕ) (outputs : List TxOut) → q.txid ≡ txid → place ≤ q.index → q.index < place + length outputs
@@ -83,7 +83,7 @@ module _ (q : OutPoint) where
       same_with (without_inputs u tx.inputs) (without_inputs v tx.inputs) (txid_of tx) 0 tx.outputs (without_named q u tx.inputs named ∙ sym (without_named q v tx.inputs named))
   fixed_by u v tx (inr made) = fixed_with (without_inputs u tx.inputs) (without_inputs v tx.inputs) (txid_of tx) 0 tx.outputs made.0 (omega arith) (omega (arith, made.1))
 
-  fixed_behind : (u v : Unspent) (txs : List Tx) → IsTouched txs q → finite.get (after_txs u txs) q ≡ finite.get (after_txs v txs) q
+  pub fixed_behind : (u v : Unspent) (txs : List Tx) → IsTouched txs q → finite.get (after_txs u txs) q ≡ finite.get (after_txs v txs) q
   unfolding after_txs
   fixed_behind u v [] touched = absurd touched
   fixed_behind u v (tx ∷ txs) (inl here) = same_after (after_tx u tx) (after_tx v tx) txs (fixed_by u v tx here)
@@ -91,7 +91,7 @@ module _ (q : OutPoint) where
 
   -- what none of them touches stays as it was
 
-  kept_with : (u : Unspent) (txid : Hash256) (place : ℕ) (outputs : List TxOut) → ¬ ((q.txid ≡ txid) × (q.index < place + length outputs)) → finite.get (with_outputs u txid place outputs) q ≡ finite.get u q
+  pub kept_with : (u : Unspent) (txid : Hash256) (place : ℕ) (outputs : List TxOut) → ¬ ((q.txid ≡ txid) × (q.index < place + length outputs)) → finite.get (with_outputs u txid place outputs) q ≡ finite.get u q
   unfolding with_outputs
   kept_with u txid place [] other = refl
   kept_with u txid place (output ∷ outputs) other =
@@ -99,7 +99,7 @@ module _ (q : OutPoint) where
       kept_with (finite.insert u point output.value) txid (suc place) outputs (λ both. other (both.0, omega (arith, both.1)))
       ∙ insert_other q u point output.value (λ p. other (sym (ap (λ (k : OutPoint). k.txid) p), omega (arith, ap (λ (k : OutPoint). k.index) p)))
 
-  kept_behind : (u : Unspent) (txs : List Tx) → ¬ IsTouched txs q → finite.get (after_txs u txs) q ≡ finite.get u q
+  pub kept_behind : (u : Unspent) (txs : List Tx) → ¬ IsTouched txs q → finite.get (after_txs u txs) q ≡ finite.get u q
   unfolding after_txs
   kept_behind u [] other = refl
   kept_behind u (tx ∷ txs) other =
@@ -126,7 +126,7 @@ unfolding spend_tx
 spends_over v tx sum left next other spent worth made = rw (other, spent, worth) made
 
 module _ (P : OutPoint → Type 0) where
-  abbrev Alike : Unspent → Unspent → Type 0
+  abbrev pub Alike : Unspent → Unspent → Type 0
   Alike u v = (q : OutPoint) → P q → finite.get u q ≡ finite.get v q
 
   -- inputs that can be spent over the one can be spent over the other, for as much
@@ -168,7 +168,7 @@ module _ (P : OutPoint → Type 0) where
       (λ q p. same_insert q u v point output.value (alike q p)) t.1 in
       (rest.0, rw new rest.1, rest.2)
 
-  tx_alike : (u v : Unspent) (tx : Tx) (w : Unspent) → StandsAlone tx → ((q : OutPoint) → IsTouchedBy tx q → P q) → Alike u v → spend_tx u tx ≡ Ok w → (left : Unspent) × (spend_tx v tx ≡ Ok left) × Alike w left
+  pub tx_alike : (u v : Unspent) (tx : Tx) (w : Unspent) → StandsAlone tx → ((q : OutPoint) → IsTouchedBy tx q → P q) → Alike u v → spend_tx u tx ≡ Ok w → (left : Unspent) × (spend_tx v tx ≡ Ok left) × Alike w left
   unfolding spend_tx
   tx_alike u v tx w alone all alike e =
       let txid = txid_of tx in
@@ -190,7 +190,7 @@ module _ (P : OutPoint → Type 0) where
 
 -- ---- a map of what has changed
 
-none_of : {X : Type 0} (o : Option X) → is_some o ≡ false → o ≡ None
+pub none_of : {X : Type 0} (o : Option X) → is_some o ≡ false → o ≡ None
 none_of None e = refl
 none_of (Some x) e = absurd (false≢true (sym e))
 
@@ -198,7 +198,7 @@ none_of (Some x) e = absurd (false≢true (sym e))
 pub kept_at : (coins : List (OutPoint × Option ℤ)) (k : OutPoint) → is_some (lookup (same k) coins) ≡ false → (u : Unspent) → finite.get (changed u (changes_of coins)) k ≡ finite.get u k
 kept_at coins k none u = value_is u coins k ∙ ap (λ (o : Option (Option ℤ)). over o (finite.get u k)) (none_of (lookup (same k) coins) none)
 
-named_in : (inputs : List TxIn) (input : TxIn) (q : OutPoint) → IsNamed (inputs ++ input ∷ []) q → IsNamed inputs q ⊎ (input.prev ≡ q)
+pub named_in : (inputs : List TxIn) (input : TxIn) (q : OutPoint) → IsNamed (inputs ++ input ∷ []) q → IsNamed inputs q ⊎ (input.prev ≡ q)
 named_in [] input q (inl here) = inr here
 named_in [] input q (inr later) = absurd later
 named_in (first ∷ inputs) input q (inl here) = inl (inl here)
@@ -266,7 +266,7 @@ apart_seen txs coins tx after q here seen apart =
 
 -- ---- one more
 
-touched_in : (txs others : List Tx) (q : OutPoint) → IsTouched (txs ++ others) q → IsTouched txs q ⊎ IsTouched others q
+pub touched_in : (txs others : List Tx) (q : OutPoint) → IsTouched (txs ++ others) q → IsTouched txs q ⊎ IsTouched others q
 touched_in [] others q touched = inr touched
 touched_in (tx ∷ txs) others q (inl here) = inl (inl here)
 touched_in (tx ∷ txs) others q (inr later) =

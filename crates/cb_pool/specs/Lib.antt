@@ -3,4 +3,5 @@ pub mod Leaving
 pub mod Listing
 pub mod Matching
 pub mod Rules
+pub mod Staying
 pub mod Touching

@@ -8,10 +8,12 @@ mod candidate;
 mod checking;
 mod coins;
 mod laws;
+mod marks;
 mod members;
 mod pairs;
 mod pool;
 mod refolding;
+mod thinning;
 
 pub use candidate::Candidate;
 pub use laws::{
@@ -22,3 +24,4 @@ pub use members::MOST_TXS;
 pub use pairs::{Pairs, ShortIds};
 pub use pool::Pool;
 pub use refolding::Refolding;
+pub use thinning::Thinning;

@@ -49,7 +49,7 @@ impl Clone for Pooled {
 #[derive(Drop)]
 pub(crate) struct Members {
     pub(crate) entries: IndexMap<Hash256, Pooled, Seed>,
-    coins: HashMap<OutPoint, Option<i64>, Seed>,
+    pub(crate) coins: HashMap<OutPoint, Option<i64>, Seed>,
 }
 
 impl Model for Members {

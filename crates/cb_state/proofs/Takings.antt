@@ -25,7 +25,7 @@ use Rattle.cb_pool.specs.Rules.{Applies, Refuses}
 use Rattle.cb_state.specs.declared.connection.Connection.{Connection}
 use Rattle.cb_state.specs.declared.accepting.Heads.{Heads}
 use Rattle.cb_state.specs.declared.accepting.Outlook.{Outlook}
-use Rattle.cb_state.specs.declared.accepting.Outlook.TheVariants.{Folds, Stays}
+use Rattle.cb_state.specs.declared.accepting.Outlook.TheVariants.{Folds, Stays, Thins}
 use Rattle.cb_state.specs.declared.accepting.Taken.{Taken}
 use Rattle.cb_state.specs.Accepting.{Follows, MayLackMemory, TakesBlock, TakesHeads, TakesTx, TakesTxOver, announcers_after, became_tip, has_some, locator_for, txs_above, txs_in, txs_put_off}
 use Rattle.cb_state.specs.Judging.{RefusesHeading}
@@ -145,6 +145,7 @@ Followed u old new outlook = MatchOption outlook (new ≡ old) (λ o. Refolds u 
 -- what comes first is what was put off
 first_is : (state : NodeState) (block : Block) (outlook : Outlook) → IsOutlookOn state block outlook → first_of outlook ≡ txs_above state.tree block.header.prev
 first_is state block Stays is = sym is.above
+first_is state block (Thins plan) is = sym is.above
 first_is state block (Folds plan) is = is.first
 
 pub block_leads : (old : NodeState) (tree : Tree) (pool : Listing) (announcers : List Connection) (block : Block) (from : Option Connection) (change : Change) (outlook : Option Outlook) (u : Unspent) (locator : List Hash256)
@@ -177,6 +178,8 @@ pub ready_for : (old : NodeState) (tree : Tree) (block : Block) (change : Change
 ready_for old tree block change None u accepts some foreseen unspent = tt
 ready_for old tree block change (Some Stays) u accepts some foreseen unspent =
     foreseen.wait u (grown_on old.tree tree block change foreseen.unspent u accepts some foreseen.on foreseen.behind_tip unspent)
+ready_for old tree block change (Some (Thins plan)) u accepts some foreseen unspent =
+    foreseen.thins u (grown_on old.tree tree block change foreseen.unspent u accepts some foreseen.on foreseen.behind_tip unspent)
 ready_for old tree block change (Some (Folds plan)) u accepts some foreseen unspent = foreseen.room
 
 -- what was foreseen of the whole state

@@ -1,6 +1,7 @@
 ghost use Rattle.std.specs.Prelude.{◌≡◌, ◌≢◌, ◌⊎◌, ◌≤◌, ◌++◌, [], drop, filter, length, option_copied, IfErr, IfOk, IfSome, IsOk, IsOkUnless, MatchOption, MatchResult, None, OnErr, OnOk, Err, Some, true};
 ghost use Rattle.cb_base.specs.declared.fault.Fault.TheVariants.{Memory, NoParent};
 ghost use Rattle.cb_block.specs.Blocks.{MeetsBlockRules};
+ghost use Rattle.cb_chain.specs.Best.{best};
 ghost use Rattle.cb_chain.specs.Entries.{is_lacking};
 ghost use Rattle.cb_chain.specs.Laws.{MayLead};
 ghost use Rattle.cb_chain.specs.Locator.{locator_of};
@@ -21,7 +22,7 @@ use cb_block::{Header, SoundBlock};
 use cb_chain::{Chain, Hashes, kept_meet_rules};
 use cb_ledger::Ledger;
 use cb_payload::Locator;
-use cb_pool::{Candidate, Pool, Refolding, stays_as_it_is, stays_behind_others};
+use cb_pool::{Candidate, Pool, Refolding, Thinning, stays_as_it_is, stays_behind_others};
 use cb_tx::Tx;
 use std::alloc::Global;
 
@@ -128,6 +129,8 @@ enum Outlook {
     // The mempool stays as it is: the block's parent is the tip, and the block spends and creates
     // no output that a mempool transaction spends or creates.
     Stays,
+    // The block's parent is the tip, and the mempool loses what a plan names.
+    Thins(Thinning),
     // The mempool is rebuilt by a plan.
     Folds(Refolding),
 }
@@ -141,6 +144,7 @@ fn follow(pool: &mut Pool, ledger: &Ledger, outlook: Option<Outlook>)
 {
     match outlook {
         Some(Outlook::Folds(plan)) => pool.refold_with(ledger, plan),
+        Some(Outlook::Thins(plan)) => pool.thin_with(ledger, plan),
         Some(Outlook::Stays) => stays_as_it_is(pool, ledger),
         None => {}
     }
@@ -290,14 +294,32 @@ impl State {
             return Ok(None);
         }
         let first = self.put_off_for(parent)?;
-        if first.as_slice().is_empty()
-            && *parent == self.chain.tip()
-            && self.pool.is_apart_from(block)
-        {
-            stays_behind_others(&self.pool, self.chain.ledger());
-            return Ok(Some(Outlook::Stays));
+        if first.as_slice().is_empty() && *parent == self.chain.tip() {
+            if let Some(outlook) = self.outlook_on_tip(block)? {
+                return Ok(Some(outlook));
+            }
         }
         Ok(Some(Outlook::Folds(self.pool.refolding(first)?)))
+    }
+
+    /// The mempool's outlook for a block on the tip, which disconnects no transactions. `None` if
+    /// only rebuilding the mempool tells. Fails only with `Fault::Memory`.
+    fn outlook_on_tip(&self, block: &SoundBlock) -> Result<Option<Outlook>, Fault>
+        requires on { block.now.header.prev ≡ best self.now.tree }
+        requires above { txs_above self.now.tree block.now.header.prev ≡ [] }
+        ensures outlook { IfOk result
+            (λ outlook. IfSome outlook (IsOutlookOn self.now block.now)) }
+        ensures memory { IsOkUnless result Memory }
+    {
+        let ledger = self.chain.ledger();
+        if self.pool.is_apart_from(block) {
+            stays_behind_others(&self.pool, ledger);
+            return Ok(Some(Outlook::Stays));
+        }
+        match self.pool.thinning(block)? {
+            Some(plan) => Ok(Some(Outlook::Thins(plan))),
+            None => Ok(None),
+        }
     }
 
     /// The transactions, without coinbases, of the active chain's blocks above its fork point with

@@ -1,0 +1,36 @@
+use Rattle.std.proofs.Common.{◌≡◌, ◌∙◌, [], ap, subst, sym}
+use Rattle.cb_block.specs.declared.block.Block.{Block}
+use Rattle.cb_chain.specs.Best.{best}
+use Rattle.cb_pool.specs.Staying.{Thin}
+use Rattle.cb_state.specs.Accepting.{txs_above}
+use Rattle.cb_state.specs.Outlooks.{LeavesPool, ThinsPool}
+use Rattle.cb_state.specs.State.{NodeState}
+use Rattle.cb_state.proofs.state.State.outlook_on_tip.Goals as goal
+
+pub returns-then-is_apart_from-clause-outlook : goal.returns-then-is_apart_from-clause-outlook
+returns-then-is_apart_from-clause-outlook c =
+    let block = c.args.block.now in
+    let old : NodeState = record { tree = c.self.inside.chain; pool = c.self.inside.pool; announcers = c.self.inside.announcers } in
+    let leaves : LeavesPool old block = record {
+      on = c.requires.on ∙ ap (λ (s : NodeState). best s.tree) (sym c.self.view_is);
+      above = ap (λ (s : NodeState). txs_above s.tree block.header.prev) c.self.view_is ∙ c.requires.above;
+      unspent = c.ledger-ledger.result.now.unspent;
+      behind_tip = c.ledger-ledger.ensures;
+      wait = λ after spent. (c.stays_behind_others.ensures block.txs after (c.is_apart_from.ensures.apart c.if-is_apart_from.true) spent).0;
+    } in
+    subst (λ (state : NodeState). LeavesPool state block) c.self.view_is leaves
+
+pub returns-in-Some-clause-outlook : goal.returns-in-Some-clause-outlook
+returns-in-Some-clause-outlook c =
+    let block = c.args.block.now in
+    let old : NodeState = record { tree = c.self.inside.chain; pool = c.self.inside.pool; announcers = c.self.inside.announcers } in
+    let plan : Thin = c.in-Some.plan in
+    let u = c.ledger-ledger.result.now.unspent in
+    let thins : ThinsPool old block plan = record {
+      on = c.requires.on ∙ ap (λ (s : NodeState). best s.tree) (sym c.self.view_is);
+      above = ap (λ (s : NodeState). txs_above s.tree block.header.prev) c.self.view_is ∙ c.requires.above;
+      unspent = u;
+      behind_tip = c.ledger-ledger.ensures;
+      thins = λ after spent. c.in-Some.ensures.thins u after (c.self.invariant u c.ledger-ledger.ensures) spent;
+    } in
+    subst (λ (state : NodeState). ThinsPool state block plan) c.self.view_is thins
