@@ -1,7 +1,7 @@
 -- The blocks that a session downloads from its peer (Bitcoin's peer-to-peer protocol, `getdata`):
 -- wanted blocks are queued for download, and a few blocks are in flight. The limits 16 and 2,000
 -- are this program's own.
-use Rattle.std.specs.Prelude.{◌≡◌, ◌≤◌, ℕ, ⊤, Bool, false, ◌&&◌, ◌||◌, not, nat_lt, ◌==◌, if◌then◌else◌, List, [], ◌∷◌, ◌++◌, length, map, filter, fold}
+use Rattle.std.specs.Prelude.{◌≡◌, ◌≤◌, ⊤, Bool, false, ◌&&◌, ◌||◌, not, nat_lt, ◌==◌, if◌then◌else◌, List, [], ◌∷◌, ◌++◌, length, map, filter, fold}
 use Rattle.std.specs.List.{list_any}
 use Rattle.cb_base.specs.declared.hash.Hash256.{Hash256}
 use Rattle.cb_chain.specs.Entries.{same}

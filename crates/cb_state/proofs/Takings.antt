@@ -1,6 +1,6 @@
 -- What a transaction, a block and headers leave.
 use Rattle.std.proofs.Common.{◌≡◌, ◌∙◌, ◌⊎◌, ◌-◌, Bool, true, false, List, [], ◌∷◌, Option, None, Some, map, length, refl, sym, ap, subst, arith, inl, inr}
-use Rattle.std.specs.Prelude.{◌≢◌, nat_eq, filter, filter_map, option_map, slice_get, reverse, Result, Ok, Err, IfOk, IfSome, IsOk, MatchOption}
+use Rattle.std.specs.Prelude.{◌≢◌, nat_eq, filter, filter_map, option_map, slice_get, reverse, Result, Ok, Err, IfErr, IfOk, IfSome, IsOk, MatchOption, OnErr}
 use Rattle.std.proofs.lemmas.Bool.{eqb-true, false≢true}
 use Rattle.std.proofs.lemmas.List.{reverse-reverse}
 use Rattle.cb_base.specs.declared.fault.Fault.{Fault}
@@ -32,6 +32,11 @@ use Rattle.cb_state.specs.Judging.{RefusesHeading}
 use Rattle.cb_state.specs.Outlooks.{IsOutlookOn, IsReady, first_of}
 use Rattle.cb_state.specs.State.{NodeState, IsUnspent, WaitOn}
 use Rattle.cb_state.proofs.Growing.{grown_on}
+
+-- A refusal is an error only for want of memory. What holds for want of memory then holds.
+pub refused_whole : (told : Result Taken Fault) (fault : Fault) {Whole : Type 0} → IfErr told (λ error. (error ≡ Memory) × (fault ≡ Memory)) → (fault ≡ Memory → Whole) → OnErr told Whole
+refused_whole (Ok taken) fault lacks whole = tt
+refused_whole (Err error) fault lacks whole = whole lacks.1
 
 -- a locator is told of the active chain alone
 pub locator_stays : (old new : Tree) → laws.Stays old new → locator_of old ≡ locator_of new

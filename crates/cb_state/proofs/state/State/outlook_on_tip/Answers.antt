@@ -1,7 +1,9 @@
-use Rattle.std.proofs.Common.{◌≡◌, ◌∙◌, [], ap, subst, sym}
-use Rattle.cb_block.specs.declared.block.Block.{Block}
+use Rattle.std.proofs.Common.{◌≡◌, ◌∙◌, ap, subst, sym, IfSome, IsOk, Ok, Option}
 use Rattle.cb_chain.specs.Best.{best}
-use Rattle.cb_pool.specs.Staying.{Thin}
+use Rattle.cb_ledger.specs.Spend.{spend}
+use Rattle.cb_ledger.specs.Unspent.{Unspent}
+use Rattle.cb_pool.specs.Listing.{txs_of}
+use Rattle.cb_pool.specs.Staying.{Thin, ThinsOut}
 use Rattle.cb_state.specs.Accepting.{txs_above}
 use Rattle.cb_state.specs.Outlooks.{LeavesPool, ThinsPool}
 use Rattle.cb_state.specs.State.{NodeState}
@@ -26,11 +28,14 @@ returns-in-Some-clause-outlook c =
     let old : NodeState = record { tree = c.self.inside.chain; pool = c.self.inside.pool; announcers = c.self.inside.announcers } in
     let plan : Thin = c.in-Some.plan in
     let u = c.ledger-ledger.result.now.unspent in
+    let list = c.self.inside.pool.list in
+    let told : (was now : Unspent) → IsOk (spend was (txs_of list)) → spend was block.txs ≡ Ok now → ThinsOut now plan list =
+        subst (λ (made : Option Thin). IfSome made (λ plan. (was now : Unspent) → IsOk (spend was (txs_of list)) → spend was block.txs ≡ Ok now → ThinsOut now plan list)) c.in-Some.is c.in_ok-plan.ensures.thins in
     let thins : ThinsPool old block plan = record {
       on = c.requires.on ∙ ap (λ (s : NodeState). best s.tree) (sym c.self.view_is);
       above = ap (λ (s : NodeState). txs_above s.tree block.header.prev) c.self.view_is ∙ c.requires.above;
       unspent = u;
       behind_tip = c.ledger-ledger.ensures;
-      thins = λ after spent. c.in-Some.ensures.thins u after (c.self.invariant u c.ledger-ledger.ensures) spent;
+      thins = λ after spent. told u after (c.self.invariant u c.ledger-ledger.ensures) spent;
     } in
     subst (λ (state : NodeState). ThinsPool state block plan) c.self.view_is thins

@@ -1,10 +1,11 @@
-use Rattle.std.proofs.Common.{◌≡◌, ◌∙◌, [], List, subst, sym}
+use Rattle.std.proofs.Common.{◌≡◌, ◌∙◌, [], List, Err, ap, subst, sym}
 use Rattle.std.specs.Prelude.{◌≢◌}
 use Rattle.cb_base.specs.declared.hash.Hash256.{Hash256}
 use Rattle.cb_block.specs.declared.block.Block.{Block}
+use Rattle.cb_chain.specs.Entries.{Tree}
 use Rattle.cb_state.specs.Judging.{RefusesHeading}
 use Rattle.cb_state.specs.State.{NodeState}
-use Rattle.cb_state.proofs.Takings.{block_aside, block_leads, block_refused, block_unheard, foreseen_for, lacks_parent, leads_waits, nothing_on, ready_for, something_on, waits_on}
+use Rattle.cb_state.proofs.Takings.{block_aside, block_leads, block_refused, block_unheard, foreseen_for, lacks_parent, leads_waits, nothing_on, ready_for, refused_whole, something_on, waits_on}
 use Rattle.cb_state.proofs.state.State.take_block.Goals as goal
 
 pub returns-in-Some-clause-taken : goal.returns-in-Some-clause-taken
@@ -58,3 +59,8 @@ follow-requires c =
     let some : c.in-Ok.change.on ≢ [] = subst (λ (hashes : List Hash256). hashes ≢ []) c.as_slice.ensures (something_on c.as_slice.result.now (sym c.is_empty.ensures ∙ c.if-is_empty.false)) in
     let foreseen = foreseen_for c.args.self.now old c.args.block c.in_ok-outlook.outlook c.self.view_is c.in_ok-outlook.ensures.outlook in
     record { ready = ready_for old c.accept_block.new.self c.args.block c.in-Ok.change c.in_ok-outlook.outlook c.ledger.result.now.unspent c.in-Ok.ensures.ok some foreseen c.ledger.ensures }
+
+pub returns-in-Err-clause-err : goal.returns-in-Err-clause-err
+returns-in-Err-clause-err c =
+    refused_whole c.refusal.result c.in-Err.fault c.refusal.ensures.err
+    (λ lacks. ap (λ (tree : Tree). record { tree = tree; pool = c.self.inside.pool; announcers = c.self.inside.announcers }) (c.in-Err.ensures.unchanged (ap Err lacks)) ∙ c.self.view_is)

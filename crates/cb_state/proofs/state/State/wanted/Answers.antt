@@ -1,8 +1,7 @@
-use Rattle.std.proofs.Common.{List, [], length, get_or, ap, arith}
+use Rattle.std.proofs.Common.{◌∙◌, List, length, ap, arith}
 use Rattle.std.proofs.lemmas.Bool.{false≢true}
 use Rattle.cb_payload.specs.declared.inventory.Inventory.{Inventory}
-use Rattle.cb_payload.specs.declared.inventory.Inventory.TheVariants.{Tx}
-use Rattle.cb_state.specs.Wanting.{once}
+use Rattle.cb_state.specs.Wanting.{is_wanted, once}
 use Rattle.cb_state.proofs.OnceEach.{few_more, listed_more, unwanted_at}
 use Rattle.cb_state.proofs.state.State.wanted.Goals as goal
 
@@ -17,13 +16,13 @@ loop-entry-init c = record {
 pub loop-entry-preserved : goal.loop-entry-preserved
 loop-entry-preserved c = record {
   noted = c.in_ok-look_at.ensures.noted;
-  listed = listed_more c.args.self.now c.args.entries.now c.loop-entry.entry-index (Tx (record { 0 = [] })) c.loop-entry.wanted.list.items c.look_at.new.wanted.list.items c.loop-entry-test.true c.loop-entry.invariant.listed
-      c.in_ok-look_at.ensures.list;
-  few = few_more c.args.self.now c.loop-entry.wanted.list.items c.look_at.new.wanted.list.items (get_or c.args.entries.now c.loop-entry.entry-index (Tx (record { 0 = [] }))) c.loop-entry.entry-index c.loop-entry.invariant.few
+  listed = listed_more c.args.self.now c.args.entries.now c.loop-entry.entry-index c.entry-item.result c.loop-entry.wanted.list.items c.look_at.new.wanted.list.items c.loop-entry-test.true c.loop-entry.invariant.listed
+      (rw (← c.entry-item.is) c.in_ok-look_at.ensures.list);
+  few = few_more c.args.self.now c.loop-entry.wanted.list.items c.look_at.new.wanted.list.items c.entry-item.result c.loop-entry.entry-index c.loop-entry.invariant.few
       c.in_ok-look_at.ensures.list;
 }
 
 -- an entry that isn't wanted needs no memory
 pub returns-in_err-look_at-clause-none : goal.returns-in_err-look_at-clause-none
 returns-in_err-look_at-clause-none c = λ none.
-    absurd (false≢true (c.in_err-look_at.ensures.none (unwanted_at c.args.self.now c.args.entries.now c.loop-entry.entry-index (Tx (record { 0 = [] })) c.loop-entry-test.true none)))
+    absurd (false≢true (c.in_err-look_at.ensures.none (ap (is_wanted c.args.self.now) c.entry-item.is ∙ unwanted_at c.args.self.now c.args.entries.now c.loop-entry.entry-index c.entry-item.result c.loop-entry-test.true none)))
