@@ -9,11 +9,11 @@ take turns.
 - Inputs: a transaction of 24,000 inputs that all collide so, beside one of inputs that were drawn.
 - Parents: a block on a header whose block isn't kept and that is as high as the tip, over a chain of 20,000 transactions, beside a block
   on an unknown parent. A second row has a block that is known to be bad, and a third one without work.
-- Touched: a block that takes one transaction of a pool of large ones, beside a block that takes none.
+- Touched: blocks that take a small transaction each of a pool of large ones, beside blocks that take none.
 - Headers: the memory of 40,000 headers in a hall, over all states that it keeps.
 
-The status is 1 where a ratio of the entries, the inputs or the parents is above the limit, 5 if none is given. The other rows are told
-alone: a fold of the pool tries all of it, and the states of a journal share nothing.
+The status is 1 where a ratio is above the limit, 5 if none is given. The memory of headers is told alone: the states of a journal share
+the blocks and transactions, and not the headers.
 """
 
 import argparse
@@ -40,9 +40,11 @@ ENTRIES, INPUTS = 50_000, 24_000
 BLOCKS, TXS, REFUSED = 20, 1_000, 2_000
 # Headers, and how many of them one message holds.
 HEADERS, FULL = 40_000, 2_000
-# A pool of so many transactions with so many outputs each.
-POOLED, OUTPUTS = 12, 20_000
+# A pool of so many transactions with so many outputs each, and of so many small ones.
+POOLED, OUTPUTS, SMALL = 12, 20_000, 20
 TURNS, LIMIT = 5, 5
+# What takes less than this can't be told from noise, and counts as this.
+LEAST = 1e-3
 
 # The table's hasher with no seed: its first state, and what it multiplies by at a write of eight bytes.
 STATE, MULTIPLIER, WORD = 0x243F_6A88_85A3_08D3, 0x9E37_79B9_7F4A_7C15 ^ 16, 2**64 - 1
@@ -70,7 +72,6 @@ class Row(NamedTuple):
     name: str
     hostile: Play
     plain: Play
-    judged: bool = True
 
 
 def given(*question):
@@ -135,15 +136,21 @@ def parents(rng):
 
 
 def touched():
-    """A block that takes one small transaction beside a pool of large ones, or none."""
-    coins = Tx(0, [], [OUTPUTS * (POOLED + 1)] * (POOLED + 1))
+    """Blocks that take one small transaction each beside a pool of large ones, or none."""
+    coins = Tx(0, [], [OUTPUTS * (POOLED + SMALL)] * (POOLED + SMALL))
     low = Block(GENESIS, [coins])
     pool = [paying(place, [(coins.name, place)], [1] * OUTPUTS) for place in range(POOLED)]
-    small = paying(POOLED, [(coins.name, POOLED)], [1])
-    ground = given("block", low, False) + b"".join(given("tx", tx) for tx in [*pool, small])
-    plays = [beside(ground, asked("block", Block(low.header.name, txs), False)) for txs in
-             ([Tx(1, [], [50]), small], [Tx(1, [], [50])])]
-    return Row(f"a block that takes one of a pool of {POOLED} with {POOLED * OUTPUTS:,} outputs", *plays, judged=False)
+    small = [paying(place, [(coins.name, place)], [1]) for place in range(POOLED, POOLED + SMALL)]
+    ground = given("block", low, False) + b"".join(given("tx", tx) for tx in [*pool, *small])
+    plays = []
+    for taken in ([[tx] for tx in small], [[]] * SMALL):
+        calls, tip = [], low.header.name
+        for height, txs in enumerate(taken):
+            block = Block(tip, [Tx(height + 1, [], [50]), *txs])
+            tip = block.header.name
+            calls.append(asked("block", block, False))
+        plays.append(Play(*(ground + b"".join(repeated(count, *call) for call in calls) for count in (1, 0))))
+    return Row(f"{SMALL} blocks that take one each of a pool of large ones with {POOLED * OUTPUTS:,} outputs", *plays)
 
 
 def memory(runs):
@@ -157,8 +164,8 @@ def memory(runs):
 
 def told(row, hostile, plain, limit):
     """Tells a row, and whether it is within the limit."""
-    ratio = hostile / max(plain, 1e-6)
-    within = not row.judged or ratio <= limit
+    ratio = max(hostile, LEAST) / max(plain, LEAST)
+    within = ratio <= limit
     print(f"{row.name}: {hostile * 1e3:,.2f} ms for {plain * 1e3:,.2f}, {ratio:,.1f} times{'' if within else ': ABOVE ' + str(limit)}", flush=True)
     return within
 
