@@ -29,6 +29,9 @@ use std::thread::Threads;
 /// With this many marks queued over all connections, no further connection is opened.
 const MOST_QUEUED: u64 = 1 << 40;
 
+/// How many connections a slot serves at most, one after another.
+const MOST_CONNECTIONS: u64 = 256;
+
 /// What the slots of a node share.
 #[derive(Drop)]
 pub struct Common<W: Work> {
@@ -162,6 +165,20 @@ impl<W: Work<Item = Input>> Slot<W> {
             self.latest.status.set_tick();
             signals.ring();
         }
+    }
+
+    /// One more owner of what the threads of the latest connection share with the node. Fails only
+    /// with `Fault::Memory`.
+    pub fn link(&self) -> Result<Shared<Link>, Fault>
+        ensures { IfErr result (λ fault. fault ≡ faults.Memory) }
+    {
+        Ok(self.latest.clone()?)
+    }
+
+    /// Whether the slot has had all its connections: the latest is the last of 256, and its reader
+    /// has returned or says that it does.
+    pub fn is_spent(&self) -> bool {
+        self.latest.generation >= MOST_CONNECTIONS && self.standing() == Standing::Left
     }
 
     /// Appends what each connection of this slot moved. Fails only with `Fault::Memory`.
