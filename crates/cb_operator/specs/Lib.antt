@@ -1,0 +1,2 @@
+pub mod OperatorLine
+pub mod Replies
