@@ -1,0 +1,170 @@
+//! Running a node until its operator ends it.
+ghost use Rattle.std.specs.Prelude.{◌≡◌, ◌⊎◌, ◌≤◌, IfOk};
+
+use crate::answering::{After, print};
+use crate::host::ProcessHost;
+use crate::orders::NodeOrders;
+use crate::process::Process;
+use crate::reading::{Order, Orders, start_reading};
+use cb_io::Sink;
+use cb_node::NodeFault;
+use cb_operator::{Refusal, Reply};
+use cb_run::{Halt, Status, write_all};
+use crossbeam_channel::RecvTimeoutError;
+use log::sink::Console;
+use log::{Log, Logged, info};
+use std::alloc::Global;
+use std::net::SocketAddr;
+use std::thread;
+use std::time::Duration;
+
+/// How many milliseconds the process waits for a line before it looks at its sockets again.
+const PAUSE_MILLIS: u64 = 10;
+
+/// Why no more lines are answered.
+#[derive(Clone, Copy, PartialEq, Eq)]
+enum Stop {
+    /// By `quit`, or because the input ended.
+    Asked,
+    /// A read failed, or memory ran out for one.
+    Broken(Halt),
+}
+
+/// Runs a node. It prints `listening ADDR:PORT` once it listens, and then an answer to each line of
+/// standard input. `quit` and the end of input end it: all its threads return, and the audit's
+/// answer is printed.
+///
+/// Returns the exit status: 0; 3 if it couldn't listen, an audit said no, or an address that it was
+/// to dial from the start was never reached. Why it couldn't listen goes to `errors`. Connections,
+/// their ends and new tips are logged on standard error.
+///
+/// Fails if memory runs out at the start, or a read or a write failed. The node has ended then.
+pub fn run_node<R: ProcessHost, W: Sink, E: Sink>(
+    rt: R,
+    alloc: Global,
+    orders: NodeOrders,
+    writer: &mut W,
+    errors: &mut E,
+) -> Result<u8, Halt>
+    requires handlers { (1 ≤ orders.handlers) × (orders.handlers ≤ 16) }
+    ensures status { IfOk result (λ status. (status ≡ 0) ⊎ (status ≡ 3)) }
+{
+    let logged = Logged::new(rt, orders.level, Console(rt));
+    let log = logged.with_target("cbrelay");
+    match Process::start(rt, alloc, &orders) {
+        Ok(process) => run(rt, alloc, process, &log, writer),
+        Err(NodeFault::Memory) => Err(Halt::Memory),
+        Err(_) => refuse(alloc, orders.listen, errors),
+    }
+}
+
+/// Tells that the node can't listen. Returns the exit status.
+fn refuse<E: Sink>(alloc: Global, address: SocketAddr, errors: &mut E) -> Result<u8, Halt> {
+    let text = format!(in alloc;
+        "error: can't listen at {address}: it is in use, or not of this machine\n"
+    )?;
+    write_all(errors, text.as_bytes())?;
+    Ok(Status::BadInput.code())
+}
+
+/// Answers lines until the process is to end, and ends it.
+fn run<R: ProcessHost, L: Log, W: Sink>(
+    rt: R,
+    alloc: Global,
+    process: Process<R>,
+    log: &L,
+    writer: &mut W,
+) -> Result<u8, Halt> {
+    let mut process = process;
+    let orders = match start_reading(&rt, alloc) {
+        Ok(orders) => orders,
+        Err(halt) => {
+            drop(process.finish());
+            return Err(halt);
+        }
+    };
+    let stopped = serve(&rt, alloc, &mut process, &orders, log, writer);
+    info!(log; "ending");
+    let (verdict, well) = process.finish();
+    let stop = match stopped {
+        Ok(stop) => stop,
+        // The thread that reads may still wait for a line, so nobody waits for it.
+        Err(halt) => return Err(halt),
+    };
+    orders.join(&rt);
+    print(alloc, &Reply::Audit(verdict), writer)?;
+    match stop {
+        Stop::Asked if well => Ok(Status::Success.code()),
+        Stop::Asked => Ok(Status::BadInput.code()),
+        Stop::Broken(halt) => Err(halt),
+    }
+}
+
+/// Answers lines until the process is to end. Fails only with `Halt::WriteFailed`.
+fn serve<R: ProcessHost, L: Log, W: Sink>(
+    rt: &R,
+    alloc: Global,
+    process: &mut Process<R>,
+    orders: &Orders,
+    log: &L,
+    writer: &mut W,
+) -> Result<Stop, Halt> {
+    let address = process.address;
+    info!(log; "listening at {address}");
+    print(alloc, &Reply::Listening(address), writer)?;
+    let mut dials = false;
+    for _ in rt.forever() {
+        process.poll(log);
+        if dials {
+            if let Some(reply) = process.outcome.take() {
+                print(alloc, &reply, writer)?;
+                dials = false;
+            } else {
+                thread::sleep(rt, Duration::from_millis(PAUSE_MILLIS));
+            }
+        } else {
+            match answer_next(rt, alloc, process, orders, log, writer)? {
+                Next::Line(After::Next) => {}
+                Next::Line(After::Dial) => dials = true,
+                Next::Line(After::End) => return Ok(Stop::Asked),
+                Next::Broken(halt) => return Ok(Stop::Broken(halt)),
+            }
+        }
+    }
+    unreachable!()
+}
+
+/// What comes next.
+#[derive(Clone, Copy, PartialEq, Eq)]
+enum Next {
+    /// A line was answered, or none came.
+    Line(After),
+    /// A read failed, or memory ran out for one.
+    Broken(Halt),
+}
+
+/// Waits a moment for a line, and answers it. Fails only with `Halt::WriteFailed`.
+fn answer_next<R: ProcessHost, L: Log, W: Sink>(
+    rt: &R,
+    alloc: Global,
+    process: &mut Process<R>,
+    orders: &Orders,
+    log: &L,
+    writer: &mut W,
+) -> Result<Next, Halt> {
+    let pause = Duration::from_millis(PAUSE_MILLIS);
+    match orders.coming.recv_timeout(rt, pause) {
+        Ok(Order::Line(line)) => Ok(Next::Line(process.answer(line, log, writer)?)),
+        Ok(Order::Unreadable) => {
+            print(alloc, &Reply::Refused(Refusal::Unreadable), writer)?;
+            Ok(Next::Line(After::Next))
+        }
+        Ok(Order::NoMemory) => {
+            print(alloc, &Reply::Refused(Refusal::Memory), writer)?;
+            Ok(Next::Line(After::Next))
+        }
+        Ok(Order::Broken(halt)) => Ok(Next::Broken(halt)),
+        Err(RecvTimeoutError::Timeout) => Ok(Next::Line(After::Next)),
+        Ok(Order::End) | Err(RecvTimeoutError::Disconnected) => Ok(Next::Line(After::End)),
+    }
+}
