@@ -114,7 +114,7 @@ def lines_are_refused(program):
 
 
 def peers_come_again(program):
-    """A connection that is kicked is made again, in its slot; a peer that starts later is reached."""
+    """A connection that is kicked is made again, in a slot that had none; a peer that starts later is reached."""
     port = closed_port()
     with NodeProcess(program, "--connect", f"127.0.0.1:{port}") as one:
         one.address()
@@ -126,7 +126,7 @@ def peers_come_again(program):
             expect(one.say(f"connect {address}"), "error already")
             expect(one.say("kick 48"), "kicked 48")
             assert one.until_logged("closed: Kicked"), "the kick isn't logged"
-            assert one.until(lambda: any(line.startswith("slot 48 connection 2 to") for line in one.list("peers"))), "it isn't made again"
+            assert one.until(lambda: any(line.startswith("slot 49 connection 1 to") for line in one.list("peers"))), "it isn't made again"
             other.say("mine")
             assert one.until(lambda: one.tip() == other.tip()), "the block doesn't come"
             expect(other.close(), LAST)
@@ -146,7 +146,7 @@ def nodes_begin_anew(program):
             expect(one.say("restart"), "audit yes")
             expect(one.line(), f"restarted tip 1 {shown(block.header.name)}")
             expect(one.list("pool"), [shown(tx.name)])
-            assert other.until(lambda: any(" connection 2 " in line for line in other.list("peers"))), "it isn't connected again"
+            assert other.until(lambda: any(line.startswith("slot 49 ") for line in other.list("peers"))), "it isn't connected again"
             one.say("mine")
             assert other.until(lambda: other.tip() == one.tip()), "the block doesn't come"
             expect(one.close(), LAST)
