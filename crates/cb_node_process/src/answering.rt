@@ -1,4 +1,13 @@
 //! What a process answers to an operator's lines.
+ghost use Rattle.std.specs.Prelude.{◌≡◌, ◌++◌, true, List, IfOk, OnErr, OnOk, IsOkUnless, string_bytes};
+ghost use Rattle.std.specs.List.{flat_map};
+ghost use Rattle.cb_base.specs.declared.fault.Fault.TheVariants as faults;
+ghost use Rattle.cb_run.specs.declared.ending.Halt.TheVariants.{WriteFailed};
+ghost use Rattle.cb_operator.specs.declared.reply.Reply.{Reply};
+ghost use Rattle.cb_operator.specs.Answering.{CanAnswer};
+ghost use Rattle.cb_operator.specs.Replies.{reply_text};
+ghost use Rattle.cb_node_process.specs.Telling.{Tells, TellsOne};
+
 use crate::host::ProcessHost;
 use crate::process::{Process, refusal_of};
 use cb_base::{Fault, Hash256, Shared};
@@ -24,7 +33,12 @@ pub enum After {
 }
 
 /// Prints a line. Fails only with `Halt::WriteFailed`.
-pub fn print<W: Sink>(alloc: Global, reply: &Reply, writer: &mut W) -> Result<(), Halt> {
+pub fn print<W: Sink>(alloc: Global, reply: &Reply, writer: &mut W) -> Result<(), Halt>
+    ensures told { OnOk result
+        (TellsOne (W.contents writer.old) (W.contents writer.new) reply.now) }
+    ensures failed { IsOkUnless result WriteFailed }
+    ensures marked { OnErr result (W.has_failed writer.new ≡ true) }
+{
     let mut text = String::new(alloc);
     match reply.print(alloc, &mut text) {
         Ok(()) => write_all(writer, text.as_bytes()),
@@ -39,7 +53,12 @@ impl<R: ProcessHost> Process<R> {
         line: Line,
         log: &L,
         writer: &mut W,
-    ) -> Result<After, Halt> {
+    ) -> Result<After, Halt>
+        ensures told { OnOk result ((told : List Reply) × CanAnswer line told
+            × Tells (W.contents writer.old) (W.contents writer.new) told) }
+        ensures failed { IsOkUnless result WriteFailed }
+        ensures marked { OnErr result (W.has_failed writer.new ≡ true) }
+    {
         match line {
             Line::Quit => Ok(After::End),
             Line::Pool => self.list_pool(writer),
@@ -61,7 +80,13 @@ impl<R: ProcessHost> Process<R> {
     }
 
     /// Prints a line.
-    fn say<W: Sink>(&self, reply: Reply, writer: &mut W) -> Result<After, Halt> {
+    fn say<W: Sink>(&self, reply: Reply, writer: &mut W) -> Result<After, Halt>
+        ensures told { OnOk result
+            (TellsOne (W.contents writer.old) (W.contents writer.new) reply) }
+        ensures next { IfOk result (λ after. after ≡ After.Next) }
+        ensures failed { IsOkUnless result WriteFailed }
+        ensures marked { OnErr result (W.has_failed writer.new ≡ true) }
+    {
         print(self.alloc, &reply, writer)?;
         Ok(After::Next)
     }
@@ -179,7 +204,12 @@ impl<R: ProcessHost> Process<R> {
     }
 
     /// `pool`: lists the mempool.
-    fn list_pool<W: Sink>(&self, writer: &mut W) -> Result<After, Halt> {
+    fn list_pool<W: Sink>(&self, writer: &mut W) -> Result<After, Halt>
+        ensures told { OnOk result ((told : List Reply) × CanAnswer Line.Pool told
+            × Tells (W.contents writer.old) (W.contents writer.new) told) }
+        ensures failed { IsOkUnless result WriteFailed }
+        ensures marked { OnErr result (W.has_failed writer.new ≡ true) }
+    {
         let txids = match self.node.pool() {
             Ok(txids) => txids,
             Err(fault) => return self.say(Reply::Refused(refusal_of(fault)), writer),
@@ -193,7 +223,12 @@ impl<R: ProcessHost> Process<R> {
     }
 
     /// `peers`: lists the connections that last.
-    fn list_peers<W: Sink>(&self, writer: &mut W) -> Result<After, Halt> {
+    fn list_peers<W: Sink>(&self, writer: &mut W) -> Result<After, Halt>
+        ensures told { OnOk result ((told : List Reply) × CanAnswer Line.Peers told
+            × Tells (W.contents writer.old) (W.contents writer.new) told) }
+        ensures failed { IsOkUnless result WriteFailed }
+        ensures marked { OnErr result (W.has_failed writer.new ≡ true) }
+    {
         let mut text = String::new(self.alloc);
         match self.print_peers(&mut text) {
             Ok(()) => write_all(writer, text.as_bytes())?,
@@ -203,7 +238,11 @@ impl<R: ProcessHost> Process<R> {
     }
 
     /// Appends the lines of the connections that last.
-    fn print_peers(&self, out: &mut String) -> Result<(), Fault> {
+    fn print_peers(&self, out: &mut String) -> Result<(), Fault>
+        ensures text { OnOk result ((told : List Reply) × CanAnswer Line.Peers told
+            × (string_bytes out.new ≡ string_bytes out.old ++ flat_map reply_text told)) }
+        ensures memory { IsOkUnless result faults.Memory }
+    {
         Reply::Peers(self.watched.len()).print(self.alloc, out)?;
         for watched in self.watched.as_slice() {
             Reply::Peer(watched.line()).print(self.alloc, out)?;
@@ -212,7 +251,12 @@ impl<R: ProcessHost> Process<R> {
     }
 
     /// `restart`: ends the node, audits it, and starts another one.
-    fn renew<W: Sink>(&mut self, writer: &mut W) -> Result<After, Halt> {
+    fn renew<W: Sink>(&mut self, writer: &mut W) -> Result<After, Halt>
+        ensures told { OnOk result ((told : List Reply) × CanAnswer Line.Restart told
+            × Tells (W.contents writer.old) (W.contents writer.new) told) }
+        ensures failed { IsOkUnless result WriteFailed }
+        ensures marked { OnErr result (W.has_failed writer.new ≡ true) }
+    {
         match self.restart() {
             Ok(verdict) => {
                 print(self.alloc, &Reply::Audit(verdict), writer)?;
@@ -224,7 +268,11 @@ impl<R: ProcessHost> Process<R> {
 }
 
 /// Appends the lines of a mempool with these txids.
-fn print_pool(alloc: Global, txids: &[Hash256], out: &mut String) -> Result<(), Fault> {
+fn print_pool(alloc: Global, txids: &[Hash256], out: &mut String) -> Result<(), Fault>
+    ensures text { OnOk result ((told : List Reply) × CanAnswer Line.Pool told
+        × (string_bytes out.new ≡ string_bytes out.old ++ flat_map reply_text told)) }
+    ensures memory { IsOkUnless result faults.Memory }
+{
     Reply::Pool(txids.len()).print(alloc, out)?;
     for txid in txids {
         Reply::PoolTx(*txid).print(alloc, out)?;

@@ -1,5 +1,8 @@
 //! Dialling peers. Each dial has a thread of its own, so an address that doesn't answer holds up
 //! nobody.
+ghost use Rattle.std.specs.Prelude.{◌≡◌, ◌≤◌, ◌⊎◌, true, false};
+ghost use Rattle.cb_node_process.specs.Dialling.{longer};
+
 use crate::host::ProcessHost;
 use cb_base::Shared;
 use std::alloc::{AllocError, Global};
@@ -54,7 +57,10 @@ pub struct Target {
 
 impl Target {
     /// An address that is due to be dialled.
-    pub fn new(address: SocketAddr, keeps_trying: bool) -> Target {
+    pub fn new(address: SocketAddr, keeps_trying: bool) -> Target
+        ensures { (result.address ≡ address) × (result.keeps_trying ≡ keeps_trying)
+            × (result.reached ≡ false) × (result.delay ≡ 1) }
+    {
         Target {
             address,
             keeps_trying,
@@ -115,7 +121,10 @@ impl Target {
     }
 
     /// A connection to it was made at this time, in this slot.
-    pub fn reach(&mut self, slot: u16, now: u64) {
+    pub fn reach(&mut self, slot: u16, now: u64)
+        ensures { (self.new.reached ≡ true) × (self.new.address ≡ self.old.address)
+            × (self.new.keeps_trying ≡ self.old.keeps_trying) × (self.new.delay ≡ self.old.delay) }
+    {
         self.reached = true;
         self.stage = Stage::Lasts(slot, now);
     }
@@ -130,7 +139,13 @@ impl Target {
 
     /// The connection to it has ended, or couldn't be made. Returns how many seconds later it is
     /// dialled again. A connection that lasted for a minute lets the delays begin anew.
-    pub fn put_off(&mut self, now: u64) -> u64 {
+    pub fn put_off(&mut self, now: u64) -> u64
+        ensures delay { (result ≡ self.old.delay) ⊎ (result ≡ 1) }
+        ensures next { self.new.delay ≡ longer result }
+        ensures same { (self.new.reached ≡ self.old.reached)
+            × (self.new.address ≡ self.old.address)
+            × (self.new.keeps_trying ≡ self.old.keeps_trying) }
+    {
         if let Stage::Lasts(_, since) = &self.stage {
             if now.saturating_sub(*since) >= GOOD_MILLIS {
                 self.delay = 1;

@@ -1,5 +1,9 @@
 //! Running a node until its operator ends it.
-ghost use Rattle.std.specs.Prelude.{◌≡◌, ◌⊎◌, ◌≤◌, IfOk};
+ghost use Rattle.std.specs.Prelude.{◌≡◌, ◌⊎◌, ◌≤◌, ◌∷◌, true, List, IfErr, IfOk, OnErr, OnOk, IsOkUnless};
+ghost use Rattle.std.specs.Io.KnownBytes.{Appends};
+ghost use Rattle.cb_run.specs.declared.ending.Halt.TheVariants.{Memory, ReadFailed, WriteFailed};
+ghost use Rattle.cb_operator.specs.declared.reply.Reply.{Reply};
+ghost use Rattle.cb_node_process.specs.Telling.{Tells, TellsAll, deaf_text};
 
 use crate::answering::{After, print};
 use crate::host::ProcessHost;
@@ -47,7 +51,17 @@ pub fn run_node<R: ProcessHost, W: Sink, E: Sink>(
     errors: &mut E,
 ) -> Result<u8, Halt>
     requires handlers { (1 ≤ orders.handlers) × (orders.handlers ≤ 16) }
+    // For a writer and a standard error whose bytes are known: what is printed, or that it can't
+    // listen.
+    ensures told { IfOk result
+        (λ status. TellsAll (W.contents writer.old) (W.contents writer.new) status
+        ⊎ (Appends (E.contents errors.old) (E.contents errors.new) (deaf_text orders.listen)
+        × (status ≡ 3))) }
     ensures status { IfOk result (λ status. (status ≡ 0) ⊎ (status ≡ 3)) }
+    // For every writer and standard error: why it ends early.
+    ensures halts { IfErr result (λ halt. (halt ≡ Memory) ⊎ ((halt ≡ ReadFailed)
+        ⊎ ((halt ≡ WriteFailed)
+        × ((W.has_failed writer.new ≡ true) ⊎ (E.has_failed errors.new ≡ true))))) }
 {
     let logged = Logged::new(rt, orders.level, Console(rt));
     let log = logged.with_target("cbrelay");
@@ -59,7 +73,13 @@ pub fn run_node<R: ProcessHost, W: Sink, E: Sink>(
 }
 
 /// Tells that the node can't listen. Returns the exit status.
-fn refuse<E: Sink>(alloc: Global, address: SocketAddr, errors: &mut E) -> Result<u8, Halt> {
+fn refuse<E: Sink>(alloc: Global, address: SocketAddr, errors: &mut E) -> Result<u8, Halt>
+    ensures told { OnOk result
+        (Appends (E.contents errors.old) (E.contents errors.new) (deaf_text address)) }
+    ensures status { IfOk result (λ status. status ≡ 3) }
+    ensures err { IfErr result
+        (λ halt. (halt ≡ Memory) ⊎ ((halt ≡ WriteFailed) × (E.has_failed errors.new ≡ true))) }
+{
     let text = format!(in alloc;
         "error: can't listen at {address}: it is in use, or not of this machine\n"
     )?;
@@ -74,7 +94,11 @@ fn run<R: ProcessHost, L: Log, W: Sink>(
     process: Process<R>,
     log: &L,
     writer: &mut W,
-) -> Result<u8, Halt> {
+) -> Result<u8, Halt>
+    ensures told { IfOk result (TellsAll (W.contents writer.old) (W.contents writer.new)) }
+    ensures halts { IfErr result (λ halt. (halt ≡ Memory) ⊎ ((halt ≡ ReadFailed)
+        ⊎ ((halt ≡ WriteFailed) × (W.has_failed writer.new ≡ true)))) }
+{
     let mut process = process;
     let orders = match start_reading(&rt, alloc) {
         Ok(orders) => orders,
@@ -108,7 +132,12 @@ fn serve<R: ProcessHost, L: Log, W: Sink>(
     orders: &Orders,
     log: &L,
     writer: &mut W,
-) -> Result<Stop, Halt> {
+) -> Result<Stop, Halt>
+    ensures told { OnOk result ((first : Reply) × (told : List Reply)
+        × Tells (W.contents writer.old) (W.contents writer.new) (first ∷ told)) }
+    ensures failed { IsOkUnless result WriteFailed }
+    ensures marked { OnErr result (W.has_failed writer.new ≡ true) }
+{
     let address = process.address;
     info!(log; "listening at {address}");
     print(alloc, &Reply::Listening(address), writer)?;
@@ -151,7 +180,12 @@ fn answer_next<R: ProcessHost, L: Log, W: Sink>(
     orders: &Orders,
     log: &L,
     writer: &mut W,
-) -> Result<Next, Halt> {
+) -> Result<Next, Halt>
+    ensures told { OnOk result ((told : List Reply)
+        × Tells (W.contents writer.old) (W.contents writer.new) told) }
+    ensures failed { IsOkUnless result WriteFailed }
+    ensures marked { OnErr result (W.has_failed writer.new ≡ true) }
+{
     let pause = Duration::from_millis(PAUSE_MILLIS);
     match orders.coming.recv_timeout(rt, pause) {
         Ok(Order::Line(line)) => Ok(Next::Line(process.answer(line, log, writer)?)),

@@ -21,18 +21,16 @@ impl Stopwatch {
     }
 
     /// How many milliseconds have passed.
-    pub fn millis<C: Clock>(&mut self, clock: &C) -> u64 {
+    pub fn millis<C: Clock>(&mut self, clock: &C) -> u64
+        ensures grows { self.old.last ≤ result }
+        ensures last { result ≡ self.new.last }
+    {
         if let Some(start) = &self.start {
             if let Ok(passed) = start.elapsed(clock) {
                 let millis = u64::try_from(passed.as_millis()).unwrap_or(u64::MAX);
                 self.last = self.last.max(millis);
             }
         }
-        self.last
-    }
-
-    /// How many milliseconds had passed when the clock was read last.
-    pub fn last(&self) -> u64 {
         self.last
     }
 }

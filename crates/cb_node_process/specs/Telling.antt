@@ -1,0 +1,35 @@
+-- What a process prints.
+use Rattle.std.specs.Prelude.{◌≡◌, ℕ, ◌⊎◌, List, [], ◌∷◌, ◌++◌, codes, Option}
+use Rattle.std.specs.Io.KnownBytes.{Appends}
+use Rattle.std.specs.List.{flat_map}
+use Rattle.std.specs.declared.net.socket_addr.SocketAddr.{SocketAddr}
+use Rattle.std.specs.Net.Text.{socket_text}
+use Rattle.cb_operator.specs.declared.refusal.Refusal.TheVariants as refusals
+use Rattle.cb_operator.specs.declared.refusal.Verdict.{Verdict}
+use Rattle.cb_operator.specs.declared.refusal.Verdict.TheVariants as verdicts
+use Rattle.cb_operator.specs.declared.reply.Reply.{Reply}
+use Rattle.cb_operator.specs.declared.reply.Reply.TheVariants as replies
+use Rattle.cb_operator.specs.Replies.{reply_text}
+
+-- these lines were printed
+abbrev pub Tells : Option (List ℕ) → Option (List ℕ) → List Reply → Type 0
+Tells held holds told = Appends held holds (flat_map reply_text told)
+
+-- this line, or `error memory` in its place
+abbrev pub IsOr : Reply → Reply → Type 0
+IsOr reply told = (told ≡ reply) ⊎ (told ≡ replies.Refused refusals.Memory)
+
+-- one such line was printed
+abbrev pub TellsOne : Option (List ℕ) → Option (List ℕ) → Reply → Type 0
+TellsOne held holds reply = (told : Reply) × IsOr reply told × Tells held holds (told ∷ [])
+
+-- Where it listens was printed first, and what the audit answers last, or `error memory` in the place
+-- of either. The status 0 tells that the audit says yes.
+abbrev pub TellsAll : Option (List ℕ) → Option (List ℕ) → ℕ → Type 0
+TellsAll held holds status =
+    (address : SocketAddr) × (verdict : Verdict) × (first last : Reply) × (told : List Reply) × IsOr (replies.Listening address) first × IsOr (replies.Audit verdict) last
+    × Tells held holds (first ∷ (told ++ last ∷ [])) × ((status ≡ 0 → verdict ≡ verdicts.Yes) × ((status ≡ 0) ⊎ (status ≡ 3)))
+
+-- what standard error is told if the node can't listen at this address
+abbrev pub deaf_text : SocketAddr → List ℕ
+deaf_text address = codes "error: can't listen at " ++ socket_text address ++ codes ": it is in use, or not of this machine\n"
