@@ -9,7 +9,9 @@ ghost use Rattle.cb_slots.specs.Slot.{HasLeft, IsInboxOf, IsNew, IsUnspent, Last
 use crate::choosing::Standing;
 use crate::fault::NodeFault;
 use crate::link::Link;
-use crate::threads::{Errand, NoThread, Reading, join_reading, start_reading, unread};
+use crate::threads::{
+    Errand, NoThread, Reading, join_reading, start_reading, start_writing, unread,
+};
 use cb_base::{Fault, Shared};
 use cb_crew::{Crew, Fresh, ReaderSide, Work};
 use cb_hall::Badge;
@@ -280,8 +282,8 @@ impl<W: Work<Item = Input>> Slot<W> {
         }
     }
 
-    /// Gives the connection that waits its socket, and starts the thread that reads it. If that
-    /// fails, the connection still waits.
+    /// Gives the connection that waits its socket, and starts the threads that read and write it. If
+    /// that fails, the connection still waits.
     pub fn attach<R: Threads + Wait + Copy + Send + Drop + 'static>(
         &mut self,
         rt: &R,
@@ -306,6 +308,7 @@ impl<W: Work<Item = Input>> Slot<W> {
             stream: stream.clone()?,
             slot: self.number,
         };
+        let (link, written) = (self.latest.clone()?, stream.clone()?);
         let Some(
             Seating::Kept(
                 Left {
@@ -318,6 +321,12 @@ impl<W: Work<Item = Input>> Slot<W> {
             unreachable!()
         };
         self.latest.socket.fill(rt, stream);
+        if !start_writing(rt, link, written) {
+            self.latest.outbox.cancel();
+            self.latest.socket.close(rt);
+            self.seating = Some(Seating::Kept(unread(seat)));
+            return Err(NodeFault::Io);
+        }
         match start_reading(rt, errand, seat) {
             Ok(thread) => {
                 self.seating = Some(Seating::Lent(thread));
@@ -326,6 +335,8 @@ impl<W: Work<Item = Input>> Slot<W> {
                 Ok(())
             }
             Err(NoThread { seat, cause }) => {
+                self.latest.outbox.close();
+                self.latest.outbox.wait(rt);
                 self.latest.socket.close(rt);
                 self.seating = Some(Seating::Kept(unread(seat)));
                 Err(cause)
