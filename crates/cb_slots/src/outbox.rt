@@ -124,6 +124,13 @@ impl Outbox {
         Some(piece)
     }
 
+    /// Drops what waits.
+    fn forget<R: Wait>(&self, rt: &R) {
+        let mut pieces = self.pieces.lock(rt);
+        *pieces = VecDeque::new(self.alloc);
+        self.waiting.store(0, Ordering::SeqCst);
+    }
+
     /// Writes what comes to a stream, until the outbox was closed and nothing waits, or a write
     /// failed. Then it shuts the socket.
     pub fn write_to<R: Wait>(&self, rt: &R, stream: &TcpStream, socket: &Socket) {
@@ -141,6 +148,7 @@ impl Outbox {
         }
         self.open.store(false, Ordering::SeqCst);
         socket.close(rt);
+        self.forget(rt);
         self.done.store(1, Ordering::SeqCst);
         self.done.wake_all();
     }
