@@ -9,6 +9,7 @@ import os
 import socket
 import subprocess
 import sys
+import time
 from pathlib import Path
 
 if not __package__:  # called as a file
@@ -22,6 +23,10 @@ from bench.tools.process_talk import NodeProcess
 from bench.tools.programs import built
 
 MARK = 200
+# How many slots serve peers that connect to a node.
+SLOTS = 48
+# How long nodes wait to be measured, after how long, and how many milliseconds a second of that may cost.
+IDLE, REST, MOST = 5, 2, 30
 LAST = (0, ["audit yes"])
 
 
@@ -210,8 +215,48 @@ def slow_addresses_hold_nobody_up(program):
             one.close()
 
 
+def many_peers_come_and_go(program):
+    """Connections that open and close at once, more than there are slots: each is served or turned away, and their threads end."""
+    with NodeProcess(program) as node:
+        host, port = node.address().split(":")
+        before = node.threads()
+        held = [socket.create_connection((host, int(port)), 30) for _ in range(SLOTS)]
+        assert node.until(lambda: len(node.list("peers")) == SLOTS), "they aren't all served"
+        with socket.create_connection((host, int(port)), 30) as one:
+            expect(one.recv(1), b"")
+        assert node.until_logged("a peer was turned away: no slot is free"), "it isn't logged"
+        for one in held:
+            one.close()
+        assert node.until(lambda: node.list("peers") == []), "they don't end"
+        for _ in range(200):
+            with socket.create_connection((host, int(port)), 30) as one:
+                one.sendall(b"no message of this network")
+        assert node.until(lambda: node.list("peers") == []), "they don't end"
+        assert node.until(lambda: node.threads() <= before), f"{node.threads()} threads and not {before}"
+        assert node.until_logged("closed: BadStream"), "the reason isn't logged"
+        expect(node.say("mine").split()[:2], ["mined", "1"])
+        expect(node.close(), LAST)
+
+
+def waiting_costs_little(program):
+    """Two linked nodes to which nothing happens."""
+    with NodeProcess(program) as one:
+        address = one.address()
+        with NodeProcess(program, "--connect", address) as other:
+            other.address()
+            assert other.until(lambda: other.list("peers") != []), "no connection"
+            time.sleep(REST)
+            before = one.processor_ms() + other.processor_ms()
+            time.sleep(IDLE)
+            cost = (one.processor_ms() + other.processor_ms() - before) / IDLE / 2
+            print(f"a second in which a node waits costs {cost:.0f} ms of the processor")
+            assert cost <= MOST, f"a second costs {cost:.0f} ms and not {MOST}"
+            expect(other.close(), LAST)
+        expect(one.close(), LAST)
+
+
 LOOKS = [blocks_go_both_ways, transactions_are_relayed, lines_are_refused, peers_come_again, nodes_begin_anew, what_cannot_be_done_is_told,
-         slow_addresses_hold_nobody_up]
+         slow_addresses_hold_nobody_up, many_peers_come_and_go, waiting_costs_little]
 
 
 def main():

@@ -90,3 +90,9 @@ class NodeProcess:
     def threads(self):
         """How many threads it has."""
         return len(os.listdir(f"/proc/{self.process.pid}/task"))
+
+    def processor_ms(self):
+        """How many milliseconds of the processor it has taken."""
+        with open(f"/proc/{self.process.pid}/stat", encoding="ascii") as file:
+            fields = file.read().rpartition(")")[2].split()
+        return (int(fields[11]) + int(fields[12])) * 1_000 / os.sysconf("SC_CLK_TCK")

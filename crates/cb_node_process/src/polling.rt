@@ -158,15 +158,18 @@ impl<R: ProcessHost> Process<R> {
         let stream = target.take_stream(&self.rt, now);
         let served = self.serve(log, stream, address, now);
         self.tell(address, served);
+        let why = match served {
+            Ok(_) => "",
+            Err(refusal) => self.words_of(refusal),
+        };
         let Some(target) = self.targets.get_mut(place) else {
             return;
         };
         match served {
             Ok(slot) => target.reach(slot, now),
-            Err(refusal) => {
+            Err(_) => {
                 let forgotten = !target.keeps_trying && !target.reached;
                 let seconds = target.put_off(now);
-                let why = words_of(refusal);
                 if forgotten {
                     warn!(log; "no connection to {address}: {why}");
                     drop(self.targets.remove(place));
@@ -205,6 +208,19 @@ impl<R: ProcessHost> Process<R> {
                 Ok(slot) => Reply::Connected(address, slot),
                 Err(refusal) => Reply::Refused(refusal),
             });
+        }
+    }
+
+    /// Why no connection was made, in words.
+    fn words_of(&self, refusal: Refusal) -> &'static str {
+        match refusal {
+            Refusal::NoSlot if self.node.is_spent(false) => {
+                "all slots are used up, which restart mends"
+            }
+            Refusal::NoSlot => "no slot is free",
+            Refusal::Memory => "memory ran out",
+            Refusal::Fault(_) => "the hall refused",
+            _ => "it doesn't answer",
         }
     }
 
@@ -250,14 +266,4 @@ fn note_end<L: Log>(log: &L, gone: &Watched, reason: CloseReason) {
     let way = if gone.inbound { "from" } else { "to" };
     let name = reason.name();
     info!(log; "connection {way} {address} in slot {slot} closed: {name}");
-}
-
-/// Why no connection was made, in words.
-fn words_of(refusal: Refusal) -> &'static str {
-    match refusal {
-        Refusal::NoSlot => "no slot is free",
-        Refusal::Memory => "memory ran out",
-        Refusal::Fault(_) => "the hall refused",
-        _ => "it doesn't answer",
-    }
 }
