@@ -4,6 +4,10 @@ use Rattle.std.specs.Io.KnownBytes.{Appends}
 use Rattle.std.specs.List.{flat_map}
 use Rattle.std.specs.declared.net.socket_addr.SocketAddr.{SocketAddr}
 use Rattle.std.specs.Net.Text.{socket_text}
+use Rattle.cb_base.specs.declared.fault.Fault.TheVariants as faults
+use Rattle.cb_slots.specs.declared.fault.NodeFault.{NodeFault}
+use Rattle.cb_slots.specs.declared.fault.NodeFault.TheVariants as node
+use Rattle.cb_operator.specs.declared.refusal.Refusal.{Refusal}
 use Rattle.cb_operator.specs.declared.refusal.Refusal.TheVariants as refusals
 use Rattle.cb_operator.specs.declared.refusal.Verdict.{Verdict}
 use Rattle.cb_operator.specs.declared.refusal.Verdict.TheVariants as verdicts
@@ -29,6 +33,14 @@ abbrev pub TellsAll : Option (List ℕ) → Option (List ℕ) → ℕ → Type 0
 TellsAll held holds status =
     (address : SocketAddr) × (verdict : Verdict) × (first last : Reply) × (told : List Reply) × IsOr (replies.Listening address) first × IsOr (replies.Audit verdict) last
     × Tells held holds (first ∷ (told ++ last ∷ [])) × ((status ≡ 0 → verdict ≡ verdicts.Yes) × ((status ≡ 0) ⊎ (status ≡ 3)))
+
+-- why a line is refused, by why the node refuses a call
+abbrev pub refusal_of : NodeFault → Refusal
+refusal_of node.Io = refusals.Io
+refusal_of node.NoSlot = refusals.NoSlot
+refusal_of node.Memory = refusals.Memory
+refusal_of (node.Hall faults.Memory) = refusals.Memory
+refusal_of (node.Hall fault) = refusals.Fault fault
 
 -- what standard error is told if the node can't listen at this address
 abbrev pub deaf_text : SocketAddr → List ℕ

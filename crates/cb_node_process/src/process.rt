@@ -1,5 +1,6 @@
 //! A node's process: its node, the connections that last, and the addresses that it dials.
-ghost use Rattle.std.specs.Prelude.{◌≡◌, ◌≤◌, IfOk};
+ghost use Rattle.std.specs.Prelude.{◌≡◌, ◌≤◌, true, IfOk};
+ghost use Rattle.cb_node_process.specs.Telling.{refusal_of};
 
 use crate::dialling::Target;
 use crate::host::ProcessHost;
@@ -124,7 +125,9 @@ impl<R: ProcessHost> Process<R> {
 
     /// Ends the node and all its threads. Returns what the audit answers, and whether all went well:
     /// each audit says yes, and each address that was to be dialled from the start was reached once.
-    pub fn finish(self) -> (Verdict, bool) {
+    pub fn finish(self) -> (Verdict, bool)
+        ensures { result.1 ≡ true → result.0 ≡ Verdict.Yes }
+    {
         let mut process = self;
         process.end_dials();
         let reached = process.has_reached_all();
@@ -230,7 +233,9 @@ fn audit_all<R: ProcessHost>(alloc: Global, hall: &Hall, desks: &[Desk<NodeWork<
 }
 
 /// Why a call of the node was refused.
-pub fn refusal_of(fault: NodeFault) -> Refusal {
+pub fn refusal_of(fault: NodeFault) -> Refusal
+    ensures { result ≡ refusal_of fault }
+{
     match fault {
         NodeFault::Io => Refusal::Io,
         NodeFault::NoSlot => Refusal::NoSlot,

@@ -1,5 +1,5 @@
 -- The lines that answer an operator.
-use Rattle.std.specs.Prelude.{◌≡◌, ℕ, Bool, if◌then◌else◌, List, [], ◌++◌, reverse, codes, Option, Some, None}
+use Rattle.std.specs.Prelude.{ℕ, ◌+◌, ◌%◌, ◌^◌, Bool, if◌then◌else◌, List, [], ◌++◌, reverse, codes, Option, Some, None}
 use Rattle.std.specs.Fmt.{decimal}
 use Rattle.std.specs.declared.net.socket_addr.SocketAddr.{SocketAddr}
 use Rattle.std.specs.Net.Text.{socket_text}
@@ -43,6 +43,19 @@ count_text (Some count) = decimal count
 abbrev pub block_text : BlockLine → List ℕ
 block_text block =
     codes "block " ++ hash_text block.hash ++ codes " height " ++ decimal block.height ++ codes " best " ++ yes_no block.best ++ codes " transactions " ++ count_text block.txs ++ codes "\n"
+
+-- nothing was moved
+abbrev pub nothing : Moved
+nothing = record { messages = 0; payload = 0; sent = 0; written = 0; full = 0; compact = 0; completed = 0; fallback = 0 }
+
+-- a sum that wraps at 2^64
+abbrev pub wrapped : ℕ → ℕ → ℕ
+wrapped a b = (a + b) % 2 ^ 64
+
+-- what two moved
+abbrev pub both : Moved → Moved → Moved
+both a b =
+    record { messages = wrapped a.messages b.messages; payload = wrapped a.payload b.payload; sent = wrapped a.sent b.sent; written = wrapped a.written b.written; full = wrapped a.full b.full; compact = wrapped a.compact b.compact; completed = wrapped a.completed b.completed; fallback = wrapped a.fallback b.fallback }
 
 -- what connections moved
 abbrev pub moved_text : Moved → List ℕ

@@ -1,7 +1,7 @@
 //! What connections moved.
 ghost use Rattle.std.specs.Prelude.{◌≡◌, ◌++◌, OnOk, IsOkUnless, string_bytes};
 ghost use Rattle.cb_base.specs.declared.fault.Fault.TheVariants.{Memory};
-ghost use Rattle.cb_operator.specs.Replies.{moved_text, stats_text};
+ghost use Rattle.cb_operator.specs.Replies.{both, moved_text, nothing, stats_text};
 
 use cb_base::Fault;
 
@@ -28,7 +28,9 @@ pub struct Moved {
 
 impl Moved {
     /// Nothing was moved.
-    pub fn nothing() -> Moved {
+    pub fn nothing() -> Moved
+        ensures { result ≡ nothing }
+    {
         Moved {
             messages: 0,
             payload: 0,
@@ -42,7 +44,9 @@ impl Moved {
     }
 
     /// What both moved. Each number wraps at 2^64.
-    pub fn with(self, other: Moved) -> Moved {
+    pub fn with(self, other: Moved) -> Moved
+        ensures { result ≡ both self other }
+    {
         Moved {
             messages: self.messages.wrapping_add(other.messages),
             payload: self.payload.wrapping_add(other.payload),

@@ -1,5 +1,5 @@
 //! Why a line was refused, and what an audit answers.
-ghost use Rattle.std.specs.Prelude.{◌≡◌, ◌++◌, OnOk, IsOkUnless, string_bytes};
+ghost use Rattle.std.specs.Prelude.{◌≡◌, ◌↔◌, ◌++◌, IsTrue, OnOk, IsOkUnless, string_bytes};
 ghost use Rattle.cb_base.specs.declared.fault.Fault.TheVariants.{Memory};
 ghost use Rattle.cb_operator.specs.Replies.{refusal_text, verdict_text};
 
@@ -64,7 +64,9 @@ pub enum Verdict {
 
 impl Verdict {
     /// Whether it is yes.
-    pub fn is_yes(self) -> bool {
+    pub fn is_yes(self) -> bool
+        ensures { IsTrue result ↔ (self ≡ Verdict.Yes) }
+    {
         matches!(self, Verdict::Yes)
     }
 
