@@ -86,6 +86,8 @@ def transactions_are_relayed(program):
         expect(other.say(f"connect {address}"), f"connected {address} slot 48")
         expect(one.say(f"submit-block {block.text.hex()}"), f"submitted {shown(block.header.name)}")
         expect(one.say(f"submit-block {block.text.hex()}"), "error F18 Known")
+        # A node refuses a transaction whose inputs it doesn't know yet, and isn't told of it again.
+        assert other.until(lambda: other.tip()[0] == 1), "the block doesn't come"
         expect(one.say(f"tx {tx.text.hex()}"), f"tx {shown(tx.name)}")
         expect(one.say(f"tx {tx.text.hex().upper()}"), "error F18 Known")
         expect(one.say(f"tx {twice.text.hex()}"), "error F19 NoInput")
