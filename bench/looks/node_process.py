@@ -15,8 +15,11 @@ from pathlib import Path
 if not __package__:  # called as a file
     sys.path.insert(0, str(Path(__file__).resolve().parents[2]))
 
-from bench.models.plain_block import paying
+from bench.models import plain_wire as wire
+from bench.models.plain_block import paying, sized
+from bench.models.plain_session import Settings
 from bench.tools.command_line import usage
+from bench.tools.messages import envelope
 from bench.tools.network import GENESIS
 from bench.tools.node_scripts import SUBSIDY, mined
 from bench.tools.process_talk import NodeProcess
@@ -28,6 +31,14 @@ SLOTS = 48
 # How long nodes wait to be measured, after how long, and how many milliseconds a second of that may cost.
 IDLE, REST, MOST = 5, 2, 30
 LAST = (0, ["audit yes"])
+HELLO = wire.version(Settings(nonce=0x5EED)) + envelope(b"verack", b"")
+# Blocks of this size, so many of which are more than a socket takes unread. And others, so many of which are more than an outbox holds.
+LARGE, MANY = 300_000, 20
+LARGEST, TOO_MANY = 900_000, 60
+# In how many seconds a block comes to a peer beside one that reads nothing.
+SOON = 5
+# How long a write of a node may wait.
+WRITE_SECONDS = 20
 
 
 def shown(name):
@@ -240,6 +251,57 @@ def many_peers_come_and_go(program):
         expect(node.close(), LAST)
 
 
+def beside_a_peer(program, size, count, act):
+    """A node with one handler, and a peer of it. Another peer asks for so many blocks of this size, and then does something. Blocks of the
+    first go on meanwhile. How the other's connection ended comes back."""
+    block = mined(GENESIS, 1, MARK)
+    large = sized(block.header.name, size)
+    with NodeProcess(program, "--handlers", "1") as one, socket.socket() as stream:
+        address = one.address()
+        host, port = address.split(":")
+        with NodeProcess(program, "--connect", address) as other:
+            other.address()
+            for text in (block.text, large.text):
+                assert one.say(f"submit-block {text.hex()}").startswith("submitted "), "a block isn't taken"
+            assert other.until(lambda: other.tip() == one.tip()), "the large block doesn't come"
+            stream.setsockopt(socket.SOL_SOCKET, socket.SO_RCVBUF, 4_096)
+            stream.connect((host, int(port)))
+            stream.sendall(HELLO + wire.entries(b"getdata", [(2, large.header.name)] * count))
+            assert one.until(lambda: int(one.list("peers")[1].split()[16]) > size), "it isn't served"
+            for _ in range(3):
+                began = time.monotonic()
+                one.say("mine")
+                assert other.until(lambda: other.tip() == one.tip()), "a block doesn't come"
+                took = time.monotonic() - began
+                assert took < SOON, f"a block comes after {took:.1f} s"
+            act(stream)
+            stream.close()
+            assert one.until_logged("in slot 1 closed: "), "the connection doesn't end"
+            ends = [line.rpartition(" ")[2] for line in one.logged if line and "in slot 1 closed: " in line]
+            expect(other.close(), LAST)
+        expect(one.close(), LAST)
+    return ends
+
+
+def slow_peers_hold_nobody_up(program):
+    """A peer that reads nothing for longer than a write may wait, and one that reads all, but late."""
+    def read(stream):
+        left = MANY * LARGE
+        while left > 0:
+            piece = stream.recv(65_536)
+            assert piece, f"{left} bytes don't come"
+            left -= len(piece)
+
+    (end,) = beside_a_peer(program, LARGE, MANY, lambda stream: time.sleep(WRITE_SECONDS + 2))
+    assert end in ("WriteFault", "Bye"), end
+    expect(beside_a_peer(program, LARGE, MANY, read), ["Bye"])
+
+
+def a_full_outbox_ends_a_connection(program):
+    """A peer that asks for more than may wait for it."""
+    expect(beside_a_peer(program, LARGEST, TOO_MANY, lambda stream: None), ["WriteFault"])
+
+
 def waiting_costs_little(program):
     """Two linked nodes to which nothing happens."""
     with NodeProcess(program) as one:
@@ -258,7 +320,8 @@ def waiting_costs_little(program):
 
 
 LOOKS = [blocks_go_both_ways, transactions_are_relayed, lines_are_refused, peers_come_again, nodes_begin_anew, what_cannot_be_done_is_told,
-         slow_addresses_hold_nobody_up, many_peers_come_and_go, waiting_costs_little]
+         slow_addresses_hold_nobody_up, many_peers_come_and_go,
+         slow_peers_hold_nobody_up, a_full_outbox_ends_a_connection, waiting_costs_little]
 
 
 def main():
