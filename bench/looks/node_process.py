@@ -37,8 +37,8 @@ LARGE, MANY = 300_000, 20
 LARGEST, TOO_MANY = 900_000, 60
 # In how many seconds a block comes to a peer beside one that reads nothing.
 SOON = 5
-# How long a write of a node may wait.
-WRITE_SECONDS = 20
+# How long a write of a node may wait, and how long we wait for what it serves: a program without optimisations takes long.
+WRITE_SECONDS, PATIENCE = 20, 180
 
 
 def shown(name):
@@ -256,10 +256,10 @@ def beside_a_peer(program, size, count, act):
     first go on meanwhile. How the other's connection ended comes back."""
     block = mined(GENESIS, 1, MARK)
     large = sized(block.header.name, size)
-    with NodeProcess(program, "--handlers", "1") as one, socket.socket() as stream:
+    with NodeProcess(program, "--handlers", "1", seconds=PATIENCE) as one, socket.socket() as stream:
         address = one.address()
         host, port = address.split(":")
-        with NodeProcess(program, "--connect", address) as other:
+        with NodeProcess(program, "--connect", address, seconds=PATIENCE) as other:
             other.address()
             for text in (block.text, large.text):
                 assert one.say(f"submit-block {text.hex()}").startswith("submitted "), "a block isn't taken"
@@ -267,7 +267,7 @@ def beside_a_peer(program, size, count, act):
             stream.setsockopt(socket.SOL_SOCKET, socket.SO_RCVBUF, 4_096)
             stream.connect((host, int(port)))
             stream.sendall(HELLO + wire.entries(b"getdata", [(2, large.header.name)] * count))
-            assert one.until(lambda: int(one.list("peers")[1].split()[16]) > size), "it isn't served"
+            assert one.until(lambda: any(int(line.split()[16]) > size for line in one.list("peers")[1:])), "it isn't served"
             for _ in range(3):
                 began = time.monotonic()
                 one.say("mine")
