@@ -49,7 +49,7 @@ Examples:
   tail -f /dev/null | cbrelay node --listen 127.0.0.1:18444";
 
 /// Why the words of `node` can't be followed.
-#[derive(Clone, Copy, PartialEq, Eq)]
+#[derive(Clone, Copy)]
 pub enum BadWords {
     /// A value of `--listen` or `--connect` isn't an IP address and a port.
     Address,

@@ -23,7 +23,7 @@ use std::sync::Wait;
 use std::thread::Threads;
 
 /// What the chain has of a block.
-#[derive(Clone, Copy, Debug, PartialEq, Eq)]
+#[derive(Clone, Copy)]
 pub struct BlockLook {
     /// Its height; the genesis block has height 0.
     pub height: u32,
@@ -34,7 +34,7 @@ pub struct BlockLook {
 }
 
 /// A connection that a peer made.
-#[derive(Clone, Copy, Debug, PartialEq, Eq)]
+#[derive(Clone, Copy)]
 pub struct Admitted {
     /// The slot that serves it.
     pub slot: u16,

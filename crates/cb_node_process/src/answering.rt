@@ -22,7 +22,7 @@ use log::Log;
 use std::alloc::Global;
 
 /// What comes after a line.
-#[derive(Clone, Copy, PartialEq, Eq)]
+#[derive(Clone, Copy)]
 pub enum After {
     /// The next line is read.
     Next,

@@ -26,7 +26,7 @@ use std::time::Duration;
 const PAUSE_MILLIS: u64 = 10;
 
 /// Why no more lines are answered.
-#[derive(Clone, Copy, PartialEq, Eq)]
+#[derive(Clone, Copy)]
 enum Stop {
     /// By `quit`, or because the input ended.
     Asked,
@@ -164,7 +164,7 @@ fn serve<R: ProcessHost, L: Log, W: Sink>(
 }
 
 /// What comes next.
-#[derive(Clone, Copy, PartialEq, Eq)]
+#[derive(Clone, Copy)]
 enum Next {
     /// A line was answered, or none came.
     Line(After),

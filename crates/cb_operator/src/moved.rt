@@ -6,7 +6,7 @@ ghost use Rattle.cb_operator.specs.Replies.{both, moved_text, nothing, stats_tex
 use cb_base::Fault;
 
 /// What one connection or several moved.
-#[derive(Clone, Copy, Debug, PartialEq, Eq)]
+#[derive(Clone, Copy)]
 pub struct Moved {
     /// Messages read.
     pub messages: u64,
@@ -82,7 +82,7 @@ impl Moved {
 }
 
 /// The answer to `stats`.
-#[derive(Clone, Copy, Debug, PartialEq, Eq)]
+#[derive(Clone, Copy)]
 pub struct StatsLine {
     /// For how many seconds the node has run.
     pub seconds: u64,

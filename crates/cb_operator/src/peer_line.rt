@@ -8,7 +8,7 @@ use cb_base::Fault;
 use std::net::SocketAddr;
 
 /// How far a session is.
-#[derive(Clone, Copy, Debug, PartialEq, Eq)]
+#[derive(Clone, Copy)]
 pub enum Phase {
     /// No `version` has come from the peer.
     Start,
@@ -35,7 +35,7 @@ impl Phase {
 }
 
 /// A connection that lasts, in the answer to `peers`.
-#[derive(Clone, Copy, Debug, PartialEq, Eq)]
+#[derive(Clone, Copy)]
 pub struct PeerLine {
     /// Its slot.
     pub slot: u16,

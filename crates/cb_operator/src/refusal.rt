@@ -6,7 +6,7 @@ ghost use Rattle.cb_operator.specs.Replies.{refusal_text, verdict_text};
 use cb_base::Fault;
 
 /// Why a line was refused. Nothing was done then.
-#[derive(Clone, Copy, Debug, PartialEq, Eq)]
+#[derive(Clone, Copy)]
 pub enum Refusal {
     /// It isn't of one of the forms of `Line`.
     Unreadable,
@@ -46,7 +46,7 @@ impl Refusal {
 
 /// What an audit answers: whether the hall's journal and the traces of its connections tell one
 /// history.
-#[derive(Clone, Copy, Debug, PartialEq, Eq)]
+#[derive(Clone, Copy)]
 pub enum Verdict {
     /// They do.
     Yes,

@@ -11,7 +11,7 @@ use std::alloc::Global;
 use std::net::SocketAddr;
 
 /// The best chain's tip.
-#[derive(Clone, Copy, Debug, PartialEq, Eq)]
+#[derive(Clone, Copy)]
 pub struct Tip {
     /// Its height; the genesis block has height 0.
     pub height: u32,
@@ -20,7 +20,7 @@ pub struct Tip {
 }
 
 /// What the chain has of a block.
-#[derive(Clone, Copy, Debug, PartialEq, Eq)]
+#[derive(Clone, Copy)]
 pub struct BlockLine {
     /// Its hash.
     pub hash: Hash256,
@@ -56,7 +56,7 @@ impl BlockLine {
 }
 
 /// A line that answers an operator.
-#[derive(Clone, Copy, Debug, PartialEq, Eq)]
+#[derive(Clone, Copy)]
 pub enum Reply {
     /// Before any line: where the node listens.
     Listening(SocketAddr),
