@@ -131,9 +131,7 @@ impl<
             return Ok(None);
         };
         let address = stream.peer_addr()?;
-        let slot = self
-            .service
-            .begin(self.slots.as_mut_slice(), 0, end, stream)?;
+        let slot = self.service.begin(&mut self.slots, 0, end, stream)?;
         Ok(Some(Admitted { slot, address }))
     }
 
@@ -160,9 +158,7 @@ impl<
     {
         let first = self.service.settings.inbound;
         let end = self.slots.len() as u16;
-        let number = self
-            .service
-            .begin(self.slots.as_mut_slice(), first, end, stream)?;
+        let number = self.service.begin(&mut self.slots, first, end, stream)?;
         if let Some(slot) = self.slots.get(usize::from(number)) {
             slot.tick(&self.service.common.signals);
         }
