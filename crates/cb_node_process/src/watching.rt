@@ -68,5 +68,6 @@ fn moved_of(totals: &Totals) -> Moved {
         compact: totals.compact,
         completed: totals.completed,
         fallback: totals.fallback,
+        saved: totals.saved,
     }
 }

@@ -36,17 +36,20 @@ abbrev pub yes_no : Bool → List ℕ
 yes_no b = if b then codes "yes" else codes "no"
 
 -- how many transactions a block has, if it is kept
-abbrev pub count_text : Option ℕ → List ℕ
-count_text None = codes "none"
-count_text (Some count) = decimal count
+abbrev pub count_line : Option ℕ → List ℕ
+count_line None = codes "none\n"
+count_line (Some count) = decimal count ++ codes "\n"
+
+-- the line of a block without that number
+abbrev pub front_text : BlockLine → List ℕ
+front_text block = codes "block " ++ hash_text block.hash ++ codes " height " ++ decimal block.height ++ codes " best " ++ yes_no block.best ++ codes " transactions "
 
 abbrev pub block_text : BlockLine → List ℕ
-block_text block =
-    codes "block " ++ hash_text block.hash ++ codes " height " ++ decimal block.height ++ codes " best " ++ yes_no block.best ++ codes " transactions " ++ count_text block.txs ++ codes "\n"
+block_text block = front_text block ++ count_line block.txs
 
 -- nothing was moved
 abbrev pub nothing : Moved
-nothing = record { messages = 0; payload = 0; sent = 0; written = 0; full = 0; compact = 0; completed = 0; fallback = 0 }
+nothing = record { messages = 0; payload = 0; sent = 0; written = 0; full = 0; compact = 0; completed = 0; fallback = 0; saved = 0 }
 
 -- a sum that wraps at 2^64
 abbrev pub wrapped : ℕ → ℕ → ℕ
@@ -55,16 +58,28 @@ wrapped a b = (a + b) % 2 ^ 64
 -- what two moved
 abbrev pub both : Moved → Moved → Moved
 both a b =
-    record { messages = wrapped a.messages b.messages; payload = wrapped a.payload b.payload; sent = wrapped a.sent b.sent; written = wrapped a.written b.written; full = wrapped a.full b.full; compact = wrapped a.compact b.compact; completed = wrapped a.completed b.completed; fallback = wrapped a.fallback b.fallback }
+    record { messages = wrapped a.messages b.messages; payload = wrapped a.payload b.payload; sent = wrapped a.sent b.sent; written = wrapped a.written b.written; full = wrapped a.full b.full; compact = wrapped a.compact b.compact; completed = wrapped a.completed b.completed; fallback = wrapped a.fallback b.fallback; saved = wrapped a.saved b.saved }
+
+-- what came in and went out
+abbrev pub ways_text : Moved → List ℕ
+ways_text moved =
+    codes "in " ++ decimal moved.messages ++ codes " messages " ++ decimal moved.payload ++ codes " payload bytes out " ++ decimal moved.sent ++ codes " messages " ++ decimal moved.written ++ codes " bytes"
+
+-- how blocks came, and how many bytes short ids saved
+abbrev pub blocks_text : Moved → List ℕ
+blocks_text moved =
+    codes " blocks full " ++ decimal moved.full ++ codes " compact " ++ decimal moved.compact ++ codes " completed " ++ decimal moved.completed ++ codes " fallback " ++ decimal moved.fallback ++ codes " saved " ++ decimal moved.saved ++ codes " bytes"
 
 -- what connections moved
 abbrev pub moved_text : Moved → List ℕ
-moved_text moved =
-    codes "in " ++ decimal moved.messages ++ codes " messages " ++ decimal moved.payload ++ codes " payload bytes out " ++ decimal moved.sent ++ codes " messages " ++ decimal moved.written ++ codes " bytes blocks full " ++ decimal moved.full ++ codes " compact " ++ decimal moved.compact ++ codes " completed " ++ decimal moved.completed ++ codes " fallback " ++ decimal moved.fallback
+moved_text moved = ways_text moved ++ blocks_text moved
+
+-- how long the node has run, and how many connections last and there were
+abbrev pub counts_text : StatsLine → List ℕ
+counts_text stats = codes "stats seconds " ++ decimal stats.seconds ++ codes " open " ++ decimal stats.lasting ++ codes " connections " ++ decimal stats.all ++ codes " "
 
 abbrev pub stats_text : StatsLine → List ℕ
-stats_text stats =
-    codes "stats seconds " ++ decimal stats.seconds ++ codes " open " ++ decimal stats.lasting ++ codes " connections " ++ decimal stats.all ++ codes " " ++ moved_text stats.moved ++ codes "\n"
+stats_text stats = counts_text stats ++ moved_text stats.moved ++ codes "\n"
 
 abbrev pub phase_name : Phase → List ℕ
 phase_name phases.Start = codes "start"
@@ -72,10 +87,21 @@ phase_name phases.Greeted = codes "greeted"
 phase_name phases.Ready = codes "ready"
 phase_name phases.Over = codes "over"
 
--- a connection that lasts: `from` a peer that made it, or `to` a peer
+-- its slot and its generation
+abbrev pub place_text : PeerLine → List ℕ
+place_text peer = codes "slot " ++ decimal peer.slot ++ codes " connection " ++ decimal peer.generation ++ codes " "
+
+-- `from` a peer that made the connection, or `to` a peer
+abbrev pub way_name : Bool → List ℕ
+way_name inbound = if inbound then codes "from" else codes "to"
+
+-- where the peer is, and how far the session
+abbrev pub side_text : PeerLine → List ℕ
+side_text peer = way_name peer.inbound ++ codes " " ++ socket_text peer.address ++ codes " " ++ phase_name peer.phase ++ codes " "
+
+-- a connection that lasts
 abbrev pub peer_text : PeerLine → List ℕ
-peer_text peer =
-    codes "slot " ++ decimal peer.slot ++ codes " connection " ++ decimal peer.generation ++ codes " " ++ (if peer.inbound then codes "from" else codes "to") ++ codes " " ++ socket_text peer.address ++ codes " " ++ phase_name peer.phase ++ codes " " ++ moved_text peer.moved ++ codes "\n"
+peer_text peer = place_text peer ++ side_text peer ++ moved_text peer.moved ++ codes "\n"
 
 -- why a line was refused
 abbrev pub refusal_text : Refusal → List ℕ

@@ -1,7 +1,7 @@
 //! What connections moved.
 ghost use Rattle.std.specs.Prelude.{◌≡◌, ◌++◌, OnOk, IsOkUnless, string_bytes};
 ghost use Rattle.cb_base.specs.declared.fault.Fault.TheVariants.{Memory};
-ghost use Rattle.cb_operator.specs.Replies.{both, moved_text, nothing, stats_text};
+ghost use Rattle.cb_operator.specs.Replies.{blocks_text, both, counts_text, moved_text, nothing, stats_text, ways_text};
 
 use cb_base::Fault;
 
@@ -24,6 +24,8 @@ pub struct Moved {
     pub completed: u64,
     /// Blocks that came as a `block` because they couldn't be rebuilt.
     pub fallback: u64,
+    /// The bytes that short ids saved.
+    pub saved: u64,
 }
 
 impl Moved {
@@ -40,6 +42,7 @@ impl Moved {
             compact: 0,
             completed: 0,
             fallback: 0,
+            saved: 0,
         }
     }
 
@@ -56,6 +59,7 @@ impl Moved {
             compact: self.compact.wrapping_add(other.compact),
             completed: self.completed.wrapping_add(other.completed),
             fallback: self.fallback.wrapping_add(other.fallback),
+            saved: self.saved.wrapping_add(other.saved),
         }
     }
 
@@ -65,17 +69,37 @@ impl Moved {
             (string_bytes out.new ≡ string_bytes out.old ++ moved_text self.now) }
         ensures memory { IsOkUnless result Memory }
     {
+        self.print_ways(out)?;
+        self.print_blocks(out)?;
+        Ok(())
+    }
+
+    /// Appends what came in and went out. Fails only with `Fault::Memory`.
+    fn print_ways(&self, out: &mut String) -> Result<(), Fault>
+        ensures text { OnOk result
+            (string_bytes out.new ≡ string_bytes out.old ++ ways_text self.now) }
+        ensures memory { IsOkUnless result Memory }
+    {
         let (messages, payload) = (self.messages, self.payload);
         let (sent, written) = (self.sent, self.written);
-        let (full, compact) = (self.full, self.compact);
-        let (completed, fallback) = (self.completed, self.fallback);
         write!(
             out,
-            "in {messages} messages {payload} payload bytes out {sent} messages {written} bytes "
+            "in {messages} messages {payload} payload bytes out {sent} messages {written} bytes"
         )?;
+        Ok(())
+    }
+
+    /// Appends how blocks came. Fails only with `Fault::Memory`.
+    fn print_blocks(&self, out: &mut String) -> Result<(), Fault>
+        ensures text { OnOk result
+            (string_bytes out.new ≡ string_bytes out.old ++ blocks_text self.now) }
+        ensures memory { IsOkUnless result Memory }
+    {
+        let (full, compact) = (self.full, self.compact);
+        let (completed, fallback, saved) = (self.completed, self.fallback, self.saved);
         write!(
             out,
-            "blocks full {full} compact {compact} completed {completed} fallback {fallback}"
+            " blocks full {full} compact {compact} completed {completed} fallback {fallback} saved {saved} bytes"
         )?;
         Ok(())
     }
@@ -101,13 +125,24 @@ impl StatsLine {
             (string_bytes out.new ≡ string_bytes out.old ++ stats_text self.now) }
         ensures memory { IsOkUnless result Memory }
     {
+        self.print_counts(out)?;
+        self.moved.print(out)?;
+        out.push('\n')?;
+        Ok(())
+    }
+
+    /// Appends how long the node has run, and the numbers of connections. Fails only with
+    /// `Fault::Memory`.
+    fn print_counts(&self, out: &mut String) -> Result<(), Fault>
+        ensures text { OnOk result
+            (string_bytes out.new ≡ string_bytes out.old ++ counts_text self.now) }
+        ensures memory { IsOkUnless result Memory }
+    {
         let (seconds, lasting, all) = (self.seconds, self.lasting, self.all);
         write!(
             out,
             "stats seconds {seconds} open {lasting} connections {all} "
         )?;
-        self.moved.print(out)?;
-        out.push('\n')?;
         Ok(())
     }
 }

@@ -1,7 +1,7 @@
 //! What is told of a connection that lasts.
 ghost use Rattle.std.specs.Prelude.{◌≡◌, ◌++◌, OnOk, IsOkUnless, string_bytes};
 ghost use Rattle.cb_base.specs.declared.fault.Fault.TheVariants.{Memory};
-ghost use Rattle.cb_operator.specs.Replies.{peer_text, phase_name};
+ghost use Rattle.cb_operator.specs.Replies.{peer_text, phase_name, place_text, side_text, way_name};
 
 use crate::moved::Moved;
 use cb_base::Fault;
@@ -58,15 +58,39 @@ impl PeerLine {
             (string_bytes out.new ≡ string_bytes out.old ++ peer_text self.now) }
         ensures memory { IsOkUnless result Memory }
     {
-        let (slot, generation, address) = (self.slot, self.generation, self.address);
-        let way = if self.inbound { "from" } else { "to" };
-        let phase = self.phase.name();
-        write!(
-            out,
-            "slot {slot} connection {generation} {way} {address} {phase} "
-        )?;
+        self.print_place(out)?;
+        self.print_side(out)?;
         self.moved.print(out)?;
         out.push('\n')?;
         Ok(())
     }
+
+    /// Appends the slot and the generation. Fails only with `Fault::Memory`.
+    fn print_place(&self, out: &mut String) -> Result<(), Fault>
+        ensures text { OnOk result
+            (string_bytes out.new ≡ string_bytes out.old ++ place_text self.now) }
+        ensures memory { IsOkUnless result Memory }
+    {
+        let (slot, generation) = (self.slot, self.generation);
+        write!(out, "slot {slot} connection {generation} ")?;
+        Ok(())
+    }
+
+    /// Appends where the peer is, and how far the session. Fails only with `Fault::Memory`.
+    fn print_side(&self, out: &mut String) -> Result<(), Fault>
+        ensures text { OnOk result
+            (string_bytes out.new ≡ string_bytes out.old ++ side_text self.now) }
+        ensures memory { IsOkUnless result Memory }
+    {
+        let (way, address, phase) = (way_name(self.inbound), self.address, self.phase.name());
+        write!(out, "{way} {address} {phase} ")?;
+        Ok(())
+    }
+}
+
+/// `from` a peer that made the connection, or `to` a peer.
+fn way_name(inbound: bool) -> &'static str
+    ensures { result.now ≡ way_name inbound }
+{
+    if inbound { "from" } else { "to" }
 }

@@ -78,18 +78,36 @@ impl Verdict {
     {
         match self {
             Verdict::Yes => writeln!(out, "audit yes")?,
-            Verdict::Count(slot, generation) => {
-                writeln!(out, "audit no count slot {slot} connection {generation}")?
-            }
+            Verdict::Count(slot, generation) => print_uneven(slot, generation, out)?,
             Verdict::Differs(slot, generation, place) => {
-                writeln!(
-                    out,
-                    "audit no differs slot {slot} connection {generation} place {place}"
-                )?
+                print_differing(slot, generation, place, out)?
             }
             Verdict::OutOfOrder => writeln!(out, "audit no order")?,
             Verdict::Memory => writeln!(out, "audit no memory")?,
         }
         Ok(())
     }
+}
+
+/// Appends that a connection has another number of answers. Fails only with `Fault::Memory`.
+fn print_uneven(slot: u16, generation: u64, out: &mut String) -> Result<(), Fault>
+    ensures text { OnOk result (string_bytes out.new
+        ≡ string_bytes out.old ++ verdict_text (Verdict.Count slot generation)) }
+    ensures memory { IsOkUnless result Memory }
+{
+    writeln!(out, "audit no count slot {slot} connection {generation}")?;
+    Ok(())
+}
+
+/// Appends where a connection differs. Fails only with `Fault::Memory`.
+fn print_differing(slot: u16, generation: u64, place: u64, out: &mut String) -> Result<(), Fault>
+    ensures text { OnOk result (string_bytes out.new
+        ≡ string_bytes out.old ++ verdict_text (Verdict.Differs slot generation place)) }
+    ensures memory { IsOkUnless result Memory }
+{
+    writeln!(
+        out,
+        "audit no differs slot {slot} connection {generation} place {place}"
+    )?;
+    Ok(())
 }

@@ -1,7 +1,7 @@
 //! The lines that answer an operator.
 ghost use Rattle.std.specs.Prelude.{◌≡◌, ◌++◌, OnOk, IsOkUnless, codes, decimal, string_bytes};
 ghost use Rattle.cb_base.specs.declared.fault.Fault.TheVariants.{Memory};
-ghost use Rattle.cb_operator.specs.Replies.{block_text, hash_line, reply_text, tip_line};
+ghost use Rattle.cb_operator.specs.Replies.{block_text, count_line, front_text, hash_line, reply_text, tip_line, yes_no};
 
 use crate::moved::StatsLine;
 use crate::peer_line::PeerLine;
@@ -39,20 +39,44 @@ impl BlockLine {
             (string_bytes out.new ≡ string_bytes out.old ++ block_text self.now) }
         ensures memory { IsOkUnless result Memory }
     {
+        self.print_front(alloc, out)?;
+        print_count(self.txs, out)
+    }
+
+    /// Appends all but the number of transactions. Fails only with `Fault::Memory`.
+    fn print_front(&self, alloc: Global, out: &mut String) -> Result<(), Fault>
+        ensures text { OnOk result
+            (string_bytes out.new ≡ string_bytes out.old ++ front_text self.now) }
+        ensures memory { IsOkUnless result Memory }
+    {
         let hash = self.hash.show(alloc)?;
-        let (height, best) = (self.height, if self.best { "yes" } else { "no" });
-        match self.txs {
-            Some(txs) => writeln!(
-                out,
-                "block {hash} height {height} best {best} transactions {txs}"
-            )?,
-            None => writeln!(
-                out,
-                "block {hash} height {height} best {best} transactions none"
-            )?,
-        }
+        let (height, best) = (self.height, yes_no(self.best));
+        write!(
+            out,
+            "block {hash} height {height} best {best} transactions "
+        )?;
         Ok(())
     }
+}
+
+/// `yes` or `no`.
+fn yes_no(is_so: bool) -> &'static str
+    ensures { result.now ≡ yes_no is_so }
+{
+    if is_so { "yes" } else { "no" }
+}
+
+/// Appends how many transactions a block has, if it is kept. Fails only with `Fault::Memory`.
+fn print_count(txs: Option<usize>, out: &mut String) -> Result<(), Fault>
+    ensures text { OnOk result
+        (string_bytes out.new ≡ string_bytes out.old ++ count_line txs) }
+    ensures memory { IsOkUnless result Memory }
+{
+    match txs {
+        Some(count) => writeln!(out, "{count}")?,
+        None => writeln!(out, "none")?,
+    }
+    Ok(())
 }
 
 /// A line that answers an operator.
