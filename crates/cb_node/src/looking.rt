@@ -119,20 +119,25 @@ impl<
         ensures deaf { self.old.listens ≡ None →
             (result ≡ Err NoSlot) ⊎ (result ≡ Err Io) ⊎ (result ≡ Err Memory) }
     {
-        let end = self.service.settings.inbound;
-        if !self.service.has_slot(self.slots.as_slice(), 0, end)? {
-            return Err(NodeFault::NoSlot);
+        let end = self.inbound();
+        self.look_for_slot(0, end)?;
+        match self.waiting_peer()? {
+            Some(stream) => Ok(Some(self.admit(end, stream)?)),
+            None => Ok(None),
         }
-        let polled = match &self.listening {
-            Some(listening) => listening.poll()?,
-            None => return Err(NodeFault::Io),
-        };
-        let Some(stream) = polled else {
-            return Ok(None);
-        };
+    }
+
+    /// Serves a peer by a slot before `end`, and tells where it is.
+    fn admit(&mut self, end: u16, stream: TcpStream) -> Result<Admitted, NodeFault>
+        requires { end ≤ length self.old.used }
+        ensures chosen { IfOk result (λ admitted. IsChosen self.old.used 0 end admitted.slot) }
+        ensures ok { IfOk result (λ admitted. self.new ≡ with_used self.old admitted.slot) }
+        ensures err { OnErr result (self.new ≡ self.old) }
+        ensures no_slot { result ≡ Err NoSlot → HasNone self.old.used false 0 end }
+    {
         let address = stream.peer_addr()?;
-        let slot = self.service.begin(&mut self.slots, 0, end, stream)?;
-        Ok(Some(Admitted { slot, address }))
+        let slot = self.serve(0, end, stream)?;
+        Ok(Admitted { slot, address })
     }
 
     /// Whether an outbound slot, as it seems, can serve a connection. Fails only with
@@ -142,8 +147,7 @@ impl<
             HasNone self.now.used false self.now.inbound (length self.now.used) }
         ensures kinds { IfErr result (λ fault. fault ≡ Memory) }
     {
-        let first = self.service.settings.inbound;
-        let end = self.slots.len() as u16;
+        let (first, end) = (self.inbound(), self.count());
         self.service.has_slot(self.slots.as_slice(), first, end)
     }
 
@@ -156,12 +160,9 @@ impl<
         ensures no_slot { result ≡ Err NoSlot →
             HasNone self.old.used false self.old.inbound (length self.old.used) }
     {
-        let first = self.service.settings.inbound;
-        let end = self.slots.len() as u16;
-        let number = self.service.begin(&mut self.slots, first, end, stream)?;
-        if let Some(slot) = self.slots.get(usize::from(number)) {
-            slot.tick(&self.service.common.signals);
-        }
+        let (first, end) = (self.inbound(), self.count());
+        let number = self.serve(first, end, stream)?;
+        self.tick_slot(number);
         Ok(number)
     }
 

@@ -1,5 +1,7 @@
 //! What a process does between two lines: it notes connections that ended, accepts and dials peers,
 //! and ticks. Each is logged. Nothing of it fails: what can't be done now is tried again later.
+ghost use Rattle.std.specs.Prelude.{◌<◌, length, IfSome};
+
 use crate::dialling::Target;
 use crate::host::ProcessHost;
 use crate::process::{Process, refusal_of};
@@ -41,8 +43,13 @@ impl<R: ProcessHost> Process<R> {
     }
 
     /// Why the connection at this place of the list is over.
-    fn ended(&self, place: usize) -> Option<CloseReason> {
-        self.watched.get(place)?.ended()
+    fn ended(&self, place: usize) -> Option<CloseReason>
+        ensures { IfSome result (λ reason. place < length self.now.watched.items) }
+    {
+        match self.watched.get(place) {
+            Some(watched) => watched.ended(),
+            None => None,
+        }
     }
 
     /// The connection in this slot has ended: if it was to an address that is dialled, that is put
@@ -148,8 +155,7 @@ impl<R: ProcessHost> Process<R> {
     }
 
     /// Serves the stream that was connected to the address at this place of the list. If there is
-    /// none, or it can't be served, the address is put off, or forgotten if it was never reached and
-    /// an operator waits for it.
+    /// none, or it can't be served, the address is put off.
     fn note_dial<L: Log>(&mut self, log: &L, place: usize, now: u64) {
         let Some(target) = self.targets.get_mut(place) else {
             return;
@@ -158,25 +164,33 @@ impl<R: ProcessHost> Process<R> {
         let stream = target.take_stream(&self.rt, now);
         let served = self.serve(log, stream, address, now);
         self.tell(address, served);
-        let why = match served {
-            Ok(_) => "",
-            Err(refusal) => self.words_of(refusal),
-        };
+        match served {
+            Ok(slot) => self.reach(place, slot, now),
+            Err(refusal) => self.miss(log, place, now, refusal),
+        }
+    }
+
+    /// A connection to the address at this place of the list was made at this time, in this slot.
+    fn reach(&mut self, place: usize, slot: u16, now: u64) {
+        if let Some(target) = self.targets.get_mut(place) {
+            target.reach(slot, now);
+        }
+    }
+
+    /// No connection to the address at this place of the list was made. It is put off, or forgotten
+    /// if it was never reached and an operator waits for it.
+    fn miss<L: Log>(&mut self, log: &L, place: usize, now: u64, refusal: Refusal) {
+        let why = self.words_of(refusal);
         let Some(target) = self.targets.get_mut(place) else {
             return;
         };
-        match served {
-            Ok(slot) => target.reach(slot, now),
-            Err(_) => {
-                let forgotten = !target.keeps_trying && !target.reached;
-                let seconds = target.put_off(now);
-                if forgotten {
-                    warn!(log; "no connection to {address}: {why}");
-                    drop(self.targets.remove(place));
-                } else {
-                    warn!(log; "no connection to {address}: {why}; again in {seconds} s");
-                }
-            }
+        let (address, forgotten) = (target.address, !target.keeps_trying && !target.reached);
+        let seconds = target.put_off(now);
+        if forgotten {
+            warn!(log; "no connection to {address}: {why}");
+            forget(&mut self.targets, place);
+        } else {
+            warn!(log; "no connection to {address}: {why}; again in {seconds} s");
         }
     }
 
@@ -257,6 +271,13 @@ impl<R: ProcessHost> Process<R> {
             Ok(text) => info!(log; "tip {height} {text}"),
             Err(_) => info!(log; "tip {height}"),
         }
+    }
+}
+
+/// Takes the address at this place out of a list.
+fn forget(targets: &mut Vec<Target>, place: usize) {
+    if place < targets.len() {
+        drop(targets.remove(place));
     }
 }
 

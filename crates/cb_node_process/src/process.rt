@@ -178,10 +178,13 @@ fn targets_of(alloc: Global, addresses: &[SocketAddr]) -> Result<Vec<Target>, No
     Ok(targets)
 }
 
-/// With what a node is started. Its nonce and its salt are drawn; its time is the clock's.
+/// With what a node with so many handlers is started, at least 1 and at most 16. Its nonce and its
+/// salt are drawn; its time is the clock's.
 fn settings_of<R: RandomSource + Clock>(rt: &R, handlers: u16) -> Result<NodeSettings, NodeFault>
     ensures slots { IfOk result (λ settings. (settings.inbound ≡ 48) × (settings.outbound ≡ 16)) }
-    ensures handlers { IfOk result (λ settings. settings.handlers ≡ handlers) }
+    ensures handlers { IfOk result (λ settings. (1 ≤ settings.handlers) × (settings.handlers ≤ 16)) }
+    ensures same { 1 ≤ handlers → handlers ≤ 16 →
+        IfOk result (λ settings. settings.handlers ≡ handlers) }
 {
     let mut nonce = [0u8; 8];
     let mut salt = [0u8; 8];
@@ -193,7 +196,7 @@ fn settings_of<R: RandomSource + Clock>(rt: &R, handlers: u16) -> Result<NodeSet
         salt: u64::from_le_bytes(salt),
         inbound: INBOUND,
         outbound: OUTBOUND,
-        handlers,
+        handlers: handlers.clamp(1, 16),
     })
 }
 
