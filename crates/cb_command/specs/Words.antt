@@ -1,5 +1,5 @@
 -- What the words of a command line ask for.
-use Rattle.std.specs.Prelude.{◌≡◌, ◌≢◌, ℕ, ◌≤◌, pos, true, false, if◌then◌else◌, ⊤, List, [], codes, Option, Some, None, Result, option_map}
+use Rattle.std.specs.Prelude.{◌≡◌, ◌≢◌, ℕ, ◌≤◌, pos, true, false, if◌then◌else◌, ⊤, List, [], codes, Option, Some, None, Result, IfOk, option_map}
 use Rattle.std.specs.Str.{bytes_eq}
 use Rattle.clap.specs.Words.{App, Rule, fault_of, new_app, new_rule, subcommand_of, takes, with_rule, with_subcommand}
 use Rattle.clap.specs.declared.builder.action.ArgAction.TheVariants.{SetTrue}
@@ -8,7 +8,7 @@ use Rattle.cb_run_nodes.specs.declared.running.RunOrders.{RunOrders}
 use Rattle.cb_command.specs.declared.commanding.Task.{Task}
 use Rattle.cb_command.specs.declared.commanding.Task.TheVariants.{Decode, Serve, Sim, Run, Node}
 use Rattle.cb_command.specs.declared.node_words.BadWords.{BadWords}
-use Rattle.cb_command.specs.NodeWords.{node_line}
+use Rattle.cb_command.specs.NodeWords.{IsNodeOrders, node_line}
 use Rattle.cb_node_process.specs.declared.orders.NodeOrders.{NodeOrders}
 
 -- A command that prints its version.
@@ -50,6 +50,7 @@ AreWithin orders = ((1 ≤ orders.sizes.nodes) × (orders.sizes.nodes ≤ 8)) ×
 -- The same of a task's orders, if it has any.
 abbrev pub IsWithin : Task → Type 0
 IsWithin (Run orders) = AreWithin orders
+IsWithin (Node node) = IfOk node IsNodeOrders
 IsWithin other = ⊤
 
 -- The task of that command, with these orders for `run` and for `node`; `decode` if none is named.

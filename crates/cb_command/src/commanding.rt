@@ -13,6 +13,7 @@ ghost use Rattle.cb_sim.specs.SimInput.{SimulatesKnown};
 ghost use Rattle.cb_command.specs.Words.{AreRefused, AreWithin, ByTask, IsWithin, flag, plain_program, program, scripted_program, sized, task_in, task_named};
 ghost use Rattle.cb_run_nodes.specs.Summary.{RunsKnown};
 ghost use Rattle.cb_node_process.specs.declared.orders.NodeOrders.{NodeOrders};
+ghost use Rattle.cb_command.specs.NodeWords.{IsNodeOrders};
 ghost use Rattle.cb_command.specs.declared.node_words.BadWords.{BadWords};
 ghost use Rattle.cb_run_nodes.specs.declared.running.RunOrders.{RunOrders};
 ghost use Rattle.clap.specs.Words.{FailsBy, app_of, fault_of, kind_of, rule_of, takes};
@@ -162,11 +163,7 @@ pub fn command<N: ProcessHost, R: Source, W: Sink, E: Sink>(
         Ok(Task::Serve) => answer_peer(alloc, reader, writer, errors),
         Ok(Task::Sim) => settle(simulate(alloc, reader, writer), errors),
         Ok(Task::Run(orders)) => settle(run_nodes(rt, alloc, orders, reader, writer), errors),
-        Ok(Task::Node(Ok(orders))) => {
-            let ended = run_node(rt, alloc, orders, writer, errors);
-            settle(ended, errors)
-        }
-        Ok(Task::Node(Err(bad))) => settle(refuse_words(bad, errors), errors),
+        Ok(Task::Node(node)) => start_node(rt, alloc, node, writer, errors),
         Err(error) => settle_refusal(alloc, &error, errors),
     }
 }
@@ -183,6 +180,24 @@ pub fn refuse_foreign<E: Sink>(errors: &mut E) -> u8
         Ok(()) => Status::Usage.code(),
         Err(halt) => halt.status().code(),
     }
+}
+
+/// Runs a node, or tells why the words of `node` can't be followed. Returns the exit status.
+fn start_node<N: ProcessHost, W: Sink, E: Sink>(
+    rt: N,
+    alloc: Global,
+    node: Result<NodeOrders, BadWords>,
+    writer: &mut W,
+    errors: &mut E,
+) -> u8
+    requires { IfOk node IsNodeOrders }
+    ensures { (result ≡ 0) ⊎ ((result ≡ 3) ⊎ (result ≡ 4)) }
+{
+    let ended = match node {
+        Ok(orders) => run_node(rt, alloc, orders, writer, errors),
+        Err(bad) => refuse_words(bad, errors),
+    };
+    settle(ended, errors)
 }
 
 /// Tells why the words of `node` can't be followed. Returns the exit status.
@@ -396,7 +411,8 @@ fn size_of(run: &ArgMatches, name: &str, most: u16) -> u16
 /// The task of the command that was named, with these orders for `run` and for `node`; `decode` if
 /// none was.
 fn task_named(name: Option<&str>, orders: RunOrders, node: Result<NodeOrders, BadWords>) -> Task
-    requires { AreWithin orders }
+    requires orders { AreWithin orders }
+    requires node { IfOk node IsNodeOrders }
     ensures named { result ≡ task_named orders node (option_map (λ text. text.now) name.entry) }
     ensures within { IsWithin result }
 {

@@ -1,7 +1,7 @@
 //! What whoever runs a node for days needs beside its other calls: what the hall has of a block and
 //! of the mempool, where a connection comes from, how it stands, and streams that another thread
 //! connected.
-ghost use Rattle.std.specs.Prelude.{◌≡◌, ◌⊎◌, ◌≤◌, false, length, map, None, IfErr, IfOk, IfSome, IsOkUnless, OnErr, Ok, Err};
+ghost use Rattle.std.specs.Prelude.{◌≡◌, ◌↔◌, ◌⊎◌, ◌≤◌, false, length, map, None, IfErr, IfOk, IfSome, IsOkUnless, OnErr, Ok, Err};
 ghost use Rattle.cb_base.specs.declared.fault.Fault.TheVariants as faults;
 ghost use Rattle.cb_pool.specs.Listing.{since_of};
 ghost use Rattle.cb_slots.specs.declared.fault.NodeFault.TheVariants.{Io, Memory, NoSlot};
@@ -172,7 +172,7 @@ impl<
     /// Fails with `NodeFault::NoSlot` if the node doesn't have the slot, and with
     /// `NodeFault::Memory`.
     pub fn link(&self, slot: u16) -> Result<Shared<Link>, NodeFault>
-        ensures no_slot { (result ≡ Err NoSlot) → (length self.now.used ≤ slot) }
+        ensures no_slot { (result ≡ Err NoSlot) ↔ (length self.now.used ≤ slot) }
         ensures kinds { IfErr result (λ fault. (fault ≡ NoSlot) ⊎ (fault ≡ Memory)) }
     {
         match self.slots.get(usize::from(slot)) {

@@ -4,9 +4,10 @@ use Rattle.std.specs.Io.KnownBytes.{Appends}
 use Rattle.std.specs.List.{flat_map}
 use Rattle.std.specs.declared.net.socket_addr.SocketAddr.{SocketAddr}
 use Rattle.std.specs.Net.Text.{socket_text}
-use Rattle.cb_base.specs.declared.fault.Fault.TheVariants as faults
 use Rattle.cb_slots.specs.declared.fault.NodeFault.{NodeFault}
 use Rattle.cb_slots.specs.declared.fault.NodeFault.TheVariants as node
+use Rattle.cb_operator.specs.Answering.{CanAnswer}
+use Rattle.cb_operator.specs.declared.line.Line.{Line}
 use Rattle.cb_operator.specs.declared.refusal.Refusal.{Refusal}
 use Rattle.cb_operator.specs.declared.refusal.Refusal.TheVariants as refusals
 use Rattle.cb_operator.specs.declared.refusal.Verdict.{Verdict}
@@ -23,9 +24,17 @@ Tells held holds told = Appends held holds (flat_map reply_text told)
 abbrev pub IsOr : Reply → Reply → Type 0
 IsOr reply told = (told ≡ reply) ⊎ (told ≡ replies.Refused refusals.Memory)
 
+-- what is printed for this line can answer that one
+abbrev pub CanBe : Line → Reply → Type 0
+CanBe line reply = (told : Reply) → IsOr reply told → CanAnswer line (told ∷ [])
+
 -- one such line was printed
 abbrev pub TellsOne : Option (List ℕ) → Option (List ℕ) → Reply → Type 0
 TellsOne held holds reply = (told : Reply) × IsOr reply told × Tells held holds (told ∷ [])
+
+-- where it listens was printed first
+abbrev pub TellsOpening : Option (List ℕ) → Option (List ℕ) → Type 0
+TellsOpening held holds = (address : SocketAddr) × (first : Reply) × (told : List Reply) × IsOr (replies.Listening address) first × Tells held holds (first ∷ told)
 
 -- Where it listens was printed first, and what the audit answers last, or `error memory` in the place
 -- of either. The status 0 tells that the audit says yes.
@@ -39,7 +48,6 @@ abbrev pub refusal_of : NodeFault → Refusal
 refusal_of node.Io = refusals.Io
 refusal_of node.NoSlot = refusals.NoSlot
 refusal_of node.Memory = refusals.Memory
-refusal_of (node.Hall faults.Memory) = refusals.Memory
 refusal_of (node.Hall fault) = refusals.Fault fault
 
 -- what standard error is told if the node can't listen at this address

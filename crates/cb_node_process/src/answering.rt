@@ -1,12 +1,13 @@
 //! What a process answers to an operator's lines.
-ghost use Rattle.std.specs.Prelude.{◌≡◌, ◌++◌, true, List, IfOk, OnErr, OnOk, IsOkUnless, string_bytes};
+ghost use Rattle.std.specs.Prelude.{◌≡◌, ◌≢◌, ◌++◌, true, List, IfErr, IfOk, OnErr, OnOk, IsOkUnless, string_bytes};
 ghost use Rattle.std.specs.List.{flat_map};
 ghost use Rattle.cb_base.specs.declared.fault.Fault.TheVariants as faults;
 ghost use Rattle.cb_run.specs.declared.ending.Halt.TheVariants.{WriteFailed};
+ghost use Rattle.cb_operator.specs.declared.refusal.Refusal.TheVariants.{Unreadable};
 ghost use Rattle.cb_operator.specs.declared.reply.Reply.{Reply};
 ghost use Rattle.cb_operator.specs.Answering.{CanAnswer};
 ghost use Rattle.cb_operator.specs.Replies.{reply_text};
-ghost use Rattle.cb_node_process.specs.Telling.{Tells, TellsOne};
+ghost use Rattle.cb_node_process.specs.Telling.{CanBe, Tells, TellsOne};
 
 use crate::host::ProcessHost;
 use crate::process::{Process, refusal_of};
@@ -20,6 +21,7 @@ use cb_run::{Halt, write_all};
 use cb_tx::Tx;
 use log::Log;
 use std::alloc::Global;
+use std::net::SocketAddr;
 
 /// What comes after a line.
 #[derive(Clone, Copy)]
@@ -46,6 +48,18 @@ pub fn print<W: Sink>(alloc: Global, reply: &Reply, writer: &mut W) -> Result<()
     }
 }
 
+/// Prints a line that isn't followed by others. Fails only with `Halt::WriteFailed`.
+fn say<W: Sink>(alloc: Global, reply: Reply, writer: &mut W) -> Result<After, Halt>
+    ensures told { OnOk result
+        (TellsOne (W.contents writer.old) (W.contents writer.new) reply) }
+    ensures next { IfOk result (λ after. after ≡ After.Next) }
+    ensures failed { IsOkUnless result WriteFailed }
+    ensures marked { OnErr result (W.has_failed writer.new ≡ true) }
+{
+    print(alloc, &reply, writer)?;
+    Ok(After::Next)
+}
+
 impl<R: ProcessHost> Process<R> {
     /// Does what a line says, and answers it. Fails only with `Halt::WriteFailed`.
     pub fn answer<W: Sink, L: Log>(
@@ -64,85 +78,80 @@ impl<R: ProcessHost> Process<R> {
             Line::Pool => self.list_pool(writer),
             Line::Peers => self.list_peers(writer),
             Line::Restart => self.renew(writer),
-            Line::Connect(address) => match self.connect(address) {
-                Ok(()) => Ok(After::Dial),
-                Err(refusal) => self.say(Reply::Refused(refusal), writer),
-            },
-            other => {
-                let reply = match self.obey(other) {
-                    Ok(reply) => reply,
-                    Err(refusal) => Reply::Refused(refusal),
-                };
-                self.note_tip(log);
-                self.say(reply, writer)
-            }
+            Line::Connect(address) => self.begin_dial(address, writer),
+            Line::Tip => say(self.alloc, Reply::Tip(self.tip()), writer),
+            Line::Block(hash) => say(self.alloc, self.look_at_block(hash), writer),
+            Line::Tx(tx) => say(self.alloc, self.take_tx(tx), writer),
+            Line::SubmitBlock(block) => say(self.alloc, self.take_block(block, log), writer),
+            Line::Mine(count) => say(self.alloc, self.mine(count, log), writer),
+            Line::Kick(slot) => say(self.alloc, self.kick(slot), writer),
+            Line::Checkpoint => say(self.alloc, self.take_checkpoint(), writer),
+            Line::Stats => say(self.alloc, Reply::Stats(self.stats()), writer),
         }
     }
 
-    /// Prints a line.
-    fn say<W: Sink>(&self, reply: Reply, writer: &mut W) -> Result<After, Halt>
-        ensures told { OnOk result
-            (TellsOne (W.contents writer.old) (W.contents writer.new) reply) }
-        ensures next { IfOk result (λ after. after ≡ After.Next) }
+    /// `connect`: lets the operator wait for a dial, or refuses it.
+    fn begin_dial<W: Sink>(&mut self, address: SocketAddr, writer: &mut W) -> Result<After, Halt>
+        ensures told { OnOk result ((told : List Reply) × CanAnswer (Line.Connect address) told
+            × Tells (W.contents writer.old) (W.contents writer.new) told) }
         ensures failed { IsOkUnless result WriteFailed }
         ensures marked { OnErr result (W.has_failed writer.new ≡ true) }
     {
-        print(self.alloc, &reply, writer)?;
-        Ok(After::Next)
-    }
-
-    /// What a line of one answer comes to.
-    fn obey(&mut self, line: Line) -> Result<Reply, Refusal> {
-        match line {
-            Line::Tip => Ok(Reply::Tip(self.tip())),
-            Line::Block(hash) => self.look_at_block(hash),
-            Line::Tx(tx) => self.take_tx(tx),
-            Line::SubmitBlock(block) => self.take_block(block),
-            Line::Mine(count) => self.mine(count),
-            Line::Kick(slot) => self.kick(slot),
-            Line::Checkpoint => match self.node.checkpoint() {
-                Ok(()) => Ok(Reply::Checkpoint),
-                Err(fault) => Err(refusal_of(fault)),
-            },
-            Line::Stats => Ok(Reply::Stats(self.stats())),
-            Line::Pool | Line::Peers | Line::Connect(_) | Line::Restart | Line::Quit => Err(
-                Refusal::Unreadable,
-            ),
+        match self.connect(address) {
+            Ok(()) => Ok(After::Dial),
+            Err(refusal) => say(self.alloc, Reply::Refused(refusal), writer),
         }
     }
 
     /// `block`: what the chain has of a block.
-    fn look_at_block(&self, hash: Hash256) -> Result<Reply, Refusal> {
+    fn look_at_block(&self, hash: Hash256) -> Reply
+        ensures { CanBe (Line.Block hash) result }
+    {
         match self.node.block(&hash) {
-            Ok(Some(look)) => Ok(Reply::Block(BlockLine {
+            Ok(Some(look)) => Reply::Block(BlockLine {
                 hash,
                 height: look.height,
                 txs: look.txs,
                 best: look.best,
-            })),
-            Ok(None) => Err(Refusal::UnknownBlock),
-            Err(fault) => Err(refusal_of(fault)),
+            }),
+            Ok(None) => Reply::Refused(Refusal::UnknownBlock),
+            Err(fault) => Reply::Refused(refusal_of(fault)),
         }
     }
 
     /// `tx`: gives the node a transaction.
-    fn take_tx(&self, tx: Shared<Tx>) -> Result<Reply, Refusal> {
-        let txid = match tx.txid(self.alloc) {
-            Ok(txid) => txid,
-            Err(_) => return Err(Refusal::Memory),
+    fn take_tx(&self, tx: Shared<Tx>) -> Reply
+        ensures { CanBe (Line.Tx tx) result }
+    {
+        let Ok(txid) = tx.txid(self.alloc) else {
+            return Reply::Refused(Refusal::Memory);
         };
-        self.give(Local::Tx(tx))?;
-        Ok(Reply::Tx(txid))
+        match self.give(Local::Tx(tx)) {
+            Ok(()) => Reply::Tx(txid),
+            Err(refusal) => Reply::Refused(refusal),
+        }
     }
 
     /// `submit-block`: gives the node a block.
-    fn take_block(&self, block: Shared<Block>) -> Result<Reply, Refusal> {
+    fn take_block<L: Log>(&mut self, block: Shared<Block>, log: &L) -> Reply
+        ensures { CanBe (Line.SubmitBlock block) result }
+    {
         let hash = block.header.hash();
-        match sound(self.alloc, block) {
-            Ok(block) => {
-                self.give(Local::Block(block))?;
-                Ok(Reply::Submitted(hash))
+        match self.give_block(block) {
+            Ok(()) => {
+                self.note_tip(log);
+                Reply::Submitted(hash)
             }
+            Err(refusal) => Reply::Refused(refusal),
+        }
+    }
+
+    /// Gives the node a block, whose transactions must be those of its header.
+    fn give_block(&self, block: Shared<Block>) -> Result<(), Refusal>
+        ensures { IfErr result (λ refusal. refusal ≢ Unreadable) }
+    {
+        match sound(self.alloc, block) {
+            Ok(block) => self.give(Local::Block(block)),
             Err((block, fault)) => {
                 drop(block);
                 Err(refusal_of(NodeFault::from(fault)))
@@ -151,7 +160,9 @@ impl<R: ProcessHost> Process<R> {
     }
 
     /// Gives the node a transaction or a block. Peers are told of it at once.
-    fn give(&self, local: Local) -> Result<(), Refusal> {
+    fn give(&self, local: Local) -> Result<(), Refusal>
+        ensures { IfErr result (λ refusal. refusal ≢ Unreadable) }
+    {
         match self.node.give(local) {
             Ok(()) => {
                 self.node.tick();
@@ -162,24 +173,62 @@ impl<R: ProcessHost> Process<R> {
     }
 
     /// `mine`: mines so many blocks, one on the other. Stops at the first that is refused.
-    fn mine(&self, count: u16) -> Result<Reply, Refusal> {
-        for _ in 0..count {
-            match self.node.mine(self.settings.nonce.to_le_bytes()[0]) {
-                Ok(block) => self.give(Local::Block(block))?,
-                Err(fault) => return Err(refusal_of(fault)),
-            }
+    fn mine<L: Log>(&mut self, count: u16, log: &L) -> Reply
+        ensures { CanBe (Line.Mine count) result }
+    {
+        let mined = self.mine_all(count);
+        self.note_tip(log);
+        match mined {
+            Ok(()) => Reply::Mined(count, self.tip()),
+            Err(refusal) => Reply::Refused(refusal),
         }
-        Ok(Reply::Mined(count, self.tip()))
+    }
+
+    /// Mines so many blocks.
+    fn mine_all(&self, count: u16) -> Result<(), Refusal>
+        ensures { IfErr result (λ refusal. refusal ≢ Unreadable) }
+    {
+        for _ in 0..count {
+            self.mine_one()?;
+        }
+        Ok(())
+    }
+
+    /// Mines a block.
+    fn mine_one(&self) -> Result<(), Refusal>
+        ensures { IfErr result (λ refusal. refusal ≢ Unreadable) }
+    {
+        match self.node.mine(self.settings.nonce.to_le_bytes()[0]) {
+            Ok(block) => self.give(Local::Block(block)),
+            Err(fault) => Err(refusal_of(fault)),
+        }
     }
 
     /// `kick`: ends the connection of a slot.
-    fn kick(&self, slot: u16) -> Result<Reply, Refusal> {
-        if !self.watched.iter().any(|watched| watched.slot == slot) {
-            return Err(Refusal::NoSlot);
+    fn kick(&self, slot: u16) -> Reply
+        ensures { CanBe (Line.Kick slot) result }
+    {
+        if !self.is_watched(slot) {
+            return Reply::Refused(Refusal::NoSlot);
         }
         match self.node.kick(slot) {
-            Ok(()) => Ok(Reply::Kicked(slot)),
-            Err(fault) => Err(refusal_of(fault)),
+            Ok(()) => Reply::Kicked(slot),
+            Err(fault) => Reply::Refused(refusal_of(fault)),
+        }
+    }
+
+    /// Whether a connection of this slot lasts.
+    fn is_watched(&self, slot: u16) -> bool {
+        self.watched.iter().any(|watched| watched.slot == slot)
+    }
+
+    /// `checkpoint`: the hall drops its log of calls.
+    fn take_checkpoint(&self) -> Reply
+        ensures { CanBe Line.Checkpoint result }
+    {
+        match self.node.checkpoint() {
+            Ok(()) => Reply::Checkpoint,
+            Err(fault) => Reply::Refused(refusal_of(fault)),
         }
     }
 
@@ -212,7 +261,7 @@ impl<R: ProcessHost> Process<R> {
     {
         let txids = match self.node.pool() {
             Ok(txids) => txids,
-            Err(fault) => return self.say(Reply::Refused(refusal_of(fault)), writer),
+            Err(fault) => return say(self.alloc, Reply::Refused(refusal_of(fault)), writer),
         };
         let mut text = String::new(self.alloc);
         match print_pool(self.alloc, txids.as_slice(), &mut text) {
@@ -260,9 +309,9 @@ impl<R: ProcessHost> Process<R> {
         match self.restart() {
             Ok(verdict) => {
                 print(self.alloc, &Reply::Audit(verdict), writer)?;
-                self.say(Reply::Restarted(self.tip()), writer)
+                say(self.alloc, Reply::Restarted(self.tip()), writer)
             }
-            Err(fault) => self.say(Reply::Refused(refusal_of(fault)), writer),
+            Err(fault) => say(self.alloc, Reply::Refused(refusal_of(fault)), writer),
         }
     }
 }

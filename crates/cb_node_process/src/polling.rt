@@ -1,6 +1,7 @@
 //! What a process does between two lines: it notes connections that ended, accepts and dials peers,
 //! and ticks. Each is logged. Nothing of it fails: what can't be done now is tried again later.
-ghost use Rattle.std.specs.Prelude.{◌<◌, length, IfSome};
+ghost use Rattle.std.specs.Prelude.{◌≢◌, ◌<◌, length, IfErr, IfSome};
+ghost use Rattle.cb_operator.specs.declared.refusal.Refusal.TheVariants.{Unreadable};
 
 use crate::dialling::Target;
 use crate::host::ProcessHost;
@@ -240,7 +241,9 @@ impl<R: ProcessHost> Process<R> {
 
     /// Lets an operator wait for the first dial of an address. Refused if it is dialled already, or
     /// no outbound slot is free.
-    pub fn connect(&mut self, address: SocketAddr) -> Result<(), Refusal> {
+    pub fn connect(&mut self, address: SocketAddr) -> Result<(), Refusal>
+        ensures { IfErr result (λ refusal. refusal ≢ Unreadable) }
+    {
         if self.targets.iter().any(|target| target.address == address) {
             return Err(Refusal::Already);
         }

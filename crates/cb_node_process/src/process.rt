@@ -7,7 +7,7 @@ use crate::host::ProcessHost;
 use crate::orders::NodeOrders;
 use crate::stopwatch::Stopwatch;
 use crate::watching::Watched;
-use cb_base::{Fault, Hash256};
+use cb_base::Hash256;
 use cb_crew::Desk;
 use cb_desks::{Split, are_in_order, audit, traces};
 use cb_hall::Hall;
@@ -242,7 +242,7 @@ pub fn refusal_of(fault: NodeFault) -> Refusal
     match fault {
         NodeFault::Io => Refusal::Io,
         NodeFault::NoSlot => Refusal::NoSlot,
-        NodeFault::Hall(Fault::Memory) | NodeFault::Memory => Refusal::Memory,
+        NodeFault::Memory => Refusal::Memory,
         NodeFault::Hall(fault) => Refusal::Fault(fault),
     }
 }

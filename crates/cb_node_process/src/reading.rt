@@ -1,4 +1,7 @@
 //! The thread that reads the operator's lines.
+ghost use Rattle.std.specs.Prelude.{◌≡◌, ◌⊎◌, IfErr};
+ghost use Rattle.cb_run.specs.declared.ending.Halt.TheVariants.{Memory, ReadFailed};
+
 use crate::host::ProcessHost;
 use cb_io::{In, Source};
 use cb_operator::{Line, read_line};
@@ -11,6 +14,27 @@ use std::thread::JoinHandle;
 /// How many lines wait to be answered at most. Then no more are read.
 const MOST_WAITING: usize = 16;
 
+/// Why standard input can't be read any more.
+#[derive(Clone, Copy)]
+pub enum Broken {
+    /// Memory ran out.
+    Memory,
+    /// A read failed, or there were too many lines.
+    Read,
+}
+
+impl Broken {
+    /// How the process ends by it.
+    pub fn halt(self) -> Halt
+        ensures { (result ≡ Memory) ⊎ (result ≡ ReadFailed) }
+    {
+        match self {
+            Broken::Memory => Halt::Memory,
+            Broken::Read => Halt::ReadFailed,
+        }
+    }
+}
+
 /// What came from standard input.
 #[derive(Drop)]
 pub enum Order {
@@ -22,8 +46,8 @@ pub enum Order {
     NoMemory,
     /// The input ended. Nothing comes after it.
     End,
-    /// A read failed, or memory ran out for one. Nothing comes after it.
-    Broken(Halt),
+    /// It can't be read any more. Nothing comes after it.
+    Broken(Broken),
 }
 
 impl Order {
@@ -56,7 +80,9 @@ impl Orders {
 
 /// Starts the thread that reads standard input. Fails with `Halt::Memory`, and with
 /// `Halt::ReadFailed` if no thread can be made.
-pub fn start_reading<R: ProcessHost>(rt: &R, alloc: Global) -> Result<Orders, Halt> {
+pub fn start_reading<R: ProcessHost>(rt: &R, alloc: Global) -> Result<Orders, Halt>
+    ensures { IfErr result (λ halt. (halt ≡ Memory) ⊎ (halt ≡ ReadFailed)) }
+{
     let (sender, coming) = channel(alloc)?;
     let rt_of_thread = *rt;
     let started = thread::spawn(rt, move || {
@@ -82,8 +108,8 @@ fn read_all<R: ProcessHost>(rt: &R, alloc: Global, sender: &Sender<Order, Global
     let mut source = In::new(rt.reader());
     let mut lines = match LineReader::new(alloc) {
         Ok(lines) => lines,
-        Err(halt) => {
-            drop(sender.send(rt, Order::Broken(halt)));
+        Err(_) => {
+            drop(sender.send(rt, Order::Broken(Broken::Memory)));
             return;
         }
     };
@@ -105,6 +131,7 @@ fn next_order<S: Source>(alloc: Global, lines: &mut LineReader, source: &mut S) 
             Err(_) => Order::NoMemory,
         },
         Ok(false) => Order::End,
-        Err(halt) => Order::Broken(halt),
+        Err(Halt::Memory) => Order::Broken(Broken::Memory),
+        Err(_) => Order::Broken(Broken::Read),
     }
 }

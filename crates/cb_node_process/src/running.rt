@@ -1,18 +1,18 @@
 //! Running a node until its operator ends it.
-ghost use Rattle.std.specs.Prelude.{◌≡◌, ◌⊎◌, ◌≤◌, ◌∷◌, true, List, IfErr, IfOk, OnErr, OnOk, IsOkUnless};
+ghost use Rattle.std.specs.Prelude.{◌≡◌, ◌↔◌, ◌⊎◌, ◌≤◌, true, List, IfErr, IfOk, OnErr, OnOk, IsOkUnless};
 ghost use Rattle.std.specs.Io.KnownBytes.{Appends};
 ghost use Rattle.cb_run.specs.declared.ending.Halt.TheVariants.{Memory, ReadFailed, WriteFailed};
 ghost use Rattle.cb_operator.specs.declared.reply.Reply.{Reply};
-ghost use Rattle.cb_node_process.specs.Telling.{Tells, TellsAll, deaf_text};
+ghost use Rattle.cb_node_process.specs.Telling.{Tells, TellsAll, TellsOne, TellsOpening, deaf_text};
 
 use crate::answering::{After, print};
 use crate::host::ProcessHost;
 use crate::orders::NodeOrders;
 use crate::process::Process;
-use crate::reading::{Order, Orders, start_reading};
+use crate::reading::{Broken, Order, Orders, start_reading};
 use cb_io::Sink;
 use cb_node::NodeFault;
-use cb_operator::{Refusal, Reply};
+use cb_operator::{Line, Refusal, Reply, Verdict};
 use cb_run::{Halt, Status, write_all};
 use crossbeam_channel::RecvTimeoutError;
 use log::sink::Console;
@@ -30,8 +30,8 @@ const PAUSE_MILLIS: u64 = 10;
 enum Stop {
     /// By `quit`, or because the input ended.
     Asked,
-    /// A read failed, or memory ran out for one.
-    Broken(Halt),
+    /// Standard input can't be read any more.
+    Broken(Broken),
 }
 
 /// Runs a node. It prints `listening ADDR:PORT` once it listens, and then an answer to each line of
@@ -96,6 +96,7 @@ fn run<R: ProcessHost, L: Log, W: Sink>(
     writer: &mut W,
 ) -> Result<u8, Halt>
     ensures told { IfOk result (TellsAll (W.contents writer.old) (W.contents writer.new)) }
+    ensures status { IfOk result (λ status. (status ≡ 0) ⊎ (status ≡ 3)) }
     ensures halts { IfErr result (λ halt. (halt ≡ Memory) ⊎ ((halt ≡ ReadFailed)
         ⊎ ((halt ≡ WriteFailed) × (W.has_failed writer.new ≡ true)))) }
 {
@@ -110,17 +111,36 @@ fn run<R: ProcessHost, L: Log, W: Sink>(
     let stopped = serve(&rt, alloc, &mut process, &orders, log, writer);
     info!(log; "ending");
     let (verdict, well) = process.finish();
-    let stop = match stopped {
-        Ok(stop) => stop,
+    match stopped {
+        Ok(stop) => {
+            orders.join(&rt);
+            tell_end(alloc, verdict, well, stop, writer)
+        }
         // The thread that reads may still wait for a line, so nobody waits for it.
-        Err(halt) => return Err(halt),
-    };
-    orders.join(&rt);
+        Err(halt) => Err(halt),
+    }
+}
+
+/// Prints what the audit answers. Returns the exit status: 0 exactly if all went well.
+fn tell_end<W: Sink>(
+    alloc: Global,
+    verdict: Verdict,
+    well: bool,
+    stop: Stop,
+    writer: &mut W,
+) -> Result<u8, Halt>
+    ensures told { IfOk result (λ status.
+        TellsOne (W.contents writer.old) (W.contents writer.new) (Reply.Audit verdict)) }
+    ensures well { IfOk result (λ status. (status ≡ 0) ↔ (well ≡ true)) }
+    ensures status { IfOk result (λ status. (status ≡ 0) ⊎ (status ≡ 3)) }
+    ensures halts { IfErr result (λ halt. (halt ≡ Memory) ⊎ ((halt ≡ ReadFailed)
+        ⊎ ((halt ≡ WriteFailed) × (W.has_failed writer.new ≡ true)))) }
+{
     print(alloc, &Reply::Audit(verdict), writer)?;
     match stop {
+        Stop::Broken(broken) => Err(broken.halt()),
         Stop::Asked if well => Ok(Status::Success.code()),
         Stop::Asked => Ok(Status::BadInput.code()),
-        Stop::Broken(halt) => Err(halt),
     }
 }
 
@@ -133,8 +153,8 @@ fn serve<R: ProcessHost, L: Log, W: Sink>(
     log: &L,
     writer: &mut W,
 ) -> Result<Stop, Halt>
-    ensures told { OnOk result ((first : Reply) × (told : List Reply)
-        × Tells (W.contents writer.old) (W.contents writer.new) (first ∷ told)) }
+    ensures told { OnOk result
+        (TellsOpening (W.contents writer.old) (W.contents writer.new)) }
     ensures failed { IsOkUnless result WriteFailed }
     ensures marked { OnErr result (W.has_failed writer.new ≡ true) }
 {
@@ -144,20 +164,11 @@ fn serve<R: ProcessHost, L: Log, W: Sink>(
     let mut dials = false;
     for _ in rt.forever() {
         process.poll(log);
-        if dials {
-            if let Some(reply) = process.outcome.take() {
-                print(alloc, &reply, writer)?;
-                dials = false;
-            } else {
-                thread::sleep(rt, Duration::from_millis(PAUSE_MILLIS));
-            }
-        } else {
-            match answer_next(rt, alloc, process, orders, log, writer)? {
-                Next::Line(After::Next) => {}
-                Next::Line(After::Dial) => dials = true,
-                Next::Line(After::End) => return Ok(Stop::Asked),
-                Next::Broken(halt) => return Ok(Stop::Broken(halt)),
-            }
+        match advance(rt, alloc, process, orders, dials, log, writer)? {
+            Next::Line(After::Next) => dials = false,
+            Next::Line(After::Dial) => dials = true,
+            Next::Line(After::End) => return Ok(Stop::Asked),
+            Next::Broken(broken) => return Ok(Stop::Broken(broken)),
         }
     }
     unreachable!()
@@ -168,8 +179,53 @@ fn serve<R: ProcessHost, L: Log, W: Sink>(
 enum Next {
     /// A line was answered, or none came.
     Line(After),
-    /// A read failed, or memory ran out for one.
-    Broken(Halt),
+    /// Standard input can't be read any more.
+    Broken(Broken),
+}
+
+/// Waits a moment for a line and answers it, or for the dial that an operator waits for. Fails only
+/// with `Halt::WriteFailed`.
+fn advance<R: ProcessHost, L: Log, W: Sink>(
+    rt: &R,
+    alloc: Global,
+    process: &mut Process<R>,
+    orders: &Orders,
+    dials: bool,
+    log: &L,
+    writer: &mut W,
+) -> Result<Next, Halt>
+    ensures told { OnOk result ((told : List Reply)
+        × Tells (W.contents writer.old) (W.contents writer.new) told) }
+    ensures failed { IsOkUnless result WriteFailed }
+    ensures marked { OnErr result (W.has_failed writer.new ≡ true) }
+{
+    if dials {
+        answer_dial(rt, alloc, process, writer)
+    } else {
+        answer_next(rt, alloc, process, orders, log, writer)
+    }
+}
+
+/// Tells what the dial came to for which an operator waits, or waits a moment. Fails only with
+/// `Halt::WriteFailed`.
+fn answer_dial<R: ProcessHost, W: Sink>(
+    rt: &R,
+    alloc: Global,
+    process: &mut Process<R>,
+    writer: &mut W,
+) -> Result<Next, Halt>
+    ensures told { OnOk result ((told : List Reply)
+        × Tells (W.contents writer.old) (W.contents writer.new) told) }
+    ensures failed { IsOkUnless result WriteFailed }
+    ensures marked { OnErr result (W.has_failed writer.new ≡ true) }
+{
+    match process.outcome.take() {
+        Some(reply) => tell(alloc, reply, writer),
+        None => {
+            thread::sleep(rt, Duration::from_millis(PAUSE_MILLIS));
+            Ok(Next::Line(After::Dial))
+        }
+    }
 }
 
 /// Waits a moment for a line, and answers it. Fails only with `Halt::WriteFailed`.
@@ -188,17 +244,37 @@ fn answer_next<R: ProcessHost, L: Log, W: Sink>(
 {
     let pause = Duration::from_millis(PAUSE_MILLIS);
     match orders.coming.recv_timeout(rt, pause) {
-        Ok(Order::Line(line)) => Ok(Next::Line(process.answer(line, log, writer)?)),
-        Ok(Order::Unreadable) => {
-            print(alloc, &Reply::Refused(Refusal::Unreadable), writer)?;
-            Ok(Next::Line(After::Next))
-        }
-        Ok(Order::NoMemory) => {
-            print(alloc, &Reply::Refused(Refusal::Memory), writer)?;
-            Ok(Next::Line(After::Next))
-        }
-        Ok(Order::Broken(halt)) => Ok(Next::Broken(halt)),
+        Ok(Order::Line(line)) => obey(process, line, log, writer),
+        Ok(Order::Unreadable) => tell(alloc, Reply::Refused(Refusal::Unreadable), writer),
+        Ok(Order::NoMemory) => tell(alloc, Reply::Refused(Refusal::Memory), writer),
+        Ok(Order::Broken(broken)) => Ok(Next::Broken(broken)),
         Err(RecvTimeoutError::Timeout) => Ok(Next::Line(After::Next)),
         Ok(Order::End) | Err(RecvTimeoutError::Disconnected) => Ok(Next::Line(After::End)),
     }
+}
+
+/// Answers a line. Fails only with `Halt::WriteFailed`.
+fn obey<R: ProcessHost, L: Log, W: Sink>(
+    process: &mut Process<R>,
+    line: Line,
+    log: &L,
+    writer: &mut W,
+) -> Result<Next, Halt>
+    ensures told { OnOk result ((told : List Reply)
+        × Tells (W.contents writer.old) (W.contents writer.new) told) }
+    ensures failed { IsOkUnless result WriteFailed }
+    ensures marked { OnErr result (W.has_failed writer.new ≡ true) }
+{
+    Ok(Next::Line(process.answer(line, log, writer)?))
+}
+
+/// Prints a line. Fails only with `Halt::WriteFailed`.
+fn tell<W: Sink>(alloc: Global, reply: Reply, writer: &mut W) -> Result<Next, Halt>
+    ensures told { OnOk result ((told : List Reply)
+        × Tells (W.contents writer.old) (W.contents writer.new) told) }
+    ensures failed { IsOkUnless result WriteFailed }
+    ensures marked { OnErr result (W.has_failed writer.new ≡ true) }
+{
+    print(alloc, &reply, writer)?;
+    Ok(Next::Line(After::Next))
 }

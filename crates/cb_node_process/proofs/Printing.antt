@@ -1,0 +1,77 @@
+-- What is printed answers a line.
+use Rattle.std.proofs.Common.{◌≡◌, ◌≢◌, ◌⊎◌, ℕ, List, [], ◌∷◌, ◌++◌, Option, inl, inr, refl, sym, ap, subst, ◌∙◌, append-nil}
+use Rattle.std.proofs.KnownBytes.{Appends-nil, Appends-trans}
+use Rattle.std.proofs.lemmas.Grind.{flat_map-append}
+use Rattle.std.specs.Io.KnownBytes.{Appends}
+use Rattle.std.specs.List.{flat_map}
+use Rattle.cb_slots.specs.declared.fault.NodeFault.{NodeFault}
+use Rattle.cb_slots.specs.declared.fault.NodeFault.TheVariants as node
+use Rattle.std.specs.declared.net.socket_addr.SocketAddr.{SocketAddr}
+use Rattle.cb_operator.specs.declared.line.Line.{Line}
+use Rattle.cb_operator.specs.declared.line.Line.TheVariants as lines
+use Rattle.cb_operator.specs.declared.refusal.Refusal.{Refusal}
+use Rattle.cb_operator.specs.declared.refusal.Refusal.TheVariants as refusals
+use Rattle.cb_operator.specs.declared.refusal.Verdict.{Verdict}
+use Rattle.cb_operator.specs.declared.refusal.Verdict.TheVariants as verdicts
+use Rattle.cb_operator.specs.declared.reply.Reply.{Reply}
+use Rattle.cb_operator.specs.declared.reply.Reply.TheVariants as replies
+use Rattle.cb_operator.specs.declared.reply.Tip.{Tip}
+use Rattle.cb_operator.specs.Answering.{Alone, CanAnswer, IsRefused}
+use Rattle.cb_operator.specs.Replies.{reply_text}
+use Rattle.cb_node_process.specs.Telling.{CanBe, IsOr, Tells, TellsAll, TellsOne, TellsOpening, refusal_of}
+
+memory_is_known : refusals.Memory ≢ refusals.Unreadable
+memory_is_known e = absurd cc
+
+-- a line, or the want of memory for it
+pub alone : (reply told : Reply) → IsOr reply told → Alone reply (told ∷ [])
+alone reply told (inl e) = inl (ap (λ (r : Reply). r ∷ []) e)
+alone reply told (inr e) = inr (ap (λ (r : Reply). r ∷ []) e)
+
+-- the line was refused
+pub refused : (refusal : Refusal) (told : Reply) → refusal ≢ refusals.Unreadable → IsOr (replies.Refused refusal) told → IsRefused (told ∷ [])
+refused refusal told known (inl e) = (refusal, known, ap (λ (r : Reply). r ∷ []) e)
+refused refusal told known (inr e) = (refusals.Memory, memory_is_known, ap (λ (r : Reply). r ∷ []) e)
+
+-- a node refuses no line as unreadable
+pub node_refuses : (fault : NodeFault) → refusal_of fault ≢ refusals.Unreadable
+node_refuses node.Io e = absurd cc
+node_refuses node.NoSlot e = absurd cc
+node_refuses node.Memory e = absurd cc
+node_refuses (node.Hall fault) e = absurd cc
+
+-- nothing was printed
+pub tells_none : (held : Option (List ℕ)) → Tells held held []
+tells_none held = Appends-nil held
+
+-- more was printed
+pub tells_more : (a b c : Option (List ℕ)) (first second : List Reply) → Tells a b first → Tells b c second → Tells a c (first ++ second)
+tells_more a b c first second p q = subst (Appends a c) (sym (flat_map-append reply_text first second)) (Appends-trans a b c (flat_map reply_text first) (flat_map reply_text second) p q)
+
+-- one line was printed
+pub tells_text : (a b : Option (List ℕ)) (text : List ℕ) (reply told : Reply) → IsOr reply told → text ≡ reply_text told → Appends a b text → TellsOne a b reply
+tells_text a b text reply told is e p = (told, is, subst (Appends a b) (e ∙ sym (append-nil (reply_text told))) p)
+
+-- one line answers
+pub answered : (line : Line) (held holds : Option (List ℕ)) (reply : Reply) → CanBe line reply → TellsOne held holds reply → (told : List Reply) × CanAnswer line told × Tells held holds told
+answered line held holds reply can one = (one.0 ∷ [], can one.0 one.1, one.2)
+
+-- one line is a list of lines
+pub tells_line : (a b : Option (List ℕ)) (reply : Reply) → TellsOne a b reply → (told : List Reply) × Tells a b told
+tells_line a b reply one = (one.0 ∷ [], one.2)
+
+-- two lines answer `restart`
+pub restarted : (a b c : Option (List ℕ)) (verdict : Verdict) (tip : Tip) → TellsOne a b (replies.Audit verdict) → TellsOne b c (replies.Restarted tip) → (told : List Reply) × CanAnswer lines.Restart told × Tells a c told
+restarted a b c verdict tip x y =
+    ((x.0 ∷ []) ++ (y.0 ∷ []), inl (verdict, tip, x.0 ∷ [], y.0 ∷ [], alone (replies.Audit verdict) x.0 x.1, alone (replies.Restarted tip) y.0 y.1, refl), tells_more a b c (x.0 ∷ []) (y.0 ∷ []) x.2 y.2)
+
+-- ---- a whole run
+
+pub opened : (a b : Option (List ℕ)) (address : SocketAddr) → TellsOne a b (replies.Listening address) → TellsOpening a b
+opened a b address one = (address, one.0, [], one.1, one.2)
+
+pub opened_more : (a b c : Option (List ℕ)) → TellsOpening a b → (told : List Reply) × Tells b c told → TellsOpening a c
+opened_more a b c o m = (o.0, o.1, o.2 ++ m.0, o.3, tells_more a b c (o.1 ∷ o.2) m.0 o.4 m.1)
+
+pub tells_all : (a b c : Option (List ℕ)) (verdict : Verdict) (status : ℕ) → TellsOpening a b → TellsOne b c (replies.Audit verdict) → (status ≡ 0 → verdict ≡ verdicts.Yes) → (status ≡ 0) ⊎ (status ≡ 3) → TellsAll a c status
+tells_all a b c verdict status o l yes which = (o.0, verdict, o.1, l.0, o.2, o.3, l.1, tells_more a b c (o.1 ∷ o.2) (l.0 ∷ []) o.4 l.2, (yes, which))
