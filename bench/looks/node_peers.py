@@ -6,7 +6,7 @@ It needs the built program (crates/cbrelay/out/cbrelay, as ./build leaves it), p
 
 - A node's 32 slots are used up, and one is freed by a kick and used again. With --all each slot is used until it has had 256 connections, and
   then there is none: that takes a minute more.
-- A peer asks for many blocks and reads nothing. The others go on meanwhile; its connection ends with WriteFault once a write finds no room for 20 seconds.
+- A peer asks for many blocks and reads nothing. The others go on meanwhile; its connection ends with WriteFault once too much waits for it, or its socket took nothing for 30 seconds.
 - While a node's only handler waits in such a write, a slot whose reader was told to stop can't put its end mark in, since its inbox is full, and
   in another the end mark has filled the inbox. The next connection goes to the next slot that was left, and then there is no slot.
 - Peers end in the middle of a message, once with the end of the stream and once by a reset, and others send bytes that are no message, a
@@ -47,7 +47,7 @@ PING = envelope(b"ping", bytes(8))
 PONG = PING[:4] + b"pong"
 UNREADABLE = envelope(b"ping", bytes(7))
 # How long a write may wait, and how long we wait for its end.
-TIMEOUT, PATIENCE = 20, 60
+TIMEOUT, PATIENCE = 30, 90
 # The slots of the peers by which inboxes become full, and how often that is tried where the machine is too slow.
 PEERS, FULL_TRIES = ("1", "2", "3", "4", "5"), 3
 # How many bytes tell that blocks are written to a peer, and how often we look whether all threads sleep.

@@ -156,7 +156,8 @@ impl Outbox {
     /// Writes all of a piece. Returns whether that was done.
     fn write_piece(&self, stream: &TcpStream, piece: &[u8], last: &mut LastWrites) -> bool {
         let mut rest = piece;
-        while !rest.is_empty() {
+        // Each write takes a byte at least.
+        for _ in 0..piece.len() {
             if !self.open.load(Ordering::SeqCst) && !last.one_more(stream) {
                 return false;
             }
@@ -167,8 +168,11 @@ impl Outbox {
                     rest = after;
                 }
             }
+            if rest.is_empty() {
+                return true;
+            }
         }
-        true
+        rest.is_empty()
     }
 }
 
