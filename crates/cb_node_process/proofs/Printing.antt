@@ -1,5 +1,5 @@
 -- What is printed answers a line.
-use Rattle.std.proofs.Common.{◌≡◌, ◌≢◌, ◌⊎◌, ℕ, List, [], ◌∷◌, ◌++◌, Option, inl, inr, refl, sym, ap, subst, ◌∙◌, append-nil}
+use Rattle.std.proofs.Common.{◌≡◌, ◌≢◌, ◌⊎◌, ℕ, List, [], ◌∷◌, ◌++◌, Option, Result, Ok, Err, OnOk, inl, inr, refl, sym, ap, subst, ◌∙◌, append-nil}
 use Rattle.std.proofs.KnownBytes.{Appends-nil, Appends-trans}
 use Rattle.std.proofs.lemmas.Grind.{flat_map-append}
 use Rattle.std.specs.Io.KnownBytes.{Appends}
@@ -7,6 +7,11 @@ use Rattle.std.specs.List.{flat_map}
 use Rattle.cb_slots.specs.declared.fault.NodeFault.{NodeFault}
 use Rattle.cb_slots.specs.declared.fault.NodeFault.TheVariants as node
 use Rattle.std.specs.declared.net.socket_addr.SocketAddr.{SocketAddr}
+use Rattle.cb_base.specs.declared.hash.Hash256.{Hash256}
+use Rattle.cb_tx.specs.declared.tx.Tx.{Tx}
+use Rattle.cb_block.specs.declared.block.Block.{Block}
+use Rattle.cb_operator.specs.declared.moved.StatsLine.{StatsLine}
+use Rattle.cb_operator.specs.declared.reply.BlockLine.{BlockLine}
 use Rattle.cb_operator.specs.declared.line.Line.{Line}
 use Rattle.cb_operator.specs.declared.line.Line.TheVariants as lines
 use Rattle.cb_operator.specs.declared.refusal.Refusal.{Refusal}
@@ -20,8 +25,18 @@ use Rattle.cb_operator.specs.Answering.{Alone, CanAnswer, IsRefused}
 use Rattle.cb_operator.specs.Replies.{reply_text}
 use Rattle.cb_node_process.specs.Telling.{CanBe, IsOr, Tells, TellsAll, TellsOne, TellsOpening, refusal_of}
 
-memory_is_known : refusals.Memory ≢ refusals.Unreadable
+-- these refusals tell that the line could be read
+pub memory_is_known : refusals.Memory ≢ refusals.Unreadable
 memory_is_known e = absurd cc
+
+pub no_slot_is_known : refusals.NoSlot ≢ refusals.Unreadable
+no_slot_is_known e = absurd cc
+
+pub unknown_is_known : refusals.UnknownBlock ≢ refusals.Unreadable
+unknown_is_known e = absurd cc
+
+pub already_is_known : refusals.Already ≢ refusals.Unreadable
+already_is_known e = absurd cc
 
 -- a line, or the want of memory for it
 pub alone : (reply told : Reply) → IsOr reply told → Alone reply (told ∷ [])
@@ -40,6 +55,51 @@ node_refuses node.NoSlot e = absurd cc
 node_refuses node.Memory e = absurd cc
 node_refuses (node.Hall fault) e = absurd cc
 
+pub can_tip : (tip : Tip) → CanBe lines.Tip (replies.Tip tip)
+can_tip tip = record { can = λ told is. (tip, alone (replies.Tip tip) told is) }
+
+pub can_stats : (stats : StatsLine) → CanBe lines.Stats (replies.Stats stats)
+can_stats stats = record { can = λ told is. (stats, alone (replies.Stats stats) told is) }
+
+pub can_block : (hash : Hash256) (block : BlockLine) → block.hash ≡ hash → CanBe (lines.Block hash) (replies.Block block)
+can_block hash block same = record { can = λ told is. inl (block, same, alone (replies.Block block) told is) }
+
+pub no_block : (hash : Hash256) (refusal : Refusal) → refusal ≢ refusals.Unreadable → CanBe (lines.Block hash) (replies.Refused refusal)
+no_block hash refusal known = record { can = λ told is. inr (refused refusal told known is) }
+
+pub can_tx : (tx : Tx) (txid : Hash256) → CanBe (lines.Tx tx) (replies.Tx txid)
+can_tx tx txid = record { can = λ told is. inl (txid, alone (replies.Tx txid) told is) }
+
+pub no_tx : (tx : Tx) (refusal : Refusal) → refusal ≢ refusals.Unreadable → CanBe (lines.Tx tx) (replies.Refused refusal)
+no_tx tx refusal known = record { can = λ told is. inr (refused refusal told known is) }
+
+pub can_submit : (block : Block) (hash : Hash256) → CanBe (lines.SubmitBlock block) (replies.Submitted hash)
+can_submit block hash = record { can = λ told is. inl (hash, alone (replies.Submitted hash) told is) }
+
+pub no_submit : (block : Block) (refusal : Refusal) → refusal ≢ refusals.Unreadable → CanBe (lines.SubmitBlock block) (replies.Refused refusal)
+no_submit block refusal known = record { can = λ told is. inr (refused refusal told known is) }
+
+pub can_mine : (count : ℕ) (tip : Tip) → CanBe (lines.Mine count) (replies.Mined count tip)
+can_mine count tip = record { can = λ told is. inl (tip, alone (replies.Mined count tip) told is) }
+
+pub no_mine : (count : ℕ) (refusal : Refusal) → refusal ≢ refusals.Unreadable → CanBe (lines.Mine count) (replies.Refused refusal)
+no_mine count refusal known = record { can = λ told is. inr (refused refusal told known is) }
+
+pub can_kick : (slot : ℕ) → CanBe (lines.Kick slot) (replies.Kicked slot)
+can_kick slot = record { can = λ told is. inl (alone (replies.Kicked slot) told is) }
+
+pub no_kick : (slot : ℕ) (refusal : Refusal) → refusal ≢ refusals.Unreadable → CanBe (lines.Kick slot) (replies.Refused refusal)
+no_kick slot refusal known = record { can = λ told is. inr (refused refusal told known is) }
+
+pub can_rest : CanBe lines.Checkpoint replies.Checkpoint
+can_rest = record { can = λ told is. inl (alone replies.Checkpoint told is) }
+
+pub no_rest : (refusal : Refusal) → refusal ≢ refusals.Unreadable → CanBe lines.Checkpoint (replies.Refused refusal)
+no_rest refusal known = record { can = λ told is. inr (refused refusal told known is) }
+
+pub no_dial : (address : SocketAddr) (refusal : Refusal) → refusal ≢ refusals.Unreadable → CanBe (lines.Connect address) (replies.Refused refusal)
+no_dial address refusal known = record { can = λ told is. inr (refused refusal told known is) }
+
 -- nothing was printed
 pub tells_none : (held : Option (List ℕ)) → Tells held held []
 tells_none held = Appends-nil held
@@ -54,7 +114,7 @@ tells_text a b text reply told is e p = (told, is, subst (Appends a b) (e ∙ sy
 
 -- one line answers
 pub answered : (line : Line) (held holds : Option (List ℕ)) (reply : Reply) → CanBe line reply → TellsOne held holds reply → (told : List Reply) × CanAnswer line told × Tells held holds told
-answered line held holds reply can one = (one.0 ∷ [], can one.0 one.1, one.2)
+answered line held holds reply c one = (one.0 ∷ [], c.can one.0 one.1, one.2)
 
 -- one line is a list of lines
 pub tells_line : (a b : Option (List ℕ)) (reply : Reply) → TellsOne a b reply → (told : List Reply) × Tells a b told
@@ -75,3 +135,9 @@ opened_more a b c o m = (o.0, o.1, o.2 ++ m.0, o.3, tells_more a b c (o.1 ∷ o.
 
 pub tells_all : (a b c : Option (List ℕ)) (verdict : Verdict) (status : ℕ) → TellsOpening a b → TellsOne b c (replies.Audit verdict) → (status ≡ 0 → verdict ≡ verdicts.Yes) → (status ≡ 0) ⊎ (status ≡ 3) → TellsAll a c status
 tells_all a b c verdict status o l yes which = (o.0, verdict, o.1, l.0, o.2, o.3, l.1, tells_more a b c (o.1 ∷ o.2) (l.0 ∷ []) o.4 l.2, (yes, which))
+
+-- ---- under a result
+
+pub on_ok : {T E P Q : Type 0} (r : Result T E) → (P → Q) → OnOk r P → OnOk r Q
+on_ok (Ok t) f p = f p
+on_ok (Err e) f p = p

@@ -24,9 +24,9 @@ Tells held holds told = Appends held holds (flat_map reply_text told)
 abbrev pub IsOr : Reply → Reply → Type 0
 IsOr reply told = (told ≡ reply) ⊎ (told ≡ replies.Refused refusals.Memory)
 
--- what is printed for this line can answer that one
-abbrev pub CanBe : Line → Reply → Type 0
-CanBe line reply = (told : Reply) → IsOr reply told → CanAnswer line (told ∷ [])
+-- this line, or `error memory` in its place, can answer that one
+pub record CanBe (line : Line) (reply : Reply) : Type 0 where
+  pub can : (told : Reply) → IsOr reply told → CanAnswer line (told ∷ [])
 
 -- one such line was printed
 abbrev pub TellsOne : Option (List ℕ) → Option (List ℕ) → Reply → Type 0

@@ -103,6 +103,7 @@ impl<R: ProcessHost> Process<R> {
         }
     }
 
+    #[tactic(auto, using(crate::proofs::Printing::can_block, crate::proofs::Printing::no_block, crate::proofs::Printing::node_refuses, crate::proofs::Printing::unknown_is_known))]
     /// `block`: what the chain has of a block.
     fn look_at_block(&self, hash: Hash256) -> Reply
         ensures { CanBe (Line.Block hash) result }
@@ -119,6 +120,7 @@ impl<R: ProcessHost> Process<R> {
         }
     }
 
+    #[tactic(auto, using(crate::proofs::Printing::can_tx, crate::proofs::Printing::no_tx, crate::proofs::Printing::memory_is_known))]
     /// `tx`: gives the node a transaction.
     fn take_tx(&self, tx: Shared<Tx>) -> Reply
         ensures { CanBe (Line.Tx tx) result }
@@ -132,6 +134,7 @@ impl<R: ProcessHost> Process<R> {
         }
     }
 
+    #[tactic(auto, using(crate::proofs::Printing::can_submit, crate::proofs::Printing::no_submit))]
     /// `submit-block`: gives the node a block.
     fn take_block<L: Log>(&mut self, block: Shared<Block>, log: &L) -> Reply
         ensures { CanBe (Line.SubmitBlock block) result }
@@ -146,6 +149,7 @@ impl<R: ProcessHost> Process<R> {
         }
     }
 
+    #[tactic(auto, using(crate::proofs::Printing::node_refuses))]
     /// Gives the node a block, whose transactions must be those of its header.
     fn give_block(&self, block: Shared<Block>) -> Result<(), Refusal>
         ensures { IfErr result (λ refusal. refusal ≢ Unreadable) }
@@ -159,6 +163,7 @@ impl<R: ProcessHost> Process<R> {
         }
     }
 
+    #[tactic(auto, using(crate::proofs::Printing::node_refuses))]
     /// Gives the node a transaction or a block. Peers are told of it at once.
     fn give(&self, local: Local) -> Result<(), Refusal>
         ensures { IfErr result (λ refusal. refusal ≢ Unreadable) }
@@ -172,6 +177,7 @@ impl<R: ProcessHost> Process<R> {
         }
     }
 
+    #[tactic(auto, using(crate::proofs::Printing::can_mine, crate::proofs::Printing::no_mine))]
     /// `mine`: mines so many blocks, one on the other. Stops at the first that is refused.
     fn mine<L: Log>(&mut self, count: u16, log: &L) -> Reply
         ensures { CanBe (Line.Mine count) result }
@@ -194,6 +200,7 @@ impl<R: ProcessHost> Process<R> {
         Ok(())
     }
 
+    #[tactic(auto, using(crate::proofs::Printing::node_refuses))]
     /// Mines a block.
     fn mine_one(&self) -> Result<(), Refusal>
         ensures { IfErr result (λ refusal. refusal ≢ Unreadable) }
@@ -204,6 +211,7 @@ impl<R: ProcessHost> Process<R> {
         }
     }
 
+    #[tactic(auto, using(crate::proofs::Printing::can_kick, crate::proofs::Printing::no_kick, crate::proofs::Printing::node_refuses, crate::proofs::Printing::no_slot_is_known))]
     /// `kick`: ends the connection of a slot.
     fn kick(&self, slot: u16) -> Reply
         ensures { CanBe (Line.Kick slot) result }
@@ -222,6 +230,7 @@ impl<R: ProcessHost> Process<R> {
         self.watched.iter().any(|watched| watched.slot == slot)
     }
 
+    #[tactic(auto, using(crate::proofs::Printing::can_rest, crate::proofs::Printing::no_rest, crate::proofs::Printing::node_refuses))]
     /// `checkpoint`: the hall drops its log of calls.
     fn take_checkpoint(&self) -> Reply
         ensures { CanBe Line.Checkpoint result }

@@ -239,6 +239,7 @@ impl<R: ProcessHost> Process<R> {
         }
     }
 
+    #[tactic(auto, using(crate::proofs::Printing::memory_is_known, crate::proofs::Printing::no_slot_is_known, crate::proofs::Printing::already_is_known, crate::proofs::Printing::node_refuses))]
     /// Lets an operator wait for the first dial of an address. Refused if it is dialled already, or
     /// no outbound slot is free.
     pub fn connect(&mut self, address: SocketAddr) -> Result<(), Refusal>
