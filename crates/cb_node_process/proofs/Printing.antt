@@ -13,6 +13,7 @@ use Rattle.cb_block.specs.declared.block.Block.{Block}
 use Rattle.cb_operator.specs.declared.moved.StatsLine.{StatsLine}
 use Rattle.cb_operator.specs.declared.reply.BlockLine.{BlockLine}
 use Rattle.cb_operator.specs.declared.line.Line.{Line}
+use Rattle.cb_operator.specs.declared.peer_line.PeerLine.{PeerLine}
 use Rattle.cb_operator.specs.declared.line.Line.TheVariants as lines
 use Rattle.cb_operator.specs.declared.refusal.Refusal.{Refusal}
 use Rattle.cb_operator.specs.declared.refusal.Refusal.TheVariants as refusals
@@ -23,7 +24,7 @@ use Rattle.cb_operator.specs.declared.reply.Reply.TheVariants as replies
 use Rattle.cb_operator.specs.declared.reply.Tip.{Tip}
 use Rattle.cb_operator.specs.Answering.{Alone, CanAnswer, IsRefused}
 use Rattle.cb_operator.specs.Replies.{reply_text}
-use Rattle.cb_node_process.specs.Telling.{CanBe, IsOr, Tells, TellsAll, TellsOne, TellsOpening, refusal_of}
+use Rattle.cb_node_process.specs.Telling.{CanBe, IsOr, Tells, TellsAll, TellsOne, TellsOpening, peers_lines, pool_lines, refusal_of}
 
 -- these refusals tell that the line could be read
 pub memory_is_known : refusals.Memory ≢ refusals.Unreadable
@@ -100,6 +101,12 @@ no_rest refusal known = record { can = λ told is. inr (refused refusal told kno
 pub no_dial : (address : SocketAddr) (refusal : Refusal) → refusal ≢ refusals.Unreadable → CanBe (lines.Connect address) (replies.Refused refusal)
 no_dial address refusal known = record { can = λ told is. inr (refused refusal told known is) }
 
+pub no_pool : (refusal : Refusal) → refusal ≢ refusals.Unreadable → CanBe lines.Pool (replies.Refused refusal)
+no_pool refusal known = record { can = λ told is. inr (refused refusal told known is) }
+
+pub no_peers : (refusal : Refusal) → refusal ≢ refusals.Unreadable → CanBe lines.Peers (replies.Refused refusal)
+no_peers refusal known = record { can = λ told is. inr (refused refusal told known is) }
+
 -- nothing was printed
 pub tells_none : (held : Option (List ℕ)) → Tells held held []
 tells_none held = Appends-nil held
@@ -141,3 +148,17 @@ tells_all a b c verdict status o l yes which = (o.0, verdict, o.1, l.0, o.2, o.3
 pub on_ok : {T E P Q : Type 0} (r : Result T E) → (P → Q) → OnOk r P → OnOk r Q
 on_ok (Ok t) f p = f p
 on_ok (Err e) f p = p
+
+-- ---- lists
+
+-- the lines of a mempool, or of connections, were printed
+pub pool_told : (a b : Option (List ℕ)) (text : List ℕ) (txids : List Hash256) → text ≡ flat_map reply_text (pool_lines txids) → Appends a b text → (told : List Reply) × CanAnswer lines.Pool told × Tells a b told
+pool_told a b text txids e p = (pool_lines txids, inl (txids, refl), subst (Appends a b) e p)
+
+pub peers_told : (a b : Option (List ℕ)) (text : List ℕ) (peers : List PeerLine) → text ≡ flat_map reply_text (peers_lines peers) → Appends a b text → (told : List Reply) × CanAnswer lines.Peers told × Tells a b told
+peers_told a b text peers e p = (peers_lines peers, inl (peers, refl), subst (Appends a b) e p)
+
+-- the line that was printed answers this one
+pub told_by : {T E : Type 0} (line other : Line) (r : Result T E) (held holds : Option (List ℕ)) (reply : Reply) → line ≡ other → CanBe other reply → OnOk r (TellsOne held holds reply)
+    → OnOk r ((told : List Reply) × CanAnswer line told × Tells held holds told)
+told_by line other r held holds reply is c p = on_ok r (answered line held holds reply (subst (λ (l : Line). CanBe l reply) (sym is) c)) p

@@ -1,5 +1,5 @@
 -- What a process prints.
-use Rattle.std.specs.Prelude.{◌≡◌, ℕ, ◌⊎◌, List, [], ◌∷◌, ◌++◌, codes, Option}
+use Rattle.std.specs.Prelude.{◌≡◌, ℕ, ◌⊎◌, List, [], ◌∷◌, ◌++◌, codes, length, map, Option}
 use Rattle.std.specs.Io.KnownBytes.{Appends}
 use Rattle.std.specs.List.{flat_map}
 use Rattle.std.specs.declared.net.socket_addr.SocketAddr.{SocketAddr}
@@ -7,7 +7,9 @@ use Rattle.std.specs.Net.Text.{socket_text}
 use Rattle.cb_slots.specs.declared.fault.NodeFault.{NodeFault}
 use Rattle.cb_slots.specs.declared.fault.NodeFault.TheVariants as node
 use Rattle.cb_operator.specs.Answering.{CanAnswer}
+use Rattle.cb_base.specs.declared.hash.Hash256.{Hash256}
 use Rattle.cb_operator.specs.declared.line.Line.{Line}
+use Rattle.cb_operator.specs.declared.peer_line.PeerLine.{PeerLine}
 use Rattle.cb_operator.specs.declared.refusal.Refusal.{Refusal}
 use Rattle.cb_operator.specs.declared.refusal.Refusal.TheVariants as refusals
 use Rattle.cb_operator.specs.declared.refusal.Verdict.{Verdict}
@@ -15,6 +17,19 @@ use Rattle.cb_operator.specs.declared.refusal.Verdict.TheVariants as verdicts
 use Rattle.cb_operator.specs.declared.reply.Reply.{Reply}
 use Rattle.cb_operator.specs.declared.reply.Reply.TheVariants as replies
 use Rattle.cb_operator.specs.Replies.{reply_text}
+
+-- the lines of a mempool, and of connections that last: how many there are, and then each
+abbrev pub txid_lines : List Hash256 → List Reply
+txid_lines txids = map (λ txid. replies.PoolTx txid) txids
+
+abbrev pub pool_lines : List Hash256 → List Reply
+pool_lines txids = replies.Pool (length txids) ∷ txid_lines txids
+
+abbrev pub peer_lines : List PeerLine → List Reply
+peer_lines peers = map (λ peer. replies.Peer peer) peers
+
+abbrev pub peers_lines : List PeerLine → List Reply
+peers_lines peers = replies.Peers (length peers) ∷ peer_lines peers
 
 -- these lines were printed
 abbrev pub Tells : Option (List ℕ) → Option (List ℕ) → List Reply → Type 0

@@ -1,13 +1,16 @@
 //! What a process answers to an operator's lines.
 ghost use Rattle.std.specs.Prelude.{◌≡◌, ◌≢◌, ◌++◌, true, List, IfErr, IfOk, OnErr, OnOk, IsOkUnless, string_bytes};
+ghost use Rattle.std.specs.Io.KnownBytes.{Appends};
 ghost use Rattle.std.specs.List.{flat_map};
+ghost use Rattle.cb_base.specs.declared.hash.Hash256.{Hash256};
 ghost use Rattle.cb_base.specs.declared.fault.Fault.TheVariants as faults;
 ghost use Rattle.cb_run.specs.declared.ending.Halt.TheVariants.{WriteFailed};
 ghost use Rattle.cb_operator.specs.declared.refusal.Refusal.TheVariants.{Unreadable};
+ghost use Rattle.cb_operator.specs.declared.peer_line.PeerLine.{PeerLine};
 ghost use Rattle.cb_operator.specs.declared.reply.Reply.{Reply};
 ghost use Rattle.cb_operator.specs.Answering.{CanAnswer};
 ghost use Rattle.cb_operator.specs.Replies.{reply_text};
-ghost use Rattle.cb_node_process.specs.Telling.{CanBe, Tells, TellsOne};
+ghost use Rattle.cb_node_process.specs.Telling.{CanBe, Tells, TellsOne, peer_lines, peers_lines, pool_lines, txid_lines};
 
 use crate::host::ProcessHost;
 use crate::process::{Process, refusal_of};
@@ -16,7 +19,7 @@ use cb_block::{Block, sound};
 use cb_io::Sink;
 use cb_journal::Local;
 use cb_node::NodeFault;
-use cb_operator::{BlockLine, Line, Moved, Refusal, Reply, StatsLine};
+use cb_operator::{BlockLine, Line, Moved, PeerLine, Refusal, Reply, StatsLine};
 use cb_run::{Halt, write_all};
 use cb_tx::Tx;
 use log::Log;
@@ -57,6 +60,17 @@ fn say<W: Sink>(alloc: Global, reply: Reply, writer: &mut W) -> Result<After, Ha
     ensures marked { OnErr result (W.has_failed writer.new ≡ true) }
 {
     print(alloc, &reply, writer)?;
+    Ok(After::Next)
+}
+
+/// Prints lines. Fails only with `Halt::WriteFailed`.
+fn say_all<W: Sink>(text: String, writer: &mut W) -> Result<After, Halt>
+    ensures told { OnOk result
+        (Appends (W.contents writer.old) (W.contents writer.new) (string_bytes text)) }
+    ensures failed { IsOkUnless result WriteFailed }
+    ensures marked { OnErr result (W.has_failed writer.new ≡ true) }
+{
+    write_all(writer, text.as_bytes())?;
     Ok(After::Next)
 }
 
@@ -268,16 +282,28 @@ impl<R: ProcessHost> Process<R> {
         ensures failed { IsOkUnless result WriteFailed }
         ensures marked { OnErr result (W.has_failed writer.new ≡ true) }
     {
+        match self.pool_text() {
+            Ok(text) => say_all(text, writer),
+            Err(refusal) => say(self.alloc, Reply::Refused(refusal), writer),
+        }
+    }
+
+    #[tactic(auto, using(crate::proofs::Printing::node_refuses, crate::proofs::Printing::memory_is_known))]
+    /// The lines that answer `pool`.
+    fn pool_text(&self) -> Result<String, Refusal>
+        ensures text { IfOk result (λ text. (txids : List Hash256)
+            × (string_bytes text ≡ flat_map reply_text (pool_lines txids))) }
+        ensures known { IfErr result (λ refusal. refusal ≢ Unreadable) }
+    {
         let txids = match self.node.pool() {
             Ok(txids) => txids,
-            Err(fault) => return say(self.alloc, Reply::Refused(refusal_of(fault)), writer),
+            Err(fault) => return Err(refusal_of(fault)),
         };
         let mut text = String::new(self.alloc);
         match print_pool(self.alloc, txids.as_slice(), &mut text) {
-            Ok(()) => write_all(writer, text.as_bytes())?,
-            Err(_) => write_all(writer, b"error memory\n")?,
+            Ok(()) => Ok(text),
+            Err(_) => Err(Refusal::Memory),
         }
-        Ok(After::Next)
     }
 
     /// `peers`: lists the connections that last.
@@ -287,25 +313,30 @@ impl<R: ProcessHost> Process<R> {
         ensures failed { IsOkUnless result WriteFailed }
         ensures marked { OnErr result (W.has_failed writer.new ≡ true) }
     {
-        let mut text = String::new(self.alloc);
-        match self.print_peers(&mut text) {
-            Ok(()) => write_all(writer, text.as_bytes())?,
-            Err(_) => write_all(writer, b"error memory\n")?,
+        match self.peers_text() {
+            Ok(text) => say_all(text, writer),
+            Err(_) => say(self.alloc, Reply::Refused(Refusal::Memory), writer),
         }
-        Ok(After::Next)
     }
 
-    /// Appends the lines of the connections that last.
-    fn print_peers(&self, out: &mut String) -> Result<(), Fault>
-        ensures text { OnOk result ((told : List Reply) × CanAnswer Line.Peers told
-            × (string_bytes out.new ≡ string_bytes out.old ++ flat_map reply_text told)) }
-        ensures memory { IsOkUnless result faults.Memory }
+    /// The lines that answer `peers`. Fails only with `Fault::Memory`.
+    fn peers_text(&self) -> Result<String, Fault>
+        ensures text { IfOk result (λ text. (peers : List PeerLine)
+            × (string_bytes text ≡ flat_map reply_text (peers_lines peers))) }
     {
-        Reply::Peers(self.watched.len()).print(self.alloc, out)?;
+        let peers = self.peer_lines()?;
+        let mut text = String::new(self.alloc);
+        print_peers(self.alloc, peers.as_slice(), &mut text)?;
+        Ok(text)
+    }
+
+    /// A line for each connection that lasts. Fails only with `Fault::Memory`.
+    fn peer_lines(&self) -> Result<Vec<PeerLine>, Fault> {
+        let mut peers = Vec::with_capacity(self.alloc, self.watched.len())?;
         for watched in self.watched.as_slice() {
-            Reply::Peer(watched.line()).print(self.alloc, out)?;
+            peers.push(watched.line())?;
         }
-        Ok(())
+        Ok(peers)
     }
 
     /// `restart`: ends the node, audits it, and starts another one.
@@ -325,15 +356,46 @@ impl<R: ProcessHost> Process<R> {
     }
 }
 
-/// Appends the lines of a mempool with these txids.
+/// Appends the lines of a mempool with these txids. Fails only with `Fault::Memory`.
 fn print_pool(alloc: Global, txids: &[Hash256], out: &mut String) -> Result<(), Fault>
-    ensures text { OnOk result ((told : List Reply) × CanAnswer Line.Pool told
-        × (string_bytes out.new ≡ string_bytes out.old ++ flat_map reply_text told)) }
+    ensures text { OnOk result (string_bytes out.new
+        ≡ string_bytes out.old ++ flat_map reply_text (pool_lines txids.now)) }
     ensures memory { IsOkUnless result faults.Memory }
 {
     Reply::Pool(txids.len()).print(alloc, out)?;
+    print_txids(alloc, txids, out)
+}
+
+/// Appends a line for each of these txids. Fails only with `Fault::Memory`.
+fn print_txids(alloc: Global, txids: &[Hash256], out: &mut String) -> Result<(), Fault>
+    ensures text { OnOk result (string_bytes out.new
+        ≡ string_bytes out.old ++ flat_map reply_text (txid_lines txids.now)) }
+    ensures memory { IsOkUnless result faults.Memory }
+{
     for txid in txids {
         Reply::PoolTx(*txid).print(alloc, out)?;
+    }
+    Ok(())
+}
+
+/// Appends the lines of these connections. Fails only with `Fault::Memory`.
+fn print_peers(alloc: Global, peers: &[PeerLine], out: &mut String) -> Result<(), Fault>
+    ensures text { OnOk result (string_bytes out.new
+        ≡ string_bytes out.old ++ flat_map reply_text (peers_lines peers.now)) }
+    ensures memory { IsOkUnless result faults.Memory }
+{
+    Reply::Peers(peers.len()).print(alloc, out)?;
+    print_each(alloc, peers, out)
+}
+
+/// Appends a line for each of these connections. Fails only with `Fault::Memory`.
+fn print_each(alloc: Global, peers: &[PeerLine], out: &mut String) -> Result<(), Fault>
+    ensures text { OnOk result (string_bytes out.new
+        ≡ string_bytes out.old ++ flat_map reply_text (peer_lines peers.now)) }
+    ensures memory { IsOkUnless result faults.Memory }
+{
+    for peer in peers {
+        Reply::Peer(*peer).print(alloc, out)?;
     }
     Ok(())
 }
