@@ -131,7 +131,7 @@ fn tell_end<W: Sink>(
 ) -> Result<u8, Halt>
     ensures told { IfOk result (λ status.
         TellsOne (W.contents writer.old) (W.contents writer.new) (Reply.Audit verdict)) }
-    ensures well { IfOk result (λ status. (status ≡ 0) ↔ (well ≡ true)) }
+    ensures fully { IfOk result (λ status. (status ≡ 0) ↔ (well ≡ true)) }
     ensures status { IfOk result (λ status. (status ≡ 0) ⊎ (status ≡ 3)) }
     ensures halts { IfErr result (λ halt. (halt ≡ Memory) ⊎ ((halt ≡ ReadFailed)
         ⊎ ((halt ≡ WriteFailed) × (W.has_failed writer.new ≡ true)))) }
