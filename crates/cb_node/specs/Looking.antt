@@ -1,5 +1,5 @@
 -- What a node's chain tells of a block.
-use Rattle.std.specs.Prelude.{◌≡◌, ◌↔◌, true, length, map, Contains, Option, Some, None, option_map}
+use Rattle.std.specs.Prelude.{◌≡◌, ◌↔◌, true, length, Contains, Option, Some, None, option_map}
 use Rattle.cb_base.specs.declared.hash.Hash256.{Hash256}
 use Rattle.cb_block.specs.declared.block.Block as blocks
 use Rattle.cb_chain.specs.Entries.{Tree, block_of, height_of}

@@ -1,8 +1,11 @@
 //! What whoever runs a node for days needs beside its other calls: what the hall has of a block and
 //! of the mempool, where a connection comes from, how it stands, and streams that another thread
 //! connected.
-ghost use Rattle.std.specs.Prelude.{◌≡◌, ◌↔◌, ◌⊎◌, ◌≤◌, false, length, map, None, IfErr, IfOk, IfSome, IsOkUnless, OnErr, Ok, Err};
+ghost use Rattle.std.specs.Prelude.{◌≡◌, ◌↔◌, ◌⊎◌, ◌≤◌, true, false, length, Contains, None, IfErr, IfOk, IfSome, IsOkUnless, OnErr, Ok, Err, option_map};
 ghost use Rattle.cb_base.specs.declared.fault.Fault.TheVariants as faults;
+ghost use Rattle.cb_block.specs.declared.block.Block as blocks;
+ghost use Rattle.cb_chain.specs.Entries.{block_of};
+ghost use Rattle.cb_chain.specs.Laws.{active_hashes};
 ghost use Rattle.cb_pool.specs.Listing.{since_of};
 ghost use Rattle.cb_slots.specs.declared.fault.NodeFault.TheVariants.{Io, Memory, NoSlot};
 ghost use Rattle.cb_slots.specs.Choosing.{HasNone, IsChosen};
@@ -11,7 +14,7 @@ ghost use Rattle.cb_node.specs.Node.{with_used};
 
 use crate::node::Node;
 use cb_base::{Fault, Hash256, Shared};
-use cb_chain::Chain;
+use cb_chain::{Chain, active_is_linked};
 use cb_hall::Hall;
 use cb_journal::{Answer, Local};
 use cb_pool::Pool;
@@ -222,7 +225,10 @@ fn look_at_block(chain: &Chain, hash: &Hash256) -> Result<Option<BlockLook>, Fau
 }
 
 /// How many transactions the block with this hash has, if it is kept and not marked bad.
-fn txs_in(chain: &Chain, hash: &Hash256) -> Option<usize> {
+fn txs_in(chain: &Chain, hash: &Hash256) -> Option<usize>
+    ensures { result ≡ option_map (λ (block : blocks.Block). length block.txs)
+        (block_of chain.now hash.now) }
+{
     match chain.block(hash) {
         Some(block) => Some(block.block().txs.as_slice().len()),
         None => None,
@@ -231,7 +237,12 @@ fn txs_in(chain: &Chain, hash: &Hash256) -> Option<usize> {
 
 /// Whether a block is on the best chain: it is the tip, or the parent of the first header that
 /// follows it there. Fails only with `Fault::Memory`.
-fn is_on_best(chain: &Chain, hash: &Hash256) -> Result<bool, Fault> {
+fn is_on_best(chain: &Chain, hash: &Hash256) -> Result<bool, Fault>
+    ensures exact { IfOk result
+        (λ best. (best ≡ true) ↔ Contains (active_hashes chain.now) hash.now) }
+    ensures memory { IsOkUnless result faults.Memory }
+{
+    active_is_linked(chain);
     if *hash == chain.tip() {
         return Ok(true);
     }
