@@ -10,7 +10,7 @@ ghost use Rattle.cb_block.specs.Text.{IsBlock, IsHeader, block_text, header_text
 ghost use Rattle.cb_block.specs.declared.block.Block.{Block};
 
 use crate::block::{Block, Txs};
-use crate::header::{Header, read_header};
+use crate::header::read_header;
 use cb_base::{Cursor, Fault, Shared, put_compact};
 use cb_tx::{Tx, compact_size, read_count, read_tx, write_tx};
 use std::alloc::Global;
@@ -116,14 +116,6 @@ fn put_txs(out: &mut Vec<u8>, txs: &[Shared<Tx>]) -> Result<(), Fault>
     Ok(())
 }
 
-/// The 80 bytes of a header. Its numbers fit their fields, and its hashes have 32 bytes.
-fn header_bytes(header: Header) -> [u8; 80]
-    ensures text { result ≡ header_text header }
-    ensures fits { IsHeader header }
-{
-    header.text()
-}
-
 #[tactic(auto, unfolding(crate::specs::Text::block_text), using(cb_tx::proofs::Appends::appends))]
 fn put_block(out: &mut Vec<u8>, block: &Block) -> Result<(), Fault>
     ensures ok { OnOk result (out.new.items ≡ out.old.items ++ block_text block.now) }
@@ -134,7 +126,7 @@ fn put_block(out: &mut Vec<u8>, block: &Block) -> Result<(), Fault>
     ensures capacity { vec_capacity out.old ≤ vec_capacity out.new }
     ensures fits { OnOk result (IsBlock block.now) }
 {
-    out.extend_from_slice(&header_bytes(block.header))?;
+    out.extend_from_slice(&block.header.text())?;
     put_txs(out, block.txs.as_slice())
 }
 

@@ -90,14 +90,6 @@ pub fn read_txs_request(
     Ok(BlockTransactionsRequest { block, differences })
 }
 
-/// The 32 bytes of a hash.
-fn hash_bytes(hash: &Hash256) -> &[u8]
-    ensures bytes { result.now ≡ hash.now.0 }
-    ensures len { length hash.now.0 ≡ 32 }
-{
-    hash.0.as_slice()
-}
-
 /// Appends the payload of a `getblocktxn` to `out`. Fails only with `Fault::Memory`; `out` may then
 /// end with a part of the payload.
 #[tactic(auto, unfolding(crate::specs::BlockTransactions::txs_request_text), using(cb_tx::proofs::Appends::appends))]
@@ -106,7 +98,7 @@ pub fn put_txs_request(out: &mut Vec<u8>, request: &BlockTransactionsRequest) ->
     ensures memory { IsOkUnless result Memory }
     ensures kept { OnOk result (IsTxsRequest request.now) }
 {
-    out.extend_from_slice(hash_bytes(&request.block))?;
+    out.extend_from_slice(request.block.bytes())?;
     put_list(out, request.differences.as_slice())
 }
 
@@ -151,7 +143,7 @@ pub fn put_block_txs(out: &mut Vec<u8>, txs: &BlockTransactions) -> Result<(), F
     ensures memory { IsOkUnless result Memory }
     ensures kept { OnOk result (IsBlockTxs txs.now) }
 {
-    out.extend_from_slice(hash_bytes(&txs.block))?;
+    out.extend_from_slice(txs.block.bytes())?;
     put_tx_items(out, txs.txs.as_slice())
 }
 
@@ -162,7 +154,7 @@ impl BlockTransactionsRequest {
         ensures size { result ≡ length (txs_request_text self.now) }
         ensures limit { result ≤ 150035 }
     {
-        differences_size(&self.differences) + hash_bytes(&self.block).len() as u64
+        differences_size(&self.differences) + self.block.bytes().len() as u64
     }
 
     /// An equal request. Fails only with `Fault::Memory`; a request without differences allocates
@@ -193,7 +185,7 @@ impl BlockTransactions {
     pub fn size(&self) -> u64
         ensures { result ≡ min (length (block_txs_text self.now)) (2 ^ 64 - 1) }
     {
-        let block = hash_bytes(&self.block).len() as u64;
+        let block = self.block.bytes().len() as u64;
         tx_items_size(self.txs.as_slice()).saturating_add(block)
     }
 

@@ -51,14 +51,6 @@ pub fn read_compact_block(alloc: Global, cursor: &mut Cursor) -> Result<HeaderAn
     Ok(HeaderAndShortIds { header, nonce, txs })
 }
 
-/// A block header's 80 bytes. Each number is in the range of its field, and each hash has 32 bytes.
-fn header_bytes(header: Header) -> [u8; 80]
-    ensures text { result ≡ header_text header }
-    ensures kept { IsHeader header }
-{
-    header.text()
-}
-
 /// Appends the payload of a `cmpctblock` to `out`. Fails only with `Fault::Memory`; `out` may then
 /// end with a part of the payload.
 #[tactic(auto, unfolding(crate::specs::CompactBlocks::compact_block_text), using(cb_tx::proofs::Appends::appends))]
@@ -69,7 +61,7 @@ pub fn put_compact_block(out: &mut Vec<u8>, block: &HeaderAndShortIds) -> Result
     // to 16,666 transactions.
     ensures kept { OnOk result (IsCompactBlock block.now) }
 {
-    out.extend_from_slice(header_bytes(block.header).as_slice())?;
+    out.extend_from_slice(&block.header.text())?;
     out.extend_from_slice(&block.nonce.to_le_bytes())?;
     put_short_form(out, &block.txs)
 }
@@ -80,7 +72,7 @@ impl HeaderAndShortIds {
     pub fn size(&self) -> u64
         ensures { result ≡ min (length (compact_block_text self.now)) (2 ^ 64 - 1) }
     {
-        let header = header_bytes(self.header).as_slice().len() as u64;
+        let header = self.header.text().as_slice().len() as u64;
         self.txs.size().saturating_add(8).saturating_add(header)
     }
 

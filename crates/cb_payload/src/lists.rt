@@ -181,21 +181,13 @@ fn read_listed_header(cursor: &mut Cursor) -> Result<Header, Fault>
     }
 }
 
-/// A block header's 80 bytes. Each number is in the range of its field, and each hash has 32 bytes.
-fn header_bytes(header: Header) -> [u8; 80]
-    ensures text { result ≡ header_text header }
-    ensures kept { IsHeader header }
-{
-    header.text()
-}
-
 #[tactic(auto, unfolding(crate::specs::Lists::listed_header_text), using(cb_tx::proofs::Appends::appends))]
 fn put_listed_header(header: Header, out: &mut Vec<u8>) -> Result<(), Fault>
     ensures ok { OnOk result (out.new.items ≡ out.old.items ++ listed_header_text header) }
     ensures memory { IsOkUnless result Memory }
     ensures kept { IsHeader header }
 {
-    out.extend_from_slice(header_bytes(header).as_slice())?;
+    out.extend_from_slice(&header.text())?;
     put_compact(out, 0)
 }
 
@@ -204,7 +196,7 @@ fn listed_header_size(header: Header) -> u64
     ensures size { result ≡ length (listed_header_text header) }
     ensures kept { IsHeader header }
 {
-    header_bytes(header).as_slice().len() as u64 + 1
+    header.text().as_slice().len() as u64 + 1
 }
 
 /// Reads a count of items that have at least `size` bytes each. Fails with `Fault::TooMany` if the

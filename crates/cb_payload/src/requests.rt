@@ -105,14 +105,6 @@ pub fn read_request(alloc: Global, cursor: &mut Cursor) -> Result<HeadersRequest
     })
 }
 
-/// The 32 bytes of a hash.
-fn hash_bytes(hash: &Hash256) -> &[u8]
-    ensures bytes { result.now ≡ hash.now.0 }
-    ensures len { length hash.now.0 ≡ 32 }
-{
-    hash.0.as_slice()
-}
-
 /// Appends the payload of a `getheaders` to `out`. Fails only with `Fault::Memory`; `out` may then
 /// end with a part of the payload.
 #[tactic(auto, unfolding(crate::specs::Requests::request_text), using(cb_tx::proofs::Appends::appends))]
@@ -123,7 +115,7 @@ pub fn put_request(out: &mut Vec<u8>, request: &HeadersRequest) -> Result<(), Fa
 {
     out.extend_from_slice(&request.version.to_le_bytes())?;
     put_list(out, request.locator.as_slice())?;
-    out.extend_from_slice(hash_bytes(&request.stop))?;
+    out.extend_from_slice(request.stop.bytes())?;
     Ok(())
 }
 
@@ -145,7 +137,7 @@ impl HeadersRequest {
         ensures size { result ≡ length (request_text self.now) }
         ensures limit { result ≤ 4000 }
     {
-        locator_size(&self.locator) + hash_bytes(&self.stop).len() as u64 + 4
+        locator_size(&self.locator) + self.stop.bytes().len() as u64 + 4
     }
 
     /// An equal request. Fails only with `Fault::Memory`; a request with an empty locator allocates

@@ -26,13 +26,6 @@ fn put_script(out: &mut Vec<u8>, script: &Script) -> Result<(), Fault>
     Ok(())
 }
 
-fn hash_bytes(hash: &Hash256) -> &[u8]
-    ensures bytes { result.now ≡ hash.now.0 }
-    ensures len { length hash.now.0 ≡ 32 }
-{
-    hash.0.as_slice()
-}
-
 #[tactic(auto, unfolding(crate::specs::Text::input_text), using(crate::proofs::Appends::appends))]
 fn put_input(out: &mut Vec<u8>, input: &TxIn) -> Result<(), Fault>
     ensures ok { OnOk result (out.new.items ≡ out.old.items ++ input_text input.now) }
@@ -43,7 +36,7 @@ fn put_input(out: &mut Vec<u8>, input: &TxIn) -> Result<(), Fault>
     ensures capacity { vec_capacity out.old ≤ vec_capacity out.new }
     ensures fits { OnOk result (IsInput input.now) }
 {
-    out.extend_from_slice(hash_bytes(&input.prev.txid))?;
+    out.extend_from_slice(input.prev.txid.bytes())?;
     out.extend_from_slice(&input.prev.index.to_le_bytes())?;
     put_script(out, &input.script)?;
     out.extend_from_slice(&input.sequence.to_le_bytes())?;
