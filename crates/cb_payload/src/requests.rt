@@ -1,17 +1,15 @@
 //! The payloads of `sendcmpct` (BIP 152) and `getheaders`.
-ghost use Rattle.std.specs.Prelude.{◌≡◌, ℕ, ◌^◌, ◌<◌, ◌≤◌, List, ◌++◌, length, All, IfOk, IsOk, IsOkUnless, OnOk, Ok, Err};
+ghost use Rattle.std.specs.Prelude.{◌≡◌, ◌^◌, ◌<◌, ◌≤◌, ◌++◌, length, IfOk, IsOk, IsOkUnless, OnOk, Ok, Err};
 ghost use Rattle.cb_base.specs.CompactSize.{Gives};
 ghost use Rattle.cb_base.specs.declared.fault.Fault.{Fault};
 ghost use Rattle.cb_base.specs.declared.fault.Fault.TheVariants.{Memory};
 ghost use Rattle.cb_tx.specs.Reading.{GivesInMemory};
-ghost use Rattle.cb_tx.specs.Text.{list_text};
-ghost use Rattle.cb_payload.specs.Lists.{IsHash, hash_text};
 ghost use Rattle.cb_payload.specs.Requests.{IsRequest, TakesMemory, compact_relay_at, compact_relay_text, flag_at, request_at, request_count_at, request_text};
 
 use crate::inventory::Locator;
-use crate::lists::{locator_size, put_list, read_list};
+use crate::lists::{locator_size, read_list};
 use cb_base::{Cursor, Fault, Hash256};
-use cb_tx::read_hash;
+use cb_tx::{put_items, read_hash};
 use std::alloc::Global;
 
 /// The payload of `sendcmpct` (BIP 152): how a peer wants new blocks to be announced.
@@ -114,7 +112,7 @@ pub fn put_request(out: &mut Vec<u8>, request: &HeadersRequest) -> Result<(), Fa
     ensures kept { OnOk result (IsRequest request.now) }
 {
     out.extend_from_slice(&request.version.to_le_bytes())?;
-    put_list(out, request.locator.as_slice())?;
+    put_items(out, request.locator.as_slice())?;
     out.extend_from_slice(request.stop.bytes())?;
     Ok(())
 }
