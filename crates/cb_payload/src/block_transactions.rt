@@ -8,12 +8,12 @@ ghost use Rattle.cb_tx.specs.Text.{IsTx, list_text, tx_text};
 ghost use Rattle.cb_payload.specs.BlockTransactions.{BlockTxsTakesMemory, IsBlockTxs, IsTxsRequest, TxsRequestTakesMemory, block_txs_at, block_txs_count_at, block_txs_text, txs_request_at, txs_request_count_at, txs_request_text};
 
 use crate::listed::Listed;
-use crate::lists::{ListItem, list_size, put_list, read_list};
+use crate::lists::read_list;
 use crate::short_form::MOST_BLOCK_TXS;
-use crate::tx_lists::{put_tx_items, share_tx_items, tx_items_of, tx_items_size};
-use cb_base::{Cursor, Fault, Hash256, put_compact};
+use crate::tx_lists::share_tx_items;
+use cb_base::{Cursor, Fault, Hash256};
 use cb_block::Txs;
-use cb_tx::{compact_size, read_count, read_hash};
+use cb_tx::{items_size, put_items, read_hash, read_items};
 use std::alloc::Global;
 
 /// Indexes of a block's transactions, differentially encoded as in BIP 152. The first is the index
@@ -38,34 +38,6 @@ pub struct BlockTransactions {
     pub block: Hash256,
     /// The requested transactions, in the order of the request.
     pub txs: Txs,
-}
-
-/// A difference of indexes is a CompactSize. It has 1 to 9 bytes; `WIDTH` is the least.
-impl ListItem for u64 {
-    ghost use Rattle.std.specs.Prelude.{◌<◌, ◌^◌};
-    ghost use Rattle.cb_base.specs.CompactSize.{compact_at, compact_text};
-
-    ghost text = { compact_text };
-
-    ghost item_at = { compact_at };
-
-    ghost is_kept = { λ number. number < 2 ^ 64 };
-
-    ghost WIDTH = { 1 };
-
-    const WIDTH: u32 = 1;
-
-    fn read(cursor: &mut Cursor) -> Result<u64, Fault> {
-        cursor.compact()
-    }
-
-    fn put(self, out: &mut Vec<u8>) -> Result<(), Fault> {
-        put_compact(out, self)
-    }
-
-    fn size(self) -> u64 {
-        compact_size(self)
-    }
 }
 
 /// Reads the payload of a `getblocktxn` (BIP 152): the block's hash, then a count and at most
@@ -99,18 +71,7 @@ pub fn put_txs_request(out: &mut Vec<u8>, request: &BlockTransactionsRequest) ->
     ensures kept { OnOk result (IsTxsRequest request.now) }
 {
     out.extend_from_slice(request.block.bytes())?;
-    put_list(out, request.differences.as_slice())
-}
-
-/// Reads a count and that many transactions.
-#[tactic(auto, unfolding(cb_tx::specs::Reading::list_at))]
-fn read_txs(alloc: Global, cursor: &mut Cursor) -> Result<Txs, Fault>
-    ensures exact { GivesInMemory (list_at 10 tx_at cursor.old) result cursor.new }
-    ensures unpaid { (fault : Fault) → count_at 10 cursor.old ≡ Err fault → result ≡ Err fault }
-    ensures paid { result ≡ Err Memory → CountsSome 10 cursor.old }
-{
-    let count = read_count(cursor, 10)?;
-    Ok(Txs::new(tx_items_of(alloc, cursor, count)?))
+    put_items(out, request.differences.as_slice())
 }
 
 /// Reads the payload of a `blocktxn` (BIP 152): the block's hash, then a count and that many
@@ -131,8 +92,11 @@ pub fn read_block_txs(alloc: Global, cursor: &mut Cursor) -> Result<BlockTransac
     ensures paid { result ≡ Err Memory → BlockTxsTakesMemory cursor.old }
 {
     let block = read_hash(cursor)?;
-    let txs = read_txs(alloc, cursor)?;
-    Ok(BlockTransactions { block, txs })
+    let txs = read_items(alloc, cursor)?;
+    Ok(BlockTransactions {
+        block,
+        txs: Txs::new(txs),
+    })
 }
 
 /// Appends the payload of a `blocktxn` to `out`. Fails only with `Fault::Memory`; `out` may then
@@ -144,7 +108,7 @@ pub fn put_block_txs(out: &mut Vec<u8>, txs: &BlockTransactions) -> Result<(), F
     ensures kept { OnOk result (IsBlockTxs txs.now) }
 {
     out.extend_from_slice(txs.block.bytes())?;
-    put_tx_items(out, txs.txs.as_slice())
+    put_items(out, txs.txs.as_slice())
 }
 
 impl BlockTransactionsRequest {
@@ -176,7 +140,7 @@ fn differences_size(differences: &Differences) -> u64
     ensures size { result ≡ length (list_text compact_text differences.now) }
     ensures limit { result ≤ 150003 }
 {
-    list_size(differences.as_slice())
+    items_size(differences.as_slice())
 }
 
 impl BlockTransactions {
@@ -186,7 +150,7 @@ impl BlockTransactions {
         ensures { result ≡ min (length (block_txs_text self.now)) (2 ^ 64 - 1) }
     {
         let block = self.block.bytes().len() as u64;
-        tx_items_size(self.txs.as_slice()).saturating_add(block)
+        items_size(self.txs.as_slice()).saturating_add(block)
     }
 
     /// An equal list that shares the transactions. Only the list itself is allocated.

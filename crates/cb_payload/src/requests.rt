@@ -9,9 +9,9 @@ ghost use Rattle.cb_payload.specs.Lists.{IsHash, hash_text};
 ghost use Rattle.cb_payload.specs.Requests.{IsRequest, TakesMemory, compact_relay_at, compact_relay_text, flag_at, request_at, request_count_at, request_text};
 
 use crate::inventory::Locator;
-use crate::lists::{locator_size, put_list, read_list};
+use crate::lists::{locator_size, read_list};
 use cb_base::{Cursor, Fault, Hash256};
-use cb_tx::read_hash;
+use cb_tx::{put_items, read_hash};
 use std::alloc::Global;
 
 /// The payload of `sendcmpct` (BIP 152): how a peer wants new blocks to be announced.
@@ -114,7 +114,7 @@ pub fn put_request(out: &mut Vec<u8>, request: &HeadersRequest) -> Result<(), Fa
     ensures kept { OnOk result (IsRequest request.now) }
 {
     out.extend_from_slice(&request.version.to_le_bytes())?;
-    put_list(out, request.locator.as_slice())?;
+    put_items(out, request.locator.as_slice())?;
     out.extend_from_slice(request.stop.bytes())?;
     Ok(())
 }
