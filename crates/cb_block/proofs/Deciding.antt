@@ -1,6 +1,6 @@
 -- The decision by levels and the relation of levels say the same of a block.
 use Rattle.std.proofs.Common.{◌≡◌, ℕ, zero, suc, ◌<◌, ◌≤◌, ◌⊎◌, true, false, List, [], ◌∷◌, length, All, refl, sym, ap, subst, ◌∙◌, arith, inl, inr}
-use Rattle.std.specs.Prelude.{◌≢◌, not, ◌&&◌, ◌==◌, Result, Ok, Err, IfErr, IfOk, is_err}
+use Rattle.std.specs.Prelude.{◌≢◌, not, ◌==◌, Result, Ok, Err, IfErr, IfOk, is_err}
 use Rattle.std.specs.Bool.{Decides}
 use Rattle.std.specs.Str.{bytes_eq}
 use Rattle.std.proofs.lemmas.Bool.{false≢true, not-true, and_parts, and_from, not_from_false, false_from_ne_true}

@@ -1,12 +1,11 @@
-ghost use Rattle.std.specs.Prelude.{◌≡◌, ℕ, ◌+◌, ◌-◌, ◌^◌, ◌<◌, ◌≤◌, ◌⊎◌, List, [], ◌++◌, length, min, slice_index, All, IfOk, IsOk, IsOkUnless, MatchResult, OnOk, OnErr, Ok, Err, vec_capacity, vec_len};
+ghost use Rattle.std.specs.Prelude.{◌≡◌, ℕ, ◌+◌, ◌-◌, ◌^◌, ◌<◌, ◌≤◌, ◌⊎◌, List, [], ◌++◌, length, min, slice_index, IfOk, IsOk, IsOkUnless, MatchResult, OnOk, OnErr, Ok, Err, vec_capacity, vec_len};
 ghost use Rattle.cb_base.specs.Reading.{ReadsInMemory};
 ghost use Rattle.cb_base.specs.declared.fault.Fault.{Fault};
 ghost use Rattle.cb_base.specs.declared.fault.Fault.TheVariants.{Memory};
-ghost use Rattle.cb_tx.specs.Reading.{CountsSome, GivesInMemory, count_at, items_at, list_at, tx_at};
-ghost use Rattle.cb_tx.specs.Text.{IsTx, list_text, tx_text};
+ghost use Rattle.cb_tx.specs.Reading.{GivesInMemory};
 ghost use Rattle.cb_tx.specs.Writing.{Extends};
 ghost use Rattle.cb_block.specs.Reading.{TakesMemory, block_at, first_count_at};
-ghost use Rattle.cb_block.specs.Text.{IsBlock, IsHeader, block_text, header_text};
+ghost use Rattle.cb_block.specs.Text.{IsBlock, block_text};
 ghost use Rattle.cb_block.specs.declared.block.Block.{Block};
 
 use crate::block::{Block, Txs};

@@ -1,10 +1,10 @@
 //! The payloads of `getblocktxn` and `blocktxn` (BIP 152).
-ghost use Rattle.std.specs.Prelude.{◌≡◌, ℕ, ◌-◌, ◌^◌, ◌<◌, ◌≤◌, List, [], ◌++◌, length, min, All, IfOk, IsOk, IsOkUnless, OnOk, Ok, Err};
+ghost use Rattle.std.specs.Prelude.{◌≡◌, ◌-◌, ◌^◌, ◌<◌, ◌≤◌, [], ◌++◌, length, min, IfOk, IsOk, IsOkUnless, OnOk, Ok, Err};
 ghost use Rattle.cb_base.specs.CompactSize.{compact_text};
 ghost use Rattle.cb_base.specs.declared.fault.Fault.{Fault};
 ghost use Rattle.cb_base.specs.declared.fault.Fault.TheVariants.{Memory};
-ghost use Rattle.cb_tx.specs.Reading.{CountsSome, GivesInMemory, count_at, list_at, tx_at};
-ghost use Rattle.cb_tx.specs.Text.{IsTx, list_text, tx_text};
+ghost use Rattle.cb_tx.specs.Reading.{GivesInMemory};
+ghost use Rattle.cb_tx.specs.Text.{list_text};
 ghost use Rattle.cb_payload.specs.BlockTransactions.{BlockTxsTakesMemory, IsBlockTxs, IsTxsRequest, TxsRequestTakesMemory, block_txs_at, block_txs_count_at, block_txs_text, txs_request_at, txs_request_count_at, txs_request_text};
 
 use crate::listed::Listed;

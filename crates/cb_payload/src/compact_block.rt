@@ -1,9 +1,8 @@
 //! The payload of `cmpctblock` (BIP 152).
-ghost use Rattle.std.specs.Prelude.{◌≡◌, ℕ, ◌-◌, ◌^◌, ◌<◌, List, ◌++◌, length, min, All, IfOk, IsOkUnless, OnOk, Ok, Err};
+ghost use Rattle.std.specs.Prelude.{◌≡◌, ◌-◌, ◌^◌, ◌<◌, ◌++◌, length, min, IfOk, IsOkUnless, OnOk, Ok, Err};
 ghost use Rattle.cb_base.specs.declared.fault.Fault.{Fault};
 ghost use Rattle.cb_base.specs.declared.fault.Fault.TheVariants.{Memory};
 ghost use Rattle.cb_tx.specs.Reading.{GivesInMemory};
-ghost use Rattle.cb_block.specs.Text.{IsHeader, header_text};
 ghost use Rattle.cb_payload.specs.CompactBlocks.{CompactBlockTakesMemory, IsCompactBlock, compact_block_at, compact_block_count_at, compact_block_text};
 
 use crate::short_form::{CompactTxs, put_short_form, read_short_form};

@@ -1,18 +1,17 @@
 //! Lists in messages: a count of at most so many, then the items.
-ghost use Rattle.std.specs.Prelude.{◌≡◌, ℕ, ◌+◌, ◌-◌, ◌^◌, ◌<◌, ◌≤◌, List, ◌++◌, length, min, All, IfOk, IsOk, IsOkUnless, MatchResult, OnOk, OnErr, Ok, Err, ◌⊎◌, vec_capacity, vec_len};
+ghost use Rattle.std.specs.Prelude.{◌≡◌, ◌+◌, ◌-◌, ◌^◌, ◌<◌, ◌≤◌, ◌++◌, length, min, IfOk, IsOkUnless, OnOk, OnErr, Err, vec_capacity, vec_len};
 ghost use Rattle.cb_base.specs.CompactSize.{Gives};
 ghost use Rattle.cb_base.specs.declared.fault.Fault.{Fault};
 ghost use Rattle.cb_base.specs.declared.fault.Fault.TheVariants.{Memory};
-ghost use Rattle.cb_block.specs.Text.{IsHeader, header_text};
-ghost use Rattle.cb_tx.specs.Reading.{GivesInMemory, items_at};
+ghost use Rattle.cb_block.specs.Text.{listed_header_text};
+ghost use Rattle.cb_tx.specs.Reading.{GivesInMemory};
 ghost use Rattle.cb_tx.specs.Text.{list_text};
 ghost use Rattle.cb_tx.specs.Writing.{Extends};
-ghost use Rattle.cb_payload.specs.Lists.{CountsSome, IsEntry, entry_at, entry_text, hash_text, limited_at, listed_at, listed_header_at, listed_header_text};
+ghost use Rattle.cb_payload.specs.Lists.{CountsSome, IsEntry, entry_at, entry_text, hash_text, limited_at, listed_at};
 
 use crate::inventory::{Entries, HeaderList, Inventory, Locator};
 use crate::listed::Listed;
-use cb_base::{Cursor, Fault, put_compact};
-use cb_block::{Header, read_header};
+use cb_base::{Cursor, Fault};
 use cb_tx::{Coded, items_of, items_size, read_hash};
 use std::alloc::Global;
 
@@ -39,34 +38,6 @@ impl Coded for Inventory {
 
     fn text_size(&self) -> u64 {
         entry_size(*self)
-    }
-}
-
-/// A header in a list: its 80 bytes and a count of 0 transactions.
-impl Coded for Header {
-    ghost use Rattle.cb_block.specs.Text.{IsHeader};
-    ghost use Rattle.cb_payload.specs.Lists.{listed_header_at, listed_header_text};
-
-    ghost text = { listed_header_text };
-
-    ghost item_at = { listed_header_at };
-
-    ghost is_kept = { IsHeader };
-
-    ghost LEAST = { 81 };
-
-    const LEAST: u32 = 81;
-
-    fn read(_alloc: Global, cursor: &mut Cursor) -> Result<Header, Fault> {
-        read_listed_header(cursor)
-    }
-
-    fn put(&self, out: &mut Vec<u8>) -> Result<(), Fault> {
-        put_listed_header(*self, out)
-    }
-
-    fn text_size(&self) -> u64 {
-        listed_header_size(*self)
     }
 }
 
@@ -103,43 +74,6 @@ fn entry_size(entry: Inventory) -> u64
 {
     let hash = entry.hash();
     hash.0.as_slice().len() as u64 + 4
-}
-
-/// Reads a header of `headers`: 80 bytes and a count of transactions. Fails with `Fault::BadBool`
-/// if the count isn't 0.
-#[tactic(auto, unfolding(crate::specs::Lists::listed_header_at))]
-fn read_listed_header(cursor: &mut Cursor) -> Result<Header, Fault>
-    ensures { Gives (listed_header_at cursor.old) result cursor.new }
-{
-    let header = read_header(cursor)?;
-    let count = cursor.compact()?;
-    if count == 0 {
-        Ok(header)
-    } else {
-        Err(Fault::BadBool)
-    }
-}
-
-#[tactic(auto, unfolding(crate::specs::Lists::listed_header_text), using(cb_tx::proofs::Appends::appends))]
-fn put_listed_header(header: Header, out: &mut Vec<u8>) -> Result<(), Fault>
-    ensures ok { OnOk result (out.new.items ≡ out.old.items ++ listed_header_text header) }
-    ensures err { OnErr result (Extends out.old.items out.new.items) }
-    ensures memory { IsOkUnless result Memory }
-    ensures full { OnErr result
-        (vec_capacity out.old < vec_len out.old + length (listed_header_text header)) }
-    ensures capacity { vec_capacity out.old ≤ vec_capacity out.new }
-    ensures kept { IsHeader header }
-{
-    out.extend_from_slice(&header.text())?;
-    put_compact(out, 0)
-}
-
-#[tactic(auto, unfolding(crate::specs::Lists::listed_header_text, cb_base::specs::CompactSize::compact_text))]
-fn listed_header_size(header: Header) -> u64
-    ensures size { result ≡ min (length (listed_header_text header)) (2 ^ 64 - 1) }
-    ensures kept { IsHeader header }
-{
-    header.text().as_slice().len() as u64 + 1
 }
 
 /// Reads a count of items that have at least `size` bytes each. Fails with `Fault::TooMany` if the

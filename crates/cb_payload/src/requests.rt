@@ -1,11 +1,9 @@
 //! The payloads of `sendcmpct` (BIP 152) and `getheaders`.
-ghost use Rattle.std.specs.Prelude.{◌≡◌, ℕ, ◌^◌, ◌<◌, ◌≤◌, List, ◌++◌, length, All, IfOk, IsOk, IsOkUnless, OnOk, Ok, Err};
+ghost use Rattle.std.specs.Prelude.{◌≡◌, ◌^◌, ◌<◌, ◌≤◌, ◌++◌, length, IfOk, IsOk, IsOkUnless, OnOk, Ok, Err};
 ghost use Rattle.cb_base.specs.CompactSize.{Gives};
 ghost use Rattle.cb_base.specs.declared.fault.Fault.{Fault};
 ghost use Rattle.cb_base.specs.declared.fault.Fault.TheVariants.{Memory};
 ghost use Rattle.cb_tx.specs.Reading.{GivesInMemory};
-ghost use Rattle.cb_tx.specs.Text.{list_text};
-ghost use Rattle.cb_payload.specs.Lists.{IsHash, hash_text};
 ghost use Rattle.cb_payload.specs.Requests.{IsRequest, TakesMemory, compact_relay_at, compact_relay_text, flag_at, request_at, request_count_at, request_text};
 
 use crate::inventory::Locator;

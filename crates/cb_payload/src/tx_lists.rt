@@ -1,5 +1,5 @@
 //! Prefilled transactions, and sharing the transactions of `blocktxn` and `cmpctblock`.
-ghost use Rattle.std.specs.Prelude.{◌≡◌, ℕ, ◌+◌, ◌-◌, ◌^◌, ◌<◌, ◌≤◌, List, [], ◌++◌, length, min, All, IfOk, IsOk, IsOkUnless, MatchResult, OnOk, OnErr, Ok, Err, ◌⊎◌, vec_capacity, vec_len};
+ghost use Rattle.std.specs.Prelude.{◌≡◌, ◌+◌, ◌-◌, ◌^◌, ◌<◌, ◌≤◌, [], ◌++◌, length, min, IfOk, IsOk, IsOkUnless, OnOk, OnErr, Ok, vec_capacity, vec_len};
 ghost use Rattle.cb_base.specs.declared.fault.Fault.TheVariants.{Memory};
 ghost use Rattle.cb_tx.specs.Reading.{GivesInMemory};
 ghost use Rattle.cb_tx.specs.Writing.{Extends};
