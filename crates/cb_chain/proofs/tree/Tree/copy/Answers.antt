@@ -1,7 +1,7 @@
 use Rattle.std.proofs.Common.{◌≡◌, ◌≤◌, length, ℕ, List, subst, sym, ◌∙◌, rules, arith}
 use Rattle.std.proofs.lemmas.Grind.{common_steps}
 use Rattle.std.proofs.lemmas.List.{take_all}
-use Rattle.cb_chain.specs.declared.node.Node.{Node}
+use Rattle.cb_chain.specs.Marking.{Node}
 use Rattle.cb_chain.specs.Keeping.{AreLinks, IsPlaced}
 use Rattle.cb_chain.proofs.Nodes.{entries_like}
 use Rattle.cb_chain.proofs.tree.Tree.copy.Goals as goal

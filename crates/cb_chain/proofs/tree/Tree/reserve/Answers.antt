@@ -1,5 +1,5 @@
 use Rattle.std.proofs.Common.{ℕ, subst, sym, List, rules}
-use Rattle.cb_chain.specs.declared.node.Node.{Node}
+use Rattle.cb_chain.specs.Marking.{Node}
 use Rattle.cb_chain.specs.Keeping.{AreLinks, IsPlaced}
 use Rattle.cb_chain.proofs.Nodes.{placed_like}
 use Rattle.cb_chain.proofs.tree.Tree.reserve.Goals as goal
