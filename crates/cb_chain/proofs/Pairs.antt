@@ -1,12 +1,12 @@
 -- Nodes and the marks that are stored beside them.
 use Rattle.std.proofs.Common.{◌≡◌, ℕ, zero, suc, ◌+◌, ◌<◌, ◌≤◌, Bool, true, false, List, [], ◌∷◌, ◌++◌, length, get_or, map, take, drop, Some, None, refl, sym, ap, subst, ◌∙◌, arith}
-use Rattle.std.specs.Prelude.{reverse, slice_get}
+use Rattle.std.specs.Prelude.{IsSome, reverse, slice_get}
 use Rattle.std.proofs.lemmas.List.{length-map, map-set, reverse-reverse, take_at}
 use Rattle.std.proofs.lemmas.Option.{same_Some}
 use Rattle.std.proofs.Math.ListN.{set}
 use Rattle.cb_base.specs.declared.hash.Hash256.{Hash256}
 use Rattle.cb_chain.specs.declared.node.BareNode.{BareNode}
-use Rattle.cb_chain.specs.Keeping.{mark_nodes, marked_nodes}
+use Rattle.cb_chain.specs.Keeping.{AreLinks, IsMarked, IsTree, block_at, mark_nodes, marked_nodes}
 use Rattle.cb_chain.specs.Marking.{Node, mark_at, marks_of, node_of, with_marks}
 use Rattle.cb_chain.proofs.Marks.{marked_as}
 use Rattle.cb_chain.proofs.Nodes.{map_reverse}
@@ -91,6 +91,21 @@ marks_set (first ∷ nodes) (suc place) node = ap (λ (ms : List Bool). first.ma
 pub length_marks_of : (nodes : List Node) → length (marks_of nodes) ≡ length nodes
 length_marks_of nodes = length-map nodes (λ (node : Node). node.marked)
 
--- the marks are lent whole, and come back
-pub lent_marks : (old new : List Bool) (count : ℕ) → count ≡ length old → length new ≡ length old → take count (new ++ drop (length new) old) ≡ new
-lent_marks old new count all long = take_at new (drop (length new) old) count (long ∙ sym all)
+-- ---- marks and links that are lent whole
+
+pub lent_are : (bares : List BareNode) (marks lent : List Bool) (newest elder n e : List ℕ) (first : ℕ) → length bares ≡ length marks → IsTree (with_marks bares marks) → AreLinks (with_marks bares marks) newest elder
+    → IsSome (block_at (with_marks bares marks) first) → lent ≡ marks → n ≡ newest → e ≡ elder → IsMarked (with_marks bares marks) lent n e first
+lent_are bares marks lent newest elder n e first long is links kept same top older =
+    let old = with_marks bares marks in
+    record {
+      tree = is;
+      links = subst (λ (ps : List ℕ). AreLinks old ps e) (sym top) (subst (AreLinks old newest) (sym older) links);
+      kept = kept;
+      marks_are = same ∙ sym (marks_with bares marks long);
+    }
+
+-- the marks come back
+pub lent_marks : (bares : List BareNode) (marks lent new : List Bool) (count : ℕ) (first : Hash256) → length bares ≡ length marks → count ≡ length marks → lent ≡ marks → length new ≡ length lent
+    → new ≡ marks_of (marked_nodes first (with_marks bares marks)) → with_marks bares (take count (new ++ drop (length new) marks)) ≡ marked_nodes first (with_marks bares marks)
+lent_marks bares marks lent new count first long all same kept is =
+    ap (with_marks bares) (take_at new (drop (length new) marks) count (kept ∙ ap length same ∙ sym all)) ∙ with_marked bares marks new first long is

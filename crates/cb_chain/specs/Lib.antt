@@ -11,3 +11,4 @@ pub mod Locator
 pub mod Marking
 pub mod Plans
 pub mod Sides
+pub mod Spots

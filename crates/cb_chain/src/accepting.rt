@@ -1,14 +1,14 @@
-ghost use Rattle.std.specs.Prelude.{◌≡◌, ◌≢◌, ◌⊎◌, ◌∷◌, [], Bool, List, map, reverse, true, None, Some, Ok, Err, IfErr, IfOk, MatchResult, OnOk};
+ghost use Rattle.std.specs.Prelude.{◌≡◌, ◌≢◌, ◌⊎◌, ◌∷◌, [], List, map, reverse, true, None, Some, Ok, Err, IfErr, IfOk, MatchResult, OnOk};
 ghost use Rattle.cb_base.specs.declared.fault.Fault.TheVariants.{Memory};
 ghost use Rattle.cb_block.specs.Work.{HasWork};
 ghost use Rattle.cb_chain.specs.Best.{best};
 ghost use Rattle.cb_chain.specs.Calls.{AcceptsBlock, AcceptsHeader, block_fault, header_fault, joined};
 ghost use Rattle.cb_chain.specs.Entries.{block_hash, is_kept};
 ghost use Rattle.cb_chain.specs.History.{BlockCall, Call, HeaderCall, IsHistoric, IsHistory};
-ghost use Rattle.cb_chain.specs.Keeping.{IsSpot, IsTree, node_on, parent_fault, tree_of};
+ghost use Rattle.cb_chain.specs.Keeping.{IsSpot, IsTree, parent_fault, tree_of};
 ghost use Rattle.cb_chain.specs.Following.{headers_above};
-ghost use Rattle.cb_chain.specs.Marking.{node_of};
 ghost use Rattle.cb_chain.specs.Laws.{LeadsOver, MayLead, Stays, active_hashes};
+ghost use Rattle.cb_chain.specs.Spots.{placed_on};
 
 use crate::chain::Chain;
 use crate::change::{Change, Hashes};
@@ -32,7 +32,7 @@ pub(crate) struct Spot {
 impl Spot {
     /// The tree node of the header, with its block if that is kept.
     pub(crate) fn node(self, kept: Option<Kept>) -> BareNode
-        ensures { (marked : Bool) → node_of result marked ≡ node_on self kept marked }
+        ensures { result ≡ placed_on self kept }
     {
         BareNode {
             header: self.header,

@@ -19,7 +19,7 @@ loop-turn-init c =
     (λ nodes is. (nodes, walked_starts nodes c.args.first c.push.new.self.items found, is.marks_are), omega (arith, c.clear.ensures.capacity, c.push.ensures.capacity))
 
 -- the place is a node's, so many turns are left, and there is room for what is found
-here : (c : goal.After-index-place) → (c.index-place.result.now < length c.loop-turn.marks) × (c.loop-turn.turn < length c.args.marks.now) × (length c.loop-turn.found.items + length (above_at (above_first c.requires.tree.0) c.index-place.result.now) ≤ length c.args.marks.now)
+here : (c : goal.After-row_known-1) → (c.index-place.result.now < length c.loop-turn.marks) × (c.loop-turn.turn < length c.args.marks.now) × (length c.loop-turn.found.items + length (above_at (above_first c.requires.tree.0) c.index-place.result.now) ≤ length c.args.marks.now)
     × (c.index-place.result.now < length c.args.newest.now)
 here c =
     let nodes = c.requires.tree.0 in

@@ -10,6 +10,7 @@ use Rattle.cb_chain.specs.History.{IsHistoric}
 use Rattle.cb_chain.specs.Keeping.{active_places, climb, tree_of}
 use Rattle.cb_chain.specs.Plans.{Moved}
 use Rattle.cb_chain.specs.Sides.{IsChain}
+use Rattle.cb_chain.specs.declared.node.BareNode.{BareNode}
 use Rattle.cb_chain.specs.Marking.{Node, node_of}
 use Rattle.cb_chain.specs.declared.side_chain.Side.{Side}
 use Rattle.cb_chain.proofs.Ledgers.{rests_let_go, rests_still}
@@ -78,7 +79,7 @@ ended c =
     let node = node_of c.node-2.result false in
     let is =
     ready c.args.self.now was.tree.nodes nodes c.args.spot c.args.kept node was.active.items path was.tree.undos undos unspent was.side c.self.view_is c.reserve.ensures.same c.reserve.ensures.tree c.self.invariant.0
-    c.in_ok-reserve-2.ensures.items c.reserve.ensures.undos c.requires.spot c.requires.none c.requires.higher (c.node-2.ensures false) in
+    c.in_ok-reserve-2.ensures.items c.reserve.ensures.undos c.requires.spot c.requires.none c.requires.higher (ap (λ (b : BareNode). node_of b false) c.node-2.ensures) in
     let plan = c.in_ok-fork.field-0 in
     let after = c.connect.new.self.unspent in
     let leads : LeadsBack c.in-Ok.undo c.args.kept.txs unspent after = subst (λ (b : Block). LeadsBack c.in-Ok.undo b.txs unspent after) c.block.ensures.same c.in-Ok.ensures.undo in
@@ -125,7 +126,7 @@ mark_stop-requires-clause-place c =
     let node = node_of c.node.result false in
     let is =
     ready c.args.self.now was.tree.nodes nodes c.args.spot c.args.kept node was.active.items path was.tree.undos undos unspent was.side c.self.view_is c.reserve.ensures.same c.reserve.ensures.tree c.self.invariant.0
-    c.in_ok-reserve-2.ensures.items c.reserve.ensures.undos c.requires.spot c.requires.none c.requires.higher (c.node.ensures false) in
+    c.in_ok-reserve-2.ensures.items c.reserve.ensures.undos c.requires.spot c.requires.none c.requires.higher (ap (λ (b : BareNode). node_of b false) c.node.ensures) in
     let fault = c.in-Err.fault in
     let last = c.len-last.result in
     let told : (fault ≡ Memory) ⊎ (spend unspent c.args.kept.txs ≡ Err fault) = subst (λ (b : Block). (fault ≡ Memory) ⊎ (spend unspent b.txs ≡ Err fault)) c.block.ensures.same c.in-Err.ensures.exact in
@@ -143,7 +144,7 @@ stopped c =
     let node = node_of c.node.result false in
     let is =
     ready c.args.self.now was.tree.nodes nodes c.args.spot c.args.kept node was.active.items path was.tree.undos undos unspent was.side c.self.view_is c.reserve.ensures.same c.reserve.ensures.tree c.self.invariant.0
-    c.in_ok-reserve-2.ensures.items c.reserve.ensures.undos c.requires.spot c.requires.none c.requires.higher (c.node.ensures false) in
+    c.in_ok-reserve-2.ensures.items c.reserve.ensures.undos c.requires.spot c.requires.none c.requires.higher (ap (λ (b : BareNode). node_of b false) c.node.ensures) in
     let fault = c.in-Err.fault in
     let last = c.len-last.result in
     let told : (fault ≡ Memory) ⊎ (spend unspent c.args.kept.txs ≡ Err fault) = subst (λ (b : Block). (fault ≡ Memory) ⊎ (spend unspent b.txs ≡ Err fault)) c.block.ensures.same c.in-Err.ensures.exact in

@@ -2,6 +2,7 @@ use Rattle.std.proofs.Common.{◌≡◌, ◌-◌, ◌<◌, ◌⊎◌, ◌++◌, 
 use Rattle.std.proofs.lemmas.Result.{err_from_is_err_and}
 use Rattle.std.specs.Prelude.{IsSome}
 use Rattle.cb_base.specs.declared.fault.Fault.TheVariants.{Memory}
+use Rattle.cb_chain.specs.declared.node.BareNode.{BareNode}
 use Rattle.cb_chain.specs.Marking.{Node, node_of}
 use Rattle.cb_chain.specs.Best.{best}
 use Rattle.cb_chain.specs.Entries.{Tree}
@@ -79,7 +80,7 @@ mark_stop-requires-clause-place c =
     let node = node_of c.node.result false in
     let is =
     ready c.args.self.now was.tree.nodes nodes c.args.spot c.args.kept node path path was.tree.undos undos unspent was.side c.self.view_is c.reserve.ensures.same c.reserve.ensures.tree c.self.invariant.0 refl c.reserve.ensures.undos
-    c.requires.spot c.requires.none c.requires.higher (c.node.ensures false) in
+    c.requires.spot c.requires.none c.requires.higher (ap (λ (b : BareNode). node_of b false) c.node.ensures) in
     let place = c.in-Err.stop.place in
     let fault = c.in-Err.stop.fault in
     subst (λ (ns : List Node). (fault ≡ Memory) ⊎ ((0 < place) × IsSome (block_at (ns ++ node ∷ []) place))) (sym c.try_on-tried.ensures.nodes)
@@ -97,7 +98,7 @@ stopped c =
     let node = node_of c.node.result false in
     let is =
     ready c.args.self.now was.tree.nodes nodes c.args.spot c.args.kept node path path was.tree.undos undos unspent was.side c.self.view_is c.reserve.ensures.same c.reserve.ensures.tree c.self.invariant.0 refl c.reserve.ensures.undos
-    c.requires.spot c.requires.none c.requires.higher (c.node.ensures false) in
+    c.requires.spot c.requires.none c.requires.higher (ap (λ (b : BareNode). node_of b false) c.node.ensures) in
     let tried = c.try_on-tried.new.tree.undos in
     let last = c.starts_from-side.new.side in
     let same : c.try_on-tried.new.tree.nodes ≡ nodes = c.try_on-tried.ensures.nodes in
@@ -168,7 +169,7 @@ ended c =
     let node = node_of c.node-2.result false in
     let is =
     ready c.args.self.now was.tree.nodes nodes c.args.spot c.args.kept node path path was.tree.undos undos unspent was.side c.self.view_is c.reserve.ensures.same c.reserve.ensures.tree c.self.invariant.0 refl c.reserve.ensures.undos
-    c.requires.spot c.requires.none c.requires.higher (c.node-2.ensures false) in
+    c.requires.spot c.requires.none c.requires.higher (ap (λ (b : BareNode). node_of b false) c.node-2.ensures) in
     let tried = c.try_on-tried.new.tree.undos in
     let last = c.starts_from-side.new.side in
     let same : c.try_on-tried.new.tree.nodes ≡ nodes = c.try_on-tried.ensures.nodes in
