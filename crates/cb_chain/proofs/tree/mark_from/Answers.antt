@@ -1,9 +1,9 @@
 use Rattle.std.proofs.Common.{◌≡◌, ◌<◌, ◌≤◌, ◌+◌, ◌++◌, ◌∷◌, ℕ, [], Bool, List, get_or, length, rules, refl, sym, ap, ◌∙◌, arith, true}
 use Rattle.std.proofs.Math.ListN.{set}
 use Rattle.std.proofs.lemmas.Option.{slice_get_within}
-use Rattle.cb_chain.specs.Keeping.{above_at, above_first, marked_nodes}
+use Rattle.cb_chain.specs.Keeping.{IsMarked, above_at, above_first, marked_nodes}
 use Rattle.cb_chain.specs.Marking.{Node, marks_of}
-use Rattle.cb_chain.proofs.Branches.{turned, walked_ends, walked_goes, walked_starts, walked_within}
+use Rattle.cb_chain.proofs.Branches.{Walked, turned, walked_ends, walked_goes, walked_starts, walked_within}
 use Rattle.cb_chain.proofs.Marks.{marked_as, one_node, target_at}
 use Rattle.cb_chain.proofs.Pairs.{length_marks_of, marks_set}
 use Rattle.cb_chain.proofs.tree.mark_from.Goals as goal
@@ -19,41 +19,60 @@ loop-turn-init c =
     (λ nodes is. (nodes, walked_starts nodes c.args.first c.push.new.self.items found, is.marks_are), omega (arith, c.clear.ensures.capacity, c.push.ensures.capacity))
 
 -- the place is a node's, so many turns are left, and there is room for what is found
-here : (c : goal.After-row_known-1) → (c.index-place.result.now < length c.loop-turn.marks) × (c.loop-turn.turn < length c.args.marks.now) × (length c.loop-turn.found.items + length (above_at (above_first c.requires.tree.0) c.index-place.result.now) ≤ length c.args.marks.now)
-    × (c.index-place.result.now < length c.args.newest.now)
-here c =
-    let nodes = c.requires.tree.0 in
-    let is = c.requires.tree.1 in
-    let now = c.loop-turn.invariant.0 nodes is in
-    let target = target_at nodes c.args.first is.kept in
-    let lt : c.loop-turn.turn < length c.loop-turn.found.items = omega (arith, c.loop-turn-test.true, c.len.ensures, c.loop-turn.found.ok.0) in
-    let turn = turned nodes c.args.first c.loop-turn.turn c.index-place.result.now c.loop-turn.found.items now.0 target.0 is.tree c.requires.above target.1 now.1 lt c.index-place.ensures in
-    let low = walked_within nodes c.args.first c.loop-turn.turn c.index-place.result.now c.loop-turn.found.items now.0 is.tree c.requires.above (slice_get_within nodes c.args.first target.0 target.1) now.1 lt c.index-place.ensures in
-    let all = count nodes c.args.marks.now is.marks_are in (
-      omega (arith, turn.0, count now.0 c.loop-turn.marks now.2),
-      omega (arith, turn.1, all),
-      omega (arith, turn.2, all),
+here : (nodes : List Node) (marks new : List Bool) (newest elder found : List ℕ) (first turn place : ℕ) → IsMarked nodes marks newest elder first → 0 < first → (now : List Node) × Walked nodes first turn found now × (new ≡ marks_of now) → turn < length found
+    → place ≡ get_or found turn place → (place < length new) × (turn < length marks) × (length found + length (above_at (above_first nodes) place) ≤ length marks) × (place < length newest)
+here nodes marks new newest elder found first turn place is some now lt read =
+    let target = target_at nodes first is.kept in
+    let at = turned nodes first turn place found now.0 target.0 is.tree some target.1 now.1 lt read in
+    let low = walked_within nodes first turn place found now.0 is.tree some (slice_get_within nodes first target.0 target.1) now.1 lt read in
+    let all = count nodes marks is.marks_are in (
+      omega (arith, at.0, count now.0 new now.2),
+      omega (arith, at.1, all),
+      omega (arith, at.2, all),
       omega (arith, low, is.links.newest_long),
     )
 
 pub bounds-marks-place : goal.bounds-marks-place
-bounds-marks-place c = (here c).0
+bounds-marks-place c =
+    let nodes = c.requires.tree.0 in
+    let is = c.requires.tree.1 in
+    let lt : c.loop-turn.turn < length c.loop-turn.found.items = omega (arith, c.loop-turn-test.true, c.len.ensures, c.loop-turn.found.ok.0) in
+    let at = here nodes c.args.marks.now c.loop-turn.marks c.args.newest.now c.args.elder.now c.loop-turn.found.items c.args.first c.loop-turn.turn c.index-place.result.now is c.requires.above (c.loop-turn.invariant.0 nodes is) lt c.index-place.ensures in
+    at.0
 
 pub offset_bounds-newest-place : goal.offset_bounds-newest-place
-offset_bounds-newest-place c = let low = (here c).3 in search rules
+offset_bounds-newest-place c =
+    let nodes = c.requires.tree.0 in
+    let is = c.requires.tree.1 in
+    let lt : c.loop-turn.turn < length c.loop-turn.found.items = omega (arith, c.loop-turn-test.true, c.len.ensures, c.loop-turn.found.ok.0) in
+    let at = here nodes c.args.marks.now c.loop-turn.marks c.args.newest.now c.args.elder.now c.loop-turn.found.items c.args.first c.loop-turn.turn c.index-place.result.now is c.requires.above (c.loop-turn.invariant.0 nodes is) lt c.index-place.ensures in
+    let low = at.3 in
+    search rules
 
 pub bounds-newest-place : goal.bounds-newest-place
-bounds-newest-place c = (here c).3
+bounds-newest-place c =
+    let nodes = c.requires.tree.0 in
+    let is = c.requires.tree.1 in
+    let lt : c.loop-turn.turn < length c.loop-turn.found.items = omega (arith, c.loop-turn-test.true, c.len.ensures, c.loop-turn.found.ok.0) in
+    let at = here nodes c.args.marks.now c.loop-turn.marks c.args.newest.now c.args.elder.now c.loop-turn.found.items c.args.first c.loop-turn.turn c.index-place.result.now is c.requires.above (c.loop-turn.invariant.0 nodes is) lt c.index-place.ensures in
+    at.3
 
 pub push_linked-requires : goal.push_linked-requires
 push_linked-requires c =
     let nodes = c.requires.tree.0 in
     let is = c.requires.tree.1 in
+    let lt : c.loop-turn.turn < length c.loop-turn.found.items = omega (arith, c.loop-turn-test.true, c.len.ensures, c.loop-turn.found.ok.0) in
+    let at = here nodes c.args.marks.now c.loop-turn.marks c.args.newest.now c.args.elder.now c.loop-turn.found.items c.args.first c.loop-turn.turn c.index-place.result.now is c.requires.above (c.loop-turn.invariant.0 nodes is) lt c.index-place.ensures in
     let place = c.index-place.result.now in
-    record { links = (above_at (above_first nodes) place, is.links.each place, omega (arith, (here c).2, c.loop-turn.invariant.1, c.requires.room, c.loop-turn.found.ok.0)) }
+    record { links = (above_at (above_first nodes) place, is.links.each place, omega (arith, at.2, c.loop-turn.invariant.1, c.requires.room, c.loop-turn.found.ok.0)) }
 
 pub loop-turn-smaller : goal.loop-turn-smaller
-loop-turn-smaller c = omega (arith, (here c).1)
+loop-turn-smaller c =
+    let nodes = c.requires.tree.0 in
+    let is = c.requires.tree.1 in
+    let lt : c.loop-turn.turn < length c.loop-turn.found.items = omega (arith, c.loop-turn-test.true, c.len.ensures, c.loop-turn.found.ok.0) in
+    let at = here nodes c.args.marks.now c.loop-turn.marks c.args.newest.now c.args.elder.now c.loop-turn.found.items c.args.first c.loop-turn.turn c.index-place.result.now is c.requires.above (c.loop-turn.invariant.0 nodes is) lt c.index-place.ensures in
+    omega (arith, at.1)
 
 pub loop-turn-preserved : goal.loop-turn-preserved
 loop-turn-preserved c =

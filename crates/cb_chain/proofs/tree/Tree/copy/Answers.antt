@@ -5,16 +5,14 @@ use Rattle.cb_chain.specs.Marking.{Node, with_marks}
 use Rattle.cb_chain.proofs.Nodes.{entries_like}
 use Rattle.cb_chain.proofs.tree.Tree.copy.Goals as goal
 
-copied : (c : goal.In_ok-nodes) → with_marks c.in_ok-nodes.nodes.nodes c.in_ok-marks.marks.items ≡ with_marks c.self.inside.nodes.nodes c.self.inside.marks.items
-copied c =
-    ap (λ (bs : List BareNode). with_marks bs c.in_ok-marks.marks.items) c.in_ok-nodes.ensures.same ∙ ap (with_marks c.self.inside.nodes.nodes) (c.in_ok-marks.ensures.items ∙ c.as_slice-4.ensures.value)
-
 pub invariant_of-result : goal.invariant_of-result
 invariant_of-result c =
+    let copied : with_marks c.in_ok-nodes.nodes.nodes c.in_ok-marks.marks.items ≡ with_marks c.self.inside.nodes.nodes c.self.inside.marks.items =
+    ap (λ (bs : List BareNode). with_marks bs c.in_ok-marks.marks.items) c.in_ok-nodes.ensures.same ∙ ap (with_marks c.self.inside.nodes.nodes) (c.in_ok-marks.ensures.items ∙ c.as_slice-4.ensures.value) in
     let old = with_marks c.self.inside.nodes.nodes c.self.inside.marks.items in
     let places = entries_like c.self.inside.places.entries c.in_ok-places.places.entries c.in_ok-places.ensures.cases in (
-      subst (λ es. IsPlaced (with_marks c.in_ok-nodes.nodes.nodes c.in_ok-marks.marks.items) es) (sym places) (subst (λ (ns : List Node). IsPlaced ns c.self.inside.places.entries) (sym (copied c)) c.self.invariant.0),
-      subst (λ (ns : List Node). AreLinks ns c.in_ok-newest.newest.items c.in_ok-elder.elder.items) (sym (copied c))
+      subst (λ es. IsPlaced (with_marks c.in_ok-nodes.nodes.nodes c.in_ok-marks.marks.items) es) (sym places) (subst (λ (ns : List Node). IsPlaced ns c.self.inside.places.entries) (sym copied) c.self.invariant.0),
+      subst (λ (ns : List Node). AreLinks ns c.in_ok-newest.newest.items c.in_ok-elder.elder.items) (sym copied)
           (subst (λ (ps : List ℕ). AreLinks old ps c.in_ok-elder.elder.items) (sym (c.in_ok-newest.ensures.items ∙ c.as_slice.ensures.value))
           (subst (AreLinks old c.self.inside.newest.items) (sym (c.in_ok-elder.ensures.items ∙ c.as_slice-2.ensures.value)) c.self.invariant.1)),
       search rules,
@@ -22,4 +20,7 @@ invariant_of-result c =
     )
 
 pub returns-clause-same : goal.returns-clause-same
-returns-clause-same c = copied c ∙ ap (λ (g : Grown). g.nodes) c.self.view_is
+returns-clause-same c =
+    let copied : with_marks c.in_ok-nodes.nodes.nodes c.in_ok-marks.marks.items ≡ with_marks c.self.inside.nodes.nodes c.self.inside.marks.items =
+    ap (λ (bs : List BareNode). with_marks bs c.in_ok-marks.marks.items) c.in_ok-nodes.ensures.same ∙ ap (with_marks c.self.inside.nodes.nodes) (c.in_ok-marks.ensures.items ∙ c.as_slice-4.ensures.value) in
+    copied ∙ ap (λ (g : Grown). g.nodes) c.self.view_is
