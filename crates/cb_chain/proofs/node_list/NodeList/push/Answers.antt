@@ -1,7 +1,6 @@
 use Rattle.std.proofs.Common.{◌≡◌, ◌∙◌, ◌++◌, ◌∷◌, ◌≤◌, [], All, length, ap, subst, sym, arith, rules, vec_capacity}
 use Rattle.std.specs.Prelude.{IfSome}
 use Rattle.std.proofs.lemmas.List.Elements.{All-pop, All-push}
-use Rattle.cb_chain.specs.declared.node.BareNode.{BareNode}
 use Rattle.cb_chain.specs.Listing.{Listed, listed}
 use Rattle.cb_chain.proofs.Chunks.{IsWhole, listed_closed, listed_more}
 use Rattle.cb_chain.proofs.node_list.NodeList.push.Goals as goal

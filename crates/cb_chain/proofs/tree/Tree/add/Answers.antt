@@ -1,4 +1,4 @@
-use Rattle.std.proofs.Common.{◌≡◌, ◌<◌, ◌+◌, ◌∷◌, ◌++◌, [], ℕ, Bool, Some, ap, drop, subst, sym, ◌∙◌, List, length, length-append, rules, arith}
+use Rattle.std.proofs.Common.{◌≡◌, ◌<◌, ◌+◌, ◌∷◌, ◌++◌, [], ℕ, Some, ap, drop, subst, sym, ◌∙◌, List, length, length-append, rules, arith}
 use Rattle.std.proofs.lemmas.List.{take_at}
 use Rattle.cb_chain.specs.declared.node.BareNode.{BareNode}
 use Rattle.cb_chain.specs.Keeping.{AreLinks, IsPlaced, IsNode, Grown, tree_of}

@@ -1,4 +1,4 @@
-use Rattle.std.proofs.Common.{◌≡◌, Bool, Some, None, refl, subst, sym, ap, ◌∙◌}
+use Rattle.std.proofs.Common.{◌≡◌, Bool, Some, refl, subst, sym, ◌∙◌}
 use Rattle.cb_chain.specs.Entries.{entry_of}
 use Rattle.cb_chain.specs.Keeping.{entry_from, tree_of}
 use Rattle.cb_chain.specs.Marking.{mark_at, node_of}

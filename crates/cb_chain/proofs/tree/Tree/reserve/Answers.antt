@@ -1,6 +1,6 @@
 use Rattle.std.proofs.Common.{◌≡◌, ◌∙◌, ℕ, length, ap, subst, sym, arith, List, rules}
 use Rattle.cb_chain.specs.declared.node.BareNode.{BareNode}
-use Rattle.cb_chain.specs.Keeping.{AreLinks, Grown, IsPlaced}
+use Rattle.cb_chain.specs.Keeping.{AreLinks, IsPlaced}
 use Rattle.cb_chain.specs.Marking.{Node, with_marks}
 use Rattle.cb_chain.proofs.Nodes.{placed_like}
 use Rattle.cb_chain.proofs.tree.Tree.reserve.Goals as goal
