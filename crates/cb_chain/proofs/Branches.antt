@@ -1,6 +1,6 @@
 -- The places that are found from a block up: its own, and then those of the kept blocks on each of them. So they are those
 -- of the kept blocks above it.
-use Rattle.std.proofs.Common.{◌≡◌, ℕ, zero, suc, ◌+◌, ◌<◌, ◌≤◌, ◌⊎◌, Bool, true, false, cond, List, [], ◌∷◌, ◌++◌, length, length-append, get_or, map, take, drop, Some, None, refl, sym, ap, subst, ◌∙◌, arith, inl, inr}
+use Rattle.std.proofs.Common.{◌≡◌, ℕ, zero, suc, ◌+◌, ◌<◌, ◌≤◌, ◌⊎◌, Bool, true, false, cond, List, [], ◌∷◌, ◌++◌, length, length-append, get_or, map, take, drop, Option, Some, None, refl, sym, ap, subst, ◌∙◌, arith, inl, inr}
 use Rattle.std.specs.Prelude.{◌&&◌, ◌||◌, flat_map, is_some, nat_eq, nat_lt, option_map, reverse, slice_get}
 use Rattle.std.proofs.lemmas.Bool.{cases_Bool, cases_lt, false≢true}
 use Rattle.std.proofs.lemmas.Bool.Decides.{nat_tests}
@@ -8,7 +8,7 @@ use Rattle.std.proofs.lemmas.List.{flat_map_more, length-map, reverse-reverse, t
 use Rattle.std.proofs.lemmas.Option.{get_or_from_slice_get, same_Some, slice_get_within}
 use Rattle.std.proofs.Math.ListN.{set}
 use Rattle.cb_base.specs.declared.hash.Hash256.{Hash256}
-use Rattle.cb_chain.specs.declared.node.Node.{Node}
+use Rattle.cb_chain.specs.Marking.{Node}
 use Rattle.cb_chain.specs.Entries.{block_hash, genesis_hash, same, is_kept}
 use Rattle.cb_chain.specs.Best.{leads_through}
 use Rattle.cb_chain.specs.Keeping.{AreNodes, IsTree, above_at, above_first, entry_from, mark_node, mark_nodes, marked_nodes, place_of, tree_of}
@@ -253,12 +253,20 @@ pub record Walked (nodes : List Node) (f turn : ℕ) (found : List ℕ) (now : L
   pub found_is : IsFound nodes f turn found
   pub are : (p : ℕ) → slice_get now p ≡ option_map (marked_as (has p (take turn found))) (slice_get nodes p)
 
+not_marked : (o : Option Node) → o ≡ option_map (marked_as false) o
+not_marked None = refl
+not_marked (Some node) = refl
+
+-- before the first turn
+pub walked_starts : (nodes : List Node) (f : ℕ) (found : List ℕ) → found ≡ f ∷ [] → Walked nodes f 0 found nodes
+walked_starts nodes f found e = rw e (record { found_is = refl; are = λ p. not_marked (slice_get nodes p) })
+
 count_there : (xs : List ℕ) (i d : ℕ) → i < length xs → 0 < count (get_or xs i d) xs
 count_there [] i d lt = absurd (omega (arith, lt))
 count_there (x ∷ xs) zero d lt = rw (eq_same x x refl) (omega arith)
 count_there (x ∷ xs) (suc i) d lt = omega (arith, count_there xs i d (omega (arith, lt)))
 
-walked_within : (nodes : List Node) (f turn place : ℕ) (found : List ℕ) (now : List Node) → IsTree nodes → 0 < f → f < length nodes → Walked nodes f turn found now → turn < length found → place ≡ get_or found turn place
+pub walked_within : (nodes : List Node) (f turn place : ℕ) (found : List ℕ) (now : List Node) → IsTree nodes → 0 < f → f < length nodes → Walked nodes f turn found now → turn < length found → place ≡ get_or found turn place
     → place < length nodes
 walked_within nodes f turn place found now is some low walked lt read =
     elim (placed nodes place is) [

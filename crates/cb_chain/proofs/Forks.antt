@@ -8,7 +8,7 @@ use Rattle.std.proofs.lemmas.Option.{same_Some}
 use Rattle.cb_base.specs.declared.hash.Hash256.{Hash256}
 use Rattle.cb_block.specs.declared.header.Header.{Header}
 use Rattle.cb_block.specs.Genesis.{genesis_header}
-use Rattle.cb_chain.specs.declared.node.Node.{Node}
+use Rattle.cb_chain.specs.Marking.{Node}
 use Rattle.cb_chain.specs.Entries.{Entry, Tree, block_hash, same}
 use Rattle.cb_chain.specs.Best.{active, best}
 use Rattle.cb_chain.specs.Following.{above_branch, stands_at}

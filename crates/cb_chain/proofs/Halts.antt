@@ -7,7 +7,7 @@ use Rattle.cb_base.specs.declared.hash.Hash256.{Hash256}
 use Rattle.cb_block.specs.declared.block.Block.{Block}
 use Rattle.cb_ledger.specs.declared.undo.CoinChange.{CoinChange}
 use Rattle.cb_ledger.specs.Unspent.{Unspent}
-use Rattle.cb_chain.specs.declared.node.Node.{Node}
+use Rattle.cb_chain.specs.Marking.{Node}
 use Rattle.cb_chain.specs.declared.side_chain.Side.{Side}
 use Rattle.cb_chain.specs.Best.{Stop, best, faulty, is_higher, stopped_at, then_spend, unspent_after}
 use Rattle.cb_chain.specs.Calls.{block_entry, joined, marked_above}

@@ -9,7 +9,7 @@ use Rattle.cb_block.specs.Work.{HasWork}
 use Rattle.cb_ledger.specs.Unspent.{Unspent}
 use Rattle.cb_ledger.specs.declared.undo.CoinChange.{CoinChange}
 use Rattle.cb_chain.specs.declared.accepting.Spot.{Spot}
-use Rattle.cb_chain.specs.declared.node.Node.{Node}
+use Rattle.cb_chain.specs.Marking.{Node}
 use Rattle.cb_chain.specs.declared.side_chain.Side.{Side}
 use Rattle.cb_chain.specs.Calls.{AcceptsHeader, header_entry, header_fault}
 use Rattle.cb_chain.specs.Entries.{Entry, Tree, block_hash}

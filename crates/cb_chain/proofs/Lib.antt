@@ -1,4 +1,5 @@
 pub mod Branches
+pub mod Chunks
 pub mod Forks
 pub mod Halts
 pub mod Headings
@@ -13,6 +14,7 @@ pub mod NewTip
 pub mod Nodes
 pub mod Once
 pub mod Outcomes
+pub mod Pairs
 pub mod Parents
 pub mod Partings
 pub mod PathsDown

@@ -6,7 +6,7 @@ use Rattle.std.proofs.lemmas.List.{append-nil, get_or-set_other, get_or-set_same
 use Rattle.std.proofs.Math.ListN.{get_or-append, set}
 use Rattle.std.proofs.Math.Seq.{get_or-append_seam}
 use Rattle.cb_base.specs.declared.hash.Hash256.{Hash256}
-use Rattle.cb_chain.specs.declared.node.Node.{Node}
+use Rattle.cb_chain.specs.Marking.{Node}
 use Rattle.cb_chain.specs.Entries.{block_hash}
 use Rattle.cb_chain.specs.Best.{leads_through}
 use Rattle.cb_chain.specs.Keeping.{AreLinked, AreLinks, IsTree, above_at, above_first, entry_from, mark_nodes, marked_nodes}

@@ -9,7 +9,7 @@ use Rattle.cb_ledger.specs.Unspent.{Unspent}
 use Rattle.cb_chain.specs.Entries.{Entry, Tree, block_hash, same, entry_of, has_block, height_of, is_known, is_kept, is_marked}
 use Rattle.cb_chain.specs.Best.{Stop, best, branch, leads_through, then_spend, unspent_after}
 use Rattle.cb_chain.specs.Calls.{marked_above}
-use Rattle.cb_chain.specs.declared.node.Node.{Node}
+use Rattle.cb_chain.specs.Marking.{Node}
 use Rattle.cb_chain.specs.Keeping.{Step, IsNode, AreNodes, IsTree, IsPlaced, active_places, block_at, climb, entry_from, mark_node, mark_nodes, marked_nodes, place_of, tree_of, way}
 use Rattle.cb_chain.proofs.Nodes.{map_reverse, same-refl, same-true}
 

@@ -9,7 +9,7 @@ use Rattle.cb_block.specs.declared.block.Block.{Block}
 use Rattle.cb_block.specs.declared.header.Header.{Header}
 use Rattle.cb_block.specs.Genesis.{genesis_header}
 use Rattle.cb_ledger.specs.Unspent.{Unspent}
-use Rattle.cb_chain.specs.declared.node.Node.{Node}
+use Rattle.cb_chain.specs.Marking.{Node}
 use Rattle.cb_chain.specs.Entries.{Entry, Tree, block_hash, same, height_of, is_kept}
 use Rattle.cb_chain.specs.Best.{Stop, active, best, branch, faulty, is_higher, unspent_after}
 use Rattle.cb_chain.specs.Calls.{block_entry, change_of, joined, marked_above}

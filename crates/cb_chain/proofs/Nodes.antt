@@ -9,7 +9,7 @@ use Rattle.std.proofs.lemmas.List.{reverse-append, reverse-reverse, length-rever
 use Rattle.std.proofs.lemmas.Option.{slice_get_within, get_or_from_slice_get}
 use lib.Pointwise.{bytes_decides}
 use Rattle.cb_base.specs.declared.hash.Hash256.{Hash256}
-use Rattle.cb_chain.specs.declared.node.Node.{Node}
+use Rattle.cb_chain.specs.Marking.{Node}
 use Rattle.cb_chain.specs.Entries.{Tree, block_hash, genesis_hash, same, first_entry, entry_of, height_of}
 use Rattle.cb_chain.specs.Keeping.{entry_from, above_first, tree_of, place_of, IsNode, AreNodes, IsFirst, IsTree, IsPlaced}
 

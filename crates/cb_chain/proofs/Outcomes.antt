@@ -10,7 +10,7 @@ use Rattle.cb_ledger.specs.Spend.{spend}
 use Rattle.cb_ledger.specs.Undo.{LeadsBack}
 use Rattle.cb_ledger.specs.Unspent.{Unspent}
 use Rattle.cb_chain.specs.declared.accepting.Spot.{Spot}
-use Rattle.cb_chain.specs.declared.node.Node.{Node}
+use Rattle.cb_chain.specs.Marking.{Node}
 use Rattle.cb_chain.specs.declared.side_chain.Side.{Side}
 use Rattle.cb_chain.specs.Best.{best, is_higher, unspent_after}
 use Rattle.cb_chain.specs.Calls.{block_entry, block_fault, joined, marked_above}

@@ -5,7 +5,7 @@ use Rattle.std.proofs.lemmas.Bool.{cases_Bool}
 use Rattle.std.proofs.lemmas.List.{length-map, reverse-reverse}
 use Rattle.std.proofs.lemmas.Option.{same_Some}
 use Rattle.cb_base.specs.declared.hash.Hash256.{Hash256}
-use Rattle.cb_chain.specs.declared.node.Node.{Node}
+use Rattle.cb_chain.specs.Marking.{Node}
 use Rattle.cb_chain.specs.Best.{then_spend, unspent_after}
 use Rattle.cb_chain.specs.Entries.{Entry, Tree, block_hash, is_kept, same}
 use Rattle.cb_chain.specs.Keeping.{AreNodes, IsNode, IsTree, entry_from, place_of, tree_of}

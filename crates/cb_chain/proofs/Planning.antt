@@ -7,7 +7,7 @@ use Rattle.std.proofs.lemmas.List.Elements.{All-from_recursion}
 use Rattle.std.proofs.lemmas.Option.{slice_get_within}
 use Rattle.cb_base.specs.declared.hash.Hash256.{Hash256}
 use Rattle.cb_block.specs.declared.header.Header.{Header}
-use Rattle.cb_chain.specs.declared.node.Node.{Node}
+use Rattle.cb_chain.specs.Marking.{Node}
 use Rattle.cb_chain.specs.Entries.{block_hash, genesis_hash}
 use Rattle.cb_chain.specs.Best.{active, best}
 use Rattle.cb_chain.specs.Keeping.{IsTree, Step, active_places, climb, place_of, tree_of}

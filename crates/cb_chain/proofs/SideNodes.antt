@@ -13,7 +13,7 @@ use Rattle.cb_block.specs.Blocks.{IsRefused}
 use Rattle.cb_block.specs.Work.{HasWork}
 use Rattle.cb_ledger.specs.Unspent.{Unspent}
 use Rattle.cb_chain.specs.declared.accepting.Spot.{Spot}
-use Rattle.cb_chain.specs.declared.node.Node.{Node}
+use Rattle.cb_chain.specs.Marking.{Node, mark_at, mark_of}
 use Rattle.cb_chain.specs.Best.{Stop, active, best, branch, is_higher, then_spend, unspent_after}
 use Rattle.cb_chain.specs.Entries.{Entry, Tree, block_hash, same, entry_of, has_block, has_mark, height_of, is_known, is_kept, is_marked}
 use Rattle.cb_chain.specs.declared.change.Change as Moves
@@ -36,6 +36,13 @@ known_at nodes tree hash place node is view at here =
     let f = found nodes hash place is at in
     let one : f.node ≡ node = cc (f.at, here) in
     subst (λ (t : Tree). AtNode t hash node) view (subst (λ (n : Node). AtNode (tree_of nodes) hash n) one (record { entry = f.entry; height = f.height }))
+
+-- the node at the place of a hash, and whether it is marked
+pub known_by : (nodes : List Node) (hash : Hash256) (place : ℕ) (marked : Bool) → IsTree nodes → place_of (tree_of nodes) hash ≡ Some place → marked ≡ mark_at nodes place
+    → (node : Node) × AtNode (tree_of nodes) hash node × (node.marked ≡ marked)
+known_by nodes hash place marked is at told =
+    let f = found nodes hash place is at in
+    (f.node, record { entry = f.entry; height = f.height }, sym (told ∙ ap mark_of f.at))
 
 -- the reasons against a parent that is known
 abbrev pub node_fault : Node → Bool → Option Fault

@@ -7,7 +7,7 @@ use Rattle.std.proofs.lemmas.List.{reverse-reverse, length-reverse, length-map}
 use Rattle.cb_base.specs.declared.hash.Hash256.{Hash256}
 use Rattle.cb_block.specs.declared.header.Header.{Header}
 use Rattle.cb_block.specs.Genesis.{genesis_header}
-use Rattle.cb_chain.specs.declared.node.Node.{Node}
+use Rattle.cb_chain.specs.Marking.{Node}
 use Rattle.cb_chain.specs.Entries.{Entry, Tree, block_hash, same, height_of, is_kept}
 use Rattle.cb_chain.specs.Best.{branch}
 use Rattle.cb_chain.specs.Keeping.{AreNodes, IsTree, Step, climb, entry_from, place_of, tree_of, way}

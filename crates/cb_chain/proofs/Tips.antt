@@ -13,7 +13,7 @@ use Rattle.cb_chain.specs.Entries.{Entry, Tree, block_hash, genesis_hash, height
 use Rattle.cb_chain.specs.Best.{best, is_higher, unspent_after}
 use Rattle.cb_chain.specs.Keeping.{IsTree, Step, active_places, climb, place_of, tree_of, way}
 use Rattle.cb_chain.specs.Sides.{IsChain, record_at}
-use Rattle.cb_chain.specs.declared.node.Node.{Node}
+use Rattle.cb_chain.specs.Marking.{Node}
 use Rattle.cb_chain.proofs.Nodes.{same-refl, chosen, found, length_tree, reverse_cons}
 
 -- ---- a new chain

@@ -12,7 +12,7 @@ use Rattle.cb_ledger.specs.declared.undo.CoinChange.{CoinChange}
 use Rattle.cb_ledger.specs.Spend.{spend}
 use Rattle.cb_ledger.specs.Undo.{LeadsBack, changed}
 use Rattle.cb_ledger.specs.Unspent.{Unspent}
-use Rattle.cb_chain.specs.declared.node.Node.{Node}
+use Rattle.cb_chain.specs.Marking.{Node}
 use Rattle.cb_chain.specs.declared.side_chain.Side.{Side}
 use Rattle.cb_chain.specs.Best.{Stop, faulty, spend_block, stopped_at, then_spend, unspent_after}
 use Rattle.cb_chain.specs.Entries.{Entry, Tree, block_hash}

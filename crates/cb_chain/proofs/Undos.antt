@@ -15,7 +15,7 @@ use Rattle.cb_chain.specs.Calls.{marked_above}
 use Rattle.cb_chain.specs.Entries.{Entry, Tree, block_hash, entry_of, genesis_hash, is_kept, same}
 use Rattle.cb_chain.specs.Keeping.{Step, active_places, entry_from, place_of, tree_of}
 use Rattle.cb_chain.specs.Sides.{AreUndos, HasRecord, IsChain, IsSide, IsUndo, WasConnected, prev_of, record_at}
-use Rattle.cb_chain.specs.declared.node.Node.{Node}
+use Rattle.cb_chain.specs.Marking.{Node}
 use Rattle.cb_chain.specs.declared.side_chain.Side.{Side}
 use Rattle.cb_chain.proofs.SideNodes.{Grows, climb_aside, grows_tree}
 use Rattle.cb_chain.proofs.Places.{eq_true, get_set, place_low}

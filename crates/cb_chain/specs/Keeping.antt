@@ -1,6 +1,6 @@
 -- How the code stores a tree: the nodes in the order in which they were added, each with what
 -- follows from those before it.
-use Rattle.std.specs.Prelude.{◌≡◌, ◌+◌, ◌++◌, ◌≤◌, ◌<◌, ◌⊎◌, ◌&&◌, not, ⊤, ℕ, suc, Bool, true, false, Ok, Err, is_some, nat_eq, if◌then◌else◌, List, [], ◌∷◌, length, take, drop, reverse, Option, None, Some, option_map, option_and_then, slice_get, slice_index_or}
+use Rattle.std.specs.Prelude.{◌≡◌, ◌+◌, ◌++◌, ◌≤◌, ◌<◌, ◌⊎◌, ◌&&◌, not, ⊤, ℕ, suc, Bool, true, false, Ok, Err, is_some, IsSome, nat_eq, if◌then◌else◌, List, [], ◌∷◌, length, take, drop, reverse, Option, None, Some, option_map, option_and_then, slice_get, slice_index_or}
 use Rattle.std.specs.Prelude as lists
 use Rattle.std.specs.Map.{lookup}
 use Rattle.cb_base.specs.declared.fault.Fault.{Fault}
@@ -10,7 +10,7 @@ use Rattle.cb_block.specs.declared.block.Block.{Block}
 use Rattle.cb_block.specs.declared.header.Header.{Header}
 use Rattle.cb_block.specs.Genesis.{genesis_block, genesis_header}
 use Rattle.cb_chain.specs.declared.accepting.Spot.{Spot}
-use Rattle.cb_chain.specs.declared.node.Node.{Node}
+use Rattle.cb_chain.specs.Marking.{Node, marks_of}
 use Rattle.cb_ledger.specs.declared.undo.CoinChange.{CoinChange}
 use Rattle.cb_chain.specs.Entries.{Entry, Tree, block_hash, genesis_hash, same, height_of, is_kept, is_known, is_marked}
 use Rattle.cb_chain.specs.Best.{active, best, branch, leads_through}
@@ -89,6 +89,16 @@ pub record AreLinks (nodes : List Node) (newest elder : List ℕ) : Type 0 where
   pub elder_long : length elder ≡ length nodes
   pub each : (place : ℕ) → AreLinked elder (slice_index_or newest place 0) (above_at (above_first nodes) place)
 
+abbrev pub block_at : List Node → ℕ → Option Block
+block_at nodes place = option_and_then (λ node. node.kept) (slice_get nodes place)
+
+-- these are the marks and the links of a tree that has a block at a place
+pub record IsMarked (nodes : List Node) (marks : List Bool) (newest elder : List ℕ) (first : ℕ) : Type 0 where
+  pub tree : IsTree nodes
+  pub links : AreLinks nodes newest elder
+  pub kept : IsSome (block_at nodes first)
+  pub marks_are : marks ≡ marks_of nodes
+
 -- An entry on the path from the genesis block to a known header, with its place among the nodes.
 pub record Step : Type 0 where
   pub place : ℕ
@@ -106,9 +116,6 @@ climb tree hash = reverse (way tree hash)
 -- the places of the active chain's nodes by height
 abbrev pub active_places : Tree → List ℕ
 active_places tree = 0 ∷ lists.map (λ step. step.place) (climb tree (best tree))
-
-abbrev pub block_at : List Node → ℕ → Option Block
-block_at nodes place = option_and_then (λ node. node.kept) (slice_get nodes place)
 
 -- The fork of a branch with the active chain: the height of the highest header on both. The clauses
 -- say what is above it on the active chain, and that a kept block's path below it is the active

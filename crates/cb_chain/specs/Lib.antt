@@ -6,6 +6,9 @@ pub mod Headers
 pub mod History
 pub mod Keeping
 pub mod Laws
+pub mod Listing
 pub mod Locator
+pub mod Marking
 pub mod Plans
 pub mod Sides
+pub mod Spots

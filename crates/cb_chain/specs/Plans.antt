@@ -3,7 +3,7 @@ use Rattle.std.specs.Prelude.{◌≡◌, ◌+◌, take, ℕ, suc, List, [], ◌�
 use Rattle.cb_base.specs.declared.hash.Hash256.{Hash256}
 use Rattle.cb_block.specs.declared.header.Header.{Header}
 use Rattle.cb_chain.specs.declared.change.Change.{Change}
-use Rattle.cb_chain.specs.declared.node.Node.{Node}
+use Rattle.cb_chain.specs.Marking.{Node}
 use Rattle.cb_chain.specs.Entries.{Tree, block_hash, genesis_hash}
 use Rattle.cb_chain.specs.Best.{active}
 use Rattle.cb_chain.specs.Keeping.{IsFork, climb}

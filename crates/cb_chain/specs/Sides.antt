@@ -8,7 +8,7 @@ use Rattle.cb_block.specs.declared.block.Block.{Block}
 use Rattle.cb_ledger.specs.Spend.{spend}
 use Rattle.cb_ledger.specs.Undo.{LeadsBack, changed}
 use Rattle.cb_ledger.specs.Unspent.{Unspent}
-use Rattle.cb_chain.specs.declared.node.Node.{Node}
+use Rattle.cb_chain.specs.Marking.{Node}
 use Rattle.cb_chain.specs.declared.side_chain.Side.{Side}
 use Rattle.cb_chain.specs.Best.{best, faulty, unspent_after}
 use Rattle.cb_chain.specs.Entries.{Tree, entry_of, is_kept}

@@ -5,13 +5,14 @@ ghost use Rattle.cb_chain.specs.Best.{best};
 ghost use Rattle.cb_chain.specs.Calls.{AcceptsBlock, AcceptsHeader, block_fault, header_fault, joined};
 ghost use Rattle.cb_chain.specs.Entries.{block_hash, is_kept};
 ghost use Rattle.cb_chain.specs.History.{BlockCall, Call, HeaderCall, IsHistoric, IsHistory};
-ghost use Rattle.cb_chain.specs.Keeping.{IsSpot, IsTree, node_on, parent_fault, tree_of};
+ghost use Rattle.cb_chain.specs.Keeping.{IsSpot, IsTree, parent_fault, tree_of};
 ghost use Rattle.cb_chain.specs.Following.{headers_above};
 ghost use Rattle.cb_chain.specs.Laws.{LeadsOver, MayLead, Stays, active_hashes};
+ghost use Rattle.cb_chain.specs.Spots.{placed_on};
 
 use crate::chain::Chain;
 use crate::change::{Change, Hashes};
-use crate::node::{Kept, Node};
+use crate::node::{BareNode, Kept};
 use crate::tree::Tree;
 use cb_base::{Fault, Hash256};
 use cb_block::{Header, SoundBlock, check_block, hash_with_work};
@@ -30,16 +31,15 @@ pub(crate) struct Spot {
 
 impl Spot {
     /// The tree node of the header, with its block if that is kept.
-    pub(crate) fn node(self, kept: Option<Kept>, marked: bool) -> Node
-        ensures { result ≡ node_on self kept marked }
+    pub(crate) fn node(self, kept: Option<Kept>) -> BareNode
+        ensures { result ≡ placed_on self kept }
     {
-        Node {
+        BareNode {
             header: self.header,
             hash: self.hash,
             height: self.height,
             parent: self.parent,
             kept,
-            marked,
         }
     }
 }
@@ -59,7 +59,7 @@ impl Tree {
             return Err(Fault::NoParent);
         };
         let node = self.node(parent);
-        if node.marked {
+        if self.is_bad(parent) {
             return Err(Fault::BadParent);
         }
         if block && node.kept.is_none() {
@@ -86,7 +86,7 @@ impl Tree {
         ensures tree { IsTree self.now.nodes }
     {
         if let Some(place) = self.place(&hash) {
-            if self.node(place).marked {
+            if self.is_bad(place) {
                 return Err(Fault::BadParent);
             }
             return Err(Fault::Known);
@@ -106,7 +106,7 @@ impl Chain {
     {
         if let Some(place) = self.tree.place(&hash) {
             let node = self.tree.node(place);
-            if node.marked {
+            if self.tree.is_bad(place) {
                 return Err(Fault::BadParent);
             }
             if node.kept.is_some() {
@@ -144,7 +144,7 @@ impl Chain {
         let hash = hash_with_work(&header)?;
         let spot = self.tree.header_spot(header, hash)?;
         self.tree.reserve(1)?;
-        self.tree.add(spot.node(None, false), None);
+        self.tree.add(spot.node(None), false, None);
         Ok(())
     }
 
@@ -200,7 +200,7 @@ impl Chain {
             Err(fault) if fault == Fault::Memory => Err(fault),
             Err(fault) => {
                 self.tree.reserve(1)?;
-                self.tree.add(spot.node(None, true), None);
+                self.tree.add(spot.node(None), true, None);
                 Err(fault)
             }
         }
@@ -225,7 +225,7 @@ impl Chain {
             return self.lead(spot, kept);
         }
         self.tree.reserve(1)?;
-        self.tree.add(spot.node(Some(kept), false), None);
+        self.tree.add(spot.node(Some(kept)), false, None);
         Ok(Change {
             off: Hashes::new(Vec::new(self.alloc)),
             on: Hashes::new(Vec::new(self.alloc)),

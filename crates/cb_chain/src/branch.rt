@@ -5,7 +5,7 @@ ghost use Rattle.cb_chain.specs.Best.{active};
 ghost use Rattle.cb_chain.specs.Entries.{is_kept};
 ghost use Rattle.cb_chain.specs.Following.{stands_at};
 ghost use Rattle.cb_chain.specs.Keeping.{IsFork, active_places, climb, place_of, tree_of};
-ghost use Rattle.cb_chain.specs.declared.node.Node.{Node};
+ghost use Rattle.cb_chain.specs.Marking.{Node};
 
 use crate::tree::Tree;
 use cb_base::Fault;

@@ -3,8 +3,9 @@ ghost use Rattle.cb_base.specs.declared.fault.Fault.TheVariants.{Memory};
 ghost use Rattle.cb_chain.specs.Best.{best, unspent_after};
 ghost use Rattle.cb_chain.specs.Entries.{block_of, entry_of, height_of, is_lacking, sound_block};
 ghost use Rattle.cb_chain.specs.Keeping.{entry_from};
+ghost use Rattle.cb_chain.specs.Marking.{node_of};
 
-use crate::node::Node;
+use crate::node::BareNode;
 use crate::side_chain::Side;
 use crate::tree::Tree;
 use cb_base::{Fault, Hash256, Seed};
@@ -77,7 +78,7 @@ impl Chain {
     }
 
     /// The tree node of the tip.
-    fn tip_node(&self) -> &Node
+    fn tip_node(&self) -> &BareNode
         ensures hash { result.now.hash ≡ best self.now }
         ensures height { height_of self.now (best self.now) ≡ Some result.now.height }
     {
@@ -103,7 +104,7 @@ impl Chain {
         ensures { result ≡ height_of self.now hash.now }
     {
         match self.tree.find(hash) {
-            Some(node) => Some(node.height),
+            Some((node, _)) => Some(node.height),
             None => None,
         }
     }
@@ -114,7 +115,7 @@ impl Chain {
             ≡ option_map (λ entry. entry.header) (entry_of self.now hash.now) }
     {
         match self.tree.find(hash) {
-            Some(node) => Some(&node.header),
+            Some((node, _)) => Some(&node.header),
             None => None,
         }
     }
@@ -124,7 +125,7 @@ impl Chain {
         ensures { option_copied result ≡ block_of self.now hash.now }
     {
         match self.tree.find(hash) {
-            Some(node) => shown_block(node),
+            Some((node, marked)) => shown_block(node, marked),
             None => None,
         }
     }
@@ -134,7 +135,7 @@ impl Chain {
         ensures { result ≡ is_lacking self.now hash.now }
     {
         match self.tree.find(hash) {
-            Some(node) => node.kept.is_none() && !node.marked,
+            Some((node, marked)) => node.kept.is_none() && !marked,
             None => true,
         }
     }
@@ -165,10 +166,10 @@ impl Chain {
 }
 
 /// The node's block, if it is kept and not marked bad.
-fn shown_block(node: &Node) -> Option<&SoundBlock>
-    ensures { option_copied result ≡ sound_block (entry_from node.now) }
+fn shown_block(node: &BareNode, marked: bool) -> Option<&SoundBlock>
+    ensures { option_copied result ≡ sound_block (entry_from (node_of node.now marked)) }
 {
-    if node.marked {
+    if marked {
         return None;
     }
     match &node.kept {

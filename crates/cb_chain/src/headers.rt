@@ -63,7 +63,7 @@ fn meet_header(tree: &mut Tree, header: Header, hash: Hash256) -> Result<(), Fau
     check_hashed_header(&header, &hash)?;
     match tree.header_spot(header, hash) {
         Ok(spot) => {
-            tree.add(spot.node(None, false), None);
+            tree.add(spot.node(None), false, None);
             Ok(())
         }
         Err(fault) if fault == Fault::Known => Ok(()),

@@ -1,6 +1,7 @@
-ghost use Rattle.std.specs.Prelude.{◌≡◌, ◌<◌, ◌^◌, length, All};
+ghost use Rattle.std.specs.Prelude.{◌≡◌, ◌<◌, ◌^◌, length, All, IfOk, IsOkUnless};
+ghost use Rattle.cb_base.specs.declared.fault.Fault.TheVariants.{Memory};
 
-use cb_base::Hash256;
+use cb_base::{Fault, Hash256};
 use cb_block::{Header, SoundBlock};
 use std::marker::Model;
 
@@ -36,11 +37,22 @@ impl Kept {
     {
         &self.block
     }
+
+    /// The same block. Fails only with `Fault::Memory`.
+    fn copy(&self) -> Result<Kept, Fault>
+        ensures same { IfOk result (λ copy. copy ≡ self.now) }
+        ensures memory { IsOkUnless result Memory }
+    {
+        let block = self.block.copy()?;
+        Ok(Kept { block })
+    }
 }
 
-/// A header in the tree, with its block if that is kept (in Bitcoin Core: `CBlockIndex`).
+/// A header in the tree, with its block if that is kept (in Bitcoin Core: `CBlockIndex`). It never
+/// changes. Its mark stands beside it: whether the block breaks a rule or can't be connected, or is
+/// on top of one that can't.
 #[derive(Drop)]
-pub(crate) struct Node {
+pub(crate) struct BareNode {
     pub(crate) header: Header,
     pub(crate) hash: Hash256,
     // The height. The genesis block has 0.
@@ -49,7 +61,24 @@ pub(crate) struct Node {
     pub(crate) parent: usize,
     // The block, if it is kept.
     pub(crate) kept: Option<Kept>,
-    // Whether it is marked bad: the block breaks a rule or can't be connected, or is on top of one
-    // that can't.
-    pub(crate) marked: bool,
+}
+
+impl BareNode {
+    /// An equal node. Fails only with `Fault::Memory`.
+    pub(crate) fn copy(&self) -> Result<BareNode, Fault>
+        ensures same { IfOk result (λ copy. copy ≡ self.now) }
+        ensures memory { IsOkUnless result Memory }
+    {
+        let kept = match &self.kept {
+            Some(kept) => Some(kept.copy()?),
+            None => None,
+        };
+        Ok(BareNode {
+            header: self.header,
+            hash: self.hash,
+            height: self.height,
+            parent: self.parent,
+            kept,
+        })
+    }
 }

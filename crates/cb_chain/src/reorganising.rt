@@ -1,4 +1,4 @@
-ghost use Rattle.std.specs.Prelude.{◌≡◌, ◌≢◌, ◌⊎◌, ◌+◌, ◌<◌, ◌≤◌, ◌∷◌, ◌++◌, [], length, drop, take, map, reverse, slice_get, true, None, Some, Ok, Err, All, IfErr, IfOk, IfSome, IsOkUnless, IsSome, OnErr, OnOk, vec_capacity, vec_len};
+ghost use Rattle.std.specs.Prelude.{◌≡◌, ◌≢◌, ◌⊎◌, ◌+◌, ◌<◌, ◌≤◌, ◌∷◌, ◌++◌, [], length, drop, take, map, reverse, slice_get, false, true, None, Some, Ok, Err, All, IfErr, IfOk, IfSome, IsOkUnless, IsSome, OnErr, OnOk, vec_capacity, vec_len};
 ghost use Rattle.cb_base.specs.declared.fault.Fault.TheVariants.{Memory};
 ghost use Rattle.cb_ledger.specs.Undo.{changed};
 ghost use Rattle.cb_chain.specs.Best.{best, is_higher};
@@ -9,13 +9,13 @@ ghost use Rattle.cb_chain.specs.Keeping.{IsFork, IsNode, IsSpot, IsTree, active_
 ghost use Rattle.cb_chain.specs.Laws.{LeadsOver, active_hashes};
 ghost use Rattle.cb_chain.specs.Plans.{Moved, change_at, hash_at};
 ghost use Rattle.cb_chain.specs.Sides.{RestsOn};
-ghost use Rattle.cb_chain.specs.declared.node.Node.{Node};
+ghost use Rattle.cb_chain.specs.Marking.{Node, node_of};
 
 use crate::accepting::Spot;
 use crate::branch::{branch_above, fork_of};
 use crate::chain::Chain;
 use crate::change::{Change, Hashes};
-use crate::node::{Kept, Node};
+use crate::node::{BareNode, Kept};
 use crate::side_chain::{Side, Stop, keep_side, not_far_below, rest_on, starts_from};
 use crate::tree::Tree;
 use cb_base::{Fault, Hash256};
@@ -122,22 +122,22 @@ fn plan_for(alloc: Global, tree: &Tree, active: &[usize], spot: Spot) -> Result<
 
 /// Adds a block whose path can't be connected, and marks bad the first block that can't and all
 /// kept blocks above it. If the reason was `Fault::Memory`, nothing changes.
-fn mark_stop(tree: &mut Tree, node: Node, stop: Stop)
+fn mark_stop(tree: &mut Tree, node: BareNode, stop: Stop)
     requires room { 0 < tree.old.room }
-    requires node { IsNode node (tree_of tree.old.nodes) }
+    requires node { IsNode (node_of node false) (tree_of tree.old.nodes) }
     requires place { (stop.fault ≡ Memory)
-        ⊎ ((0 < stop.place) × IsSome (block_at (tree.old.nodes ++ node ∷ []) stop.place)) }
+        ⊎ ((0 < stop.place) × IsSome (block_at (tree.old.nodes ++ node_of node false ∷ []) stop.place)) }
     ensures { ((stop.fault ≡ Memory) × (tree.new.nodes ≡ tree.old.nodes)
         × (tree.new.undos ≡ tree.old.undos))
         ⊎ ((stop.fault ≢ Memory) × (tree.new.undos ≡ tree.old.undos ++ None ∷ [])
-        × ((first : Node) → slice_get (tree.old.nodes ++ node ∷ []) stop.place ≡ Some first
+        × ((first : Node) → slice_get (tree.old.nodes ++ node_of node false ∷ []) stop.place ≡ Some first
         → tree_of tree.new.nodes
-        ≡ marked_above first.hash (tree_of (tree.old.nodes ++ node ∷ [])))) }
+        ≡ marked_above first.hash (tree_of (tree.old.nodes ++ node_of node false ∷ [])))) }
 {
     if stop.fault == Fault::Memory {
         return;
     }
-    tree.add(node, None);
+    tree.add(node, false, None);
     tree.mark_above(stop.place);
 }
 
@@ -217,14 +217,14 @@ impl Chain {
             Ok(undo) => undo,
             Err(fault) => {
                 let stop = Stop { place: last, fault };
-                mark_stop(&mut self.tree, spot.node(Some(kept), false), stop);
+                mark_stop(&mut self.tree, spot.node(Some(kept)), stop);
                 return Err(fault);
             }
         };
         let side = not_far_below(&self.tree, self.side.take(), spot.height);
         self.side = rest_on(side, &undo);
         put_on(&mut self.active, fork, branch, last);
-        self.tree.add(spot.node(Some(kept), false), Some(undo));
+        self.tree.add(spot.node(Some(kept)), false, Some(undo));
         Ok(change)
     }
 
@@ -260,7 +260,7 @@ impl Chain {
             Ok(undo) => undo,
             Err(stop) => {
                 keep_side(&mut self.side, side);
-                mark_stop(&mut self.tree, spot.node(Some(kept), false), stop);
+                mark_stop(&mut self.tree, spot.node(Some(kept)), stop);
                 return Err(stop.fault);
             }
         };
@@ -273,7 +273,7 @@ impl Chain {
             spot,
             side,
         )?;
-        self.tree.add(spot.node(Some(kept), false), Some(undo));
+        self.tree.add(spot.node(Some(kept)), false, Some(undo));
         Ok(change)
     }
 

@@ -1,12 +1,13 @@
-ghost use Rattle.std.specs.Prelude.{◌≡◌, ◌+◌, ℕ, ◌<◌, ◌≤◌, [], ◌∷◌, ◌++◌, length, set, slice_get, vec_len, vec_capacity, List, None, Some, option_map, option_copied, IfOk, IfSome, IsOk, IsOkUnless, IsSome, OnOk};
+ghost use Rattle.std.specs.Prelude.{◌≡◌, ◌+◌, ℕ, Bool, false, ◌<◌, ◌≤◌, [], ◌∷◌, ◌++◌, length, set, slice_get, vec_len, vec_capacity, List, None, Some, option_map, option_copied, IfOk, IfSome, IsOk, IsOkUnless, IsSome, OnOk};
 ghost use Rattle.cb_base.specs.declared.fault.Fault.TheVariants.{Memory};
 ghost use Rattle.cb_chain.specs.Calls.{marked_above};
 ghost use Rattle.cb_chain.specs.Entries.{entry_of, height_of};
-ghost use Rattle.cb_chain.specs.Keeping.{AreLinked, AreLinks, IsFirst, IsNode, IsTree, block_at, entry_from, marked_nodes, place_of, tree_of};
+ghost use Rattle.cb_chain.specs.Keeping.{AreLinked, AreLinks, IsFirst, IsMarked, IsNode, IsTree, block_at, entry_from, marked_nodes, place_of, tree_of};
 ghost use Rattle.cb_chain.specs.Sides.{record_at};
-ghost use Rattle.cb_chain.specs.declared.node.Node.{Node};
+ghost use Rattle.cb_chain.specs.Marking.{Node, mark_at, marks_of, node_of};
 
-use crate::node::{Kept, Node};
+use crate::node::{BareNode, Kept};
+use crate::node_list::NodeList;
 use cb_base::{Fault, Hash256, Seed};
 use cb_block::genesis;
 use cb_ledger::Undo;
@@ -20,7 +21,10 @@ use std::marker::Model;
 #[derive(Drop)]
 pub(crate) struct Tree {
     alloc: Global,
-    nodes: Vec<Node>,
+    // The nodes without their marks. Copies share them.
+    nodes: NodeList,
+    // For each node, whether it is marked bad.
+    marks: Vec<bool>,
     // The place of each hash's newest node.
     places: HashMap<Hash256, usize, Seed>,
     // For each node, the place of the newest kept block on top of it, or 0 if there is none.
@@ -35,38 +39,39 @@ pub(crate) struct Tree {
 }
 
 impl Model for Tree {
-    ghost use Rattle.std.specs.Prelude.{◌-◌, ◌≤◌, min, vec_len, vec_capacity};
+    ghost use Rattle.std.specs.Prelude.{◌≡◌, ◌-◌, ◌≤◌, length, min, vec_len, vec_capacity};
     ghost use Rattle.std.specs.HashMap.{spare};
     ghost use Rattle.cb_chain.specs.Keeping.{AreLinks, Grown, IsPlaced};
+    ghost use Rattle.cb_chain.specs.Marking.{with_marks};
 
     ghost Value = { Grown };
 
     ghost view = { λ tree. record {
-      nodes = tree.nodes.items;
+      nodes = with_marks tree.nodes.nodes tree.marks.items;
       undos = tree.undos.items;
-      room = min (spare tree.places) (min (vec_capacity tree.nodes - vec_len tree.nodes)
+      room = min (min (spare tree.places) (min tree.nodes.room (vec_capacity tree.marks - vec_len tree.marks)))
           (min (min (vec_capacity tree.newest - vec_len tree.newest) (vec_capacity tree.elder - vec_len tree.elder))
-          (min (vec_capacity tree.undos - vec_len tree.undos) (vec_capacity tree.found - vec_len tree.nodes))));
+          (min (vec_capacity tree.undos - vec_len tree.undos) (vec_capacity tree.found - vec_len tree.marks)));
     } };
 
-    ghost invariant = { λ tree. IsPlaced tree.nodes.items tree.places.entries × AreLinks tree.nodes.items tree.newest.items tree.elder.items
-        × (vec_len tree.nodes ≤ vec_capacity tree.found) };
+    ghost invariant = { λ tree. IsPlaced (with_marks tree.nodes.nodes tree.marks.items) tree.places.entries
+        × AreLinks (with_marks tree.nodes.nodes tree.marks.items) tree.newest.items tree.elder.items
+        × (vec_len tree.marks ≤ vec_capacity tree.found) × (length tree.nodes.nodes ≡ vec_len tree.marks) };
 }
 
 /// The node of the genesis block.
-fn first_node(alloc: Global) -> Result<Node, Fault>
-    ensures first { IfOk result IsFirst }
+fn first_node(alloc: Global) -> Result<BareNode, Fault>
+    ensures first { IfOk result (λ node. IsFirst (node_of node false)) }
     ensures memory { IsOkUnless result Memory }
 {
     let block = genesis(alloc)?;
     let header = block.block().header;
-    Ok(Node {
+    Ok(BareNode {
         header,
         hash: header.hash(),
         height: 0,
         parent: 0,
         kept: Some(Kept::new(block)),
-        marked: false,
     })
 }
 
@@ -86,14 +91,17 @@ impl Tree {
         let found = Vec::with_capacity(alloc, 1)?;
         let mut undos = Vec::with_capacity(alloc, 1)?;
         undos.push(None)?;
-        let mut nodes = Vec::with_capacity(alloc, 1)?;
+        let mut marks = Vec::with_capacity(alloc, 1)?;
+        marks.push(false)?;
+        let mut nodes = NodeList::new(alloc)?;
         let first = first_node(alloc)?;
         let mut places = HashMap::with_hasher(alloc, seed);
         places.insert(first.hash, 0)?;
-        nodes.push(first)?;
+        nodes.push(first);
         Ok(Tree {
             alloc,
             nodes,
+            marks,
             places,
             newest,
             elder,
@@ -106,7 +114,7 @@ impl Tree {
     pub(crate) fn len(&self) -> usize
         ensures { result ≡ length self.now.nodes }
     {
-        self.nodes.len()
+        self.marks.len()
     }
 
     /// The place of the newest node with this hash.
@@ -119,23 +127,32 @@ impl Tree {
     }
 
     /// The node at a place.
-    pub(crate) fn node(&self, place: usize) -> &Node
+    pub(crate) fn node(&self, place: usize) -> &BareNode
         requires { IsTree self.now.nodes → place < length self.now.nodes }
-        ensures node { slice_get self.now.nodes place ≡ Some result.now }
+        ensures node { slice_get self.now.nodes place
+            ≡ Some (node_of result.now (mark_at self.now.nodes place)) }
         ensures tree { IsTree self.now.nodes }
     {
-        &self.nodes[place]
+        self.nodes.get(place)
     }
 
-    /// The newest node with this hash.
-    pub(crate) fn find(&self, hash: &Hash256) -> Option<&Node>
-        ensures entry { entry_of (tree_of self.now.nodes) hash.now
-            ≡ option_map entry_from (option_copied result) }
-        ensures height { height_of (tree_of self.now.nodes) hash.now
-            ≡ option_map (λ node. node.height) (option_copied result) }
+    /// Whether the node at a place is marked bad.
+    pub(crate) fn is_bad(&self, place: usize) -> bool
+        requires { IsTree self.now.nodes → place < length self.now.nodes }
+        ensures { result ≡ mark_at self.now.nodes place }
     {
-        match self.places.get(hash) {
-            Some(place) => Some(&self.nodes[*place]),
+        self.marks[place]
+    }
+
+    /// The newest node with this hash, and whether it is marked bad.
+    pub(crate) fn find(&self, hash: &Hash256) -> Option<(&BareNode, bool)>
+        ensures entry { entry_of (tree_of self.now.nodes) hash.now
+            ≡ option_map (λ found. entry_from (node_of found.0.now found.1)) result }
+        ensures height { height_of (tree_of self.now.nodes) hash.now
+            ≡ option_map (λ found. found.0.now.height) result }
+    {
+        match self.place(hash) {
+            Some(place) => Some((self.node(place), self.is_bad(place))),
             None => None,
         }
     }
@@ -169,31 +186,34 @@ impl Tree {
         ensures room { OnOk result (count ≤ self.new.room) }
         ensures memory { IsOkUnless result Memory }
     {
+        self.marks.reserve(count)?;
         self.nodes.reserve(count)?;
         self.newest.reserve(count)?;
         self.elder.reserve(count)?;
         self.undos.reserve(count)?;
-        self.found.reserve(self.nodes.len() + count)?;
+        self.found.reserve(self.marks.len() + count)?;
         self.places.reserve(count)?;
         Ok(())
     }
 
-    /// Adds a node, with its undo record if its block is connected. There must be room for it.
-    pub(crate) fn add(&mut self, node: Node, undo: Option<Undo>)
+    /// Adds a node with its mark, and with its undo record if its block is connected. There must be
+    /// room for it.
+    pub(crate) fn add(&mut self, node: BareNode, marked: bool, undo: Option<Undo>)
         requires room { 0 < self.old.room }
-        requires node { IsNode node (tree_of self.old.nodes) }
-        ensures nodes { self.new.nodes ≡ self.old.nodes ++ node ∷ [] }
+        requires node { IsNode (node_of node marked) (tree_of self.old.nodes) }
+        ensures nodes { self.new.nodes ≡ self.old.nodes ++ node_of node marked ∷ [] }
         ensures undos { self.new.undos ≡ self.old.undos ++ undo ∷ [] }
         ensures room { self.old.room ≤ self.new.room + 1 }
     {
-        let place = self.nodes.len();
+        let place = self.marks.len();
         let elder = put_above(self.newest.as_mut_slice(), &node, place);
         self.newest.push(0).unwrap();
         self.elder.push(elder).unwrap();
         self.undos.push(undo).unwrap();
         let noted: Result<_, _> = self.places.insert(node.hash, place);
         noted.unwrap();
-        self.nodes.push(node).unwrap();
+        self.marks.push(marked).unwrap();
+        self.nodes.push(node);
     }
 
     /// Marks the block at a place and all kept blocks above it as bad.
@@ -207,7 +227,7 @@ impl Tree {
         ensures tree { IsTree self.new.nodes }
     {
         mark_from(
-            self.nodes.as_mut_slice(),
+            self.marks.as_mut_slice(),
             self.newest.as_slice(),
             self.elder.as_slice(),
             &mut self.found,
@@ -215,7 +235,7 @@ impl Tree {
         );
     }
 
-    /// An equal tree. Fails only with `Fault::Memory`.
+    /// An equal tree, which shares the full chunks of its nodes. Fails only with `Fault::Memory`.
     pub(crate) fn copy(&self) -> Result<Tree, Fault>
         ensures same { IfOk result (λ copy. copy.nodes ≡ self.now.nodes) }
         ensures undos { IfOk result (λ copy. copy.undos ≡ self.now.undos) }
@@ -223,16 +243,15 @@ impl Tree {
     {
         let newest = Vec::from_slice(self.alloc, self.newest.as_slice())?;
         let elder = Vec::from_slice(self.alloc, self.elder.as_slice())?;
-        let found = Vec::with_capacity(self.alloc, self.nodes.len())?;
+        let found = Vec::with_capacity(self.alloc, self.marks.len())?;
         let undos = copy_undos(self.alloc, self.undos.as_slice())?;
-        let mut nodes = Vec::with_capacity(self.alloc, self.nodes.len())?;
-        for node in &self.nodes {
-            nodes.push(copy_node(node)?)?;
-        }
+        let marks = Vec::from_slice(self.alloc, self.marks.as_slice())?;
+        let nodes = self.nodes.copy()?;
         let places = self.places.clone()?;
         Ok(Tree {
             alloc: self.alloc,
             nodes,
+            marks,
             places,
             newest,
             elder,
@@ -244,12 +263,14 @@ impl Tree {
 
 /// If the node's block is kept, makes it the newest on its parent. Returns the place of the one
 /// that was the newest before, or 0.
-fn put_above(newest: &mut [usize], node: &Node, place: usize) -> usize
+fn put_above(newest: &mut [usize], node: &BareNode, place: usize) -> usize
     requires { node.now.parent < length newest.old }
     ensures len { length newest.new ≡ length newest.old }
-    ensures links { (nodes : List Node) (elder : List ℕ) → place ≡ length nodes → IsTree nodes →
-        IsNode node.now (tree_of nodes) → AreLinks nodes newest.old elder
-        → AreLinks (nodes ++ node.now ∷ []) (newest.new ++ 0 ∷ []) (elder ++ result ∷ []) }
+    ensures links { (nodes : List Node) (elder : List ℕ) (marked : Bool) → place ≡ length nodes →
+        IsTree nodes → IsNode (node_of node.now marked) (tree_of nodes) →
+        AreLinks nodes newest.old elder
+        → AreLinks (nodes ++ node_of node.now marked ∷ []) (newest.new ++ 0 ∷ [])
+        (elder ++ result ∷ []) }
 {
     if node.kept.is_none() {
         return 0;
@@ -277,19 +298,19 @@ fn push_linked(found: &mut Vec<usize>, elder: &[usize], newest: usize)
 /// Marks the block at a place and all kept blocks above it as bad, and leaves their places in
 /// `found`. There must be room for all nodes.
 fn mark_from(
-    nodes: &mut [Node],
+    marks: &mut [bool],
     newest: &[usize],
     elder: &[usize],
     found: &mut Vec<usize>,
     first: usize,
 )
-    requires tree { IsTree nodes.old }
-    requires links { AreLinks nodes.old newest.now elder.now }
+    requires tree { (nodes : List Node) × IsMarked nodes marks.old newest.now elder.now first }
     requires above { 0 < first }
-    requires kept { IsSome (block_at nodes.old first) }
-    requires room { length nodes.old ≤ vec_capacity found.old }
-    ensures marks { (node : Node) → slice_get nodes.old first ≡ Some node →
-        nodes.new ≡ marked_nodes node.hash nodes.old }
+    requires room { length marks.old ≤ vec_capacity found.old }
+    ensures len { length marks.new ≡ length marks.old }
+    ensures marks { (nodes : List Node) (node : Node) →
+        IsMarked nodes marks.old newest.now elder.now first → slice_get nodes first ≡ Some node
+        → marks.new ≡ marks_of (marked_nodes node.hash nodes) }
     ensures room { vec_capacity found.old ≤ vec_capacity found.new }
 {
     found.clear();
@@ -297,36 +318,10 @@ fn mark_from(
     let mut turn = 0;
     while turn < found.len() {
         let place = found[turn];
-        nodes[place].marked = true;
+        marks[place] = true;
         push_linked(found, elder, newest[place]);
         turn += 1;
     }
-}
-
-fn copy_kept(kept: &Kept) -> Result<Kept, Fault>
-    ensures same { IfOk result (λ copy. copy ≡ kept.now) }
-    ensures memory { IsOkUnless result Memory }
-{
-    let block = kept.block().copy()?;
-    Ok(Kept::new(block))
-}
-
-fn copy_node(node: &Node) -> Result<Node, Fault>
-    ensures same { IfOk result (λ copy. copy ≡ node.now) }
-    ensures memory { IsOkUnless result Memory }
-{
-    let kept = match &node.kept {
-        Some(kept) => Some(copy_kept(kept)?),
-        None => None,
-    };
-    Ok(Node {
-        header: node.header,
-        hash: node.hash,
-        height: node.height,
-        parent: node.parent,
-        kept,
-        marked: node.marked,
-    })
 }
 
 fn copy_undo(alloc: Global, undo: &Option<Undo>) -> Result<Option<Undo>, Fault>

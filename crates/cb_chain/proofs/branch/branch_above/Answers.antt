@@ -1,16 +1,16 @@
 use Rattle.std.proofs.Common.{◌≡◌, ◌<◌, List, ℕ, sym, ap, subst, ◌∙◌, arith}
 use Rattle.std.proofs.lemmas.Option.{same_Some}
-use Rattle.cb_chain.specs.declared.node.Node.{Node}
+use Rattle.cb_chain.specs.Marking.{Node, mark_at, node_of}
 use Rattle.cb_chain.proofs.Forks.{Climbing, Climbs, climbing_starts, climbing_goes, climbing_ends}
 use Rattle.cb_chain.proofs.branch.branch_above.Goals as goal
 
 pub loop-branch-init : goal.loop-branch-init
 loop-branch-init c = (c.requires.place, λ is. climbing_starts c.args.tree.now.nodes c.args.from c.args.fork c.new-branch.result.items c.new-branch.ensures.items is c.requires.place)
 
-climbs : (c : goal.After-node-in-loop-branch) → Climbs c.args.tree.now.nodes c.args.from c.args.fork c.node-in-loop-branch.result.now c.loop-branch.place c.loop-branch.branch.items
+climbs : (c : goal.After-node-in-loop-branch) → Climbs c.args.tree.now.nodes c.args.from c.args.fork (node_of c.node-in-loop-branch.result.now (mark_at c.args.tree.now.nodes c.loop-branch.place)) c.loop-branch.place c.loop-branch.branch.items
 climbs c =
-    let node = c.node-in-loop-branch.result.now in
-    let one : c.node.result.now ≡ node = same_Some c.node.result.now node (sym c.node.ensures.node ∙ c.node-in-loop-branch.ensures.node) in
+    let node = node_of c.node-in-loop-branch.result.now (mark_at c.args.tree.now.nodes c.loop-branch.place) in
+    let one : node_of c.node.result.now (mark_at c.args.tree.now.nodes c.loop-branch.place) ≡ node = same_Some _ node (sym c.node.ensures.node ∙ c.node-in-loop-branch.ensures.node) in
     let higher : c.args.fork < node.height = omega (arith, c.loop-branch-test.true, ap (λ (n : Node). n.height) one) in
     climbing_goes c.args.tree.now.nodes c.args.from c.args.fork c.loop-branch.place c.loop-branch.branch.items node (c.loop-branch.invariant.1 c.node.ensures.tree) c.loop-branch.invariant.0 c.node-in-loop-branch.ensures.node higher
 
@@ -24,4 +24,4 @@ loop-branch-preserved c =
 pub returns-clause-places : goal.returns-clause-places
 returns-clause-places c = λ hash e _.
     c.reverse.ensures.items
-    ∙ climbing_ends c.args.tree.now.nodes c.args.from c.args.fork c.loop-branch.place c.loop-branch.branch.items c.node.result.now hash (c.loop-branch.invariant.1 c.node.ensures.tree) c.node.ensures.node c.loop-branch-test.false e
+    ∙ climbing_ends c.args.tree.now.nodes c.args.from c.args.fork c.loop-branch.place c.loop-branch.branch.items _ hash (c.loop-branch.invariant.1 c.node.ensures.tree) c.node.ensures.node c.loop-branch-test.false e

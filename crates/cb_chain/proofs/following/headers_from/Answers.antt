@@ -12,7 +12,7 @@ node-requires c = λ is. rest_within c.args.tree.now.nodes c.args.places.now c.a
 pub loop-place-preserved : goal.loop-place-preserved
 loop-place-preserved c =
     c.in_ok-push.ensures.items
-    ∙ follow_more c.args.tree.now.nodes c.args.places.now c.args.height c.loop-place.place-index c.node.result.now c.loop-place.headers.items c.requires.tree c.requires.places c.loop-place-test.true c.node.ensures.node c.loop-place.invariant
+    ∙ follow_more c.args.tree.now.nodes c.args.places.now c.args.height c.loop-place.place-index _ c.loop-place.headers.items c.requires.tree c.requires.places c.loop-place-test.true c.node.ensures.node c.loop-place.invariant
 
 pub returns-clause-exact : goal.returns-clause-exact
 returns-clause-exact c =

@@ -15,7 +15,7 @@ loop-place-preserved c =
     let nodes = c.args.tree.now.nodes in
     let room : length c.loop-place.headers.items ≡ 2000 → ⊥ = λ full. c.if-len-eq-MOST_HEADERS.false (omega (arith, full, c.len.ensures, c.loop-place.headers.ok.0)) in
     subst (λ (hs : List Header). Taken c.args.stop.now (followers nodes c.args.height) (c.loop-place.place-index + 1) hs) (sym c.in_ok-push.ensures.items)
-    (to_more nodes c.args.places.now c.args.height c.loop-place.place-index c.node-node.result.now c.args.stop.now c.loop-place.headers.items c.requires.tree c.requires.places c.loop-place-test.true
+    (to_more nodes c.args.places.now c.args.height c.loop-place.place-index _ c.args.stop.now c.loop-place.headers.items c.requires.tree c.requires.places c.loop-place-test.true
     c.node-node.ensures.node c.loop-place.invariant room (sym c.eq.ensures ∙ c.if-eq.false))
 
 pub returns-in_err-push-clause-none : goal.returns-in_err-push-clause-none
@@ -37,6 +37,6 @@ returns-clause-exact c =
       | then-loop-place-test+else-len-eq-MOST_HEADERS+in_ok-push+then-eq w ↦
           let room : length c.loop-place.headers.items ≡ 2000 → ⊥ = λ full. w.if-len-eq-MOST_HEADERS.false (omega (arith, full, w.len.ensures, c.loop-place.headers.ok.0)) in
           ap (λ (v : Vec Header Global). v.items) w.headers-is ∙ w.in_ok-push.ensures.items
-          ∙ to_stop nodes c.args.places.now c.args.height c.loop-place.place-index w.node-node.result.now c.args.stop.now c.loop-place.headers.items c.requires.tree c.requires.places w.loop-place-test.true
+          ∙ to_stop nodes c.args.places.now c.args.height c.loop-place.place-index _ c.args.stop.now c.loop-place.headers.items c.requires.tree c.requires.places w.loop-place-test.true
           w.node-node.ensures.node c.loop-place.invariant room (sym w.eq.ensures ∙ w.if-eq.true)
     ]

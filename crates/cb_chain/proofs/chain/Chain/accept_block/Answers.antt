@@ -9,7 +9,8 @@ use Rattle.cb_block.specs.Blocks.{MeetsBlockRules}
 use Rattle.cb_block.specs.Work.{HasWork}
 use Rattle.cb_ledger.proofs.Lengths.{few_outputs}
 use Rattle.cb_chain.specs.declared.change.Change.{Change}
-use Rattle.cb_chain.specs.declared.node.Node.{Node}
+use Rattle.cb_chain.specs.declared.node.BareNode.{BareNode}
+use Rattle.cb_chain.specs.Marking.{Node, node_of}
 use Rattle.cb_chain.specs.Calls.AcceptsBlock.{meets_rules, refused, without_work}
 use Rattle.cb_chain.specs.Calls.{AcceptsBlock, bad_entry, block_fault, is_full_under, joined}
 use Rattle.cb_chain.specs.Entries.{Entry, Tree, block_hash, is_kept, is_marked}
@@ -206,25 +207,25 @@ pub invariant_of-self-in-Err-2 : goal.invariant_of-self-in-Err-2
 invariant_of-self-in-Err-2 c =
     let spot : IsSpot c.in_ok-spot.spot c.block-2.result.now.header c.args.self.now = c.in_ok-spot.ensures.ok in
     let none : block_fault c.args.self.now c.block-2.result.now.header ≡ None = c.in_ok-spot.ensures.none in
-    let one : IsNode c.node.result c.args.self.now =
-    subst (λ (n : Node). IsNode n c.args.self.now) (sym c.node.ensures) (bare_node c.in_ok-spot.spot c.block-2.result.now.header c.args.self.now true spot (block_free c.args.self.now c.block-2.result.now.header none).once)
+    let one : IsNode (node_of c.node.result true) c.args.self.now =
+    subst (λ (n : Node). IsNode n c.args.self.now) (sym (ap (λ (b : BareNode). node_of b true) c.node.ensures)) (bare_node c.in_ok-spot.spot c.block-2.result.now.header c.args.self.now true spot (block_free c.args.self.now c.block-2.result.now.header none).once)
     in
-    let grows : Grows c.self.inside.tree.nodes c.reserve.new.self.nodes c.args.self.now c.node.result =
+    let grows : Grows c.self.inside.tree.nodes c.reserve.new.self.nodes c.args.self.now (node_of c.node.result true) =
     record { is = c.in_ok-reserve-in-Err-2.ensures.tree; same = c.in_ok-reserve-in-Err-2.ensures.same; view = c.self.view_is; one = one }
     in
     let header : c.block-2.result.now.header ≡ c.args.block.header = ap (λ (b : Block). b.header) c.block-2.ensures.same in
     let has : HasWork c.block-2.result.now.header = c.in_ok-hash.ensures.1 in
-    let entry : entry_from c.node.result ≡ bad_entry c.args.block.header = ap entry_from c.node.ensures ∙ bad_on c.in_ok-spot.spot c.args.block.header (spot.header ∙ header) in
+    let entry : entry_from (node_of c.node.result true) ≡ bad_entry c.args.block.header = ap entry_from (ap (λ (b : BareNode). node_of b true) c.node.ensures) ∙ bad_on c.in_ok-spot.spot c.args.block.header (spot.header ∙ header) in
     let grown : tree_of c.add.new.self.nodes ≡ bad_entry c.args.block.header ∷ c.args.self.now =
-    grows_tree c.self.inside.tree.nodes c.reserve.new.self.nodes c.add.new.self.nodes c.args.self.now c.node.result grows c.add.ensures.nodes ∙ ap (λ (e : Entry). e ∷ c.args.self.now) entry
+    grows_tree c.self.inside.tree.nodes c.reserve.new.self.nodes c.add.new.self.nodes c.args.self.now (node_of c.node.result true) grows c.add.ensures.nodes ∙ ap (λ (e : Entry). e ∷ c.args.self.now) entry
     in
     let other : ¬ c.in-Err.fault ≡ Memory = search rules in
     let told : AcceptsBlock c.args.self.now c.args.block (Err c.in-Err.fault) (tree_of c.add.new.self.nodes) =
     told_broken c.args.self.now (tree_of c.add.new.self.nodes) c.args.block c.in-Err.fault (subst HasWork header has) (subst (λ (h : Header). block_fault c.args.self.now h ≡ None) header none) other c.in-Err.ensures.exact
     grown
     in (
-      grows_chain c.self.inside.tree.nodes c.reserve.new.self.nodes c.add.new.self.nodes c.args.self.now c.node.result c.self.inside.active.items c.self.inside.tree.undos c.reserve.new.self.undos c.add.new.self.undos
-          c.self.inside.ledger.unspent c.self.inside.side grows c.add.ensures.nodes c.in_ok-reserve-in-Err-2.ensures.undos c.add.ensures.undos (bare_best (entry_from c.node.result) c.args.self.now (ap (λ (n : Node). n.kept) c.node.ensures)) c.self.invariant.0,
+      grows_chain c.self.inside.tree.nodes c.reserve.new.self.nodes c.add.new.self.nodes c.args.self.now (node_of c.node.result true) c.self.inside.active.items c.self.inside.tree.undos c.reserve.new.self.undos c.add.new.self.undos
+          c.self.inside.ledger.unspent c.self.inside.side grows c.add.ensures.nodes c.in_ok-reserve-in-Err-2.ensures.undos c.add.ensures.undos (bare_best (entry_from (node_of c.node.result true)) c.args.self.now (ap (λ (n : Node). n.kept) (ap (λ (b : BareNode). node_of b true) c.node.ensures))) c.self.invariant.0,
       historic_block c.args.self.now (tree_of c.add.new.self.nodes) c.args.block (Err c.in-Err.fault) c.block-2.ensures.sound (subst IsHistoric c.self.view_is c.self.invariant.1) told,
     )
 
@@ -232,17 +233,17 @@ pub returns : goal.returns
 returns c =
     let spot : IsSpot c.in_ok-spot.spot c.block-2.result.now.header c.args.self.now = c.in_ok-spot.ensures.ok in
     let none : block_fault c.args.self.now c.block-2.result.now.header ≡ None = c.in_ok-spot.ensures.none in
-    let one : IsNode c.node.result c.args.self.now =
-    subst (λ (n : Node). IsNode n c.args.self.now) (sym c.node.ensures) (bare_node c.in_ok-spot.spot c.block-2.result.now.header c.args.self.now true spot (block_free c.args.self.now c.block-2.result.now.header none).once)
+    let one : IsNode (node_of c.node.result true) c.args.self.now =
+    subst (λ (n : Node). IsNode n c.args.self.now) (sym (ap (λ (b : BareNode). node_of b true) c.node.ensures)) (bare_node c.in_ok-spot.spot c.block-2.result.now.header c.args.self.now true spot (block_free c.args.self.now c.block-2.result.now.header none).once)
     in
-    let grows : Grows c.self.inside.tree.nodes c.reserve.new.self.nodes c.args.self.now c.node.result =
+    let grows : Grows c.self.inside.tree.nodes c.reserve.new.self.nodes c.args.self.now (node_of c.node.result true) =
     record { is = c.in_ok-reserve-in-Err-2.ensures.tree; same = c.in_ok-reserve-in-Err-2.ensures.same; view = c.self.view_is; one = one }
     in
     let header : c.block-2.result.now.header ≡ c.args.block.header = ap (λ (b : Block). b.header) c.block-2.ensures.same in
     let has : HasWork c.block-2.result.now.header = c.in_ok-hash.ensures.1 in
-    let entry : entry_from c.node.result ≡ bad_entry c.args.block.header = ap entry_from c.node.ensures ∙ bad_on c.in_ok-spot.spot c.args.block.header (spot.header ∙ header) in
+    let entry : entry_from (node_of c.node.result true) ≡ bad_entry c.args.block.header = ap entry_from (ap (λ (b : BareNode). node_of b true) c.node.ensures) ∙ bad_on c.in_ok-spot.spot c.args.block.header (spot.header ∙ header) in
     let grown : tree_of c.add.new.self.nodes ≡ bad_entry c.args.block.header ∷ c.args.self.now =
-    grows_tree c.self.inside.tree.nodes c.reserve.new.self.nodes c.add.new.self.nodes c.args.self.now c.node.result grows c.add.ensures.nodes ∙ ap (λ (e : Entry). e ∷ c.args.self.now) entry
+    grows_tree c.self.inside.tree.nodes c.reserve.new.self.nodes c.add.new.self.nodes c.args.self.now (node_of c.node.result true) grows c.add.ensures.nodes ∙ ap (λ (e : Entry). e ∷ c.args.self.now) entry
     in
     let other : ¬ c.in-Err.fault ≡ Memory = search rules in
     let told : AcceptsBlock c.args.self.now c.args.block (Err c.in-Err.fault) (tree_of c.add.new.self.nodes) =

@@ -9,18 +9,18 @@ returns-in_err-place-clause-height c =
 
 pub returns-in-Some-clause-height : goal.returns-in-Some-clause-height
 returns-in-Some-clause-height c =
-    height_known c.self.inside.tree.nodes c.args.self.now c.args.hash.now c.deref.result.now c.in_ok-place.place c.node.result.now c.in-Some.other.now
+    height_known c.self.inside.tree.nodes c.args.self.now c.args.hash.now c.deref.result.now c.in_ok-place.place _ c.in-Some.other.now
     c.node.ensures.tree c.self.view_is c.in_ok-place.ensures.place c.node.ensures.node (c.deref.ensures.value ∙ c.self.invariant.0.places)
     c.in-Some.ensures.lookup.0 c.in-Some.ensures.lookup.1 c.if-other-place.true
 
 pub returns-in_default-clause-height : goal.returns-in_default-clause-height
 returns-in_default-clause-height c =
-    height_other c.self.inside.tree.nodes c.args.self.now c.args.hash.now c.deref.result.now c.in_ok-place.place c.node.result.now c.in-Some.other.now
+    height_other c.self.inside.tree.nodes c.args.self.now c.args.hash.now c.deref.result.now c.in_ok-place.place _ c.in-Some.other.now
     c.node.ensures.tree c.self.view_is c.in_ok-place.ensures.place c.node.ensures.node (c.deref.ensures.value ∙ c.self.invariant.0.places)
     c.in-Some.ensures.lookup.0 c.in-Some.ensures.lookup.1 c.if-other-place.false
 
 pub returns-in_default-2-clause-height : goal.returns-in_default-2-clause-height
 returns-in_default-2-clause-height c =
     let absent : is_some c.get.result ≡ false = ap is_some c.in_default.is in
-    height_past c.self.inside.tree.nodes c.args.self.now c.args.hash.now c.deref.result.now c.in_ok-place.place c.node.result.now
+    height_past c.self.inside.tree.nodes c.args.self.now c.args.hash.now c.deref.result.now c.in_ok-place.place _
     c.node.ensures.tree c.self.view_is c.in_ok-place.ensures.place c.node.ensures.node (c.deref.ensures.value ∙ c.self.invariant.0.places) (sym absent ∙ c.get.ensures.lookup.0)

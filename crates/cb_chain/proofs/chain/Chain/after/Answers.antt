@@ -19,7 +19,7 @@ headers_to-requires-clause-height c =
     let nodes = c.self.inside.tree.nodes in
     let places = c.self.inside.active.items in
     let slot = slot_read nodes c.args.self.now places c.start.result c.index.result.now c.self.view_is c.self.invariant.0.places c.start.ensures.low c.index.ensures in
-    let level : c.node-start.result.now.height ≡ c.start.result = slot_level nodes c.start.result c.index.result.now c.node-start.result.now c.node-start.ensures.tree slot c.node-start.ensures.node in
+    let level : c.node-start.result.now.height ≡ c.start.result = slot_level nodes c.start.result c.index.result.now _ c.node-start.ensures.tree slot c.node-start.ensures.node in
     let seen : length (active_places (tree_of nodes)) ≡ length (active_places c.args.self.now) = ap (λ (t : Tree). length (active_places t)) c.self.view_is in
     let long : length c.as_slice.result.now ≡ length (active_places (tree_of nodes)) = ap length (c.as_slice.ensures.value ∙ c.self.invariant.0.places) in
     omega (arith, level, seen, long, c.start.ensures.low)
@@ -29,7 +29,7 @@ returns-clause-exact c =
     let nodes = c.self.inside.tree.nodes in
     let stop = c.args.stop.now in
     let slot = slot_read nodes c.args.self.now c.self.inside.active.items c.start.result c.index.result.now c.self.view_is c.self.invariant.0.places c.start.ensures.low c.index.ensures in
-    let level = slot_level nodes c.start.result c.index.result.now c.node-start.result.now c.node-start.ensures.tree slot c.node-start.ensures.node in
+    let level = slot_level nodes c.start.result c.index.result.now _ c.node-start.ensures.tree slot c.node-start.ensures.node in
     let at_start = subst (λ (k : ℕ). IfOk c.headers_to.result (λ (headers : Vec Header Global). headers.items ≡ take 2000 (up_to stop (drop (suc k) (active (tree_of nodes))))))
     (level ∙ c.start.ensures.height) c.headers_to.ensures.exact
     in
@@ -41,6 +41,6 @@ returns-clause-none c =
     let nodes = c.self.inside.tree.nodes in
     let stop = c.args.stop.now in
     let slot = slot_read nodes c.args.self.now c.self.inside.active.items c.start.result c.index.result.now c.self.view_is c.self.invariant.0.places c.start.ensures.low c.index.ensures in
-    let level = slot_level nodes c.start.result c.index.result.now c.node-start.result.now c.node-start.ensures.tree slot c.node-start.ensures.node in
+    let level = slot_level nodes c.start.result c.index.result.now _ c.node-start.ensures.tree slot c.node-start.ensures.node in
     let at_start = subst (λ (k : ℕ). take 2000 (up_to stop (drop (suc k) (active (tree_of nodes)))) ≡ [] → IsOk c.headers_to.result) (level ∙ c.start.ensures.height) c.headers_to.ensures.none in
     subst (λ (t : Tree). take 2000 (up_to stop (drop (suc (start_of (active c.args.self.now) c.args.locator.now)) (active t))) ≡ [] → IsOk c.headers_to.result) c.self.view_is at_start

@@ -1,4 +1,4 @@
-use Rattle.std.proofs.Common.{◌≡◌, ℕ, ◌+◌, take, drop, map, Err, ◌⊎◌, ◌++◌, ◌∷◌, [], length, List, Option, ap, sym, subst, ◌∙◌, None, inl, inr, refl, ◌<◌}
+use Rattle.std.proofs.Common.{◌≡◌, ℕ, ◌+◌, take, drop, map, Err, ◌⊎◌, ◌++◌, ◌∷◌, [], length, List, Option, ap, sym, subst, ◌∙◌, None, inl, inr, refl, ◌<◌, false}
 use Rattle.std.proofs.lemmas.Result.{err_from_is_err_and}
 use Rattle.std.specs.Prelude.{IfSome}
 use Rattle.cb_base.specs.declared.fault.Fault.TheVariants.{Memory}
@@ -10,7 +10,8 @@ use Rattle.cb_chain.specs.History.{IsHistoric}
 use Rattle.cb_chain.specs.Keeping.{active_places, climb, tree_of}
 use Rattle.cb_chain.specs.Plans.{Moved}
 use Rattle.cb_chain.specs.Sides.{IsChain}
-use Rattle.cb_chain.specs.declared.node.Node.{Node}
+use Rattle.cb_chain.specs.declared.node.BareNode.{BareNode}
+use Rattle.cb_chain.specs.Marking.{Node, node_of}
 use Rattle.cb_chain.specs.declared.side_chain.Side.{Side}
 use Rattle.cb_chain.proofs.Ledgers.{rests_let_go, rests_still}
 use Rattle.cb_chain.proofs.Outcomes.{IsEnd, IsStopped, moves, ready, stop_place, stop_tip, stops, tops_tip, why}
@@ -75,10 +76,10 @@ ended c =
     let undos = c.reserve.new.self.undos in
     let path = c.reserve-2.new.self.items in
     let unspent = was.ledger.unspent in
-    let node = c.node-2.result in
+    let node = node_of c.node-2.result false in
     let is =
     ready c.args.self.now was.tree.nodes nodes c.args.spot c.args.kept node was.active.items path was.tree.undos undos unspent was.side c.self.view_is c.reserve.ensures.same c.reserve.ensures.tree c.self.invariant.0
-    c.in_ok-reserve-2.ensures.items c.reserve.ensures.undos c.requires.spot c.requires.none c.requires.higher c.node-2.ensures in
+    c.in_ok-reserve-2.ensures.items c.reserve.ensures.undos c.requires.spot c.requires.none c.requires.higher (ap (λ (b : BareNode). node_of b false) c.node-2.ensures) in
     let plan = c.in_ok-fork.field-0 in
     let after = c.connect.new.self.unspent in
     let leads : LeadsBack c.in-Ok.undo c.args.kept.txs unspent after = subst (λ (b : Block). LeadsBack c.in-Ok.undo b.txs unspent after) c.block.ensures.same c.in-Ok.ensures.undo in
@@ -122,10 +123,10 @@ mark_stop-requires-clause-place c =
     let undos = c.reserve.new.self.undos in
     let path = c.reserve-2.new.self.items in
     let unspent = was.ledger.unspent in
-    let node = c.node.result in
+    let node = node_of c.node.result false in
     let is =
     ready c.args.self.now was.tree.nodes nodes c.args.spot c.args.kept node was.active.items path was.tree.undos undos unspent was.side c.self.view_is c.reserve.ensures.same c.reserve.ensures.tree c.self.invariant.0
-    c.in_ok-reserve-2.ensures.items c.reserve.ensures.undos c.requires.spot c.requires.none c.requires.higher c.node.ensures in
+    c.in_ok-reserve-2.ensures.items c.reserve.ensures.undos c.requires.spot c.requires.none c.requires.higher (ap (λ (b : BareNode). node_of b false) c.node.ensures) in
     let fault = c.in-Err.fault in
     let last = c.len-last.result in
     let told : (fault ≡ Memory) ⊎ (spend unspent c.args.kept.txs ≡ Err fault) = subst (λ (b : Block). (fault ≡ Memory) ⊎ (spend unspent b.txs ≡ Err fault)) c.block.ensures.same c.in-Err.ensures.exact in
@@ -140,10 +141,10 @@ stopped c =
     let undos = c.reserve.new.self.undos in
     let path = c.reserve-2.new.self.items in
     let unspent = was.ledger.unspent in
-    let node = c.node.result in
+    let node = node_of c.node.result false in
     let is =
     ready c.args.self.now was.tree.nodes nodes c.args.spot c.args.kept node was.active.items path was.tree.undos undos unspent was.side c.self.view_is c.reserve.ensures.same c.reserve.ensures.tree c.self.invariant.0
-    c.in_ok-reserve-2.ensures.items c.reserve.ensures.undos c.requires.spot c.requires.none c.requires.higher c.node.ensures in
+    c.in_ok-reserve-2.ensures.items c.reserve.ensures.undos c.requires.spot c.requires.none c.requires.higher (ap (λ (b : BareNode). node_of b false) c.node.ensures) in
     let fault = c.in-Err.fault in
     let last = c.len-last.result in
     let told : (fault ≡ Memory) ⊎ (spend unspent c.args.kept.txs ≡ Err fault) = subst (λ (b : Block). (fault ≡ Memory) ⊎ (spend unspent b.txs ≡ Err fault)) c.block.ensures.same c.in-Err.ensures.exact in

@@ -59,7 +59,7 @@ loop-height-preserved c =
     let hashes = c.loop-height.hashes.items in
     let height = c.loop-height.height in
     let low = locates_within (active tree) (tree_of nodes) path hashes height c.loop-height.step c.self.invariant.0.places c.loop-height.invariant in
-    let here = found_hash nodes tree path height c.index.result.now c.node.result.now c.node.ensures.tree c.self.view_is c.self.invariant.0.places low c.index.ensures c.node.ensures.node in
+    let here = found_hash nodes tree path height c.index.result.now _ c.node.ensures.tree c.self.view_is c.self.invariant.0.places low c.index.ensures c.node.ensures.node in
     locates_next (active tree) (length path - 1) hashes c.push.new.self.items height c.loop-height.step c.saturating_sub-height.result c.if-len-ge12.step c.node.result.now.hash
     c.loop-height.invariant c.loop-height-test.true here c.in_ok-push.ensures.items (stepped c) c.saturating_sub-height.ensures
 
@@ -68,7 +68,7 @@ returns-clause-exact c =
     let nodes = c.self.inside.tree.nodes in
     let path = c.self.inside.active.items in
     let tree = c.args.self.now in
-    let first = found_hash nodes tree path 0 c.index-2.result.now c.node-2.result.now c.node-2.ensures.tree c.self.view_is c.self.invariant.0.places (some_places (tree_of nodes) path c.self.invariant.0.places) c.index-2.ensures c.node-2.ensures.node in
+    let first = found_hash nodes tree path 0 c.index-2.result.now _ c.node-2.ensures.tree c.self.view_is c.self.invariant.0.places (some_places (tree_of nodes) path c.self.invariant.0.places) c.index-2.ensures c.node-2.ensures.node in
     c.in_ok-push-2.ensures.items
     ∙ locates_all (active tree) (length path - 1) c.loop-height.hashes.items c.loop-height.height c.loop-height.step c.node-2.result.now.hash c.loop-height.invariant c.loop-height-test.false first
     ∙ located nodes tree path c.node-2.ensures.tree c.self.view_is c.self.invariant.0.places

@@ -17,12 +17,12 @@ pub returns-clause-hash : goal.returns-clause-hash
 returns-clause-hash c =
     let path = c.self.inside.active.items in
     let nodes = c.self.inside.tree.nodes in
-    let node = tip_node nodes path (c.len.result - 1) c.index.result.now c.node.result.now c.self.invariant.0.places (omega (arith, c.self.inside.active.ok.0)) c.index.ensures c.node.ensures.node c.node.ensures.tree in
+    let node = tip_node nodes path (c.len.result - 1) c.index.result.now _ c.self.invariant.0.places (omega (arith, c.self.inside.active.ok.0)) c.index.ensures c.node.ensures.node c.node.ensures.tree in
     node.hash ∙ ap best c.self.view_is
 
 pub returns-clause-height : goal.returns-clause-height
 returns-clause-height c =
     let path = c.self.inside.active.items in
     let nodes = c.self.inside.tree.nodes in
-    let node = tip_node nodes path (c.len.result - 1) c.index.result.now c.node.result.now c.self.invariant.0.places (omega (arith, c.self.inside.active.ok.0)) c.index.ensures c.node.ensures.node c.node.ensures.tree in
+    let node = tip_node nodes path (c.len.result - 1) c.index.result.now _ c.self.invariant.0.places (omega (arith, c.self.inside.active.ok.0)) c.index.ensures c.node.ensures.node c.node.ensures.tree in
     ap (λ (tree : Tree). height_of tree (best tree)) (sym c.self.view_is) ∙ node.height

@@ -1,8 +1,9 @@
-use Rattle.std.proofs.Common.{◌≡◌, ◌-◌, ◌<◌, ◌⊎◌, ◌++◌, ◌∷◌, [], length, List, Some, inl, inr, refl, ap, sym, subst, ◌∙◌, arith}
+use Rattle.std.proofs.Common.{◌≡◌, ◌-◌, ◌<◌, ◌⊎◌, ◌++◌, ◌∷◌, [], length, List, Some, inl, inr, refl, ap, sym, subst, ◌∙◌, arith, false}
 use Rattle.std.proofs.lemmas.Result.{err_from_is_err_and}
 use Rattle.std.specs.Prelude.{IsSome}
 use Rattle.cb_base.specs.declared.fault.Fault.TheVariants.{Memory}
-use Rattle.cb_chain.specs.declared.node.Node.{Node}
+use Rattle.cb_chain.specs.declared.node.BareNode.{BareNode}
+use Rattle.cb_chain.specs.Marking.{Node, node_of}
 use Rattle.cb_chain.specs.Best.{best}
 use Rattle.cb_chain.specs.Entries.{Tree}
 use Rattle.cb_chain.specs.History.{IsHistoric}
@@ -76,10 +77,10 @@ mark_stop-requires-clause-place c =
     let undos = c.reserve.new.self.undos in
     let path = was.active.items in
     let unspent = was.ledger.unspent in
-    let node = c.node.result in
+    let node = node_of c.node.result false in
     let is =
     ready c.args.self.now was.tree.nodes nodes c.args.spot c.args.kept node path path was.tree.undos undos unspent was.side c.self.view_is c.reserve.ensures.same c.reserve.ensures.tree c.self.invariant.0 refl c.reserve.ensures.undos
-    c.requires.spot c.requires.none c.requires.higher c.node.ensures in
+    c.requires.spot c.requires.none c.requires.higher (ap (λ (b : BareNode). node_of b false) c.node.ensures) in
     let place = c.in-Err.stop.place in
     let fault = c.in-Err.stop.fault in
     subst (λ (ns : List Node). (fault ≡ Memory) ⊎ ((0 < place) × IsSome (block_at (ns ++ node ∷ []) place))) (sym c.try_on-tried.ensures.nodes)
@@ -94,10 +95,10 @@ stopped c =
     let path = was.active.items in
     let unspent = was.ledger.unspent in
     let chain = chain_as nodes was.tree.nodes path path was.tree.undos undos unspent unspent was.side was.side c.reserve.ensures.same refl c.reserve.ensures.undos refl refl c.self.invariant.0 in
-    let node = c.node.result in
+    let node = node_of c.node.result false in
     let is =
     ready c.args.self.now was.tree.nodes nodes c.args.spot c.args.kept node path path was.tree.undos undos unspent was.side c.self.view_is c.reserve.ensures.same c.reserve.ensures.tree c.self.invariant.0 refl c.reserve.ensures.undos
-    c.requires.spot c.requires.none c.requires.higher c.node.ensures in
+    c.requires.spot c.requires.none c.requires.higher (ap (λ (b : BareNode). node_of b false) c.node.ensures) in
     let tried = c.try_on-tried.new.tree.undos in
     let last = c.starts_from-side.new.side in
     let same : c.try_on-tried.new.tree.nodes ≡ nodes = c.try_on-tried.ensures.nodes in
@@ -165,10 +166,10 @@ ended c =
     let path = was.active.items in
     let unspent = was.ledger.unspent in
     let chain = chain_as nodes was.tree.nodes path path was.tree.undos undos unspent unspent was.side was.side c.reserve.ensures.same refl c.reserve.ensures.undos refl refl c.self.invariant.0 in
-    let node = c.node-2.result in
+    let node = node_of c.node-2.result false in
     let is =
     ready c.args.self.now was.tree.nodes nodes c.args.spot c.args.kept node path path was.tree.undos undos unspent was.side c.self.view_is c.reserve.ensures.same c.reserve.ensures.tree c.self.invariant.0 refl c.reserve.ensures.undos
-    c.requires.spot c.requires.none c.requires.higher c.node-2.ensures in
+    c.requires.spot c.requires.none c.requires.higher (ap (λ (b : BareNode). node_of b false) c.node-2.ensures) in
     let tried = c.try_on-tried.new.tree.undos in
     let last = c.starts_from-side.new.side in
     let same : c.try_on-tried.new.tree.nodes ≡ nodes = c.try_on-tried.ensures.nodes in

@@ -17,9 +17,9 @@ node-requires c = λ is.
 pub returns-in_ok-take_back-clause-side : goal.returns-in_ok-take_back-clause-side
 returns-in_ok-take_back-clause-side c = λ unspent side.
     let tree = c.args.tree.now in
-    lowered tree.nodes tree.undos unspent c.args.self.now _ c.node.result.now c.in-Some.undo.now c.requires.tree c.requires.undos c.node.ensures.node c.requires.above (sym c.in-Some.ensures) refl c.in_ok-take_back.ensures.ok side
+    lowered tree.nodes tree.undos unspent c.args.self.now _ _ c.in-Some.undo.now c.requires.tree c.requires.undos c.node.ensures.node c.requires.above (sym c.in-Some.ensures) refl c.in_ok-take_back.ensures.ok side
 
 pub returns-in_ok-take_back-clause-lower : goal.returns-in_ok-take_back-clause-lower
 returns-in_ok-take_back-clause-lower c =
     let tree = c.args.tree.now in
-    lowers tree.nodes tree.undos c.requires.side.0 c.args.self.now c.node.result.now c.requires.tree c.requires.side.1 c.node.ensures.node c.requires.above
+    lowers tree.nodes tree.undos c.requires.side.0 c.args.self.now _ c.requires.tree c.requires.side.1 c.node.ensures.node c.requires.above

@@ -8,7 +8,7 @@ pub node-requires : goal.node-requires
 node-requires c = λ is. kept_low c.args.tree.now.nodes c.loop-place.place is c.loop-place.invariant.1
 
 stands : (c : After-node) → StandsOn c.args.tree.now.nodes c.node.result.now.parent c.loop-place.place × IsKeptPlace c.args.tree.now.nodes c.node.result.now.parent
-stands c = stands_on c.args.tree.now.nodes c.loop-place.place c.node.result.now c.requires.tree c.loop-place.invariant.1 (omega (arith, c.if-self-place.true)) c.node.ensures.node
+stands c = stands_on c.args.tree.now.nodes c.loop-place.place _ c.requires.tree c.loop-place.invariant.1 (omega (arith, c.if-self-place.true)) c.node.ensures.node
 
 pub loop-place-smaller-then-self-place : goal.loop-place-smaller-then-self-place
 loop-place-smaller-then-self-place c =

@@ -16,7 +16,7 @@ returns-in_err-undo-clause-err c =
     rw (p.1, p.2) (elim c.in_err-undo.ensures.exact [
       | inl memory ↦ inl memory
       | inr failed ↦
-          inr (fails tree.nodes tree.undos c.args.ledger.now.unspent c.args.self.now c.args.place c.node.result.now c.block.result.now c.in_err-undo.field-0.0 c.requires.tree c.requires.side c.requires.next c.node.ensures.node
+          inr (fails tree.nodes tree.undos c.args.ledger.now.unspent c.args.self.now c.args.place _ c.block.result.now c.in_err-undo.field-0.0 c.requires.tree c.requires.side c.requires.next c.node.ensures.node
           (c.in-Some.is ∙ ap Some (sym c.block.ensures.same)) failed)
     ])
 
@@ -26,7 +26,7 @@ note-requires c = noted_low c.args.tree.now.nodes c.args.tree.now.undos c.args.s
 pub returns-clause-undos : goal.returns-clause-undos
 returns-clause-undos c =
     let tree = c.args.tree.now in
-    let is = raised tree.nodes c.note.new.self.nodes tree.undos c.note.new.self.undos c.args.ledger.now.unspent c.args.self.now (record { end = c.args.place; overlay = c.connect.new.self }) c.args.place c.node.result.now c.block.result.now c.in_ok-undo.undo c.requires.tree c.requires.undos
+    let is = raised tree.nodes c.note.new.self.nodes tree.undos c.note.new.self.undos c.args.ledger.now.unspent c.args.self.now (record { end = c.args.place; overlay = c.connect.new.self }) c.args.place _ c.block.result.now c.in_ok-undo.undo c.requires.tree c.requires.undos
     c.requires.side c.requires.next c.node.ensures.node (c.in-Some.is ∙ ap Some (sym c.block.ensures.same)) c.in_ok-undo.ensures.undo refl c.note.ensures.nodes c.note.ensures.undos in
     is.undos_are
 
@@ -36,6 +36,6 @@ returns-clause-records c = noted_keeps c.args.tree.now.nodes c.args.tree.now.und
 pub returns-clause-side : goal.returns-clause-side
 returns-clause-side c =
     let tree = c.args.tree.now in
-    let is = raised tree.nodes c.note.new.self.nodes tree.undos c.note.new.self.undos c.args.ledger.now.unspent c.args.self.now (record { end = c.args.place; overlay = c.connect.new.self }) c.args.place c.node.result.now c.block.result.now c.in_ok-undo.undo c.requires.tree c.requires.undos
+    let is = raised tree.nodes c.note.new.self.nodes tree.undos c.note.new.self.undos c.args.ledger.now.unspent c.args.self.now (record { end = c.args.place; overlay = c.connect.new.self }) c.args.place _ c.block.result.now c.in_ok-undo.undo c.requires.tree c.requires.undos
     c.requires.side c.requires.next c.node.ensures.node (c.in-Some.is ∙ ap Some (sym c.block.ensures.same)) c.in_ok-undo.ensures.undo refl c.note.ensures.nodes c.note.ensures.undos in
     is.side_is

@@ -1,6 +1,6 @@
 use Rattle.std.proofs.Common.{List, ◌∷◌, ◌∙◌, inl, inr, subst, sym, take, ◌-◌, arith}
 use Rattle.std.specs.Prelude.{reverse}
-use Rattle.cb_chain.specs.declared.node.Node.{Node}
+use Rattle.cb_chain.specs.Marking.{Node}
 use Rattle.cb_chain.specs.Keeping.{IsTree, tree_of}
 use Rattle.cb_chain.specs.Sides.{AreUndos, FailsAt, IsSide, LeadUp, StandsOn}
 use Rattle.cb_chain.proofs.Tries.{next_up, stops_below}

@@ -3,7 +3,7 @@ use Rattle.std.proofs.lemmas.Result.{err_from_is_err_and}
 use Rattle.cb_block.specs.declared.block.Block.{Block}
 use Rattle.cb_ledger.specs.Spend.{spend}
 use Rattle.cb_ledger.specs.Undo.{LeadsBack, changed}
-use Rattle.cb_chain.specs.declared.node.Node.{Node}
+use Rattle.cb_chain.specs.Marking.{Node}
 use Rattle.cb_chain.specs.Keeping.{tree_of}
 use Rattle.cb_chain.specs.Sides.{below, here}
 use Rattle.cb_chain.proofs.Tries.{side_like, side_on}

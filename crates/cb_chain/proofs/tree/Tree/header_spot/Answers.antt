@@ -3,20 +3,20 @@ use Rattle.cb_base.specs.declared.fault.Fault.{Fault}
 use Rattle.cb_chain.specs.Entries.{block_hash}
 use Rattle.cb_chain.specs.Calls.{header_fault}
 use Rattle.cb_chain.specs.Keeping.{parent_fault, place_of, tree_of}
-use Rattle.cb_chain.proofs.SideNodes.{header_known, header_marked, header_unknown, known_at}
+use Rattle.cb_chain.proofs.SideNodes.{header_known, header_marked, header_unknown, known_by}
 use Rattle.cb_chain.proofs.tree.Tree.header_spot.Goals as goal
 
-pub returns-then-node-clause-err : goal.returns-then-node-clause-err
-returns-then-node-clause-err c =
-    header_marked (tree_of c.args.self.now.nodes) c.args.header c.node.result.now
-    (known_at c.args.self.now.nodes (tree_of c.args.self.now.nodes) (block_hash c.args.header) c.in-Some.place c.node.result.now c.node.ensures.tree refl
-    (ap (place_of (tree_of c.args.self.now.nodes)) (sym c.requires) ∙ sym c.place.ensures.place ∙ c.in-Some.is) c.node.ensures.node) c.if-node.true
+pub returns-then-is_bad-clause-err : goal.returns-then-is_bad-clause-err
+returns-then-is_bad-clause-err c =
+    let nodes = c.args.self.now.nodes in
+    let is = known_by nodes (block_hash c.args.header) c.in-Some.place c.is_bad.result c.place.ensures.tree (ap (place_of (tree_of nodes)) (sym c.requires) ∙ sym c.place.ensures.place ∙ c.in-Some.is) c.is_bad.ensures in
+    header_marked (tree_of nodes) c.args.header is.0 is.1 (is.2 ∙ c.if-is_bad.true)
 
 pub returns-in-Some-clause-err : goal.returns-in-Some-clause-err
 returns-in-Some-clause-err c =
-    header_known (tree_of c.args.self.now.nodes) c.args.header c.node.result.now
-    (known_at c.args.self.now.nodes (tree_of c.args.self.now.nodes) (block_hash c.args.header) c.in-Some.place c.node.result.now c.node.ensures.tree refl
-    (ap (place_of (tree_of c.args.self.now.nodes)) (sym c.requires) ∙ sym c.place.ensures.place ∙ c.in-Some.is) c.node.ensures.node) c.if-node.false
+    let nodes = c.args.self.now.nodes in
+    let is = known_by nodes (block_hash c.args.header) c.in-Some.place c.is_bad.result c.place.ensures.tree (ap (place_of (tree_of nodes)) (sym c.requires) ∙ sym c.place.ensures.place ∙ c.in-Some.is) c.is_bad.ensures in
+    header_known (tree_of nodes) c.args.header is.0 is.1 (is.2 ∙ c.if-is_bad.false)
 
 pub returns-clause-none : goal.returns-clause-none
 returns-clause-none c =

@@ -1,6 +1,7 @@
 use Rattle.std.proofs.Common.{◌+◌, ◌≡◌, ◌∙◌, arith, ap, refl, sym, inl, inr, false}
 use Rattle.std.specs.Prelude.{is_some, not, ◌&&◌}
 use Rattle.cb_chain.specs.Keeping.{tree_of}
+use Rattle.cb_chain.specs.Marking.{mark_at, node_of}
 use Rattle.cb_chain.proofs.SideNodes.{fault_bare, fault_high, fault_marked, fault_none, has_asked, known_at, parent_known, parent_unknown, spot_at}
 use Rattle.cb_chain.proofs.tree.Tree.spot_on_parent.Goals as goal
 use Rattle.cb_chain.proofs.tree.Tree.spot_on_parent.Goals.{else-block-via-then-block+else-is_none, else-block-via-else-block}
@@ -11,38 +12,38 @@ returns-in_default-clause-err c =
     parent_unknown c.args.self.now.nodes (tree_of c.args.self.now.nodes) c.args.header.prev c.args.block refl (sym c.place.ensures.place ∙ c.in_default.is)
 
 -- src/accepting.rt:52:13
-pub returns-then-node-clause-err : goal.returns-then-node-clause-err
-returns-then-node-clause-err c =
-    parent_known (tree_of c.args.self.now.nodes) c.args.header.prev c.node-node.result.now c.args.block
-    (known_at c.args.self.now.nodes (tree_of c.args.self.now.nodes) c.args.header.prev c.in-Some.parent c.node-node.result.now c.node-node.ensures.tree refl (sym c.place.ensures.place ∙ c.in-Some.is) c.node-node.ensures.node)
-    ∙ fault_marked c.node-node.result.now c.args.block c.if-node.true
+pub returns-then-is_bad-clause-err : goal.returns-then-is_bad-clause-err
+returns-then-is_bad-clause-err c =
+    parent_known (tree_of c.args.self.now.nodes) c.args.header.prev (node_of c.node-node.result.now (mark_at c.args.self.now.nodes c.in-Some.parent)) c.args.block
+    (known_at c.args.self.now.nodes (tree_of c.args.self.now.nodes) c.args.header.prev c.in-Some.parent (node_of c.node-node.result.now (mark_at c.args.self.now.nodes c.in-Some.parent)) c.node-node.ensures.tree refl (sym c.place.ensures.place ∙ c.in-Some.is) c.node-node.ensures.node)
+    ∙ fault_marked (node_of c.node-node.result.now (mark_at c.args.self.now.nodes c.in-Some.parent)) c.args.block (sym c.is_bad.ensures ∙ c.if-is_bad.true)
 
 -- src/accepting.rt:55:13
 pub returns-then-is_none-clause-err : goal.returns-then-is_none-clause-err
 returns-then-is_none-clause-err c =
-    parent_known (tree_of c.args.self.now.nodes) c.args.header.prev c.node-node.result.now c.args.block
-    (known_at c.args.self.now.nodes (tree_of c.args.self.now.nodes) c.args.header.prev c.in-Some.parent c.node-node.result.now c.node-node.ensures.tree refl (sym c.place.ensures.place ∙ c.in-Some.is) c.node-node.ensures.node)
-    ∙ fault_bare c.node-node.result.now c.args.block c.if-node.false c.if-block.true (c.is_none.ensures ∙ ap not c.if-is_none.true)
+    parent_known (tree_of c.args.self.now.nodes) c.args.header.prev (node_of c.node-node.result.now (mark_at c.args.self.now.nodes c.in-Some.parent)) c.args.block
+    (known_at c.args.self.now.nodes (tree_of c.args.self.now.nodes) c.args.header.prev c.in-Some.parent (node_of c.node-node.result.now (mark_at c.args.self.now.nodes c.in-Some.parent)) c.node-node.ensures.tree refl (sym c.place.ensures.place ∙ c.in-Some.is) c.node-node.ensures.node)
+    ∙ fault_bare (node_of c.node-node.result.now (mark_at c.args.self.now.nodes c.in-Some.parent)) c.args.block (sym c.is_bad.ensures ∙ c.if-is_bad.false) c.if-block.true (c.is_none.ensures ∙ ap not c.if-is_none.true)
 
 -- src/accepting.rt:58:13
 pub returns-then-node-ge-MOST_HEIGHT-clause-err : goal.returns-then-node-ge-MOST_HEIGHT-clause-err
 returns-then-node-ge-MOST_HEIGHT-clause-err c =
     let asked : (c.args.block && not (is_some c.node-node.result.now.kept)) ≡ false =
     elim c.else-block.branch [
-      | else-block-via-then-block+else-is_none w ↦ has_asked c.args.block c.node-node.result.now (inr (w.is_none.ensures ∙ ap not w.if-is_none.false))
-      | else-block-via-else-block w ↦ has_asked c.args.block c.node-node.result.now (inl w.if-block.false)
+      | else-block-via-then-block+else-is_none w ↦ has_asked c.args.block (node_of c.node-node.result.now (mark_at c.args.self.now.nodes c.in-Some.parent)) (inr (w.is_none.ensures ∙ ap not w.if-is_none.false))
+      | else-block-via-else-block w ↦ has_asked c.args.block (node_of c.node-node.result.now (mark_at c.args.self.now.nodes c.in-Some.parent)) (inl w.if-block.false)
     ]
     in
-    parent_known (tree_of c.args.self.now.nodes) c.args.header.prev c.node-node.result.now c.args.block
-    (known_at c.args.self.now.nodes (tree_of c.args.self.now.nodes) c.args.header.prev c.in-Some.parent c.node-node.result.now c.node-node.ensures.tree refl (sym c.place.ensures.place ∙ c.in-Some.is) c.node-node.ensures.node)
-    ∙ fault_high c.node-node.result.now c.args.block c.if-node.false asked (omega arith)
+    parent_known (tree_of c.args.self.now.nodes) c.args.header.prev (node_of c.node-node.result.now (mark_at c.args.self.now.nodes c.in-Some.parent)) c.args.block
+    (known_at c.args.self.now.nodes (tree_of c.args.self.now.nodes) c.args.header.prev c.in-Some.parent (node_of c.node-node.result.now (mark_at c.args.self.now.nodes c.in-Some.parent)) c.node-node.ensures.tree refl (sym c.place.ensures.place ∙ c.in-Some.is) c.node-node.ensures.node)
+    ∙ fault_high (node_of c.node-node.result.now (mark_at c.args.self.now.nodes c.in-Some.parent)) c.args.block (sym c.is_bad.ensures ∙ c.if-is_bad.false) asked (omega arith)
 
 -- src/accepting.rt:41:5
 pub returns-clause-ok : goal.returns-clause-ok
 returns-clause-ok c =
-    spot_at c.args.self.now.nodes (tree_of c.args.self.now.nodes) c.args.header (record { header = c.args.header; hash = c.args.hash; parent = c.in-Some.parent; height = c.node-node.result.now.height + 1 }) c.node-node.result.now
+    spot_at c.args.self.now.nodes (tree_of c.args.self.now.nodes) c.args.header (record { header = c.args.header; hash = c.args.hash; parent = c.in-Some.parent; height = c.node-node.result.now.height + 1 }) (node_of c.node-node.result.now (mark_at c.args.self.now.nodes c.in-Some.parent))
     refl (sym c.place.ensures.place ∙ c.in-Some.is)
-    (known_at c.args.self.now.nodes (tree_of c.args.self.now.nodes) c.args.header.prev c.in-Some.parent c.node-node.result.now c.node-node.ensures.tree refl (sym c.place.ensures.place ∙ c.in-Some.is) c.node-node.ensures.node)
+    (known_at c.args.self.now.nodes (tree_of c.args.self.now.nodes) c.args.header.prev c.in-Some.parent (node_of c.node-node.result.now (mark_at c.args.self.now.nodes c.in-Some.parent)) c.node-node.ensures.tree refl (sym c.place.ensures.place ∙ c.in-Some.is) c.node-node.ensures.node)
     refl c.requires refl c.if-node-ge-MOST_HEIGHT.false
 
 -- src/accepting.rt:41:5
@@ -50,10 +51,10 @@ pub returns-clause-none : goal.returns-clause-none
 returns-clause-none c =
     let asked : (c.args.block && not (is_some c.node-node.result.now.kept)) ≡ false =
     elim c.else-block.branch [
-      | else-block-via-then-block+else-is_none w ↦ has_asked c.args.block c.node-node.result.now (inr (w.is_none.ensures ∙ ap not w.if-is_none.false))
-      | else-block-via-else-block w ↦ has_asked c.args.block c.node-node.result.now (inl w.if-block.false)
+      | else-block-via-then-block+else-is_none w ↦ has_asked c.args.block (node_of c.node-node.result.now (mark_at c.args.self.now.nodes c.in-Some.parent)) (inr (w.is_none.ensures ∙ ap not w.if-is_none.false))
+      | else-block-via-else-block w ↦ has_asked c.args.block (node_of c.node-node.result.now (mark_at c.args.self.now.nodes c.in-Some.parent)) (inl w.if-block.false)
     ]
     in
-    parent_known (tree_of c.args.self.now.nodes) c.args.header.prev c.node-node.result.now c.args.block
-    (known_at c.args.self.now.nodes (tree_of c.args.self.now.nodes) c.args.header.prev c.in-Some.parent c.node-node.result.now c.node-node.ensures.tree refl (sym c.place.ensures.place ∙ c.in-Some.is) c.node-node.ensures.node)
-    ∙ fault_none c.node-node.result.now c.args.block c.if-node.false asked c.if-node-ge-MOST_HEIGHT.false
+    parent_known (tree_of c.args.self.now.nodes) c.args.header.prev (node_of c.node-node.result.now (mark_at c.args.self.now.nodes c.in-Some.parent)) c.args.block
+    (known_at c.args.self.now.nodes (tree_of c.args.self.now.nodes) c.args.header.prev c.in-Some.parent (node_of c.node-node.result.now (mark_at c.args.self.now.nodes c.in-Some.parent)) c.node-node.ensures.tree refl (sym c.place.ensures.place ∙ c.in-Some.is) c.node-node.ensures.node)
+    ∙ fault_none (node_of c.node-node.result.now (mark_at c.args.self.now.nodes c.in-Some.parent)) c.args.block (sym c.is_bad.ensures ∙ c.if-is_bad.false) asked c.if-node-ge-MOST_HEIGHT.false
