@@ -521,6 +521,17 @@ def behind_a_checkpoint():
     return row
 
 
+def asked_often():
+    """Twelve times the same compact block: an answer of the mempool counts for 16,666 entries of 40 bytes in the session's history."""
+    row = begun_with_nine("asked-often", "The block that is being rebuilt stays, though answers let the session's history begin anew.")
+    request = message("getblocktxn", NINE.header.name, b"\2", b"\2", b"\4")
+    assert 12 * (64 + 40 * 16_666) > 8_000_000
+    row.step("the compact block eleven times more: each asks for what is missing", [compact(NINE)] * 11, [request] * 11)
+    row.step("what is missing, before which the history begins anew", [blocktxn(NINE, COINS[1], COINS[6])])
+    row.step("the block is there", [getdata(BLOCK, NINE.header.name)], [block(NINE)])
+    return row
+
+
 def far_apart():
     row = begun("far-apart", "Counts and differences above 252: of a block of 300 transactions the places 3 and 290 are missing.")
     fan = AnyTx([((FIRST.txs[0].name, 0), b"")], [COIN // 300] * 298)
@@ -583,7 +594,7 @@ ROWS = [repeated_ids, wrong_list, two_missing, one_of_two, exchanged, depths, kn
         told_unasked, told_no_longer, told_if_asked, another_version, near_the_tip, no_such_place, no_such_request, no_such_request_below,
         place_past_64_bits, request_past_64_bits, whole_of_64_bytes, nobody_asked, not_held_against, unknown_parent, too_many_in_flight, relay]
 # These are too long to be stored.
-OTHERS = [behind_a_checkpoint, far_apart, a_header_without_work]
+OTHERS = [behind_a_checkpoint, asked_often, far_apart, a_header_without_work]
 
 
 # ---- as stored runs
