@@ -512,6 +512,18 @@ def too_many_in_flight():
     return row
 
 
+def twenty_headers():
+    row = begun("twenty-headers", "Of 20 headers 16 blocks are asked for, and behind the sixteenth the other four. None is told back to its sender.")
+    blocks = raised(20)
+    names = [one.header.name for one in blocks]
+    row.step("20 headers", [headers(*blocks)], [getdata(BLOCK, *names[:16])])
+    row.step("fifteen of the blocks", [block(one) for one in blocks[:15]])
+    row.step("the sixteenth", [block(blocks[15])], [getdata(BLOCK, *names[16:])])
+    row.step("the other four", [block(one) for one in blocks[16:]])
+    row.step("the headers behind the network's first block: all 20", [getheaders(GENESIS)], [headers(*blocks)])
+    return row
+
+
 def behind_a_checkpoint():
     """Large messages between a compact block and its missing transactions: before the last of them the session's history begins anew."""
     row = begun_with_nine("behind-a-checkpoint", "The block that is being rebuilt stays, though the session's history begins anew.")
@@ -594,7 +606,7 @@ ROWS = [repeated_ids, wrong_list, two_missing, one_of_two, exchanged, depths, kn
         told_unasked, told_no_longer, told_if_asked, another_version, near_the_tip, no_such_place, no_such_request, no_such_request_below,
         place_past_64_bits, request_past_64_bits, whole_of_64_bytes, nobody_asked, not_held_against, unknown_parent, too_many_in_flight, relay]
 # These are too long to be stored.
-OTHERS = [behind_a_checkpoint, asked_often, far_apart, a_header_without_work]
+OTHERS = [twenty_headers, behind_a_checkpoint, asked_often, far_apart, a_header_without_work]
 
 
 # ---- as stored runs
