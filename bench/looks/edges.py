@@ -200,7 +200,7 @@ class Edges(Looks):
         self.look("100,000 acts within 10 seconds", took < 10, True)
 
     def pings_past_checkpoints(self):
-        for count in (32_768, 100_000):
+        for count in (32_767, 32_768, 100_000):
             self.look(f"{count} pings", self.run(["serve"], PING * count), (0, PONG * count, b"closed Bye\n"))
 
 

@@ -512,11 +512,34 @@ def too_many_in_flight():
     return row
 
 
+def twenty_headers():
+    row = begun("twenty-headers", "Of 20 headers 16 blocks are asked for, and behind the sixteenth the other four. None is told back to its sender.")
+    blocks = raised(20)
+    names = [one.header.name for one in blocks]
+    row.step("20 headers", [headers(*blocks)], [getdata(BLOCK, *names[:16])])
+    row.step("fifteen of the blocks", [block(one) for one in blocks[:15]])
+    row.step("the sixteenth", [block(blocks[15])], [getdata(BLOCK, *names[16:])])
+    row.step("the other four", [block(one) for one in blocks[16:]])
+    row.step("the headers behind the network's first block: all 20", [getheaders(GENESIS)], [headers(*blocks)])
+    return row
+
+
 def behind_a_checkpoint():
     """Large messages between a compact block and its missing transactions: before the last of them the session's history begins anew."""
     row = begun_with_nine("behind-a-checkpoint", "The block that is being rebuilt stays, though the session's history begins anew.")
     row.step("two large messages of no known command", [message("filler", bytes(4_000_000))] * 2)
     row.step("what is missing", [blocktxn(NINE, COINS[1], COINS[6])])
+    row.step("the block is there", [getdata(BLOCK, NINE.header.name)], [block(NINE)])
+    return row
+
+
+def asked_often():
+    """Twelve times the same compact block: an answer of the mempool counts for 16,666 entries of 40 bytes in the session's history."""
+    row = begun_with_nine("asked-often", "The block that is being rebuilt stays, though answers let the session's history begin anew.")
+    request = message("getblocktxn", NINE.header.name, b"\2", b"\2", b"\4")
+    assert 12 * (64 + 40 * 16_666) > 8_000_000
+    row.step("the compact block eleven times more: each asks for what is missing", [compact(NINE)] * 11, [request] * 11)
+    row.step("what is missing, before which the history begins anew", [blocktxn(NINE, COINS[1], COINS[6])])
     row.step("the block is there", [getdata(BLOCK, NINE.header.name)], [block(NINE)])
     return row
 
@@ -583,7 +606,7 @@ ROWS = [repeated_ids, wrong_list, two_missing, one_of_two, exchanged, depths, kn
         told_unasked, told_no_longer, told_if_asked, another_version, near_the_tip, no_such_place, no_such_request, no_such_request_below,
         place_past_64_bits, request_past_64_bits, whole_of_64_bytes, nobody_asked, not_held_against, unknown_parent, too_many_in_flight, relay]
 # These are too long to be stored.
-OTHERS = [behind_a_checkpoint, far_apart, a_header_without_work]
+OTHERS = [twenty_headers, behind_a_checkpoint, asked_often, far_apart, a_header_without_work]
 
 
 # ---- as stored runs
