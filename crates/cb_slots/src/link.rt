@@ -1,3 +1,4 @@
+use crate::outbox::Outbox;
 use crate::socket::Socket;
 use cb_base::{Fault, Shared};
 use cb_crew::Turn;
@@ -18,6 +19,8 @@ pub struct Link {
     pub status: Shared<ConnectionStatus>,
     /// The connection's socket.
     pub socket: Socket,
+    /// What its session wrote and the socket hasn't taken yet.
+    pub outbox: Outbox,
     /// Whether the connection's reader has said that it returns.
     left: AtomicBool,
 }
@@ -30,6 +33,7 @@ impl Link {
             generation,
             status,
             socket: Socket::new(),
+            outbox: Outbox::new(alloc),
             left: AtomicBool::new(false),
         };
         Ok(Shared::new(alloc, link)?)
@@ -46,11 +50,12 @@ impl Link {
     }
 }
 
-/// What a connection's session writes to: the connection's socket, once it's there. Before that a
-/// write fails, as it does after the socket was closed.
+/// What a connection's session writes to: the connection's outbox, once its socket is there. Before
+/// that a write fails, as it does after the connection was closed, after a failed write of the socket,
+/// and if the outbox is full.
 #[derive(Drop)]
 pub struct SocketWriter<R: Drop> {
-    /// By which it waits for the socket's place.
+    /// By which it waits for the outbox's lock.
     pub rt: R,
     /// The connection.
     pub link: Shared<Link>,
@@ -58,8 +63,8 @@ pub struct SocketWriter<R: Drop> {
 
 impl<R: Wait + Drop> Write for SocketWriter<R> {
     fn write(&mut self, piece: &[u8]) -> io::Result<usize> {
-        let stream = self.link.socket.stream(&self.rt)?;
-        (&*stream).write(piece)
+        self.link.outbox.push(&self.rt, piece)?;
+        Ok(piece.len())
     }
 
     fn flush(&mut self) -> io::Result<()> {
@@ -92,7 +97,8 @@ impl Links {
         Ok(())
     }
 
-    /// Closes the socket of each connection of this slot whose session is over, and of no other.
+    /// Closes each connection of this slot whose session is over, and no other: it is read no more,
+    /// and what its session wrote still goes out.
     pub fn close_ended<R: Wait>(&self, rt: &R, slot: u16) {
         let Some(links) = self.slots.get(usize::from(slot)) else {
             return;
@@ -101,9 +107,10 @@ impl Links {
         links.retain(|link| {
             let over = link.status.is_stopped();
             if over {
-                link.socket.close(rt);
+                link.socket.stop_reading(rt);
+                link.outbox.close();
             }
-            !over
+            !over || !link.outbox.is_done()
         });
     }
 
@@ -114,7 +121,8 @@ impl Links {
         }
     }
 
-    /// Closes the sockets of all connections.
+    /// Closes all connections, and waits until what their sessions wrote went out, at most for half a
+    /// minute.
     pub fn close_all<R: Wait>(&self, rt: &R) {
         for links in self.slots.as_slice() {
             close_all(rt, links.lock(rt).as_slice());
@@ -129,15 +137,19 @@ fn stop_reading_all<R: Wait>(rt: &R, links: &[Shared<Link>]) {
     }
 }
 
-/// Closes the sockets of these connections.
+/// Closes these connections, and waits until what their sessions wrote went out.
 fn close_all<R: Wait>(rt: &R, links: &[Shared<Link>]) {
     for link in links {
+        link.outbox.close();
+    }
+    for link in links {
+        link.outbox.wait(rt);
         link.socket.close(rt);
     }
 }
 
-/// After each turn of a handler: counts what it took, and closes the sockets of the slot's
-/// connections whose sessions are over. So a reader that waits for bytes of such a connection
+/// After each turn of a handler: counts what it took, and closes the slot's connections whose sessions
+/// are over. So a reader that waits for bytes of such a connection
 /// wakes.
 #[derive(Drop)]
 pub struct CloseEnded {

@@ -9,7 +9,9 @@ ghost use Rattle.cb_slots.specs.Slot.{HasLeft, IsInboxOf, IsNew, IsUnspent, Last
 use crate::choosing::Standing;
 use crate::fault::NodeFault;
 use crate::link::Link;
-use crate::threads::{Errand, NoThread, Reading, join_reading, start_reading, unread};
+use crate::threads::{
+    Errand, NoThread, Reading, join_reading, start_reading, start_writing, unread,
+};
 use cb_base::{Fault, Shared};
 use cb_crew::{Crew, Fresh, ReaderSide, Work};
 use cb_hall::Badge;
@@ -28,6 +30,9 @@ use std::thread::Threads;
 
 /// With this many marks queued over all connections, no further connection is opened.
 const MOST_QUEUED: u64 = 1 << 40;
+
+/// How many connections a slot serves at most, one after another.
+const MOST_CONNECTIONS: u64 = 256;
 
 /// What the slots of a node share.
 #[derive(Drop)]
@@ -164,6 +169,20 @@ impl<W: Work<Item = Input>> Slot<W> {
         }
     }
 
+    /// One more owner of what the threads of the latest connection share with the node. Fails only
+    /// with `Fault::Memory`.
+    pub fn link(&self) -> Result<Shared<Link>, Fault>
+        ensures { IfErr result (λ fault. fault ≡ faults.Memory) }
+    {
+        Ok(self.latest.clone()?)
+    }
+
+    /// Whether the slot has had all its connections: the latest is the last of 256, and its reader
+    /// has returned or says that it does.
+    pub fn is_spent(&self) -> bool {
+        self.latest.generation >= MOST_CONNECTIONS && self.standing() == Standing::Left
+    }
+
     /// Appends what each connection of this slot moved. Fails only with `Fault::Memory`.
     pub fn report(&self, all: &mut Vec<Report>) -> Result<(), Fault>
         ensures { IfErr result (λ fault. fault ≡ faults.Memory) }
@@ -263,8 +282,8 @@ impl<W: Work<Item = Input>> Slot<W> {
         }
     }
 
-    /// Gives the connection that waits its socket, and starts the thread that reads it. If that
-    /// fails, the connection still waits.
+    /// Gives the connection that waits its socket, and starts the threads that read and write it. If
+    /// that fails, the connection still waits.
     pub fn attach<R: Threads + Wait + Copy + Send + Drop + 'static>(
         &mut self,
         rt: &R,
@@ -289,6 +308,7 @@ impl<W: Work<Item = Input>> Slot<W> {
             stream: stream.clone()?,
             slot: self.number,
         };
+        let (link, written) = (self.latest.clone()?, stream.clone()?);
         let Some(
             Seating::Kept(
                 Left {
@@ -301,6 +321,12 @@ impl<W: Work<Item = Input>> Slot<W> {
             unreachable!()
         };
         self.latest.socket.fill(rt, stream);
+        if !start_writing(rt, link, written) {
+            self.latest.outbox.cancel();
+            self.latest.socket.close(rt);
+            self.seating = Some(Seating::Kept(unread(seat)));
+            return Err(NodeFault::Io);
+        }
         match start_reading(rt, errand, seat) {
             Ok(thread) => {
                 self.seating = Some(Seating::Lent(thread));
@@ -309,6 +335,8 @@ impl<W: Work<Item = Input>> Slot<W> {
                 Ok(())
             }
             Err(NoThread { seat, cause }) => {
+                self.latest.outbox.close();
+                self.latest.outbox.wait(rt);
                 self.latest.socket.close(rt);
                 self.seating = Some(Seating::Kept(unread(seat)));
                 Err(cause)

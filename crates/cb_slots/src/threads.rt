@@ -176,6 +176,33 @@ pub fn start_reading<
     }
 }
 
+/// Starts the thread that writes what a connection's session sends. It returns once the connection is
+/// over and what waits went out, or a write failed; the connection's outbox tells that it does.
+/// Returns whether a thread could be made.
+pub fn start_writing<R: Threads + Wait + Copy + Send + Drop + 'static>(
+    rt: &R,
+    link: Shared<Link>,
+    stream: Shared<TcpStream>,
+) -> bool {
+    link.outbox.open();
+    let rt_of_thread = *rt;
+    let started = thread::spawn(rt, move || {
+        let (rt, link, stream) = (rt_of_thread, link, stream);
+        link.outbox.write_to(&rt, &stream, &link.socket);
+    });
+    match started {
+        // Who closes the connection waits by its outbox.
+        Ok(thread) => {
+            drop(thread);
+            true
+        }
+        Err(refused) => {
+            drop(refused);
+            false
+        }
+    }
+}
+
 /// The seat of an inbox that was left without an end. A thread that wasn't started leaves it so, but
 /// no clause can tell that: it depends on a flag that threads share. If it were otherwise, this
 /// would wait for ever.

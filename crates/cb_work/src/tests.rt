@@ -248,6 +248,7 @@ fn is_counted(alloc: Global) -> Option<bool> {
             path: BlockPath::Compact,
             payload: 4,
         }),
+        state: State::Greeted,
     });
     let expected = Totals {
         messages: 1,
@@ -260,7 +261,8 @@ fn is_counted(alloc: Global) -> Option<bool> {
         fallback: 0,
         saved: 100,
     };
-    Some(flags.status().queued() == 6 && flags.status().totals() == expected)
+    let greeted = flags.status().state() == State::Greeted;
+    Some(greeted && flags.status().queued() == 6 && flags.status().totals() == expected)
 }
 
 #[test]
