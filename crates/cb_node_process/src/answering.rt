@@ -91,7 +91,7 @@ impl<R: ProcessHost> Process<R> {
             Line::Quit => Ok(After::End),
             Line::Pool => self.list_pool(writer),
             Line::Peers => self.list_peers(writer),
-            Line::Restart => self.renew(writer),
+            Line::Restart => self.renew(log, writer),
             Line::Connect(address) => self.begin_dial(address, writer),
             Line::Tip => say(self.alloc, Reply::Tip(self.tip()), writer),
             Line::Block(hash) => say(self.alloc, self.look_at_block(hash), writer),
@@ -340,13 +340,13 @@ impl<R: ProcessHost> Process<R> {
     }
 
     /// `restart`: ends the node, audits it, and starts another one.
-    fn renew<W: Sink>(&mut self, writer: &mut W) -> Result<After, Halt>
+    fn renew<W: Sink, L: Log>(&mut self, log: &L, writer: &mut W) -> Result<After, Halt>
         ensures told { OnOk result ((told : List Reply) × CanAnswer Line.Restart told
             × Tells (W.contents writer.old) (W.contents writer.new) told) }
         ensures failed { IsOkUnless result WriteFailed }
         ensures marked { OnErr result (W.has_failed writer.new ≡ true) }
     {
-        match self.restart() {
+        match self.restart(log) {
             Ok(verdict) => {
                 print(self.alloc, &Reply::Audit(verdict), writer)?;
                 say(self.alloc, Reply::Restarted(self.tip()), writer)

@@ -3,6 +3,7 @@
 #![tactic(auto)]
 
 mod answering;
+mod auditing;
 mod dialling;
 mod host;
 mod orders;
@@ -11,6 +12,7 @@ mod process;
 mod reading;
 mod running;
 mod stopwatch;
+mod timed_log;
 mod watching;
 
 pub use host::ProcessHost;

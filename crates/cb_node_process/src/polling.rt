@@ -37,9 +37,18 @@ impl<R: ProcessHost> Process<R> {
             if let Some(reason) = self.ended(place) {
                 let gone = self.watched.remove(place);
                 self.moved = self.moved.with(gone.moved());
-                note_end(log, &gone, reason);
+                note_end(log, &gone, reason.name());
                 self.put_off(log, gone.slot, now);
             }
+        }
+    }
+
+    /// Logs the ends of all connections: the node is about to end those that last.
+    pub(crate) fn note_all_ends<L: Log>(&mut self, log: &L) {
+        let now = self.now();
+        self.note_ends(log, now);
+        for gone in self.watched.as_slice() {
+            note_end(log, gone, "NodeEnded");
         }
     }
 
@@ -286,9 +295,8 @@ fn forget(targets: &mut Vec<Target>, place: usize) {
 }
 
 /// Logs why a connection ended.
-fn note_end<L: Log>(log: &L, gone: &Watched, reason: CloseReason) {
+fn note_end<L: Log>(log: &L, gone: &Watched, reason: &str) {
     let (slot, address) = (gone.slot, gone.address);
     let way = if gone.inbound { "from" } else { "to" };
-    let name = reason.name();
-    info!(log; "connection {way} {address} in slot {slot} closed: {name}");
+    info!(log; "connection {way} {address} in slot {slot} closed: {reason}");
 }

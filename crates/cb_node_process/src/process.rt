@@ -2,23 +2,21 @@
 ghost use Rattle.std.specs.Prelude.{◌≡◌, ◌≤◌, true, IfOk};
 ghost use Rattle.cb_node_process.specs.Telling.{refusal_of};
 
+use crate::auditing::verdict_of;
 use crate::dialling::Target;
 use crate::host::ProcessHost;
 use crate::orders::NodeOrders;
-use crate::stopwatch::Stopwatch;
+use crate::stopwatch::{Stopwatch, unix_time};
 use crate::watching::Watched;
 use cb_base::{Hash256, Seed};
-use cb_crew::Desk;
-use cb_desks::{Split, are_in_order, audit, traces};
-use cb_hall::Hall;
-use cb_node::{Node, NodeEnd, NodeFault, NodeSettings, NodeWork};
+use cb_node::{Node, NodeEnd, NodeFault, NodeSettings};
 use cb_operator::{Moved, Refusal, Reply, Tip, Verdict};
+use log::{Log, error};
 use std::alloc::Global;
 use std::mem;
 use std::net::SocketAddr;
 use std::random::RandomSource;
 use std::rt::Clock;
-use std::time::SystemTime;
 
 /// How many slots serve peers that connect to the node, and how many those to which it connects.
 const INBOUND: u16 = 48;
@@ -157,12 +155,24 @@ impl<R: ProcessHost> Process<R> {
     ///
     /// Fails with `NodeFault::Io` and `NodeFault::Memory` if no other node can be started. Nothing
     /// was done then.
-    pub fn restart(&mut self) -> Result<Verdict, NodeFault> {
+    pub fn restart<L: Log>(&mut self, log: &L) -> Result<Verdict, NodeFault> {
         let settings = settings_of(&self.rt, self.settings.handlers)?;
         let fresh = Node::start_with_seed(self.rt, self.alloc, settings, self.seed)?;
         self.end_dials();
+        self.note_all_ends(log);
         let end = mem::replace(&mut self.node, fresh).finish();
         self.settings = settings;
+        self.forget_connections();
+        let verdict = verdict_of(&self.rt, self.alloc, &end);
+        let took = self.take_over(log, &end);
+        let listens = self.listen_again(log);
+        self.failed |= !verdict.is_yes() || !took || !listens;
+        Ok(verdict)
+    }
+
+    /// The connections have ended with their node. What they moved stays counted, and each address
+    /// is due to be dialled.
+    fn forget_connections(&mut self) {
         for gone in self.watched.as_slice() {
             self.moved = self.moved.with(gone.moved());
         }
@@ -170,11 +180,29 @@ impl<R: ProcessHost> Process<R> {
         for target in self.targets.as_mut_slice() {
             target.renew();
         }
-        let verdict = verdict_of(&self.rt, self.alloc, &end);
-        let took = self.node.take_over(&*end.hall.lock(&self.rt));
-        let listens = self.node.listen_at(self.address);
-        self.failed |= !verdict.is_yes() || took.is_err() || listens.is_err();
-        Ok(verdict)
+    }
+
+    /// Gives the node the chain and the mempool of one that has ended. Returns whether that was done.
+    fn take_over<L: Log>(&self, log: &L, end: &NodeEnd<R>) -> bool {
+        match self.node.take_over(&*end.hall.lock(&self.rt)) {
+            Ok(()) => true,
+            Err(fault) => {
+                error!(log; "the chain and the mempool weren't taken over: {fault}");
+                false
+            }
+        }
+    }
+
+    /// Listens where the node before did. Returns whether that was possible.
+    fn listen_again<L: Log>(&mut self, log: &L) -> bool {
+        let address = self.address;
+        match self.node.listen_at(address) {
+            Ok(_) => true,
+            Err(fault) => {
+                error!(log; "nothing listens at {address} any more: {fault}");
+                false
+            }
+        }
     }
 }
 
@@ -207,41 +235,6 @@ fn settings_of<R: RandomSource + Clock>(rt: &R, handlers: u16) -> Result<NodeSet
         outbound: OUTBOUND,
         handlers: handlers.clamp(1, 16),
     })
-}
-
-/// The time in seconds since 1970; 0 if the clock can't tell it.
-fn unix_time<C: Clock>(clock: &C) -> i64 {
-    let Ok(now) = SystemTime::now(clock) else {
-        return 0;
-    };
-    match now.duration_since(SystemTime::UNIX_EPOCH) {
-        Ok(passed) => i64::try_from(passed.as_secs()).unwrap_or(i64::MAX),
-        Err(_) => 0,
-    }
-}
-
-/// Whether a node's journal and the traces of its connections tell one history.
-fn verdict_of<R: ProcessHost>(rt: &R, alloc: Global, end: &NodeEnd<R>) -> Verdict {
-    let hall = end.hall.lock(rt);
-    audit_all(alloc, &*hall, end.desks.as_slice())
-}
-
-/// Whether a hall's journal and the traces of its connections tell one history.
-fn audit_all<R: ProcessHost>(alloc: Global, hall: &Hall, desks: &[Desk<NodeWork<R>>]) -> Verdict {
-    let Ok(list) = traces(alloc, desks) else {
-        return Verdict::Memory;
-    };
-    if !are_in_order(list.as_slice()) {
-        return Verdict::OutOfOrder;
-    }
-    match audit(alloc, hall, list.as_slice()) {
-        Ok(()) => Verdict::Yes,
-        Err(Split::Memory) => Verdict::Memory,
-        Err(Split::Count(connection)) => Verdict::Count(connection.peer, connection.generation),
-        Err(Split::Differs(connection, place)) => {
-            Verdict::Differs(connection.peer, connection.generation, place)
-        }
-    }
 }
 
 /// Why a call of the node was refused.

@@ -10,13 +10,13 @@ use crate::host::ProcessHost;
 use crate::orders::NodeOrders;
 use crate::process::Process;
 use crate::reading::{Broken, Order, Orders, start_reading};
+use crate::timed_log::TimedLog;
 use cb_base::Seed;
 use cb_io::Sink;
 use cb_node::NodeFault;
 use cb_operator::{Line, Refusal, Reply, Verdict};
 use cb_run::{Halt, Status, write_all};
 use crossbeam_channel::RecvTimeoutError;
-use log::sink::Console;
 use log::{Log, Logged, info};
 use std::alloc::Global;
 use std::net::SocketAddr;
@@ -66,7 +66,7 @@ pub fn run_node<R: ProcessHost, W: Sink, E: Sink>(
         ⊎ ((halt ≡ WriteFailed)
         × ((W.has_failed writer.new ≡ true) ⊎ (E.has_failed errors.new ≡ true))))) }
 {
-    let logged = Logged::new(rt, orders.level, Console(rt));
+    let logged = Logged::new(rt, orders.level, TimedLog(rt));
     let log = logged.with_target("cbrelay");
     match Process::start(rt, alloc, seed, &orders) {
         Ok(process) => run(rt, alloc, process, &log, writer),
@@ -113,6 +113,7 @@ fn run<R: ProcessHost, L: Log, W: Sink>(
     };
     let stopped = serve(&rt, alloc, &mut process, &orders, log, writer);
     info!(log; "ending");
+    process.note_all_ends(log);
     let (verdict, well) = process.finish();
     match stopped {
         Ok(stop) => {
