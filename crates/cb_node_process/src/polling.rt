@@ -133,17 +133,33 @@ impl<R: ProcessHost> Process<R> {
 
     /// Starts a dial of each address that is due.
     fn dial<L: Log>(&mut self, log: &L, now: u64) {
-        for target in self.targets.as_mut_slice() {
-            if target.is_due(now) {
-                let address = target.address;
-                let started = target.dial(&self.rt, self.alloc);
-                if started {
-                    debug!(log; "dialling {address}");
-                } else {
-                    let seconds = target.put_off(now);
-                    warn!(log; "no thread dials {address}; again in {seconds} s");
-                }
+        for place in (0..self.targets.len()).rev() {
+            if self.is_due(place, now) {
+                self.start_dial(log, place, now);
             }
+        }
+    }
+
+    /// Whether the address at this place of the list is due to be dialled.
+    fn is_due(&self, place: usize, now: u64) -> bool {
+        match self.targets.get(place) {
+            Some(target) => target.is_due(now),
+            None => false,
+        }
+    }
+
+    /// Starts a dial of the address at this place of the list. Where no thread can be made for it,
+    /// the dial has failed.
+    fn start_dial<L: Log>(&mut self, log: &L, place: usize, now: u64) {
+        let Some(target) = self.targets.get_mut(place) else {
+            return;
+        };
+        let address = target.address;
+        if target.dial(&self.rt, self.alloc) {
+            debug!(log; "dialling {address}");
+        } else {
+            self.tell(address, Err(Refusal::Io));
+            self.miss(log, place, now, Refusal::Io);
         }
     }
 

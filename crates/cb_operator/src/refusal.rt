@@ -5,7 +5,7 @@ ghost use Rattle.cb_operator.specs.Replies.{refusal_text, verdict_text};
 
 use cb_base::Fault;
 
-/// Why a line was refused. Nothing was done then.
+/// Why a line was refused. Nothing was done then, but `mine` keeps the blocks that it mined before.
 #[derive(Clone, Copy)]
 pub enum Refusal {
     /// It isn't of one of the forms of `Line`.
