@@ -45,8 +45,8 @@ INBOUND, OUTBOUND, CONNECTIONS = 48, 16, 256
 SOON = 5
 # A block of this size is asked for so often that a socket can't take it, and so often that an outbox can't.
 LARGE, MANY, TOO_MANY = 900_000, 20, 60
-# For how many seconds a socket needn't move, how long we wait for the end then, and how the connection ends: nothing may be written to it any more.
-STILL, PATIENCE, ENDED = 30, 240, ("WriteFault", "Bye")
+# For how many seconds a socket needn't move, in how many its connection has ended at the most, and how long we wait for that.
+STILL, ENDED, PATIENCE = 30, 50, 240
 # After how many seconds a peer reads that reads late.
 LATE = 5
 # Messages of this size, for how many seconds, and by how many bytes the memory may grow meanwhile.
@@ -165,7 +165,8 @@ class Hostile(ProcessLooks):
             reader.join(PATIENCE)
             for slot, what in ((1, "the slow one"), (2, "the one that never reads")):
                 took, end = ends.get(slot, (PATIENCE, None))
-                self.look(f"the end of {what}", end in ENDED, True)
+                self.look(f"the end of {what}", end, "WriteFault")
+                self.look(f"whether {what} ends in time", STILL / 2 < took < ENDED, True)
                 print(f"{self.name}: after {took:.0f} s the connection of {what} had the end {end}")
             self.look("the end of the late one", self.end(node, 3), None)
 
