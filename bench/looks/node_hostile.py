@@ -9,7 +9,7 @@ it grew by are told.
 - 64 connections at once: 48 peers dial the node, and it dials 16. One more of each is turned away. A block is told to all.
 - A peer that sends a byte a second: it says a ping so, in part only without --whole.
 - Peers that ask for many blocks: one never reads, one reads a byte each second, with --whole each 20 seconds, and one reads all, but late. The
-  first two connections end. One that asks for more than an outbox holds ends with WriteFault.
+  first two connections end with WriteFault once their sockets were still. One that asks for more than an outbox holds ends with it at once.
 - Peers that send messages of 4,000,000 bytes without end, for some seconds: ones of an unknown command, and ones that can't be read.
 - Connections that open and close at once, 1,000 of them, with --whole 10,000: threads and descriptors are given back.
 - With --whole, connections until all slots are used up, which is told, and `restart` mends.

@@ -22,4 +22,3 @@ pub use outbox::{Outbox, WriterEnd};
 pub use slot::{Common, Next, Report, Slot};
 pub use socket::{Socket, SocketReader};
 pub use threads::{Errand, NoThread, OfSlot, Reading, join_reading, start_threads};
-pub use write_queue::{QueueFault, WriteQueue};

@@ -56,6 +56,17 @@ impl Link {
         self.left.load(Ordering::SeqCst)
     }
 
+    /// Closes the connection if its session is over: it is read no more, and what its session wrote
+    /// still goes out. Returns whether nothing of it is left to be done.
+    pub fn close_if_over<R: Wait>(&self, rt: &R) -> bool {
+        if !self.status.is_stopped() {
+            return false;
+        }
+        self.socket.stop_reading(rt);
+        self.outbox.close(rt);
+        self.outbox.is_done()
+    }
+
     /// Writes to the connection's socket what comes into the outbox, until the connection is over and
     /// what waits went out, or the socket takes nothing more. Then it shuts the socket, which ends the
     /// session. The thread has to return then.
@@ -127,14 +138,7 @@ impl Links {
             return;
         };
         let mut links = links.lock(rt);
-        links.retain(|link| {
-            let over = link.status.is_stopped();
-            if over {
-                link.socket.stop_reading(rt);
-                link.outbox.close(rt);
-            }
-            !over || !link.outbox.is_done()
-        });
+        links.retain(|link| !link.close_if_over(rt));
     }
 
     /// Shuts the sockets of all connections for reading.

@@ -232,7 +232,11 @@ pub fn start_threads<
         return Err(NoThread { seat, cause });
     }
     match start_reading(rt, errand, seat) {
-        Ok(thread) => Ok(thread),
+        Ok(thread) => {
+            // Its session may be over already. No turn of a handler would close it then.
+            link.close_if_over(rt);
+            Ok(thread)
+        }
         Err(refused) => {
             link.outbox.close(rt);
             link.outbox.wait(rt);
