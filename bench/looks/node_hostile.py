@@ -9,7 +9,7 @@ it grew by are told.
 - 64 connections at once: 48 peers dial the node, and it dials 16. One more of each is turned away. A block is told to all.
 - A peer that sends a byte a second: it says a ping so, in part only without --whole.
 - Peers that ask for many blocks: one never reads, one reads a byte each second, with --whole each 20 seconds, and one reads all, but late. The
-  first two connections end. One that asks for more than an outbox holds ends with WriteFault.
+  first two connections end with WriteFault once their sockets were still. One that asks for more than an outbox holds ends with it at once.
 - Peers that send messages of 4,000,000 bytes without end, for some seconds: ones of an unknown command, and ones that can't be read.
 - Connections that open and close at once, 1,000 of them, with --whole 10,000: threads and descriptors are given back.
 - With --whole, connections until all slots are used up, which is told, and `restart` mends.
@@ -45,8 +45,8 @@ INBOUND, OUTBOUND, CONNECTIONS = 48, 16, 256
 SOON = 5
 # A block of this size is asked for so often that a socket can't take it, and so often that an outbox can't.
 LARGE, MANY, TOO_MANY = 900_000, 20, 60
-# For how many seconds a socket needn't move, how long we wait for the end then, and how the connection ends: nothing may be written to it any more.
-STILL, PATIENCE, ENDED = 30, 240, ("WriteFault", "Bye")
+# For how many seconds a socket needn't move, in how many its connection has ended at the most, and how long we wait for that.
+STILL, ENDED, PATIENCE = 30, 50, 240
 # After how many seconds a peer reads that reads late.
 LATE = 5
 # Messages of this size, for how many seconds, and by how many bytes the memory may grow meanwhile.
@@ -165,7 +165,8 @@ class Hostile(ProcessLooks):
             reader.join(PATIENCE)
             for slot, what in ((1, "the slow one"), (2, "the one that never reads")):
                 took, end = ends.get(slot, (PATIENCE, None))
-                self.look(f"the end of {what}", end in ENDED, True)
+                self.look(f"the end of {what}", end, "WriteFault")
+                self.look(f"whether {what} ends in time", STILL / 2 < took < ENDED, True)
                 print(f"{self.name}: after {took:.0f} s the connection of {what} had the end {end}")
             self.look("the end of the late one", self.end(node, 3), None)
 

@@ -11,13 +11,14 @@ mod outbox;
 mod slot;
 mod socket;
 mod threads;
+mod write_queue;
 
 pub use choosing::{Standing, lowest, standings_of};
 pub use crewing::{Crewed, crew_slots, shared, sides_of, start_handlers};
 pub use fault::NodeFault;
 pub use link::{CloseEnded, Link, Links, SocketWriter};
 pub use listening::Listening;
-pub use outbox::Outbox;
+pub use outbox::{Outbox, WriterEnd};
 pub use slot::{Common, Next, Report, Slot};
 pub use socket::{Socket, SocketReader};
-pub use threads::{Errand, NoThread, OfSlot, Reading, join_reading, start_reading};
+pub use threads::{Errand, NoThread, OfSlot, Reading, join_reading, start_threads};

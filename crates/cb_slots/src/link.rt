@@ -1,4 +1,7 @@
-use crate::outbox::Outbox;
+ghost use Rattle.std.specs.Prelude.{◌≡◌, IfOk, IsOkUnless};
+ghost use Rattle.cb_base.specs.declared.fault.Fault.TheVariants.{Memory};
+
+use crate::outbox::{Outbox, WriterEnd};
 use crate::socket::Socket;
 use cb_base::{Fault, Shared};
 use cb_crew::Turn;
@@ -7,6 +10,7 @@ use cb_service::AfterTurn;
 use cb_work::ConnectionStatus;
 use std::alloc::Global;
 use std::io::{self, Write};
+use std::net::TcpStream;
 use std::sync::atomic::{AtomicBool, Ordering};
 use std::sync::{Mutex, Wait};
 
@@ -27,7 +31,10 @@ pub struct Link {
 
 impl Link {
     /// The link of a connection that isn't made yet. Fails only with `Fault::Memory`.
-    pub fn new(alloc: Global, generation: u64) -> Result<Shared<Link>, Fault> {
+    pub fn new(alloc: Global, generation: u64) -> Result<Shared<Link>, Fault>
+        ensures made { IfOk result (λ link. link.generation ≡ generation) }
+        ensures memory { IsOkUnless result Memory }
+    {
         let status = Shared::new(alloc, ConnectionStatus::new())?;
         let link = Link {
             generation,
@@ -48,11 +55,34 @@ impl Link {
     pub fn is_left(&self) -> bool {
         self.left.load(Ordering::SeqCst)
     }
+
+    /// Closes the connection if its session is over: it is read no more, and what its session wrote
+    /// still goes out. Returns whether nothing of it is left to be done.
+    pub fn close_if_over<R: Wait>(&self, rt: &R) -> bool {
+        if !self.status.is_stopped() {
+            return false;
+        }
+        self.socket.stop_reading(rt);
+        self.outbox.close(rt);
+        self.outbox.is_done()
+    }
+
+    /// Writes to the connection's socket what comes into the outbox, until the connection is over and
+    /// what waits went out, or the socket takes nothing more. Then it shuts the socket, which ends the
+    /// session. The thread has to return then.
+    pub fn write_out<R: Wait>(&self, rt: &R, stream: &TcpStream) {
+        let end = self.outbox.write_to(rt, stream, &mut &*stream);
+        if end == WriterEnd::Still {
+            self.status.set_still();
+        }
+        self.socket.close(rt);
+        self.outbox.finish(rt);
+    }
 }
 
-/// What a connection's session writes to: the connection's outbox, once its socket is there. Before
-/// that a write fails, as it does after the connection was closed, after a failed write of the socket,
-/// and if the outbox is full.
+/// What a connection's session writes to: the connection's outbox, once its socket is there. A write
+/// takes all or fails. It fails before the socket is there, after the connection was closed, after the
+/// socket took nothing for too long, if the outbox is full, and ever after such a failure.
 #[derive(Drop)]
 pub struct SocketWriter<R: Drop> {
     /// By which it waits for the outbox's lock.
@@ -80,7 +110,9 @@ pub struct Links {
 
 impl Links {
     /// No connections of so many slots. Fails only with `Fault::Memory`.
-    pub fn new(alloc: Global, slots: u16) -> Result<Links, Fault> {
+    pub fn new(alloc: Global, slots: u16) -> Result<Links, Fault>
+        ensures memory { IsOkUnless result Memory }
+    {
         let mut all = Vec::with_capacity(alloc, usize::from(slots))?;
         for _ in 0..slots {
             all.push(Mutex::new(Vec::new(alloc)))?;
@@ -89,7 +121,9 @@ impl Links {
     }
 
     /// Adds a connection of this slot. Fails only with `Fault::Memory`.
-    pub fn add<R: Wait>(&self, rt: &R, slot: u16, link: Shared<Link>) -> Result<(), Fault> {
+    pub fn add<R: Wait>(&self, rt: &R, slot: u16, link: Shared<Link>) -> Result<(), Fault>
+        ensures memory { IsOkUnless result Memory }
+    {
         if let Some(links) = self.slots.get(usize::from(slot)) {
             let mut links = links.lock(rt);
             links.push(link)?;
@@ -104,14 +138,7 @@ impl Links {
             return;
         };
         let mut links = links.lock(rt);
-        links.retain(|link| {
-            let over = link.status.is_stopped();
-            if over {
-                link.socket.stop_reading(rt);
-                link.outbox.close();
-            }
-            !over || !link.outbox.is_done()
-        });
+        links.retain(|link| !link.close_if_over(rt));
     }
 
     /// Shuts the sockets of all connections for reading.
@@ -140,7 +167,7 @@ fn stop_reading_all<R: Wait>(rt: &R, links: &[Shared<Link>]) {
 /// Closes these connections, and waits until what their sessions wrote went out.
 fn close_all<R: Wait>(rt: &R, links: &[Shared<Link>]) {
     for link in links {
-        link.outbox.close();
+        link.outbox.close(rt);
     }
     for link in links {
         link.outbox.wait(rt);
@@ -149,8 +176,7 @@ fn close_all<R: Wait>(rt: &R, links: &[Shared<Link>]) {
 }
 
 /// After each turn of a handler: counts what it took, and closes the slot's connections whose sessions
-/// are over. So a reader that waits for bytes of such a connection
-/// wakes.
+/// are over. So a reader that waits for bytes of such a connection wakes.
 #[derive(Drop)]
 pub struct CloseEnded {
     /// Where it is counted what was taken.

@@ -1,37 +1,48 @@
-//! What a connection's session wrote and its socket hasn't taken yet, and the thread that writes it.
-//! So a peer that reads slowly, or not at all, holds no handler up.
-use crate::socket::Socket;
+//! The outbox of a connection: what its session wrote and its socket hasn't taken yet, and how a
+//! thread writes that. So a peer that reads slowly, or not at all, holds no handler up.
+ghost use Rattle.std.specs.Prelude.{◌≡◌, ◌↔◌, ◌+◌, ◌<◌, ◌≤◌, ℕ, true, false, length, take, IfOk, IsErr, IsOk, OnErr, OnOk};
+ghost use Rattle.std.specs.Io.KnownBytes.{Appends, WriteAppends};
+
+use crate::write_queue::{QueueFault, WriteQueue};
 use std::alloc::Global;
-use std::collections::VecDeque;
 use std::io::{self, ErrorKind, Write};
-use std::net::TcpStream;
+use std::net::OpenStream;
 use std::sync::atomic::{AtomicBool, AtomicU64, Ordering};
 use std::sync::{Mutex, Wait};
 use std::thread::Parker;
 use std::time::Duration;
 
-/// How many bytes wait to be written at most. A message has at most 4,000,024, and a session sends
-/// what a peer asked for at once: 16 blocks of 1,000,000 bytes fit twice.
-const MOST_WAITING: u64 = 32_000_000;
+/// So many writes in a row that took nothing are as long as a socket may be still. Each of them
+/// waits for so small a part of that time.
+const STILL_WRITES: u32 = 30;
 
-/// After the connection is over, how many more writes are made at most, and how many milliseconds
-/// each may take.
-const LAST_WRITES: u32 = 30;
+/// How many milliseconds a socket may be still that has no write timeout.
+const STILL_MILLIS: u64 = 30_000;
 
-const LAST_MILLIS: u64 = 1_000;
+/// After an outbox was closed, how many more writes are made at most, and how many milliseconds each
+/// waits. What may wait has fewer pieces.
+const LAST_WRITES: u32 = 100;
 
-/// What waits to be written to a connection's socket: pieces in order, bounded in bytes.
+const LAST_MILLIS: u64 = 300;
+
+/// Why a thread writes no more to a socket.
+#[derive(Clone, Copy, Debug, PartialEq, Eq)]
+pub enum WriterEnd {
+    /// The outbox was closed, and what waited was written, as far as the socket took it in time.
+    Closed,
+    /// The socket took nothing for as long as it may be still.
+    Still,
+    /// A write failed.
+    Failed,
+}
+
+/// What waits to be written to a connection's socket. One thread writes it.
 ///
-/// A piece that has no room isn't taken, and neither is any after a failed write. Nothing is taken
-/// before the outbox is opened, and after it was closed.
+/// Nothing is taken before the outbox is opened, nor after it was closed, after bytes that had no room,
+/// and after a failed write.
 #[derive(Drop)]
 pub struct Outbox {
-    alloc: Global,
-    pieces: Mutex<VecDeque<Vec<u8>, Global>>,
-    /// How many bytes wait.
-    waiting: AtomicU64,
-    /// Whether pieces are taken.
-    open: AtomicBool,
+    queue: Mutex<WriteQueue>,
     /// Whether a thread was started that writes.
     started: AtomicBool,
     /// Wakes the thread that writes.
@@ -40,37 +51,45 @@ pub struct Outbox {
     done: AtomicU64,
 }
 
+/// What a thread that writes is to do next.
+#[derive(Drop)]
+enum Due {
+    /// It writes this piece.
+    Piece(Vec<u8>),
+    /// It waits for what comes.
+    Rest,
+    /// It writes no more.
+    End,
+}
+
 impl Outbox {
     /// An outbox that isn't open yet.
     pub fn new(alloc: Global) -> Outbox {
         Outbox {
-            alloc,
-            pieces: Mutex::new(VecDeque::new(alloc)),
-            waiting: AtomicU64::new(0),
-            open: AtomicBool::new(false),
+            queue: Mutex::new(WriteQueue::new(alloc)),
             started: AtomicBool::new(false),
             bell: Parker::new(),
             done: AtomicU64::new(0),
         }
     }
 
-    /// Pieces are taken from now on. A thread has to be started that writes them; no other one may
-    /// be writing.
-    pub fn open(&self) {
+    /// Takes bytes from now on. A thread has to be started that writes them, and no other one may be
+    /// writing.
+    pub fn open<R: Wait>(&self, rt: &R) {
         self.done.store(0, Ordering::SeqCst);
         self.started.store(true, Ordering::SeqCst);
-        self.open.store(true, Ordering::SeqCst);
+        self.queue.lock(rt).open();
     }
 
     /// No thread could be started: it is as if it had never been opened.
-    pub fn cancel(&self) {
-        self.open.store(false, Ordering::SeqCst);
+    pub fn cancel<R: Wait>(&self, rt: &R) {
+        self.queue.lock(rt).clear();
         self.started.store(false, Ordering::SeqCst);
     }
 
-    /// No piece is taken any more. What waits is still written, in at most half a minute.
-    pub fn close(&self) {
-        self.open.store(false, Ordering::SeqCst);
+    /// Takes no further bytes. What waits is still written, for half a minute at most.
+    pub fn close<R: Wait>(&self, rt: &R) {
+        self.queue.lock(rt).close();
         self.bell.unpark();
     }
 
@@ -89,121 +108,179 @@ impl Outbox {
         }
     }
 
-    /// Takes a piece. Fails if the outbox isn't open, if the piece has no room, or if memory runs out.
-    /// After a piece that had no room none is taken.
-    pub fn push<R: Wait>(&self, rt: &R, piece: &[u8]) -> io::Result<()> {
-        if !self.open.load(Ordering::SeqCst) {
-            return Err(io::Error::from(ErrorKind::NotConnected));
-        }
-        let length = piece.len() as u64;
-        let waiting = self.waiting.load(Ordering::SeqCst);
-        if waiting.saturating_add(length) > MOST_WAITING {
-            self.close();
-            return Err(io::Error::from(ErrorKind::TimedOut));
-        }
-        let piece = Vec::from_slice(self.alloc, piece)?;
-        self.waiting.fetch_add(length, Ordering::SeqCst);
-        self.add(rt, piece)?;
+    /// Takes bytes. Fails if the outbox isn't open, if they have no room, or if memory runs out. It is
+    /// closed then.
+    pub fn push<R: Wait>(&self, rt: &R, bytes: &[u8]) -> io::Result<()> {
+        let put = self.queue.lock(rt).put(bytes);
         self.bell.unpark();
-        Ok(())
+        match put {
+            Ok(()) => Ok(()),
+            Err(fault) => Err(io::Error::from(kind_of(fault))),
+        }
     }
 
-    /// Adds a piece behind those that wait.
-    fn add<R: Wait>(&self, rt: &R, piece: Vec<u8>) -> io::Result<()> {
-        let mut pieces = self.pieces.lock(rt);
-        pieces.push_back(piece)?;
-        Ok(())
-    }
-
-    /// The first piece that waits.
-    fn take<R: Wait>(&self, rt: &R) -> Option<Vec<u8>> {
-        let mut pieces = self.pieces.lock(rt);
-        let piece = pieces.pop_front()?;
-        let length = piece.len() as u64;
-        self.waiting.fetch_sub(length, Ordering::SeqCst);
-        Some(piece)
-    }
-
-    /// Drops what waits.
-    fn forget<R: Wait>(&self, rt: &R) {
-        let mut pieces = self.pieces.lock(rt);
-        *pieces = VecDeque::new(self.alloc);
-        self.waiting.store(0, Ordering::SeqCst);
-    }
-
-    /// Writes what comes to a stream, until the outbox was closed and nothing waits, or a write
-    /// failed. Then it shuts the socket.
-    pub fn write_to<R: Wait>(&self, rt: &R, stream: &TcpStream, socket: &Socket) {
-        let mut last = LastWrites { left: LAST_WRITES };
+    /// Writes what comes to a stream by its writer, until the outbox was closed and nothing waits, or
+    /// the stream takes nothing more. The stream's write timeout is how long it may be still.
+    /// Afterwards the outbox is closed.
+    pub fn write_to<R: Wait, S: OpenStream, W: Write>(
+        &self,
+        rt: &R,
+        stream: &S,
+        writer: &mut W,
+    ) -> WriterEnd {
+        let mut pace = Pace::new(stream);
         for _ in rt.forever() {
-            match self.take(rt) {
-                Some(piece) => {
-                    if !self.write_piece(stream, piece.as_slice(), &mut last) {
-                        break;
+            let end = match self.due(rt) {
+                Due::Piece(piece) => {
+                    match self.write_piece(rt, stream, writer, piece.as_slice(), &mut pace) {
+                        Ok(()) => continue,
+                        Err(end) => end,
                     }
                 }
-                None if !self.open.load(Ordering::SeqCst) => break,
-                None => self.bell.park(rt),
-            }
+                Due::Rest => {
+                    self.bell.park(rt);
+                    continue;
+                }
+                Due::End => WriterEnd::Closed,
+            };
+            self.close(rt);
+            return end;
         }
-        self.open.store(false, Ordering::SeqCst);
-        socket.close(rt);
-        self.forget(rt);
+        unreachable!()
+    }
+
+    /// The thread that writes is about to return. What waits is dropped.
+    pub fn finish<R: Wait>(&self, rt: &R) {
+        self.queue.lock(rt).clear();
         self.done.store(1, Ordering::SeqCst);
         self.done.wake_all();
     }
 
-    /// Writes all of a piece. Returns whether that was done.
-    fn write_piece(&self, stream: &TcpStream, piece: &[u8], last: &mut LastWrites) -> bool {
+    /// What is due. A piece is taken off.
+    fn due<R: Wait>(&self, rt: &R) -> Due {
+        let mut queue = self.queue.lock(rt);
+        match queue.take() {
+            Some(piece) => Due::Piece(piece),
+            None if queue.is_open() => Due::Rest,
+            None => Due::End,
+        }
+    }
+
+    /// Writes all of a piece, in as many writes as it needs. Otherwise a beginning of it was written.
+    fn write_piece<R: Wait, S: OpenStream, W: Write>(
+        &self,
+        rt: &R,
+        stream: &S,
+        writer: &mut W,
+        piece: &[u8],
+        pace: &mut Pace,
+    ) -> Result<(), WriterEnd>
+        ensures whole { OnOk result
+            (Appends (W.contents writer.old) (W.contents writer.new) piece.now) }
+        ensures part { OnErr result ((taken : ℕ)
+            × Appends (W.contents writer.old) (W.contents writer.new) (take taken piece.now)) }
+    {
         let mut rest = piece;
-        // Each write takes a byte at least.
-        for _ in 0..piece.len() {
-            if !self.open.load(Ordering::SeqCst) && !last.one_more(stream) {
-                return false;
-            }
-            match write_once(stream, rest) {
-                Some(0) | None => return false,
-                Some(taken) => {
-                    let (_, after) = rest.split_at(taken.min(rest.len()));
-                    rest = after;
-                }
-            }
+        for _ in rt.forever() {
             if rest.is_empty() {
-                return true;
+                return Ok(());
             }
+            let is_open = self.queue.lock(rt).is_open();
+            pace.begin(stream, is_open)?;
+            let taken = write_once(writer, rest)?;
+            pace.note(taken, is_open)?;
+            rest = &rest[taken..];
         }
-        rest.is_empty()
+        unreachable!()
     }
 }
 
-/// How many writes may still be made after the connection is over.
+/// What a thread that writes remembers of its writes.
 #[derive(Drop)]
-struct LastWrites {
-    left: u32,
+struct Pace {
+    /// How many writes in a row took nothing.
+    still: u32,
+    /// How many writes were made after the outbox was closed.
+    last: u32,
 }
 
-impl LastWrites {
-    /// Whether one more may be made. It takes a second at most.
-    fn one_more(&mut self, stream: &TcpStream) -> bool {
-        if self.left == 0 {
-            return false;
+impl Pace {
+    /// No write was made to this stream yet. Each waits for a part of the stream's write timeout.
+    fn new<S: OpenStream>(stream: &S) -> Pace
+        ensures { (result.still ≡ 0) × (result.last ≡ 0) }
+    {
+        let whole = match stream.write_timeout() {
+            Ok(Some(timeout)) => timeout,
+            Ok(None) | Err(_) => Duration::from_millis(STILL_MILLIS),
+        };
+        let _ = stream.set_write_timeout(whole.checked_div(STILL_WRITES));
+        Pace { still: 0, last: 0 }
+    }
+
+    /// A write is about to be made. Fails if the outbox is closed and as many were made since as may
+    /// be.
+    fn begin<S: OpenStream>(&mut self, stream: &S, is_open: bool) -> Result<(), WriterEnd>
+        ensures going { is_open ≡ true → IsOk result × (self.new ≡ self.old) }
+        ensures last { is_open ≡ false →
+            OnOk result ((self.new.last ≡ self.old.last + 1) × (self.new.last ≤ 100)) }
+        ensures still { self.new.still ≡ self.old.still }
+    {
+        if is_open {
+            return Ok(());
         }
-        self.left -= 1;
-        stream
-            .set_write_timeout(Some(Duration::from_millis(LAST_MILLIS)))
-            .is_ok()
+        if self.last >= LAST_WRITES {
+            return Err(WriterEnd::Closed);
+        }
+        self.last += 1;
+        match stream.set_write_timeout(Some(Duration::from_millis(LAST_MILLIS))) {
+            Ok(()) => Ok(()),
+            Err(_) => Err(WriterEnd::Failed),
+        }
+    }
+
+    /// A write took so many bytes. Fails if as many in a row took nothing as may be.
+    fn note(&mut self, taken: usize, is_open: bool) -> Result<(), WriterEnd>
+        ensures moved { 0 < taken → (self.new.still ≡ 0) × IsOk result }
+        ensures still { taken ≡ 0 → (IsErr result ↔ (30 ≤ self.old.still + 1)) }
+        ensures counted { taken ≡ 0 → IsOk result → self.new.still ≡ self.old.still + 1 }
+        ensures last { self.new.last ≡ self.old.last }
+    {
+        if taken > 0 {
+            self.still = 0;
+            return Ok(());
+        }
+        self.still = self.still.saturating_add(1);
+        if self.still < STILL_WRITES {
+            Ok(())
+        } else if is_open {
+            Err(WriterEnd::Still)
+        } else {
+            Err(WriterEnd::Closed)
+        }
     }
 }
 
-/// Writes from the start of a piece. Returns how many bytes were taken; `None` if the write failed, or
-/// the socket took nothing for as long as a write may take.
-fn write_once(stream: &TcpStream, piece: &[u8]) -> Option<usize> {
-    for _ in 0..1_000_u32 {
-        match (&*stream).write(piece) {
-            Ok(taken) => return Some(taken),
-            Err(error) if error.kind() == ErrorKind::Interrupted => {}
-            Err(_) => return None,
-        }
+/// Writes from the start of a piece that isn't empty. Returns how many bytes were taken: none if the
+/// writer waited in vain. Fails if a write fails.
+fn write_once<W: Write>(writer: &mut W, piece: &[u8]) -> Result<usize, WriterEnd>
+    ensures most { IfOk result (λ taken. taken ≤ length piece.now) }
+    ensures bytes { WriteAppends (W.contents writer.old) (W.contents writer.new) result piece.now }
+{
+    match writer.write(piece) {
+        Ok(0) => Err(WriterEnd::Failed),
+        Ok(taken) => Ok(taken),
+        Err(error) => match error.kind() {
+            ErrorKind::WouldBlock | ErrorKind::Interrupted => Ok(0),
+            _ => Err(WriterEnd::Failed),
+        },
     }
-    None
+}
+
+/// How a write fails that an outbox doesn't take.
+fn kind_of(fault: QueueFault) -> ErrorKind {
+    match fault {
+        QueueFault::Closed => ErrorKind::NotConnected,
+        QueueFault::Full => ErrorKind::TimedOut,
+        QueueFault::Memory => ErrorKind::OutOfMemory,
+    }
 }

@@ -9,9 +9,7 @@ ghost use Rattle.cb_slots.specs.Slot.{HasLeft, IsInboxOf, IsNew, IsUnspent, Last
 use crate::choosing::Standing;
 use crate::fault::NodeFault;
 use crate::link::Link;
-use crate::threads::{
-    Errand, NoThread, Reading, join_reading, start_reading, start_writing, unread,
-};
+use crate::threads::{Errand, NoThread, Reading, join_reading, start_threads, unread};
 use cb_base::{Fault, Shared};
 use cb_crew::{Crew, Fresh, ReaderSide, Work};
 use cb_hall::Badge;
@@ -177,10 +175,12 @@ impl<W: Work<Item = Input>> Slot<W> {
         Ok(self.latest.clone()?)
     }
 
-    /// Whether the slot has had all its connections: the latest is the last of 256, and its reader
-    /// has returned or says that it does.
-    pub fn is_spent(&self) -> bool {
-        self.latest.generation >= MOST_CONNECTIONS && self.standing() == Standing::Left
+    /// Whether the slot can take no further connection: the latest is the last of 256, and has its
+    /// socket.
+    pub fn is_spent(&self) -> bool
+        ensures { result ≡ true → self.now.waits ≡ false }
+    {
+        self.latest.generation >= MOST_CONNECTIONS && !self.waits
     }
 
     /// Appends what each connection of this slot moved. Fails only with `Fault::Memory`.
@@ -248,6 +248,7 @@ impl<W: Work<Item = Input>> Slot<W> {
         ensures opened { result ≡ Ok true → self.new ≡ reopened self.old }
         ensures refused { result ≡ Ok false → self.new ≡ self.old }
         ensures err { OnErr result (self.new ≡ self.old) }
+        ensures memory { IfErr result (λ fault. fault ≡ faults.Memory) }
     {
         self.past.reserve(1)?;
         let Some(next) = self.next.take() else {
@@ -308,7 +309,6 @@ impl<W: Work<Item = Input>> Slot<W> {
             stream: stream.clone()?,
             slot: self.number,
         };
-        let (link, written) = (self.latest.clone()?, stream.clone()?);
         let Some(
             Seating::Kept(
                 Left {
@@ -321,13 +321,7 @@ impl<W: Work<Item = Input>> Slot<W> {
             unreachable!()
         };
         self.latest.socket.fill(rt, stream);
-        if !start_writing(rt, link, written) {
-            self.latest.outbox.cancel();
-            self.latest.socket.close(rt);
-            self.seating = Some(Seating::Kept(unread(seat)));
-            return Err(NodeFault::Io);
-        }
-        match start_reading(rt, errand, seat) {
+        match start_threads(rt, &self.latest, errand, seat) {
             Ok(thread) => {
                 self.seating = Some(Seating::Lent(thread));
                 self.used = true;
@@ -335,8 +329,6 @@ impl<W: Work<Item = Input>> Slot<W> {
                 Ok(())
             }
             Err(NoThread { seat, cause }) => {
-                self.latest.outbox.close();
-                self.latest.outbox.wait(rt);
                 self.latest.socket.close(rt);
                 self.seating = Some(Seating::Kept(unread(seat)));
                 Err(cause)

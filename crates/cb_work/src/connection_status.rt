@@ -29,6 +29,8 @@ pub struct ConnectionStatus {
     given: AtomicU64,
     /// How far the session is, as `state_code` writes it.
     state: AtomicU64,
+    /// Whether the connection's socket took nothing for too long.
+    still: AtomicBool,
 }
 
 impl ConnectionStatus {
@@ -49,6 +51,7 @@ impl ConnectionStatus {
             saved: AtomicU64::new(0),
             given: AtomicU64::new(0),
             state: AtomicU64::new(0),
+            still: AtomicBool::new(false),
         }
     }
 
@@ -103,10 +106,23 @@ impl ConnectionStatus {
         }
     }
 
+    /// The connection's socket took nothing for too long: it is about to be shut.
+    pub fn set_still(&self) {
+        self.still.store(true, Ordering::SeqCst);
+    }
+
     /// How far the session is, as its work told last. It tells why a session is over before it
     /// sets the stop flag.
+    ///
+    /// A socket that was shut since it took nothing is to the session as one that the peer closed.
+    /// Here such an end is a failed write.
     pub fn state(&self) -> State {
-        state_of(self.state.load(Ordering::SeqCst))
+        match state_of(self.state.load(Ordering::SeqCst)) {
+            State::Closed(CloseReason::Bye) if self.still.load(Ordering::SeqCst) => {
+                State::Closed(CloseReason::WriteFault)
+            }
+            state => state,
+        }
     }
 
     /// Counts what one step moved. The item's payload lies in the inbox no more.
