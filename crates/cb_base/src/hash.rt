@@ -1,4 +1,4 @@
-ghost use Rattle.std.specs.Prelude.{◌≡◌, reverse, IfOk, IsOkUnless, string_bytes};
+ghost use Rattle.std.specs.Prelude.{◌≡◌, length, reverse, IfOk, IsOkUnless, string_bytes};
 ghost use Rattle.std.proofs.Common.{rules};
 ghost use Rattle.std.specs.Simd.{first_chunks};
 ghost use Rattle.std.specs.Cmp.Rules.{hashing};
@@ -33,6 +33,14 @@ impl Hash for Hash256 {
 }
 
 impl Hash256 {
+    /// Its 32 bytes, in wire order.
+    pub fn bytes(&self) -> &[u8]
+        ensures bytes { result.now ≡ self.now.0 }
+        ensures len { length self.now.0 ≡ 32 }
+    {
+        self.0.as_slice()
+    }
+
     /// The hash as people write it: 64 digits of lower-case hex, the bytes in reverse order.
     ///
     /// Fails only with `Fault::Memory`.

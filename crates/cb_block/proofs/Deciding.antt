@@ -1,11 +1,12 @@
 -- The decision by levels and the relation of levels say the same of a block.
 use Rattle.std.proofs.Common.{◌≡◌, ℕ, zero, suc, ◌<◌, ◌≤◌, ◌⊎◌, true, false, List, [], ◌∷◌, length, All, refl, sym, ap, subst, ◌∙◌, arith, inl, inr}
-use Rattle.std.specs.Prelude.{◌≢◌, not, ◌==◌}
+use Rattle.std.specs.Prelude.{◌≢◌, not, ◌==◌, Result, Ok, Err, IfErr, IfOk, is_err}
 use Rattle.std.specs.Bool.{Decides}
 use Rattle.std.specs.Str.{bytes_eq}
 use Rattle.std.proofs.lemmas.Bool.{false≢true, not-true, and_parts, and_from, not_from_false, false_from_ne_true}
 use Rattle.std.proofs.lemmas.Bool.Decides.{Decides-eqb, Decides-like, Decides-not, Decides-or, Decides-by_and}
 use Rattle.std.proofs.lemmas.List.{length-map, get_or-map}
+use Rattle.std.proofs.lemmas.List.Elements.{All-map}
 use Rattle.std.proofs.lemmas.Slice.Eq.{bytes_eq-Decides}
 use Rattle.cb_base.specs.declared.fault.Fault.{Fault}
 use Rattle.cb_base.specs.declared.fault.Fault.TheVariants.{Memory, Empty, Size64, Mutated, BadRoot}
@@ -19,7 +20,7 @@ use Rattle.cb_block.specs.MerkleTree.{up, IsLevel, itself, above, IsRoot, HasEqu
 use Rattle.cb_block.specs.Soundness.{names}
 use Rattle.cb_block.proofs.Climbing.{up_half, few_mutated}
 use Rattle.cb_block.proofs.Levels.{level_split, level_then, level_top}
-use Rattle.cb_block.specs.Decision.{has_equal_pair, rises_to, has_no_size_64, is_sound_block}
+use Rattle.cb_block.specs.Decision.{has_equal_pair, rises_to, has_no_size_64, is_hashed, is_sound_block}
 
 -- ---- equal hashes, equal neighbours, sizes
 
@@ -139,3 +140,21 @@ judged_sound told block now tells same = (tells.0 ∙ same, ap is_sound_block (s
 pub judged_not : (block now : Block) (fault : Fault) → (fault ≡ Memory) ⊎ IsUnsound block fault → fault ≢ Memory → block ≡ now → is_sound_block now ≡ false
 judged_not block now fault (inl none) other same = absurd (other none)
 judged_not block now fault (inr why) other same = ap is_sound_block (sym same) ∙ unsound_is block fault why
+
+-- ---- what the sizes tell before anything is hashed
+
+hashed : (b : Block) → 0 < length b.txs → All (λ tx. length (tx_text tx) ≢ 64) b.txs → is_hashed b ≡ true
+hashed b some sizes =
+    and_from (not (length b.txs == 0)) (has_no_size_64 (texts b.txs))
+    ((Decides-not (length b.txs == 0) (Decides-eqb (length b.txs) 0)).1 (λ none. absurd (omega (arith, some, none))))
+    ((sizes_decide (texts b.txs)).1 (All-map (λ text. length text ≢ 64) tx_text b.txs sizes))
+
+module _ {T : Type 0} (b : Block) where
+  pub refused_is : (told : Result T Fault) → IfErr told (λ fault. (fault ≢ Memory) × IsUnsound b fault) → is_err told ≡ true → is_sound_block b ≡ false
+  refused_is (Err fault) tells is = unsound_is b fault tells.1
+  refused_is (Ok done) tells is = absurd cc
+
+  pub unhashed_is : {P : Type 0} (told : Result T Fault) → IfOk told (λ done. 0 < length b.txs) → IfOk told (λ done. All (λ tx. length (tx_text tx) ≢ 64) b.txs) → is_err told ≡ false
+      → is_hashed b ≡ false → P
+  unhashed_is (Err fault) some sizes is unhashed = absurd cc
+  unhashed_is (Ok done) some sizes is unhashed = absurd (let e : true ≡ false = sym (hashed b some sizes) ∙ unhashed in cc)

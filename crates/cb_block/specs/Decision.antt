@@ -33,3 +33,7 @@ has_no_size_64 strings = list_all (λ string. not (length string == 64)) strings
 -- transactions are enough.
 unfoldable pub is_sound_block : Block → Bool
 is_sound_block b = has_no_size_64 (texts b.txs) && rises_to b.header.root (length b.txs) (names (texts b.txs))
+
+-- Whether hashes decide: the block has transactions, and none of 64 bytes.
+abbrev pub is_hashed : Block → Bool
+is_hashed b = not (length b.txs == 0) && has_no_size_64 (texts b.txs)

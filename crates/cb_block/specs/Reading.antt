@@ -1,6 +1,8 @@
 -- Reading headers and blocks from the left, up to the first fault.
-use Rattle.std.specs.Prelude.{◌≡◌, ℕ, ◌<◌, List, Ok}
+use Rattle.std.specs.Prelude.{◌≡◌, ℕ, ◌<◌, List, ◌==◌, if◌then◌else◌, Ok, Err}
 use Rattle.std.specs.Int.{w32}
+use Rattle.cb_base.specs.declared.fault.Fault.TheVariants.{BadBool}
+use Rattle.cb_base.specs.CompactSize.{compact_at}
 use Rattle.cb_base.specs.Reading.{Read, ◌>>=◌, number_at, signed_at}
 use Rattle.cb_tx.specs.Reading.{hash_at, list_at, count_at, tx_at}
 use Rattle.cb_block.specs.declared.header.Header.{Header}
@@ -15,6 +17,13 @@ header_at bytes = do
   bits ← number_at w32 time.1
   nonce ← number_at w32 bits.1
   Ok (record { version = version.0; prev = prev.0; root = root.0; time = time.0; bits = bits.0; nonce = nonce.0 }, nonce.1)
+
+-- a header in `headers`, where a count of transactions other than 0 is refused
+unfoldable pub listed_header_at : List ℕ → Read Header
+listed_header_at bytes = do
+  header ← header_at bytes
+  count ← compact_at header.1
+  if count.0 == 0 then Ok (header.0, count.1) else Err BadBool
 
 -- a transaction has at least 10 bytes
 unfoldable pub block_at : List ℕ → Read Block

@@ -1,42 +1,18 @@
-ghost use Rattle.std.specs.Prelude.{◌≡◌, ℕ, ◌+◌, ◌-◌, ◌^◌, ◌<◌, ◌≤◌, ◌⊎◌, List, [], ◌++◌, length, min, slice_index, All, IfOk, IsOk, IsOkUnless, MatchResult, OnOk, OnErr, Ok, Err, vec_capacity, vec_len};
+ghost use Rattle.std.specs.Prelude.{◌≡◌, ℕ, ◌+◌, ◌-◌, ◌^◌, ◌<◌, ◌≤◌, ◌⊎◌, List, [], ◌++◌, length, min, slice_index, IfOk, IsOk, IsOkUnless, MatchResult, OnOk, OnErr, Ok, Err, vec_capacity, vec_len};
 ghost use Rattle.cb_base.specs.Reading.{ReadsInMemory};
 ghost use Rattle.cb_base.specs.declared.fault.Fault.{Fault};
 ghost use Rattle.cb_base.specs.declared.fault.Fault.TheVariants.{Memory};
-ghost use Rattle.cb_tx.specs.Reading.{CountsSome, GivesInMemory, count_at, items_at, list_at, tx_at};
-ghost use Rattle.cb_tx.specs.Text.{IsTx, list_text, tx_text};
+ghost use Rattle.cb_tx.specs.Reading.{GivesInMemory};
 ghost use Rattle.cb_tx.specs.Writing.{Extends};
 ghost use Rattle.cb_block.specs.Reading.{TakesMemory, block_at, first_count_at};
-ghost use Rattle.cb_block.specs.Text.{IsBlock, IsHeader, block_text, header_text};
+ghost use Rattle.cb_block.specs.Text.{IsBlock, block_text};
 ghost use Rattle.cb_block.specs.declared.block.Block.{Block};
 
 use crate::block::{Block, Txs};
-use crate::header::{Header, read_header};
-use cb_base::{Cursor, Fault, Shared, put_compact};
-use cb_tx::{Tx, compact_size, read_count, read_tx, write_tx};
+use crate::header::read_header;
+use cb_base::{Cursor, Fault};
+use cb_tx::{items_size, put_items, read_items};
 use std::alloc::Global;
-
-/// Reads `count` transactions.
-fn txs_of(alloc: Global, cursor: &mut Cursor, count: usize) -> Result<Txs, Fault>
-    ensures exact { GivesInMemory (items_at tx_at count cursor.old) result cursor.new }
-    ensures unpaid { count ≡ 0 → IsOk result }
-{
-    let mut txs = Vec::with_capacity(alloc, count)?;
-    for _ in 0..count {
-        txs.push(Shared::new(alloc, read_tx(alloc, cursor)?)?)?;
-    }
-    Ok(Txs::new(txs))
-}
-
-/// Reads the transactions: their count, then each. A transaction has at least 10 bytes.
-#[tactic(auto, unfolding(cb_tx::specs::Reading::list_at))]
-fn read_txs(alloc: Global, cursor: &mut Cursor) -> Result<Txs, Fault>
-    ensures exact { GivesInMemory (list_at 10 tx_at cursor.old) result cursor.new }
-    ensures unpaid { (fault : Fault) → count_at 10 cursor.old ≡ Err fault → result ≡ Err fault }
-    ensures paid { result ≡ Err Memory → CountsSome 10 cursor.old }
-{
-    let count = read_count(cursor, 10)?;
-    txs_of(alloc, cursor, count)
-}
 
 /// Reads a block. After an error the cursor may have advanced.
 #[tactic(auto, unfolding(crate::specs::Reading::block_at, crate::specs::Reading::first_count_at))]
@@ -46,8 +22,11 @@ fn block_or_fault(alloc: Global, cursor: &mut Cursor) -> Result<Block, Fault>
     ensures paid { result ≡ Err Memory → TakesMemory cursor.old }
 {
     let header = read_header(cursor)?;
-    let txs = read_txs(alloc, cursor)?;
-    Ok(Block { header, txs })
+    let txs = read_items(alloc, cursor)?;
+    Ok(Block {
+        header,
+        txs: Txs::new(txs),
+    })
 }
 
 /// Decodes the block at the front. Returns it with a cursor at the bytes after it.
@@ -98,32 +77,6 @@ pub fn read_block<'a>(alloc: Global, cursor: &mut Cursor<'a>) -> Result<Block, F
     }
 }
 
-#[tactic(auto, unfolding(cb_tx::specs::Text::list_text), using(cb_tx::proofs::Appends::appends))]
-fn put_txs(out: &mut Vec<u8>, txs: &[Shared<Tx>]) -> Result<(), Fault>
-    ensures ok { OnOk result (out.new.items ≡ out.old.items ++ list_text tx_text txs.now) }
-    ensures err { OnErr result (Extends out.old.items out.new.items) }
-    ensures memory { IsOkUnless result Memory }
-    ensures full { OnErr result
-        (vec_capacity out.old < vec_len out.old + length (list_text tx_text txs.now)) }
-    ensures capacity { vec_capacity out.old ≤ vec_capacity out.new }
-    ensures few { length txs.now < 2 ^ 64 }
-    ensures fits { OnOk result (All IsTx txs.now) }
-{
-    put_compact(out, txs.len() as u64)?;
-    for tx in txs {
-        write_tx(out, tx)?;
-    }
-    Ok(())
-}
-
-/// The 80 bytes of a header. Its numbers fit their fields, and its hashes have 32 bytes.
-fn header_bytes(header: Header) -> [u8; 80]
-    ensures text { result ≡ header_text header }
-    ensures fits { IsHeader header }
-{
-    header.text()
-}
-
 #[tactic(auto, unfolding(crate::specs::Text::block_text), using(cb_tx::proofs::Appends::appends))]
 fn put_block(out: &mut Vec<u8>, block: &Block) -> Result<(), Fault>
     ensures ok { OnOk result (out.new.items ≡ out.old.items ++ block_text block.now) }
@@ -134,8 +87,8 @@ fn put_block(out: &mut Vec<u8>, block: &Block) -> Result<(), Fault>
     ensures capacity { vec_capacity out.old ≤ vec_capacity out.new }
     ensures fits { OnOk result (IsBlock block.now) }
 {
-    out.extend_from_slice(&header_bytes(block.header))?;
-    put_txs(out, block.txs.as_slice())
+    out.extend_from_slice(&block.header.text())?;
+    put_items(out, block.txs.as_slice())
 }
 
 /// Appends the block's serialisation to `out`.
@@ -157,17 +110,6 @@ pub fn write_block(out: &mut Vec<u8>, block: &Block) -> Result<(), Fault>
     put_block(out, block)
 }
 
-#[tactic(auto, unfolding(cb_tx::specs::Text::list_text))]
-fn txs_size(txs: &[Shared<Tx>]) -> u64
-    ensures { result ≡ min (length (list_text tx_text txs.now)) (2 ^ 64 - 1) }
-{
-    let mut size = compact_size(txs.len() as u64);
-    for tx in txs {
-        size = size.saturating_add(tx.size());
-    }
-    size
-}
-
 impl Block {
     /// The length of its serialisation in bytes, or 2^64 - 1 if it is longer than that.
     #[tactic(auto, unfolding(crate::specs::Text::block_text))]
@@ -175,7 +117,7 @@ impl Block {
         ensures { result ≡ min (length (block_text self.now)) (2 ^ 64 - 1) }
     {
         let header = self.header.text().as_slice().len() as u64;
-        txs_size(self.txs.as_slice()).saturating_add(header)
+        items_size(self.txs.as_slice()).saturating_add(header)
     }
 
     /// Returns an equal block. It shares the transactions: only their list is allocated.

@@ -34,7 +34,9 @@ impl Header {
     /// Its serialisation of 80 bytes.
     #[tactic(auto, unfolding(crate::specs::Text::header_text))]
     pub fn text(&self) -> [u8; 80]
-        ensures { result ≡ header_text self.now }
+        ensures bytes { result ≡ header_text self.now }
+        // Each number fits its field, and each hash has 32 bytes.
+        ensures fits { IsHeader self.now }
     {
         let mut text = [0u8; 80];
         let (version, rest) = text.split_at_mut(4);

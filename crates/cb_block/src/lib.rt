@@ -10,6 +10,7 @@ mod decision;
 mod genesis_tx;
 mod header;
 mod laws;
+mod listed_header;
 mod merkle;
 mod rules;
 mod soundness;

@@ -141,7 +141,7 @@ fn txids_of(alloc: Global, txs: &[Shared<Tx>]) -> Result<Vec<Hash256>, Fault>
 
 /// Fails with `Fault::Empty` if the block has no transactions, else with `Fault::Size64` if one of
 /// them has 64 bytes. It allocates nothing.
-fn check_sizes(block: &Block) -> Result<(), Fault>
+pub(crate) fn check_sizes(block: &Block) -> Result<(), Fault>
     ensures some { IfOk result (λ _. 0 < length block.now.txs) }
     ensures sizes { IfOk result (λ _. All (λ tx. length (tx_text tx) ≢ 64) block.now.txs) }
     ensures err { IfErr result (λ fault. (fault ≢ Memory) × IsUnsound block.now fault) }

@@ -17,13 +17,13 @@ use Rattle.cb_tx.specs.Text.{list_text}
 use Rattle.cb_tx.specs.Reading.{hash_at, items_at, count_at, list_at}
 use Rattle.cb_tx.proofs.Parts.{hash_takes, hash_again, IsKind, list_takes, list_again}
 use Rattle.cb_block.specs.declared.header.Header.{Header}
-use Rattle.cb_block.specs.Reading.{header_at}
-use Rattle.cb_block.specs.Text.{IsHeader, header_text}
+use Rattle.cb_block.specs.Reading.{header_at, listed_header_at}
+use Rattle.cb_block.specs.Text.{IsHeader, header_text, listed_header_text}
 use Rattle.cb_block.proofs.Headers.{header_again, header_laws_at}
 use Rattle.cb_payload.specs.declared.inventory.Inventory.{Inventory}
 use Rattle.cb_payload.specs.declared.inventory.Inventory.TheVariants as kinds
 use Rattle.cb_payload.specs.Kinds.{IsOtherKind}
-use Rattle.cb_payload.specs.Lists.{IsEntry, IsHash, entry_at, entry_text, hash_in, hash_text, kind_of, named, limited_at, listed_at, listed_header_at, listed_header_text}
+use Rattle.cb_payload.specs.Lists.{IsEntry, IsHash, entry_at, entry_text, hash_in, hash_text, kind_of, named, limited_at, listed_at}
 
 -- a test that met no fault, with what was read behind it
 pub refused_not : {A : Type 0} (b : Bool) (d : Fault) (r : Result A Fault) (y : A) → cond b (Err d) r ≡ Ok y → (b ≡ false) × (r ≡ Ok y)

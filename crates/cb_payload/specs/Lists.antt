@@ -1,15 +1,12 @@
 -- Lists in messages of Bitcoin's peer-to-peer protocol (inv, getdata, notfound, headers,
 -- getheaders, getblocktxn): a count, which has a limit, then the items.
-use Rattle.std.specs.Prelude.{◌≡◌, ℕ, ◌*◌, ◌^◌, ◌<◌, List, ◌++◌, length, nat_eq, nat_lt, ◌==◌, if◌then◌else◌, Ok, Err}
+use Rattle.std.specs.Prelude.{◌≡◌, ℕ, ◌*◌, ◌^◌, ◌<◌, List, ◌++◌, length, nat_eq, nat_lt, if◌then◌else◌, Ok, Err}
 use Rattle.std.specs.Int.{w32, to_le_bytes}
-use Rattle.cb_base.specs.declared.fault.Fault.TheVariants.{Truncated, TooMany, BadBool}
+use Rattle.cb_base.specs.declared.fault.Fault.TheVariants.{Truncated, TooMany}
 use Rattle.cb_base.specs.declared.hash.Hash256.{Hash256}
-use Rattle.cb_base.specs.CompactSize.{compact_at, compact_text}
+use Rattle.cb_base.specs.CompactSize.{compact_at}
 use Rattle.cb_base.specs.Reading.{Read, ◌>>=◌, number_at}
 use Rattle.cb_tx.specs.Reading.{hash_at, items_at}
-use Rattle.cb_block.specs.declared.header.Header.{Header}
-use Rattle.cb_block.specs.Reading.{header_at}
-use Rattle.cb_block.specs.Text.{header_text}
 use Rattle.cb_payload.specs.declared.inventory.Inventory.{Inventory}
 use Rattle.cb_payload.specs.declared.inventory.Inventory.TheVariants as kinds
 
@@ -72,14 +69,3 @@ pub record IsEntry (entry : Inventory) : Type 0 where
   pub kind : kind_of entry < 2 ^ 32
   pub known : named (kind_of entry) (hash_in entry) ≡ entry
   pub hash : length (hash_in entry).0 ≡ 32
-
--- ---- a header in `headers`: its 80 bytes, and a count of transactions that is 0
-
-unfoldable pub listed_header_text : Header → List ℕ
-listed_header_text header = header_text header ++ compact_text 0
-
-unfoldable pub listed_header_at : List ℕ → Read Header
-listed_header_at bytes = do
-  header ← header_at bytes
-  count ← compact_at header.1
-  if count.0 == 0 then Ok (header.0, count.1) else Err BadBool

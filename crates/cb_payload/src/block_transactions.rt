@@ -1,19 +1,19 @@
 //! The payloads of `getblocktxn` and `blocktxn` (BIP 152).
-ghost use Rattle.std.specs.Prelude.{◌≡◌, ℕ, ◌-◌, ◌^◌, ◌<◌, ◌≤◌, List, [], ◌++◌, length, min, All, IfOk, IsOk, IsOkUnless, OnOk, Ok, Err};
+ghost use Rattle.std.specs.Prelude.{◌≡◌, ◌-◌, ◌^◌, ◌<◌, ◌≤◌, [], ◌++◌, length, min, IfOk, IsOk, IsOkUnless, OnOk, Ok, Err};
 ghost use Rattle.cb_base.specs.CompactSize.{compact_text};
 ghost use Rattle.cb_base.specs.declared.fault.Fault.{Fault};
 ghost use Rattle.cb_base.specs.declared.fault.Fault.TheVariants.{Memory};
-ghost use Rattle.cb_tx.specs.Reading.{CountsSome, GivesInMemory, count_at, list_at, tx_at};
-ghost use Rattle.cb_tx.specs.Text.{IsTx, list_text, tx_text};
+ghost use Rattle.cb_tx.specs.Reading.{GivesInMemory};
+ghost use Rattle.cb_tx.specs.Text.{list_text};
 ghost use Rattle.cb_payload.specs.BlockTransactions.{BlockTxsTakesMemory, IsBlockTxs, IsTxsRequest, TxsRequestTakesMemory, block_txs_at, block_txs_count_at, block_txs_text, txs_request_at, txs_request_count_at, txs_request_text};
 
 use crate::listed::Listed;
-use crate::lists::{ListItem, list_size, put_list, read_list};
+use crate::lists::read_list;
 use crate::short_form::MOST_BLOCK_TXS;
-use crate::tx_lists::{put_tx_items, share_tx_items, tx_items_of, tx_items_size};
-use cb_base::{Cursor, Fault, Hash256, put_compact};
+use crate::tx_lists::share_tx_items;
+use cb_base::{Cursor, Fault, Hash256};
 use cb_block::Txs;
-use cb_tx::{compact_size, read_count, read_hash};
+use cb_tx::{items_size, put_items, read_hash, read_items};
 use std::alloc::Global;
 
 /// Indexes of a block's transactions, differentially encoded as in BIP 152. The first is the index
@@ -40,34 +40,6 @@ pub struct BlockTransactions {
     pub txs: Txs,
 }
 
-/// A difference of indexes is a CompactSize. It has 1 to 9 bytes; `WIDTH` is the least.
-impl ListItem for u64 {
-    ghost use Rattle.std.specs.Prelude.{◌<◌, ◌^◌};
-    ghost use Rattle.cb_base.specs.CompactSize.{compact_at, compact_text};
-
-    ghost text = { compact_text };
-
-    ghost item_at = { compact_at };
-
-    ghost is_kept = { λ number. number < 2 ^ 64 };
-
-    ghost WIDTH = { 1 };
-
-    const WIDTH: u32 = 1;
-
-    fn read(cursor: &mut Cursor) -> Result<u64, Fault> {
-        cursor.compact()
-    }
-
-    fn put(self, out: &mut Vec<u8>) -> Result<(), Fault> {
-        put_compact(out, self)
-    }
-
-    fn size(self) -> u64 {
-        compact_size(self)
-    }
-}
-
 /// Reads the payload of a `getblocktxn` (BIP 152): the block's hash, then a count and at most
 /// 16,666 differences.
 ///
@@ -90,14 +62,6 @@ pub fn read_txs_request(
     Ok(BlockTransactionsRequest { block, differences })
 }
 
-/// The 32 bytes of a hash.
-fn hash_bytes(hash: &Hash256) -> &[u8]
-    ensures bytes { result.now ≡ hash.now.0 }
-    ensures len { length hash.now.0 ≡ 32 }
-{
-    hash.0.as_slice()
-}
-
 /// Appends the payload of a `getblocktxn` to `out`. Fails only with `Fault::Memory`; `out` may then
 /// end with a part of the payload.
 #[tactic(auto, unfolding(crate::specs::BlockTransactions::txs_request_text), using(cb_tx::proofs::Appends::appends))]
@@ -106,19 +70,8 @@ pub fn put_txs_request(out: &mut Vec<u8>, request: &BlockTransactionsRequest) ->
     ensures memory { IsOkUnless result Memory }
     ensures kept { OnOk result (IsTxsRequest request.now) }
 {
-    out.extend_from_slice(hash_bytes(&request.block))?;
-    put_list(out, request.differences.as_slice())
-}
-
-/// Reads a count and that many transactions.
-#[tactic(auto, unfolding(cb_tx::specs::Reading::list_at))]
-fn read_txs(alloc: Global, cursor: &mut Cursor) -> Result<Txs, Fault>
-    ensures exact { GivesInMemory (list_at 10 tx_at cursor.old) result cursor.new }
-    ensures unpaid { (fault : Fault) → count_at 10 cursor.old ≡ Err fault → result ≡ Err fault }
-    ensures paid { result ≡ Err Memory → CountsSome 10 cursor.old }
-{
-    let count = read_count(cursor, 10)?;
-    Ok(Txs::new(tx_items_of(alloc, cursor, count)?))
+    out.extend_from_slice(request.block.bytes())?;
+    put_items(out, request.differences.as_slice())
 }
 
 /// Reads the payload of a `blocktxn` (BIP 152): the block's hash, then a count and that many
@@ -139,8 +92,11 @@ pub fn read_block_txs(alloc: Global, cursor: &mut Cursor) -> Result<BlockTransac
     ensures paid { result ≡ Err Memory → BlockTxsTakesMemory cursor.old }
 {
     let block = read_hash(cursor)?;
-    let txs = read_txs(alloc, cursor)?;
-    Ok(BlockTransactions { block, txs })
+    let txs = read_items(alloc, cursor)?;
+    Ok(BlockTransactions {
+        block,
+        txs: Txs::new(txs),
+    })
 }
 
 /// Appends the payload of a `blocktxn` to `out`. Fails only with `Fault::Memory`; `out` may then
@@ -151,8 +107,8 @@ pub fn put_block_txs(out: &mut Vec<u8>, txs: &BlockTransactions) -> Result<(), F
     ensures memory { IsOkUnless result Memory }
     ensures kept { OnOk result (IsBlockTxs txs.now) }
 {
-    out.extend_from_slice(hash_bytes(&txs.block))?;
-    put_tx_items(out, txs.txs.as_slice())
+    out.extend_from_slice(txs.block.bytes())?;
+    put_items(out, txs.txs.as_slice())
 }
 
 impl BlockTransactionsRequest {
@@ -162,7 +118,7 @@ impl BlockTransactionsRequest {
         ensures size { result ≡ length (txs_request_text self.now) }
         ensures limit { result ≤ 150035 }
     {
-        differences_size(&self.differences) + hash_bytes(&self.block).len() as u64
+        differences_size(&self.differences) + self.block.bytes().len() as u64
     }
 
     /// An equal request. Fails only with `Fault::Memory`; a request without differences allocates
@@ -184,7 +140,7 @@ fn differences_size(differences: &Differences) -> u64
     ensures size { result ≡ length (list_text compact_text differences.now) }
     ensures limit { result ≤ 150003 }
 {
-    list_size(differences.as_slice())
+    items_size(differences.as_slice())
 }
 
 impl BlockTransactions {
@@ -193,8 +149,8 @@ impl BlockTransactions {
     pub fn size(&self) -> u64
         ensures { result ≡ min (length (block_txs_text self.now)) (2 ^ 64 - 1) }
     {
-        let block = hash_bytes(&self.block).len() as u64;
-        tx_items_size(self.txs.as_slice()).saturating_add(block)
+        let block = self.block.bytes().len() as u64;
+        items_size(self.txs.as_slice()).saturating_add(block)
     }
 
     /// An equal list that shares the transactions. Only the list itself is allocated.

@@ -1,9 +1,8 @@
 //! The payload of `cmpctblock` (BIP 152).
-ghost use Rattle.std.specs.Prelude.{◌≡◌, ℕ, ◌-◌, ◌^◌, ◌<◌, List, ◌++◌, length, min, All, IfOk, IsOkUnless, OnOk, Ok, Err};
+ghost use Rattle.std.specs.Prelude.{◌≡◌, ◌-◌, ◌^◌, ◌<◌, ◌++◌, length, min, IfOk, IsOkUnless, OnOk, Ok, Err};
 ghost use Rattle.cb_base.specs.declared.fault.Fault.{Fault};
 ghost use Rattle.cb_base.specs.declared.fault.Fault.TheVariants.{Memory};
 ghost use Rattle.cb_tx.specs.Reading.{GivesInMemory};
-ghost use Rattle.cb_block.specs.Text.{IsHeader, header_text};
 ghost use Rattle.cb_payload.specs.CompactBlocks.{CompactBlockTakesMemory, IsCompactBlock, compact_block_at, compact_block_count_at, compact_block_text};
 
 use crate::short_form::{CompactTxs, put_short_form, read_short_form};
@@ -51,14 +50,6 @@ pub fn read_compact_block(alloc: Global, cursor: &mut Cursor) -> Result<HeaderAn
     Ok(HeaderAndShortIds { header, nonce, txs })
 }
 
-/// A block header's 80 bytes. Each number is in the range of its field, and each hash has 32 bytes.
-fn header_bytes(header: Header) -> [u8; 80]
-    ensures text { result ≡ header_text header }
-    ensures kept { IsHeader header }
-{
-    header.text()
-}
-
 /// Appends the payload of a `cmpctblock` to `out`. Fails only with `Fault::Memory`; `out` may then
 /// end with a part of the payload.
 #[tactic(auto, unfolding(crate::specs::CompactBlocks::compact_block_text), using(cb_tx::proofs::Appends::appends))]
@@ -69,7 +60,7 @@ pub fn put_compact_block(out: &mut Vec<u8>, block: &HeaderAndShortIds) -> Result
     // to 16,666 transactions.
     ensures kept { OnOk result (IsCompactBlock block.now) }
 {
-    out.extend_from_slice(header_bytes(block.header).as_slice())?;
+    out.extend_from_slice(&block.header.text())?;
     out.extend_from_slice(&block.nonce.to_le_bytes())?;
     put_short_form(out, &block.txs)
 }
@@ -80,7 +71,7 @@ impl HeaderAndShortIds {
     pub fn size(&self) -> u64
         ensures { result ≡ min (length (compact_block_text self.now)) (2 ^ 64 - 1) }
     {
-        let header = header_bytes(self.header).as_slice().len() as u64;
+        let header = self.header.text().as_slice().len() as u64;
         self.txs.size().saturating_add(8).saturating_add(header)
     }
 

@@ -6,9 +6,10 @@ ghost use Rattle.std.specs.Prelude.{◌≡◌, ℕ, ◌^◌, ◌<◌, ◌≤◌,
 ghost use Rattle.std.specs.List.{AllByRecursion};
 ghost use Rattle.cb_tx.specs.Reading.{hash_at};
 ghost use Rattle.cb_tx.specs.Text.{list_text};
-ghost use Rattle.cb_block.specs.Text.{IsHeader};
+ghost use Rattle.cb_block.specs.Reading.{listed_header_at};
+ghost use Rattle.cb_block.specs.Text.{IsHeader, listed_header_text};
 ghost use Rattle.cb_payload.specs.declared.version.Version.{Version};
-ghost use Rattle.cb_payload.specs.Lists.{IsEntry, IsHash, entry_at, entry_text, hash_text, listed_at, listed_header_at, listed_header_text};
+ghost use Rattle.cb_payload.specs.Lists.{IsEntry, IsHash, entry_at, entry_text, hash_text, listed_at};
 ghost use Rattle.cb_payload.specs.Requests.{IsRequest, compact_relay_at, compact_relay_text, request_at, request_text};
 ghost use Rattle.cb_payload.specs.RoundTrip.{IsReadAsWritten};
 ghost use Rattle.cb_payload.specs.Version.{IsVersion, IsVersionPayload, version_at, version_text};

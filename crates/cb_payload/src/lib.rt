@@ -33,7 +33,7 @@ pub use laws::{
     lists_are_read_as_written, requests_are_read_as_written, versions_are_read_as_spelled,
 };
 pub use listed::Listed;
-pub use lists::{ListItem, entries_size, headers_size, locator_size, put_list, read_list};
+pub use lists::{entries_size, headers_size, locator_size, read_list};
 pub use prefilled::PrefilledTransaction;
 pub use requests::{
     CompactRelay, HeadersRequest, put_compact_relay, put_request, read_compact_relay, read_request,

@@ -1,17 +1,15 @@
 //! The payloads of `sendcmpct` (BIP 152) and `getheaders`.
-ghost use Rattle.std.specs.Prelude.{◌≡◌, ℕ, ◌^◌, ◌<◌, ◌≤◌, List, ◌++◌, length, All, IfOk, IsOk, IsOkUnless, OnOk, Ok, Err};
+ghost use Rattle.std.specs.Prelude.{◌≡◌, ◌^◌, ◌<◌, ◌≤◌, ◌++◌, length, IfOk, IsOk, IsOkUnless, OnOk, Ok, Err};
 ghost use Rattle.cb_base.specs.CompactSize.{Gives};
 ghost use Rattle.cb_base.specs.declared.fault.Fault.{Fault};
 ghost use Rattle.cb_base.specs.declared.fault.Fault.TheVariants.{Memory};
 ghost use Rattle.cb_tx.specs.Reading.{GivesInMemory};
-ghost use Rattle.cb_tx.specs.Text.{list_text};
-ghost use Rattle.cb_payload.specs.Lists.{IsHash, hash_text};
 ghost use Rattle.cb_payload.specs.Requests.{IsRequest, TakesMemory, compact_relay_at, compact_relay_text, flag_at, request_at, request_count_at, request_text};
 
 use crate::inventory::Locator;
-use crate::lists::{locator_size, put_list, read_list};
+use crate::lists::{locator_size, read_list};
 use cb_base::{Cursor, Fault, Hash256};
-use cb_tx::read_hash;
+use cb_tx::{put_items, read_hash};
 use std::alloc::Global;
 
 /// The payload of `sendcmpct` (BIP 152): how a peer wants new blocks to be announced.
@@ -105,14 +103,6 @@ pub fn read_request(alloc: Global, cursor: &mut Cursor) -> Result<HeadersRequest
     })
 }
 
-/// The 32 bytes of a hash.
-fn hash_bytes(hash: &Hash256) -> &[u8]
-    ensures bytes { result.now ≡ hash.now.0 }
-    ensures len { length hash.now.0 ≡ 32 }
-{
-    hash.0.as_slice()
-}
-
 /// Appends the payload of a `getheaders` to `out`. Fails only with `Fault::Memory`; `out` may then
 /// end with a part of the payload.
 #[tactic(auto, unfolding(crate::specs::Requests::request_text), using(cb_tx::proofs::Appends::appends))]
@@ -122,8 +112,8 @@ pub fn put_request(out: &mut Vec<u8>, request: &HeadersRequest) -> Result<(), Fa
     ensures kept { OnOk result (IsRequest request.now) }
 {
     out.extend_from_slice(&request.version.to_le_bytes())?;
-    put_list(out, request.locator.as_slice())?;
-    out.extend_from_slice(hash_bytes(&request.stop))?;
+    put_items(out, request.locator.as_slice())?;
+    out.extend_from_slice(request.stop.bytes())?;
     Ok(())
 }
 
@@ -145,7 +135,7 @@ impl HeadersRequest {
         ensures size { result ≡ length (request_text self.now) }
         ensures limit { result ≤ 4000 }
     {
-        locator_size(&self.locator) + hash_bytes(&self.stop).len() as u64 + 4
+        locator_size(&self.locator) + self.stop.bytes().len() as u64 + 4
     }
 
     /// An equal request. Fails only with `Fault::Memory`; a request with an empty locator allocates

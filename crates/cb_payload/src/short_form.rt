@@ -1,4 +1,4 @@
-ghost use Rattle.std.specs.Prelude.{◌≡◌, ℕ, ◌+◌, ◌-◌, ◌^◌, ◌<◌, ◌≤◌, List, ◌++◌, length, min, All, IfOk, IfErr, IsOk, IsOkUnless, IsTrue, ◌↔◌, OnOk, Ok, Err};
+ghost use Rattle.std.specs.Prelude.{◌≡◌, ◌+◌, ◌-◌, ◌^◌, ◌<◌, ◌≤◌, ◌++◌, length, min, All, IfOk, IfErr, IsOk, IsOkUnless, IsTrue, ◌↔◌, OnOk, Ok, Err};
 ghost use Rattle.cb_base.specs.CompactSize.{Gives};
 ghost use Rattle.cb_base.specs.declared.fault.Fault.{Fault};
 ghost use Rattle.cb_base.specs.declared.fault.Fault.TheVariants.{Memory};
@@ -7,8 +7,9 @@ ghost use Rattle.cb_payload.specs.ShortForms.{FormTakesMemory, IsPrefilled, IsSh
 
 use crate::prefilled::PrefilledTransaction;
 use crate::short_ids::{ids_size, put_ids, read_ids};
-use crate::tx_lists::{put_tx_items, share_tx_items, tx_items_of, tx_items_size};
+use crate::tx_lists::share_tx_items;
 use cb_base::{Cursor, Fault};
+use cb_tx::{items_of, items_size, put_items};
 use std::alloc::Global;
 use std::marker::Model;
 
@@ -106,7 +107,7 @@ impl CompactTxs {
     pub fn size(&self) -> u64
         ensures { result ≡ min (length (short_form_text self.now)) (2 ^ 64 - 1) }
     {
-        ids_size(self.ids.as_slice()).saturating_add(tx_items_size(self.prefilled.as_slice()))
+        ids_size(self.ids.as_slice()).saturating_add(items_size(self.prefilled.as_slice()))
     }
 }
 
@@ -160,7 +161,7 @@ pub fn read_short_form(alloc: Global, cursor: &mut Cursor) -> Result<CompactTxs,
 {
     let ids = read_ids(alloc, cursor)?;
     let count = read_prefilled_count(cursor, ids.len())?;
-    let prefilled = tx_items_of(alloc, cursor, count)?;
+    let prefilled = items_of(alloc, cursor, count)?;
     Ok(CompactTxs::from_few(ids, prefilled))
 }
 
@@ -174,5 +175,5 @@ pub fn put_short_form(out: &mut Vec<u8>, txs: &CompactTxs) -> Result<(), Fault>
     ensures form { IsShortForm txs.now }
 {
     put_ids(out, txs.ids())?;
-    put_tx_items(out, txs.prefilled())
+    put_items(out, txs.prefilled())
 }

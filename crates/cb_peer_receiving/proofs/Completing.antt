@@ -1,15 +1,9 @@
--- Transactions of a block that isn't being rebuilt, and a block that has none.
-use Rattle.std.proofs.Common.{◌≡◌, Bool, true, false, cond, List, [], ◌∷◌, Option, Some, None, refl, sym, ap, ◌∙◌}
-use Rattle.std.specs.Prelude.{◌&&◌, length}
-use Rattle.cb_block.specs.declared.block.Block.{Block}
-use Rattle.cb_block.specs.Blocks.{texts}
-use Rattle.cb_block.specs.Decision.{has_no_size_64, is_sound_block, rises_to}
-use Rattle.cb_block.specs.Soundness.{names}
+-- Transactions of a block that isn't being rebuilt.
+use Rattle.std.proofs.Common.{◌≡◌, Bool, false, cond, List, [], Option, Some, None, refl, sym, ap, ◌∙◌}
 use Rattle.cb_compact.specs.Slots.{Unfilled}
 use Rattle.cb_payload.specs.declared.block_transactions.BlockTransactions.{BlockTransactions}
 use Rattle.cb_rebuild.specs.Completing.{completed_of}
 use Rattle.cb_wire.specs.declared.message.Message.{Message}
-use Rattle.cb_peer_state.specs.Questions.{is_nil}
 use Rattle.cb_peer_state.specs.Receiving.{completed_by, ends, filled_by, txs_heard}
 use Rattle.cb_peer_state.specs.State.{is_partial, with_partial}
 use Rattle.cb_peer_state.specs.declared.session_state.SessionState.{SessionState}
@@ -22,12 +16,3 @@ completes_no_other s given (Some partial) other =
 pub ignored : (s : SessionState) (given : BlockTransactions) (sent : List Message) → is_partial given.block s.compact.partial ≡ false → sent ≡ [] → ends s sent ≡ txs_heard s given
 unfolding txs_heard
 ignored s given sent other none = ap (ends s) none ∙ sym (completes_no_other s given s.compact.partial other)
-
--- a block without transactions isn't sound
-nil_is : {A : Type 0} (xs : List A) → is_nil xs ≡ true → xs ≡ []
-nil_is [] none = refl
-nil_is (x ∷ xs) none = absurd cc
-
-pub empty_unsound : (block : Block) → is_nil block.txs ≡ true → is_sound_block block ≡ false
-unfolding is_sound_block
-empty_unsound block none = ap (λ txs. has_no_size_64 (texts txs) && rises_to block.header.root (length txs) (names (texts txs))) (nil_is block.txs none)

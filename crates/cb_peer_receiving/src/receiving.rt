@@ -1,19 +1,18 @@
 //! How a session handles its peer's messages: one arm for each message.
-ghost use Rattle.std.specs.Prelude.{◌≡◌, ◌≤◌, [], ◌∷◌, List, Option, None, Some, length, not, false, true, IfOk, IsOk, IsOkUnless, MatchOption};
-ghost use Rattle.cb_block.specs.Decision.{is_sound_block};
+ghost use Rattle.std.specs.Prelude.{◌≡◌, ◌≤◌, [], ◌∷◌, List, Option, None, Some, length, false, IfOk, IsOk, IsOkUnless};
 ghost use Rattle.cb_block.specs.declared.header.Header.{Header};
 ghost use Rattle.cb_base.specs.declared.fault.Fault.TheVariants.{Memory};
 ghost use Rattle.cb_wire.specs.declared.item.Item.{Item};
 ghost use Rattle.cb_wire.specs.declared.item.Item.TheVariants.{Good};
 ghost use Rattle.cb_wire.specs.declared.message.Message.TheVariants as messages;
-ghost use Rattle.cb_peer_state.specs.Questions.{is_known_type, is_nil, told_of};
+ghost use Rattle.cb_peer_state.specs.Questions.{is_known_type, told_of};
 ghost use Rattle.cb_peer_state.specs.Outcomes.{IsLightOutcome, Makes};
 ghost use Rattle.cb_peer_state.specs.Session.{weighs_admitted, weighs_heard, weighs_ready};
 ghost use Rattle.cb_peer_state.specs.Receiving.{brought, by_compact, given_up, gives_up, greeting, in_greeted, in_ready, in_start, introduced, processed, received};
 
 use crate::compact::{ask_places, hear_short, hear_txs};
 use cb_base::{Fault, Hash256, Shared};
-use cb_block::{Block, Header, SoundBlock, sound_of};
+use cb_block::{Block, Header, sound_of};
 use cb_fetch::Fetch;
 use cb_journal::{Given, Question, Request};
 use cb_payload::{CompactRelay, Entries, HeaderList, HeadersRequest, Inventory, Version};
@@ -38,8 +37,8 @@ pub fn process(
         (λ made. Makes
         (processed session.old item.now) item.now session.new made.messages.items made.next) }
     ensures memory { IsOkUnless result Memory }
-    // Only a block that has transactions and the transactions of the block that is being rebuilt
-    // are hashed, both once the handshake is complete.
+    // Only a block that has transactions, none of 64 bytes, and the transactions of the block that
+    // is being rebuilt are hashed, both once the handshake is complete.
     ensures silent { weighs_admitted session.old item.now ≡ false →
         IsLightOutcome (processed session.old item.now) →
         IsOk result }
@@ -327,7 +326,8 @@ fn ask_after(
 /// Merkle tree, or another root than its header's), the session ends and the hall isn't given the
 /// block. Otherwise the block is no longer in flight and goes to the hall.
 ///
-/// Fails only with `Fault::Memory`, and never for a block without transactions.
+/// Fails only with `Fault::Memory`, and never for a block without transactions or with one of 64
+/// bytes.
 #[tactic(auto, unfolding(cb_peer_state::specs::Receiving::brought))]
 fn bring(
     session: &mut SessionState,
@@ -340,7 +340,7 @@ fn bring(
     ensures memory { IsOkUnless result Memory }
     ensures silent { weighs_ready session.old (messages.Block block.now) ≡ false → IsOk result }
 {
-    let Some(sound) = sound_with_txs(alloc, block)? else {
+    let Some(sound) = sound_of(alloc, block)? else {
         return Ok(session.end_by(alloc, CloseReason::BadBlock));
     };
     let hash = block.header.hash();
@@ -357,27 +357,6 @@ fn bring(
             capable: session.peer.capable,
         }),
     ))
-}
-
-/// The block as a sound one, or `None` if it isn't sound. Fails only with `Fault::Memory`, and never
-/// for a block without transactions.
-fn sound_with_txs(alloc: Global, block: &Shared<Block>) -> Result<Option<SoundBlock>, Fault>
-    ensures decided { IfOk result (λ told. MatchOption told (is_sound_block block.now ≡ false)
-        (λ sound. (sound ≡ block.now) × (is_sound_block block.now ≡ true))) }
-    ensures memory { IsOkUnless result Memory }
-    ensures unpaid { not (is_nil block.now.txs) ≡ false → IsOk result }
-{
-    if has_no_txs(&**block) {
-        return Ok(None);
-    }
-    sound_of(alloc, block)
-}
-
-/// Whether a block has no transactions.
-fn has_no_txs(block: &Block) -> bool
-    ensures { result ≡ is_nil block.now.txs }
-{
-    block.txs.as_slice().is_empty()
 }
 
 /// The answer to the peer's `version`: `verack`, and before it our `version` if the peer made the

@@ -3,6 +3,7 @@
 -- are.
 use Rattle.std.specs.Prelude.{Bool, true, false, not, ◌&&◌, ◌||◌, List, [], ◌∷◌, Option, Some, None, option_map, if◌then◌else◌}
 use Rattle.cb_base.specs.declared.hash.Hash256.{Hash256}
+use Rattle.cb_block.specs.Decision.{is_hashed}
 use Rattle.cb_payload.specs.declared.compact_block.HeaderAndShortIds.{HeaderAndShortIds}
 use Rattle.cb_wire.specs.declared.item.Item.{Item}
 use Rattle.cb_wire.specs.declared.message.Message.{Message}
@@ -96,9 +97,9 @@ takes_no_memory other = true
 -- ---- answers that take no memory
 
 -- What is hashed of an admitted message once the handshake is complete: a block that has
--- transactions, and transactions of the block that is being rebuilt.
+-- transactions, none of 64 bytes, and transactions of the block that is being rebuilt.
 abbrev pub weighs_ready : SessionState → Message → Bool
-weighs_ready s (messages.Block block) = not (is_nil block.txs)
+weighs_ready s (messages.Block block) = is_hashed block
 weighs_ready s (messages.BlockTxn given) = is_partial given.block s.compact.partial
 weighs_ready s other = false
 

@@ -44,20 +44,13 @@ fn first_whole(alloc: Global, txs: &[Shared<Tx>]) -> Result<Vec<PrefilledTransac
     Ok(prefilled)
 }
 
-/// The 32 bytes of a hash.
-fn hash_bytes(hash: &Hash256) -> &[u8]
-    ensures { length hash.now.0 ≡ 32 }
-{
-    hash.0.as_slice()
-}
-
 /// Reads the hash of a transaction's first input, so that the prover knows that it has 32 bytes.
 fn see_hash(tx: &Tx)
     ensures { SpendsByHash tx.now }
 {
     let inputs = tx.inputs.as_slice();
     if !inputs.is_empty() {
-        let _bytes = hash_bytes(&inputs[0].prev.txid);
+        let _bytes = inputs[0].prev.txid.bytes();
     }
 }
 

@@ -4,7 +4,7 @@ ghost use Rattle.cb_wire.specs.declared.message.Message.TheVariants.{Block, Bloc
 ghost use Rattle.cb_talk.specs.Serving.{excerpt_told, lacking_in, nonce_behind, sent, served, served_as, shorts};
 
 use crate::announcing::announce_block;
-use cb_base::{Fault, Hash256};
+use cb_base::Fault;
 use cb_payload::{BlockTransactions, Entries, Inventory};
 use cb_pool::Candidate;
 use cb_state::{BoundedBlock, Excerpt, Part, Piece, Pieces};
@@ -147,14 +147,6 @@ pub fn send_excerpt(alloc: Global, excerpt: &Excerpt) -> Result<Option<BoundedMe
     }
 }
 
-/// The bytes of a hash.
-fn hash_bytes(hash: &Hash256) -> &[u8]
-    ensures bytes { result.now ≡ hash.now.0 }
-    ensures len { length hash.now.0 ≡ 32 }
-{
-    hash.0.as_slice()
-}
-
 /// The message of a part of a block. Fails only with `Fault::Memory`.
 fn part_message(alloc: Global, part: &Part) -> Result<BoundedMessage, Fault>
     ensures message { IfOk result (λ message. message
@@ -163,7 +155,7 @@ fn part_message(alloc: Global, part: &Part) -> Result<BoundedMessage, Fault>
 {
     let block = part.hash();
     // No effect when it runs: it tells the prover what the type keeps.
-    let _ = hash_bytes(&block);
+    let _ = block.bytes();
     let txs = part.copy(alloc)?.into_txs();
     Ok(BoundedMessage::new(Message::BlockTxn(BlockTransactions { block, txs })))
 }

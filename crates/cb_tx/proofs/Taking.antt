@@ -1,5 +1,6 @@
 -- When reading a transaction takes memory: not before a count that isn't 0.
-use Rattle.std.proofs.Common.{◌≡◌, ℕ, zero, suc, ◌*◌, ◌<◌, ◌⊎◌, ltb, ℤ, List, [], length, Result, Ok, Err, sym, ap, subst, ◌∙◌, arith, inl, inr, ◌≢◌}
+use Rattle.std.proofs.Common.{◌≡◌, ℕ, zero, suc, ◌*◌, ◌<◌, ◌⊎◌, ltb, true, false, ℤ, List, [], length, Result, Ok, Err, refl, sym, ap, subst, ◌∙◌, arith, inl, inr, ◌≢◌}
+use Rattle.std.specs.Prelude.{IsOk}
 use Rattle.std.specs.Int.{w32}
 use Rattle.cb_base.specs.declared.fault.Fault.{Fault}
 use Rattle.cb_base.specs.declared.fault.Fault.TheVariants.{Memory, Truncated}
@@ -45,3 +46,9 @@ takes_second bytes version after inputs later e f h =
       | inl some ↦ (b.0, first, inl some)
       | inr none ↦ (b.0, first, inr (subst (CountsSome 9) (sym none) h))
     ]
+
+-- where items couldn't be read for want of memory, their count isn't 0
+pub some_counted : {A : Type 0} (least said : ℕ) (bytes : List ℕ) (n : ℕ) (after : List ℕ) (r : Result A Fault) → said ≡ least → count_at said bytes ≡ Ok (n, after) → (n ≡ 0 → IsOk r) → r ≡ Err Memory
+    → CountsSome least bytes
+some_counted least said bytes zero after r same e unpaid memory = absurd (let z : false ≡ true = subst IsOk memory (unpaid refl) in cc)
+some_counted least said bytes (suc n) after r same e unpaid memory = ((suc n, after), subst (λ (m : ℕ). count_at m bytes ≡ Ok (suc n, after)) same e, omega arith)

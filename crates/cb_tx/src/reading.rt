@@ -7,7 +7,7 @@ ghost use Rattle.cb_tx.specs.Reading.{CountsSome, GivesInMemory, TakesMemory, co
 ghost use Rattle.cb_tx.specs.Text.{IsTx, tx_text};
 ghost use Rattle.cb_tx.specs.declared.tx.Tx.{Tx};
 
-use crate::counting::read_count;
+use crate::lists::read_items;
 use crate::script::Script;
 use crate::tx::{Inputs, OutPoint, Outputs, Tx, TxIn, TxOut};
 use cb_base::{Cursor, Fault, Hash256, copy_bytes};
@@ -36,7 +36,7 @@ pub fn read_hash(cursor: &mut Cursor) -> Result<Hash256, Fault>
 }
 
 #[tactic(auto, unfolding(crate::specs::Reading::input_at))]
-fn read_input(alloc: Global, cursor: &mut Cursor) -> Result<TxIn, Fault>
+pub fn read_input(alloc: Global, cursor: &mut Cursor) -> Result<TxIn, Fault>
     ensures { GivesInMemory (input_at cursor.old) result cursor.new }
 {
     let txid = read_hash(cursor)?;
@@ -52,57 +52,12 @@ fn read_input(alloc: Global, cursor: &mut Cursor) -> Result<TxIn, Fault>
 }
 
 #[tactic(auto, unfolding(crate::specs::Reading::output_at))]
-fn read_output(alloc: Global, cursor: &mut Cursor) -> Result<TxOut, Fault>
+pub fn read_output(alloc: Global, cursor: &mut Cursor) -> Result<TxOut, Fault>
     ensures { GivesInMemory (output_at cursor.old) result cursor.new }
 {
     let value = cursor.i64()?;
     let script = read_script(alloc, cursor)?;
     Ok(TxOut { value, script })
-}
-
-/// Reads `count` inputs.
-fn inputs_of(alloc: Global, cursor: &mut Cursor, count: usize) -> Result<Inputs, Fault>
-    ensures exact { GivesInMemory (items_at input_at count cursor.old) result cursor.new }
-    ensures unpaid { count ≡ 0 → IsOk result }
-{
-    let mut inputs = Vec::with_capacity(alloc, count)?;
-    for _ in 0..count {
-        inputs.push(read_input(alloc, cursor)?)?;
-    }
-    Ok(Inputs::new(inputs))
-}
-
-/// Reads `count` outputs.
-fn outputs_of(alloc: Global, cursor: &mut Cursor, count: usize) -> Result<Outputs, Fault>
-    ensures exact { GivesInMemory (items_at output_at count cursor.old) result cursor.new }
-    ensures unpaid { count ≡ 0 → IsOk result }
-{
-    let mut outputs = Vec::with_capacity(alloc, count)?;
-    for _ in 0..count {
-        outputs.push(read_output(alloc, cursor)?)?;
-    }
-    Ok(Outputs::new(outputs))
-}
-
-/// Reads the inputs: their count, then each. An input has at least 41 bytes.
-#[tactic(auto, unfolding(crate::specs::Reading::list_at))]
-fn read_inputs(alloc: Global, cursor: &mut Cursor) -> Result<Inputs, Fault>
-    ensures exact { GivesInMemory (list_at 41 input_at cursor.old) result cursor.new }
-    ensures unpaid { (fault : Fault) → count_at 41 cursor.old ≡ Err fault → result ≡ Err fault }
-    ensures paid { result ≡ Err Memory → CountsSome 41 cursor.old }
-{
-    let count = read_count(cursor, 41)?;
-    inputs_of(alloc, cursor, count)
-}
-
-/// Reads the outputs: their count, then each. An output has at least 9 bytes.
-#[tactic(auto, unfolding(crate::specs::Reading::list_at))]
-fn read_outputs(alloc: Global, cursor: &mut Cursor) -> Result<Outputs, Fault>
-    ensures exact { GivesInMemory (list_at 9 output_at cursor.old) result cursor.new }
-    ensures paid { result ≡ Err Memory → CountsSome 9 cursor.old }
-{
-    let count = read_count(cursor, 9)?;
-    outputs_of(alloc, cursor, count)
 }
 
 /// Reads a transaction. After an error the cursor may have advanced.
@@ -113,13 +68,13 @@ fn tx_or_fault(alloc: Global, cursor: &mut Cursor) -> Result<Tx, Fault>
     ensures paid { result ≡ Err Memory → TakesMemory cursor.old }
 {
     let version = cursor.i32()?;
-    let inputs = read_inputs(alloc, cursor)?;
-    let outputs = read_outputs(alloc, cursor)?;
+    let inputs = read_items(alloc, cursor)?;
+    let outputs = read_items(alloc, cursor)?;
     let lock_time = cursor.u32()?;
     Ok(Tx {
         version,
-        inputs,
-        outputs,
+        inputs: Inputs::new(inputs),
+        outputs: Outputs::new(outputs),
         lock_time,
     })
 }

@@ -6,6 +6,7 @@ ghost use Rattle.cb_tx.specs.Text.{IsInput, IsOutput, IsTx, input_text, list_tex
 ghost use Rattle.cb_tx.specs.Writing.{Extends};
 ghost use Rattle.cb_tx.specs.declared.tx.Tx.{Tx};
 
+use crate::lists::put_items;
 use crate::script::Script;
 use crate::tx::{Tx, TxIn, TxOut};
 use cb_base::{Fault, Hash256, dsha, put_compact};
@@ -26,15 +27,8 @@ fn put_script(out: &mut Vec<u8>, script: &Script) -> Result<(), Fault>
     Ok(())
 }
 
-fn hash_bytes(hash: &Hash256) -> &[u8]
-    ensures bytes { result.now ≡ hash.now.0 }
-    ensures len { length hash.now.0 ≡ 32 }
-{
-    hash.0.as_slice()
-}
-
 #[tactic(auto, unfolding(crate::specs::Text::input_text), using(crate::proofs::Appends::appends))]
-fn put_input(out: &mut Vec<u8>, input: &TxIn) -> Result<(), Fault>
+pub fn put_input(out: &mut Vec<u8>, input: &TxIn) -> Result<(), Fault>
     ensures ok { OnOk result (out.new.items ≡ out.old.items ++ input_text input.now) }
     ensures err { OnErr result (Extends out.old.items out.new.items) }
     ensures memory { IsOkUnless result Memory }
@@ -43,7 +37,7 @@ fn put_input(out: &mut Vec<u8>, input: &TxIn) -> Result<(), Fault>
     ensures capacity { vec_capacity out.old ≤ vec_capacity out.new }
     ensures fits { OnOk result (IsInput input.now) }
 {
-    out.extend_from_slice(hash_bytes(&input.prev.txid))?;
+    out.extend_from_slice(input.prev.txid.bytes())?;
     out.extend_from_slice(&input.prev.index.to_le_bytes())?;
     put_script(out, &input.script)?;
     out.extend_from_slice(&input.sequence.to_le_bytes())?;
@@ -51,7 +45,7 @@ fn put_input(out: &mut Vec<u8>, input: &TxIn) -> Result<(), Fault>
 }
 
 #[tactic(auto, unfolding(crate::specs::Text::output_text), using(crate::proofs::Appends::appends))]
-fn put_output(out: &mut Vec<u8>, output: &TxOut) -> Result<(), Fault>
+pub fn put_output(out: &mut Vec<u8>, output: &TxOut) -> Result<(), Fault>
     ensures ok { OnOk result (out.new.items ≡ out.old.items ++ output_text output.now) }
     ensures err { OnErr result (Extends out.old.items out.new.items) }
     ensures memory { IsOkUnless result Memory }
@@ -64,44 +58,8 @@ fn put_output(out: &mut Vec<u8>, output: &TxOut) -> Result<(), Fault>
     put_script(out, &output.script)
 }
 
-#[tactic(auto, unfolding(crate::specs::Text::list_text), using(crate::proofs::Appends::appends))]
-fn put_inputs(out: &mut Vec<u8>, inputs: &[TxIn]) -> Result<(), Fault>
-    ensures ok { OnOk result (out.new.items ≡ out.old.items ++ list_text input_text inputs.now) }
-    ensures err { OnErr result (Extends out.old.items out.new.items) }
-    ensures memory { IsOkUnless result Memory }
-    ensures full { OnErr result
-        (vec_capacity out.old < vec_len out.old + length (list_text input_text inputs.now)) }
-    ensures capacity { vec_capacity out.old ≤ vec_capacity out.new }
-    ensures few { length inputs.now < 2 ^ 64 }
-    ensures fits { OnOk result (All IsInput inputs.now) }
-{
-    put_compact(out, inputs.len() as u64)?;
-    for input in inputs {
-        put_input(out, input)?;
-    }
-    Ok(())
-}
-
-#[tactic(auto, unfolding(crate::specs::Text::list_text), using(crate::proofs::Appends::appends))]
-fn put_outputs(out: &mut Vec<u8>, outputs: &[TxOut]) -> Result<(), Fault>
-    ensures ok { OnOk result (out.new.items ≡ out.old.items ++ list_text output_text outputs.now) }
-    ensures err { OnErr result (Extends out.old.items out.new.items) }
-    ensures memory { IsOkUnless result Memory }
-    ensures full { OnErr result
-        (vec_capacity out.old < vec_len out.old + length (list_text output_text outputs.now)) }
-    ensures capacity { vec_capacity out.old ≤ vec_capacity out.new }
-    ensures few { length outputs.now < 2 ^ 64 }
-    ensures fits { OnOk result (All IsOutput outputs.now) }
-{
-    put_compact(out, outputs.len() as u64)?;
-    for output in outputs {
-        put_output(out, output)?;
-    }
-    Ok(())
-}
-
 #[tactic(auto, unfolding(crate::specs::Text::tx_text), using(crate::proofs::Appends::appends))]
-fn put_tx(out: &mut Vec<u8>, tx: &Tx) -> Result<(), Fault>
+pub fn put_tx(out: &mut Vec<u8>, tx: &Tx) -> Result<(), Fault>
     ensures ok { OnOk result (out.new.items ≡ out.old.items ++ tx_text tx.now) }
     ensures err { OnErr result (Extends out.old.items out.new.items) }
     ensures memory { IsOkUnless result Memory }
@@ -110,8 +68,8 @@ fn put_tx(out: &mut Vec<u8>, tx: &Tx) -> Result<(), Fault>
     ensures fits { OnOk result (IsTx tx.now) }
 {
     out.extend_from_slice(&tx.version.to_le_bytes())?;
-    put_inputs(out, tx.inputs.as_slice())?;
-    put_outputs(out, tx.outputs.as_slice())?;
+    put_items(out, tx.inputs.as_slice())?;
+    put_items(out, tx.outputs.as_slice())?;
     out.extend_from_slice(&tx.lock_time.to_le_bytes())?;
     Ok(())
 }

@@ -15,8 +15,8 @@ use Rattle.cb_tx.specs.Reading.{tx_at}
 use Rattle.cb_tx.proofs.Laws.{tx_spells, tx_again}
 use Rattle.cb_block.specs.declared.block.Block as blocks
 use Rattle.cb_block.specs.declared.header.Header as header
-use Rattle.cb_block.specs.Text.{block_text, IsBlock, IsHeader}
-use Rattle.cb_block.specs.Reading.{block_at}
+use Rattle.cb_block.specs.Text.{block_text, IsBlock, IsHeader, listed_header_text}
+use Rattle.cb_block.specs.Reading.{block_at, listed_header_at}
 use Rattle.cb_block.proofs.Headers.{block_spells, block_again}
 use Rattle.cb_wire.specs.declared.command.Command.{Command}
 use Rattle.cb_wire.specs.declared.command.Command.TheVariants as known
@@ -31,7 +31,7 @@ use Rattle.cb_payload.specs.declared.requests.HeadersRequest.{HeadersRequest}
 use Rattle.cb_wire.specs.Command.{IsCommand, known_command, known_commands, command_name, is_command}
 use Rattle.cb_payload.specs.BlockTransactions.{IsBlockTxs, IsTxsRequest, block_txs_at, block_txs_text, txs_request_at, txs_request_text}
 use Rattle.cb_payload.specs.CompactBlocks.{IsCompactBlock, compact_block_at, compact_block_text}
-use Rattle.cb_payload.specs.Lists.{IsEntry, entry_at, entry_text, listed_at, listed_header_at, listed_header_text}
+use Rattle.cb_payload.specs.Lists.{IsEntry, entry_at, entry_text, listed_at}
 use Rattle.cb_payload.specs.Requests.{IsRequest, compact_relay_at, compact_relay_text, request_at, request_text}
 use Rattle.cb_payload.specs.Version.{version_at}
 use Rattle.cb_wire.specs.Grammar.{name_of, payload_text, IsPayload, Spells, IsMessage, IsWithinLimits, whole, payload_at, message_under, message_at}

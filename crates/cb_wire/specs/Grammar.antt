@@ -7,14 +7,14 @@ use Rattle.cb_base.specs.declared.fault.Fault.TheVariants.{Trailing}
 use Rattle.cb_base.specs.Reading.{◌>>=◌, number_at}
 use Rattle.cb_tx.specs.Text.{list_text, tx_text, IsTx}
 use Rattle.cb_tx.specs.Reading as transactions
-use Rattle.cb_block.specs.Text.{block_text, IsBlock, IsHeader}
+use Rattle.cb_block.specs.Text.{block_text, IsBlock, IsHeader, listed_header_text}
 use Rattle.cb_block.specs.Reading as blocks
 use Rattle.cb_wire.specs.declared.command.Command.{Command}
 use Rattle.cb_wire.specs.declared.command.Command.TheVariants as known
 use Rattle.cb_wire.specs.declared.message.Message.{Message}
 use Rattle.cb_wire.specs.declared.message.Message.TheVariants.{Version, Verack, Ping, Pong, SendHeaders, SendCmpct, Inv, GetData, NotFound, Headers, GetHeaders, Tx, Block, CmpctBlock, GetBlockTxn, BlockTxn, Unknown}
 use Rattle.cb_wire.specs.Command.{command_name, known_command, IsUnknownName}
-use Rattle.cb_payload.specs.Lists.{CountsSome, IsEntry, entry_at, entry_text, limited_at, listed_at, listed_header_at, listed_header_text}
+use Rattle.cb_payload.specs.Lists.{CountsSome, IsEntry, entry_at, entry_text, limited_at, listed_at}
 use Rattle.cb_payload.specs.BlockTransactions as fetched
 use Rattle.cb_payload.specs.CompactBlocks as compacts
 use Rattle.cb_payload.specs.Requests as requests
@@ -126,7 +126,7 @@ payload_at known.SendCmpct bytes = requests.compact_relay_at bytes >>= λ relay.
 payload_at known.Inv bytes = listed_at 50000 36 entry_at bytes >>= λ entries. whole (Inv entries.0, entries.1)
 payload_at known.GetData bytes = listed_at 50000 36 entry_at bytes >>= λ entries. whole (GetData entries.0, entries.1)
 payload_at known.NotFound bytes = listed_at 50000 36 entry_at bytes >>= λ entries. whole (NotFound entries.0, entries.1)
-payload_at known.Headers bytes = listed_at 2000 81 listed_header_at bytes >>= λ headers. whole (Headers headers.0, headers.1)
+payload_at known.Headers bytes = listed_at 2000 81 blocks.listed_header_at bytes >>= λ headers. whole (Headers headers.0, headers.1)
 payload_at known.GetHeaders bytes = requests.request_at bytes >>= λ request. whole (GetHeaders request.0, request.1)
 payload_at known.Tx bytes = transactions.tx_at bytes >>= λ tx. whole (Tx tx.0, tx.1)
 payload_at known.Block bytes = blocks.block_at bytes >>= λ block. whole (Block block.0, block.1)

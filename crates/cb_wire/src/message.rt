@@ -17,11 +17,11 @@ use cb_block::{Block, read_block, write_block};
 use cb_payload::{
     BlockTransactions, BlockTransactionsRequest, CompactRelay, Entries, HeaderAndShortIds,
     HeaderList, HeadersRequest, Version, entries_size, headers_size, put_block_txs,
-    put_compact_block, put_compact_relay, put_list, put_request, put_txs_request, put_version,
+    put_compact_block, put_compact_relay, put_request, put_txs_request, put_version,
     read_block_txs, read_compact_block, read_compact_relay, read_list, read_request,
     read_txs_request, read_version,
 };
-use cb_tx::{Tx, read_tx, write_tx};
+use cb_tx::{Tx, put_items, read_tx, write_tx};
 use std::alloc::Global;
 
 /// A message of Bitcoin's peer-to-peer protocol.
@@ -137,10 +137,10 @@ pub fn put_payload(out: &mut Vec<u8>, message: &Message) -> Result<(), Fault>
         Message::Ping(nonce) => put_nonce(out, *nonce),
         Message::Pong(nonce) => put_nonce(out, *nonce),
         Message::SendCmpct(relay) => put_compact_relay(out, relay),
-        Message::Inv(entries) => put_list(out, entries.as_slice()),
-        Message::GetData(entries) => put_list(out, entries.as_slice()),
-        Message::NotFound(entries) => put_list(out, entries.as_slice()),
-        Message::Headers(headers) => put_list(out, headers.as_slice()),
+        Message::Inv(entries) => put_items(out, entries.as_slice()),
+        Message::GetData(entries) => put_items(out, entries.as_slice()),
+        Message::NotFound(entries) => put_items(out, entries.as_slice()),
+        Message::Headers(headers) => put_items(out, headers.as_slice()),
         Message::GetHeaders(request) => put_request(out, request),
         Message::Tx(tx) => write_tx(out, tx),
         Message::Block(block) => write_block(out, block),

@@ -19,6 +19,6 @@ returns c =
       tip = subst (λ (tree : Tree). IsTipOf tree height u) c.chain-chain.ensures shown;
       wait = c.pool-pool.ensures.wait;
       rules = c.mined_meets_rules.ensures;
-      long = ap (λ (b : Block). length (header_text b.header)) (sym c.block.ensures.same) ∙ ap length (sym c.text-text.ensures) ∙ text;
+      long = ap (λ (b : Block). length (header_text b.header)) (sym c.block.ensures.same) ∙ ap length (sym c.text-text.ensures.bytes) ∙ text;
     } in
     λ taken new takes. fares state new c.args.mark block height u None taken knows takes

@@ -2,9 +2,10 @@ use Rattle.std.proofs.Common.{arith}
 use Rattle.cb_base.specs.declared.hash.Hash256.{Hash256}
 use Rattle.cb_tx.specs.Reading.{hash_at}
 use Rattle.cb_block.specs.declared.header.Header.{Header}
-use Rattle.cb_block.specs.Text.{IsHeader}
+use Rattle.cb_block.specs.Reading.{listed_header_at}
+use Rattle.cb_block.specs.Text.{IsHeader, listed_header_text}
 use Rattle.cb_payload.specs.declared.inventory.Inventory.{Inventory}
-use Rattle.cb_payload.specs.Lists.{IsEntry, IsHash, entry_at, entry_text, hash_text, listed_header_at, listed_header_text}
+use Rattle.cb_payload.specs.Lists.{IsEntry, IsHash, entry_at, entry_text, hash_text}
 use Rattle.cb_payload.proofs.Counting.{entry_kind, hash_kind, listed_header_kind}
 use Rattle.cb_payload.proofs.RoundTrips.{list_trip}
 use Rattle.cb_payload.proofs.laws.lists_are_read_as_written.Goals as goal

@@ -11,4 +11,4 @@ returns-in_err-count-clause-paid g c = λ e.
 
 pub returns-in_err-items_of-clause-paid : goal.returns-in_err-items_of-clause-paid
 returns-in_err-items_of-clause-paid g c = λ e.
-    some_count _ g.T.ListItem.WIDTH c.WIDTH.result c.args.cursor.now c.in_ok-count.count c.read_limited.new.cursor c.items_of.result c.in_err-items_of.field-0.0 c.WIDTH.ensures c.in_ok-count.ensures.exact c.in_err-items_of.was c.items_of.ensures.unpaid
+    some_count _ g.T.Coded.LEAST c.LEAST.result c.args.cursor.now c.in_ok-count.count c.read_limited.new.cursor c.items_of.result c.in_err-items_of.field-0.0 c.LEAST.ensures c.in_ok-count.ensures.exact c.in_err-items_of.was c.items_of.ensures.unpaid

@@ -1,7 +1,0 @@
-use Rattle.std.proofs.Common.{◌≡◌, ◌-◌}
-use Rattle.cb_tx.specs.Reading.{output_at, items_at}
-use Rattle.cb_tx.proofs.Loop.{with_front}
-use Rattle.cb_tx.proofs.reading.outputs_of.Given as goal
-
-abbrev pub invariant-loop : goal.invariant-loop
-invariant-loop l = with_front l.outputs.items (items_at output_at (l.count - l.counter) l.cursor) ≡ items_at output_at l.count l.fn.cursor
