@@ -22,11 +22,7 @@ pub fn verdict_of<R: Wait + Drop>(rt: &R, alloc: Global, end: &NodeEnd<R>) -> Ve
 }
 
 /// Whether a hall's journal and the traces of these desks tell one history.
-fn audit_desks<R: Wait + Drop>(
-    alloc: Global,
-    hall: &Hall,
-    desks: &[Desk<NodeWork<R>>],
-) -> Verdict
+fn audit_desks<R: Wait + Drop>(alloc: Global, hall: &Hall, desks: &[Desk<NodeWork<R>>]) -> Verdict
     ensures told { TellsVerdict hall.now (traces_of desks.now) result }
 {
     match traces(alloc, desks) {

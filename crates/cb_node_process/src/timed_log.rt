@@ -39,7 +39,7 @@ impl<R: Eprint + Clock> Log for TimedLog<R> {
 }
 
 /// A line behind a time, as `2026-11-27T19:20:05Z [INFO  cbrelay] ending`.
-#[derive(Drop)]
+#[derive(Clone, Copy)]
 struct Timed<L> {
     /// The time in seconds since 1970.
     second: i64,
