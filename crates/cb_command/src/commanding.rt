@@ -6,7 +6,7 @@ ghost use Rattle.cb_peer_state.specs.declared.state.CloseReason.{CloseReason};
 ghost use Rattle.cb_peer_state.specs.declared.state.CloseReason.TheVariants as reasons;
 ghost use Rattle.cb_run.specs.declared.ending.Halt.TheVariants.{Memory, ReadFailed, WriteFailed};
 ghost use Rattle.cb_run.specs.declared.ending.Status.TheVariants.{Usage};
-ghost use Rattle.cb_command.specs.Command.{PrintsReport, EndsEarly, Halts, Refuses, TellsPeer, code_of};
+ghost use Rattle.cb_command.specs.Command.{PrintsReport, EndsEarly, Halts, Refuses, RunsNode, TellsPeer, bad_words_text, code_of};
 ghost use Rattle.cb_run.specs.Ending.{halt_status, halt_line};
 ghost use Rattle.cb_command.specs.Peer.{WasServed};
 ghost use Rattle.cb_sim.specs.SimInput.{SimulatesKnown};
@@ -142,7 +142,9 @@ pub fn command<N: ProcessHost, R: Source, W: Sink, E: Sink>(
         ⊎ Halts (R.remaining reader.old) (R.has_failed reader.new) (W.has_failed writer.new)
         (E.contents errors.old) (E.contents errors.new) (E.has_failed errors.new) result)
         ((reader.new ≡ reader.old)
-        × ((result ≡ 0) ⊎ ((result ≡ 3) ⊎ (result ≡ 4))))))) }
+        × RunsNode (errors.new ≡ errors.old) (W.contents writer.old) (W.contents writer.new)
+        (W.has_failed writer.new) (E.contents errors.old) (E.contents errors.new)
+        (E.has_failed errors.new) node result)))) }
     // The words and their commands.
     ensures named { (orders : RunOrders) (node : Result NodeOrders BadWords) (name : List ℕ) →
         (task_in orders node (name ∷ []) ≡ Task.Decode)
@@ -210,7 +212,9 @@ pub fn seeded_command<N: ProcessHost, R: Source, W: Sink, E: Sink>(
         ⊎ Halts (R.remaining reader.old) (R.has_failed reader.new) (W.has_failed writer.new)
         (E.contents errors.old) (E.contents errors.new) (E.has_failed errors.new) result)
         ((reader.new ≡ reader.old)
-        × ((result ≡ 0) ⊎ ((result ≡ 3) ⊎ (result ≡ 4))))))) }
+        × RunsNode (errors.new ≡ errors.old) (W.contents writer.old) (W.contents writer.new)
+        (W.has_failed writer.new) (E.contents errors.old) (E.contents errors.new)
+        (E.has_failed errors.new) node result)))) }
 {
     match task_of(alloc, words.as_slice()) {
         Ok(Task::Decode) => settle(code_of(decode(alloc, reader, writer)), errors),
@@ -255,20 +259,24 @@ fn start_node<N: ProcessHost, W: Sink, E: Sink>(
     errors: &mut E,
 ) -> u8
     requires { IfOk node IsNodeOrders }
-    ensures { (result ≡ 0) ⊎ ((result ≡ 3) ⊎ (result ≡ 4)) }
+    ensures runs { RunsNode (errors.new ≡ errors.old) (W.contents writer.old)
+        (W.contents writer.new) (W.has_failed writer.new) (E.contents errors.old)
+        (E.contents errors.new) (E.has_failed errors.new) node result }
 {
-    let ended = match node {
-        Ok(orders) => run_node(rt, alloc, seed, orders, writer, errors),
-        Err(bad) => refuse_words(bad, errors),
-    };
-    settle(ended, errors)
+    match node {
+        Ok(orders) => settle(run_node(rt, alloc, seed, orders, writer, errors), errors),
+        Err(bad) => settle(refuse_words(bad, errors), errors),
+    }
 }
 
 /// Tells why the words of `node` can't be followed. Returns the exit status.
 fn refuse_words<E: Sink>(bad: BadWords, errors: &mut E) -> Result<u8, Halt>
-    ensures status { IfOk result (λ status. status ≡ 3) }
+    ensures told { IfOk result (λ status. (status ≡ 3)
+        × Appends (E.contents errors.old) (E.contents errors.new) bad_words_text) }
     ensures err { IfErr result
         (λ halt. (halt ≡ Memory) ⊎ ((halt ≡ WriteFailed) × (E.has_failed errors.new ≡ true))) }
+    ensures quiet { IfErr result
+        (λ halt. (errors.new ≡ errors.old) ⊎ (E.has_failed errors.new ≡ true)) }
 {
     match bad {
         BadWords::Memory => Err(Halt::Memory),

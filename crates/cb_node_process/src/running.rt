@@ -57,7 +57,8 @@ pub fn run_node<R: ProcessHost, W: Sink, E: Sink>(
     // For a writer and a standard error whose bytes are known: what is printed, or that it can't
     // listen.
     ensures told { IfOk result
-        (λ status. TellsAll (W.contents writer.old) (W.contents writer.new) status
+        (λ status. (TellsAll (W.contents writer.old) (W.contents writer.new) status
+        × (errors.new ≡ errors.old))
         ⊎ (Appends (E.contents errors.old) (E.contents errors.new) (deaf_text orders.listen)
         × (status ≡ 3))) }
     ensures status { IfOk result (λ status. (status ≡ 0) ⊎ (status ≡ 3)) }
@@ -65,6 +66,9 @@ pub fn run_node<R: ProcessHost, W: Sink, E: Sink>(
     ensures halts { IfErr result (λ halt. (halt ≡ Memory) ⊎ ((halt ≡ ReadFailed)
         ⊎ ((halt ≡ WriteFailed)
         × ((W.has_failed writer.new ≡ true) ⊎ (E.has_failed errors.new ≡ true))))) }
+    // Nothing else is told to `errors`.
+    ensures quiet { IfErr result
+        (λ halt. (errors.new ≡ errors.old) ⊎ (E.has_failed errors.new ≡ true)) }
 {
     let logged = Logged::new(rt, orders.level, TimedLog(rt));
     let log = logged.with_target("cbrelay");
@@ -82,6 +86,8 @@ fn refuse<E: Sink>(alloc: Global, address: SocketAddr, errors: &mut E) -> Result
     ensures status { IfOk result (λ status. status ≡ 3) }
     ensures err { IfErr result
         (λ halt. (halt ≡ Memory) ⊎ ((halt ≡ WriteFailed) × (E.has_failed errors.new ≡ true))) }
+    ensures quiet { IfErr result
+        (λ halt. (errors.new ≡ errors.old) ⊎ (E.has_failed errors.new ≡ true)) }
 {
     let text = format!(in alloc;
         "error: can't listen at {address}: it is in use, or not of this machine\n"

@@ -1,13 +1,15 @@
-use Rattle.std.proofs.Common.{rules, ◌≡◌, ◌⊎◌, ap, map, refl, sym, inl, inr, ◌∙◌, arith}
+use Rattle.std.proofs.Common.{rules, ◌≡◌, ◌⊎◌, Result, ap, map, refl, sym, inl, inr, ◌∙◌, arith}
 use Rattle.std.specs.Prelude.{string_bytes}
 use Rattle.clap.specs.Words.{kind_of}
 use Rattle.cb_sim.specs.SimInput.{SimulatesKnown}
 use Rattle.cb_run_nodes.specs.Summary.{RunsKnown}
 use Rattle.cb_run_nodes.specs.declared.running.RunOrders.{RunOrders}
-use Rattle.cb_command.specs.Command.{Halts}
+use Rattle.cb_command.specs.Command.{Halts, RunsNode}
 use Rattle.cb_command.specs.declared.commanding.Task.TheVariants.{Decode, Serve, Sim, Run, Node}
+use Rattle.cb_command.specs.declared.node_words.BadWords.{BadWords}
+use Rattle.cb_node_process.specs.declared.orders.NodeOrders.{NodeOrders}
 use Rattle.cb_command.proofs.Entering.{failed_parse}
-use Rattle.cb_command.proofs.Running.{decoded, done, for_orders, runs_task}
+use Rattle.cb_command.proofs.Running.{decoded, done, for_node, for_orders, runs_task}
 use Rattle.cb_command.proofs.commanding.seeded_command.Goals as goal
 
 pub returns-in-Ok-Decode-clause-ran : goal.returns-in-Ok-Decode-clause-ran
@@ -53,7 +55,14 @@ pub returns-in-Ok-Node-clause-ran : goal.returns-in-Ok-Node-clause-ran
 returns-in-Ok-Node-clause-ran g c =
     runs_task _ _ _ _ _ c.in-Ok-Node.field-0 (Node c.in-Ok-Node.node) (map string_bytes c.as_slice.result.now) (map string_bytes c.args.words.items) (search rules) (ap (map string_bytes) c.as_slice.ensures.value)
     c.in-Ok-Node.ensures.kinds c.in-Ok-Node.ensures.task
-    (λ orders node is. (refl, c.start_node.ensures))
+    (λ orders node is. (
+      refl,
+      for_node
+          (λ (n : Result NodeOrders BadWords).
+          RunsNode (c.start_node.new.errors ≡ c.args.errors.now) (g.W.Sink.contents c.args.writer.now) (g.W.Sink.contents c.start_node.new.writer) (g.W.Sink.has_failed c.start_node.new.writer) (g.E.Sink.contents c.args.errors.now) (g.E.Sink.contents c.start_node.new.errors)
+          (g.E.Sink.has_failed c.start_node.new.errors) n c.start_node.result)
+          c.in-Ok-Node.node orders node (map string_bytes c.as_slice.result.now) c.start_node.ensures.runs is,
+    ))
 
 pub returns-clause-ran : goal.returns-clause-ran
 returns-clause-ran g c =
