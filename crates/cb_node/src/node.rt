@@ -38,7 +38,8 @@ pub struct NodeEnd<R: Wait + Drop> {
 /// connection is served by the lowest slot of its kind that never had a socket, or else by the
 /// lowest whose latest connection was read to its end and whose inbox has room.
 ///
-/// A write to a peer that finds no room for `WRITE_MILLISECONDS` fails, which ends the connection.
+/// A write to a peer fails if 32,000,000 bytes wait for its socket, or if that took nothing for
+/// `WRITE_MILLISECONDS`. It ends the connection.
 #[derive(Drop)]
 pub struct Node<R: Wait + Drop> {
     pub(crate) service: Service<R>,
@@ -104,7 +105,7 @@ impl<
         self.service.settings.time = time;
     }
 
-    /// How many milliseconds a write to the peer of a later connection may wait, at least 1.
+    /// How many milliseconds the socket of a later connection may take nothing, at least 1.
     pub fn set_write_timeout(&mut self, milliseconds: u64)
         ensures { self.new ≡ self.old }
     {

@@ -241,7 +241,11 @@ impl<R: Threads + Wait + Copy + Send + Drop + 'static> Service<R> {
         let settings = session_settings(&self.settings, number);
         match new_work(self.rt, self.alloc, settings, badge, &link, &self.hall) {
             Ok(work) => Ok(Next { work, link }),
-            Err(refused) => Err(refused),
+            Err(refused) => {
+                // No session ends this link, so it would never leave its list.
+                link.status.stop();
+                Err(refused)
+            }
         }
     }
 

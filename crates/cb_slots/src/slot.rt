@@ -9,7 +9,7 @@ ghost use Rattle.cb_slots.specs.Slot.{HasLeft, IsInboxOf, IsNew, IsUnspent, Last
 use crate::choosing::Standing;
 use crate::fault::NodeFault;
 use crate::link::Link;
-use crate::threads::{Errand, NoThread, Reading, join_reading, start_reading, unread};
+use crate::threads::{Errand, NoThread, Reading, join_reading, start_threads, unread};
 use cb_base::{Fault, Shared};
 use cb_crew::{Crew, Fresh, ReaderSide, Work};
 use cb_hall::Badge;
@@ -28,6 +28,9 @@ use std::thread::Threads;
 
 /// With this many marks queued over all connections, no further connection is opened.
 const MOST_QUEUED: u64 = 1 << 40;
+
+/// How many connections a slot serves at most, one after another.
+const MOST_CONNECTIONS: u64 = 256;
 
 /// What the slots of a node share.
 #[derive(Drop)]
@@ -164,6 +167,22 @@ impl<W: Work<Item = Input>> Slot<W> {
         }
     }
 
+    /// One more owner of what the threads of the latest connection share with the node. Fails only
+    /// with `Fault::Memory`.
+    pub fn link(&self) -> Result<Shared<Link>, Fault>
+        ensures { IfErr result (λ fault. fault ≡ faults.Memory) }
+    {
+        Ok(self.latest.clone()?)
+    }
+
+    /// Whether the slot can take no further connection: the latest is the last of 256, and has its
+    /// socket.
+    pub fn is_spent(&self) -> bool
+        ensures { result ≡ true → self.now.waits ≡ false }
+    {
+        self.latest.generation >= MOST_CONNECTIONS && !self.waits
+    }
+
     /// Appends what each connection of this slot moved. Fails only with `Fault::Memory`.
     pub fn report(&self, all: &mut Vec<Report>) -> Result<(), Fault>
         ensures { IfErr result (λ fault. fault ≡ faults.Memory) }
@@ -229,6 +248,7 @@ impl<W: Work<Item = Input>> Slot<W> {
         ensures opened { result ≡ Ok true → self.new ≡ reopened self.old }
         ensures refused { result ≡ Ok false → self.new ≡ self.old }
         ensures err { OnErr result (self.new ≡ self.old) }
+        ensures memory { IfErr result (λ fault. fault ≡ faults.Memory) }
     {
         self.past.reserve(1)?;
         let Some(next) = self.next.take() else {
@@ -263,8 +283,8 @@ impl<W: Work<Item = Input>> Slot<W> {
         }
     }
 
-    /// Gives the connection that waits its socket, and starts the thread that reads it. If that
-    /// fails, the connection still waits.
+    /// Gives the connection that waits its socket, and starts the threads that read and write it. If
+    /// that fails, the connection still waits.
     pub fn attach<R: Threads + Wait + Copy + Send + Drop + 'static>(
         &mut self,
         rt: &R,
@@ -301,7 +321,7 @@ impl<W: Work<Item = Input>> Slot<W> {
             unreachable!()
         };
         self.latest.socket.fill(rt, stream);
-        match start_reading(rt, errand, seat) {
+        match start_threads(rt, &self.latest, errand, seat) {
             Ok(thread) => {
                 self.seating = Some(Seating::Lent(thread));
                 self.used = true;

@@ -280,6 +280,7 @@ impl<S: Sink + Drop, H: Oracle + Drop, F: Flags> PeerWork<S, H, F> {
             written: self.written.saturating_sub(written),
             sent: mem::replace(&mut self.untold, 0),
             block,
+            state: self.trace.state(),
         });
     }
 }
@@ -345,12 +346,14 @@ impl<S: Sink + Drop, H: Oracle + Drop, F: Flags> Work for PeerWork<S, H, F> {
     }
 }
 
-/// Sets the stop flag if the session is over.
+/// Sets the stop flag if the session is over. Before that it tells why.
 fn stop_if_over<F: Flags>(trace: &Trace, flags: &mut F)
     ensures stopped { is_closed trace.now.session.state ≡ true → F.is_stopped flags.new ≡ true }
     ensures looked { (answers : List Bool) → F.looks flags.old answers → F.looks flags.new answers }
 {
-    if trace.state().is_closed() {
+    let state = trace.state();
+    if state.is_closed() {
+        flags.tell(&Traffic::nothing(state));
         flags.stop();
     }
 }

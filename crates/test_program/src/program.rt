@@ -2,7 +2,7 @@
 
 use cb_command::command;
 use cb_io::{In, Out};
-use cb_run_nodes::Host;
+use cb_node_process::ProcessHost;
 use std::alloc::{AllocError, Global};
 use std::net::{TcpListener, TcpStream};
 use std::test::*;
@@ -33,7 +33,7 @@ fn words_of(alloc: Global, word: &str) -> Result<Vec<String>, AllocError> {
 }
 
 /// The status of a run of the program. It says nothing of what is read and written, so that its caller's states stay small.
-fn status_of<N: Host>(
+fn status_of<N: ProcessHost>(
     rt: N,
     alloc: Global,
     words: Vec<String>,
@@ -45,7 +45,7 @@ fn status_of<N: Host>(
 }
 
 /// Whether the program comes to what the run says, with these words.
-fn comes_to<N: Host>(rt: N, alloc: Global, words: Vec<String>, run: Run<'_>) -> bool {
+fn comes_to<N: ProcessHost>(rt: N, alloc: Global, words: Vec<String>, run: Run<'_>) -> bool {
     let mut reader = In::new(run.read);
     let mut writer = Out::new(Vec::new(alloc));
     let mut errors = Out::new(Vec::new(alloc));
@@ -56,7 +56,7 @@ fn comes_to<N: Host>(rt: N, alloc: Global, words: Vec<String>, run: Run<'_>) -> 
 }
 
 /// Whether the program comes to what the run says.
-fn is_so<N: Host>(rt: N, alloc: Global, run: Run<'_>) -> bool {
+fn is_so<N: ProcessHost>(rt: N, alloc: Global, run: Run<'_>) -> bool {
     match words_of(alloc, run.word) {
         Ok(words) => comes_to(rt, alloc, words, run),
         Err(_) => false,
@@ -64,7 +64,7 @@ fn is_so<N: Host>(rt: N, alloc: Global, run: Run<'_>) -> bool {
 }
 
 /// Whether a command prints this text of that one, tells nothing on standard error, and ends with this status.
-fn prints<N: Host>(
+fn prints<N: ProcessHost>(
     rt: N,
     alloc: Global,
     word: &'static str,
@@ -86,7 +86,7 @@ fn prints<N: Host>(
 }
 
 /// Whether a peer that sends the one bytes is sent the others, both in hex, and told so why its connection is closed.
-fn serves<N: Host>(
+fn serves<N: ProcessHost>(
     rt: N,
     alloc: Global,
     sent: &str,

@@ -10,7 +10,7 @@ returns-in-Ok-clause-task c =
     let whole : app_of c.in_ok-line.line ≡ program = c.in_ok-line.ensures in
     let words = map string_bytes c.args.words.now in
     let rows = (c.in-Ok.ensures.matches (ap is_simple whole ∙ program_is_simple)).1 ∙ ap (λ (a : App). subcommand_of a words) whole in
-    (c.orders_of.result, c.orders_of.ensures, c.task_named.ensures.named ∙ ap (task_named c.orders_of.result) (c.subcommand_name.ensures ∙ name_of_rows c.in-Ok.matches ∙ ap (option_map (λ found. found.0)) rows))
+    (c.orders_of.result, c.node_orders_of.result, c.orders_of.ensures, c.task_named.ensures.named ∙ ap (task_named c.orders_of.result c.node_orders_of.result) (c.subcommand_name.ensures ∙ name_of_rows c.in-Ok.matches ∙ ap (option_map (λ found. found.0)) rows))
 
 pub returns-in-Err-clause-passes : goal.returns-in-Err-clause-passes
 returns-in-Err-clause-passes c = λ taken.
