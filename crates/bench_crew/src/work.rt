@@ -92,4 +92,6 @@ impl Work for HashWork {
     }
 
     fn tick<R: Wait>(&mut self, _rt: &R) {}
+
+    fn retire(&mut self) {}
 }

@@ -220,6 +220,7 @@ impl<W: Work> Desk<W> {
             Some(Queued::Open(next)) => {
                 // No effect when it runs: it tells the prover what the type keeps.
                 self.seat.reached();
+                self.work.retire();
                 let past = mem::replace(&mut self.work, next.into_work());
                 self.past.push_reserved(past);
                 Step::Passed

@@ -80,6 +80,15 @@ pub trait Work: Drop {
             given self.new items }
         ensures ticked { (items : List (Given Self.Item)) (at : List ℕ) → given self.old items →
             ticked self.old at → ticked self.new (at ++ length items ∷ []) };
+
+    /// The work is past: the work of the next connection takes its place. It may let go of what it
+    /// keeps for later only.
+    fn retire(&mut self)
+        ensures closed { is_closed self.new ≡ is_closed self.old }
+        ensures label { label self.new ≡ label self.old }
+        ensures given { (items : List (Given Self.Item)) → given self.old items →
+            given self.new items }
+        ensures ticked { (at : List ℕ) → ticked self.old at → ticked self.new at };
 }
 
 /// A work that may begin a connection: it is open, was given nothing and was never ticked.

@@ -23,7 +23,7 @@ use Rattle.cb_peer_state.specs.declared.session_state.SessionState.{SessionState
 use Rattle.cb_peer_state.specs.State.{is_closed, opening}
 use Rattle.cb_peer_laws.proofs.Steps.{AsksIt}
 use Rattle.cb_trace.specs.Fold.{Account, account_of, entry_step, session_of}
-use Rattle.cb_trace.specs.Trace.{AreCounts, AsksPending, Grows, IsTrace, LacksBase, NeedsBase, Rests, StandsFor, TraceSteps, TraceView, counts_with, held_of, is_due, next_step}
+use Rattle.cb_trace.specs.Trace.{AreCounts, AsksPending, Grows, IsAsBefore, IsTrace, LacksBase, NeedsBase, Rests, StandsFor, TraceSteps, TraceView, counts_with, held_of, is_due, next_step}
 use Rattle.cb_trace.proofs.Folds.{EachOpen_more, account_of_more, count_is, counts_more, items_few, told_few}
 use Rattle.cb_trace.proofs.Entries.{entry_asks, entry_ends, entry_full}
 
@@ -175,6 +175,12 @@ rests_taken settings base base' before es es' x t r r' b e due =
       taken = λ _. (b, refl, e);
       kept = λ no_due. absurd (let clash = sym due ∙ no_due in cc);
     }
+
+-- the same without a checkpoint due
+pub as_before : (settings : Settings) (base base' : SessionState) (before : Counts) (es es' : List TraceEntry) (x : SessionState) (t : Counts) (r r' : ℕ) → base' ≡ x → es' ≡ []
+    → IsAsBefore (view settings base before es x t r) (view settings base' t es' x t r')
+as_before settings base base' before es es' x t r r' b e =
+    record { settings = refl; session = refl; total = refl; history = λ history h. taken_stands settings base base' before es es' x t r r' b e history h }
 
 -- nothing was due
 pub rests_kept : (trace : TraceView) → is_due trace ≡ false → Rests trace trace

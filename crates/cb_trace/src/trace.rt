@@ -1,4 +1,4 @@
-ghost use Rattle.std.specs.Prelude.{◌≡◌, ℕ, ◌+◌, ◌*◌, ◌≤◌, ◌<◌, ◌^◌, List, [], ◌∷◌, true, false, Bool, None, IfOk, IsOk, IsOkUnless, OnErr};
+ghost use Rattle.std.specs.Prelude.{◌≡◌, ◌⊎◌, ℕ, ◌+◌, ◌*◌, ◌≤◌, ◌<◌, ◌^◌, List, [], ◌∷◌, true, false, Bool, None, IfOk, IsOk, IsOkUnless, OnErr};
 ghost use Rattle.cb_base.specs.declared.fault.Fault.TheVariants.{Memory};
 ghost use Rattle.cb_peer_state.specs.Event.{ends_at_once};
 ghost use Rattle.cb_peer_state.specs.Outcomes.{Answers};
@@ -22,6 +22,9 @@ const ENTRIES_KEPT: usize = 65_000;
 
 /// A checkpoint is due when the entries hold more bytes than this.
 const BYTES_KEPT: u64 = 8_000_000;
+
+/// How many bytes an entry takes, about, beside those that it holds.
+const ENTRY_BYTES: u64 = 256;
 
 /// One entry of a trace: an event that the session was given, and whether it lacked the memory for
 /// it (starved).
@@ -89,10 +92,11 @@ impl Model for Trace {
 }
 
 impl Trace {
-    ghost use Rattle.std.specs.Prelude.{◌-◌, min, length};
+    ghost use Rattle.std.specs.Prelude.{◌-◌, ◌&&◌, is_none, min, length};
+    ghost use Rattle.cb_fetch.specs.Fetching.{idle};
     ghost use Rattle.cb_peer_state.specs.Session.{openings};
     ghost use Rattle.cb_peer_state.specs.declared.event.Event.TheVariants as events;
-    ghost use Rattle.cb_trace.specs.Trace.{AskedLast, Grows, IsOpen, NeedsBase, Readied, Rests, StandsFor, TraceSteps, TraceView, asked_from, base_account, held_of, is_due};
+    ghost use Rattle.cb_trace.specs.Trace.{AskedLast, Grows, IsAsBefore, IsOpen, IsShed, NeedsBase, Readied, Rests, StandsFor, TraceSteps, TraceView, asked_from, base_account, held_of, is_due, weight_of};
 
     /// A trace without entries and with room for one, and the messages that open its session. The
     /// table of the session's wanted blocks has the fixed seed.
@@ -226,6 +230,57 @@ impl Trace {
         self.entries.clear();
         self.held = 0;
         true
+    }
+
+    /// Drops the entries of a trace whose session is over if they take more than `most` bytes
+    /// (`weight_of`). The session is the base then, and the numbers stay. Nothing changes if the session
+    /// isn't over, a question is open, or there is no memory for the base.
+    pub fn shed(&mut self, most: u64)
+        ensures same { IsAsBefore self.old self.new }
+        ensures shed { (self.new ≡ self.old) ⊎ IsShed self.old self.new }
+        ensures bounded { is_closed self.old.session.state ≡ true →
+            self.old.session.pending ≡ None → self.old.session.fetch ≡ idle →
+            self.old.session.compact.partial ≡ None →
+            min (weight_of self.new) (2 ^ 64 - 1) ≤ most }
+    {
+        if self.weight() > most && self.is_over() {
+            self.drop_entries();
+        }
+    }
+
+    /// Whether the session is over and has no question open.
+    fn is_over(&self) -> bool
+        ensures { result ≡ is_closed self.now.session.state && is_none self.now.session.pending }
+    {
+        self.session.state().is_closed() && !self.session.is_waiting()
+    }
+
+    /// Drops the entries of a trace whose session is over. Nothing changes if there is no memory for
+    /// the base.
+    fn drop_entries(&mut self)
+        requires over { is_closed self.old.session.state ≡ true }
+        requires free { self.old.session.pending ≡ None }
+        ensures same { IsAsBefore self.old self.new }
+        ensures shed { (self.new ≡ self.old) ⊎ IsShed self.old self.new }
+        ensures done { self.old.session.fetch ≡ idle → self.old.session.compact.partial ≡ None →
+            IsShed self.old self.new }
+    {
+        let Ok(base) = self.session.copy(self.alloc) else {
+            return;
+        };
+        self.base = base;
+        self.before = self.total;
+        self.entries = Vec::new(self.alloc);
+        self.held = 0;
+    }
+
+    /// How many bytes the entries take; `u64::MAX` if that is more.
+    fn weight(&self) -> u64
+        ensures { result ≡ min (weight_of self.now) (2 ^ 64 - 1) }
+    {
+        let entries = self.entries.len() as u64;
+        self.held
+            .saturating_add(entries.saturating_mul(ENTRY_BYTES))
     }
 
     /// Whether a checkpoint is due.

@@ -28,6 +28,10 @@ use std::marker::Model;
 use std::mem;
 use std::sync::Wait;
 
+/// How many bytes the entries of a past connection's trace take at most. A node has 64 slots with 255
+/// past connections each: together they take fewer than 64,000,000.
+const PAST_BYTES: u64 = 3_900;
+
 /// The work of one connection: the trace of its session, the badge under which it asks the hall,
 /// its slot's sink, and its flags. The hall is what Bitcoin Core keeps in ChainstateManager and
 /// CTxMemPool; the badge is the connection's permit to ask it.
@@ -267,6 +271,16 @@ impl<S: Sink + Drop, H: Oracle + Drop, F: Flags> PeerWork<S, H, F> {
         }
     }
 
+    /// Lets the entries of a trace go whose session is over, if they take more than a past connection
+    /// may keep.
+    fn shed(&mut self)
+        ensures over { is_over self.new ≡ is_over self.old }
+        ensures same { IsSamePeer F.looks self.old self.new }
+        ensures serves { ServesOn H.told H.refused S.contents S.has_failed self.old self.new }
+    {
+        self.trace.shed(PAST_BYTES);
+    }
+
     /// Counts what a step moved, which began with so many bytes written.
     fn count(&mut self, carried: Carried, written: u64)
         ensures over { is_over self.new ≡ is_over self.old }
@@ -343,6 +357,10 @@ impl<S: Sink + Drop, H: Oracle + Drop, F: Flags> Work for PeerWork<S, H, F> {
         let written = self.written;
         self.begin(Event::Tick);
         self.count(Carried::nothing(), written);
+    }
+
+    fn retire(&mut self) {
+        self.shed();
     }
 }
 

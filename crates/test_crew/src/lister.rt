@@ -100,6 +100,8 @@ impl Work for Lister {
     fn tick<R: Wait>(&mut self, _rt: &R) {
         self.ticks = self.ticks.saturating_add(1);
     }
+
+    fn retire(&mut self) {}
 }
 
 impl Lister {
