@@ -2,34 +2,54 @@
 """Runs five processes `cbrelay node` in a ring: python3 bench/looks/node_ring.py [SECONDS] [SEED] [PROGRAM]
 
 It needs the built program (crates/cbrelay/out/cbrelay, as ./build leaves it), python3 and Linux. Blocks are mined by nodes drawn at random.
-Meanwhile processes are ended and started again, connections are kicked, and nodes are begun anew. Then a last block is mined alone. Each
-node must come to it, and each audit must say yes. SECONDS is 60 where none is given. The status is 0 where all came out so.
+Meanwhile processes are ended and started again, connections are kicked, links are made beside the ring, and nodes are begun anew. Then a
+last block is mined alone. Each node must come to it, and each audit must say yes. SECONDS is 30 where none is given: ten minutes are 600.
+What the processes took of memory and of the processor is told. The status is 0 where all came out so.
 """
 
 import random
 import sys
 import time
+from collections import Counter
 from contextlib import ExitStack
 from pathlib import Path
 
 if not __package__:  # called as a file
     sys.path.insert(0, str(Path(__file__).resolve().parents[2]))
 
-from bench.looks.node_process import LAST, closed_port, expect
 from bench.tools.command_line import usage
-from bench.tools.process_talk import NodeProcess
+from bench.tools.process_talk import NodeProcess, ProcessLooks, closed_port
 from bench.tools.programs import built
 
-COUNT, SECONDS, SEED = 5, 60, 1
+COUNT, SECONDS, SEED, MOST_PAUSE = 5, 30, 1, 0.2
+# What may happen to a node, and how often of a hundred.
+ACTS = {"mine": 56, "kick": 8, "restart": 4, "quit": 4, "link": 4, "checkpoint": 12, "peers": 12}
 
 
-class Ring:
+class Ring(ProcessLooks):
     """Processes in a ring: each dials the next."""
 
-    def __init__(self, program, stack):
-        self.program, self.stack = program, stack
+    def __init__(self, program, seconds, rng):
+        super().__init__("node_ring", program)
+        self.seconds, self.rng, self.done, self.nodes = seconds, rng, Counter(), []
         self.ports = [closed_port() for _ in range(COUNT)]
-        self.nodes = [self.start(place) for place in range(COUNT)]
+        # The processor's milliseconds and the most memory of processes that have ended.
+        self.spent, self.most = 0, 0
+
+    def play(self):
+        """Lets things happen, and mines a last block alone."""
+        with ExitStack() as self.stack:
+            self.nodes = [self.start(place) for place in range(COUNT)]
+            end = time.monotonic() + self.seconds
+            while time.monotonic() < end and not self.failed:
+                kind = self.rng.choices(list(ACTS), list(ACTS.values()))[0]
+                self.done[kind] += 1
+                getattr(self, kind)(self.rng.randrange(COUNT))
+                time.sleep(self.rng.random() * MOST_PAUSE)
+            self.finish()
+            if self.failed:
+                for node in self.nodes:
+                    print(*node.logged[-12:], sep="\n  ")
 
     def start(self, place):
         """Starts the process at this place."""
@@ -40,68 +60,72 @@ class Ring:
 
     def is_linked(self):
         """Whether each node has a peer that it dialled, whose handshake is complete."""
-        return all(any(" to " in line and " ready " in line for line in node.list("peers")) for node in self.nodes)
+        return all(any((peer.way, peer.phase) == ("to", "ready") for peer in node.peers()) for node in self.nodes)
 
-    def act(self, rng):
-        """Something that may happen to a node."""
-        place = rng.randrange(COUNT)
-        node = self.nodes[place]
-        kind = rng.choices(["mine", "kick", "restart", "end", "checkpoint", "peers"], [60, 8, 4, 4, 12, 12])[0]
-        if kind == "mine":
-            told = node.say(f"mine {rng.randrange(1, 4)}")
-            assert told.startswith("mined "), told
-        elif kind == "kick":
-            peers = node.list("peers")
-            if peers:
-                told = node.say(f"kick {rng.choice(peers).split()[1]}")
-                assert told.startswith("kicked ") or told == "error no slot", told
-        elif kind == "restart":
-            expect(node.say("restart"), "audit yes")
-            assert node.line().startswith("restarted tip "), "it isn't begun anew"
-        elif kind == "end":
-            status, told = node.close("quit")
-            assert status in (0, 3) and told == ["audit yes"], (status, told)
-            self.nodes[place] = self.start(place)
-        elif kind == "checkpoint":
-            expect(node.say("checkpoint"), "checkpoint")
-        else:
-            node.list("peers")
-        return kind
+    def note_cost(self, node):
+        """Adds what a process took."""
+        self.spent += node.processor_ms()
+        self.most = max(self.most, node.memory("VmHWM"))
+
+    # ---- what may happen to a node
+
+    def mine(self, place):
+        count = self.rng.randrange(1, 4)
+        self.begins("mine", f"mined {count} tip", self.nodes[place].say(f"mine {count}"))
+
+    def kick(self, place):
+        peers = self.nodes[place].peers()
+        if peers:
+            slot = self.rng.choice(peers).slot
+            told = self.nodes[place].say(f"kick {slot}")
+            self.look("a kick", told in (f"kicked {slot}", "error no slot"), True)
+
+    def restart(self, place):
+        self.look("restart", self.nodes[place].say("restart"), "audit yes")
+        self.begins("restart, further on", "restarted tip", self.nodes[place].line())
+
+    def quit(self, place):
+        """Ends a process and starts another, which knows nothing. It may not have reached its peer, which its status tells."""
+        self.note_cost(self.nodes[place])
+        status, told = self.nodes[place].close("quit")
+        self.look("quit", (status in (0, 3), told), (True, ["audit yes"]))
+        self.nodes[place] = self.start(place)
+
+    def link(self, place):
+        """Links two nodes beside the ring, where both aren't linked already."""
+        told = self.nodes[place].say(f"connect 127.0.0.1:{self.ports[(place + 2) % COUNT]}")
+        self.look("a link", told.startswith("connected ") or told in ("error already", "error io"), True)
+
+    def checkpoint(self, place):
+        self.look("a checkpoint", self.nodes[place].say("checkpoint"), "checkpoint")
+
+    def peers(self, place):
+        self.nodes[place].peers()
+
+    # ---- the end
 
     def finish(self):
         """Mines a last block, which has to come to all. Ends all nodes."""
-        assert self.nodes[0].until(self.is_linked), "a node isn't linked again"
+        self.comes("each node is linked", self.nodes[0], self.is_linked)
         best = max(self.nodes, key=lambda node: node.tip()[0])
-        assert best.say("mine").startswith("mined "), "no last block"
+        self.begins("the last mine", "mined 1", best.say("mine"))
         tip = best.tip()
         for node in self.nodes:
-            assert node.until(lambda node=node: node.tip() == tip), f"{node.tip()} and not {tip}"
+            self.comes(f"the tip {tip[0]}", node, lambda node=node: node.tip() == tip)
         for node in self.nodes:
-            expect(node.close(), LAST)
-        return tip
+            self.note_cost(node)
+            self.ends(node)
+        acts = ", ".join(f"{kind} {count}" for kind, count in sorted(self.done.items()))
+        print(f"{self.name}: height {tip[0]}; done: {acts}; {self.spent:.0f} ms of the processor in all, "
+              f"at most {self.most / 1e6:.0f} MB in a process")
 
 
 def main():
     words = usage(__doc__, seconds="how long blocks are mined", seed="of what is drawn", program="the program")
     given = words.parse_args()
-    seconds, rng = float(given.seconds or SECONDS), random.Random(given.seed or SEED)
-    done = {}
-    with ExitStack() as stack:
-        ring = Ring(built(given.program, "cbrelay"), stack)
-        end = time.monotonic() + seconds
-        while time.monotonic() < end:
-            kind = ring.act(rng)
-            done[kind] = done.get(kind, 0) + 1
-            time.sleep(rng.random() / 5)
-        try:
-            height, name = ring.finish()
-        except AssertionError as fault:
-            print(f"{fault}; done: {done}")
-            for node in ring.nodes:
-                print(*node.logged[-12:], sep="\n  ")
-            return 1
-    print(f"all nodes came to {name} at height {height}; done: {done}")
-    return 0
+    ring = Ring(built(given.program, "cbrelay"), float(given.seconds or SECONDS), random.Random(given.seed or SEED))
+    ring.make(ring.play)
+    return ring.told()
 
 
 if __name__ == "__main__":
