@@ -97,31 +97,33 @@ class Compact(ProcessLooks):
             peer.shake_hands(wire.sendcmpct(0, 1))
             self.look("a pong", peer.pinged(1, ("sendheaders", "sendcmpct", "getheaders", "inv")), True)
             all_known, half, other = split(chain, txs, known)
-            peer.announce(all_known, 11)
-            self.taken(node, peer, all_known, (0, 1, 0, 0))
+            saved = len(all_known.text) - peer.announce(all_known, 11)
+            self.taken(node, peer, all_known, (0, 1, 0, 0), saved)
             for tx in half.txs[1 : known // 2 + 1]:
                 node.say(f"tx {tx.text.hex()}")
-            peer.announce(half, 12)
+            saved += len(half.text) - peer.announce(half, 12)
             wanted = list(range(known // 2 + 1, known + 1))
-            places = peer.asked_places(half)
-            self.look("the places asked for", places, wanted)
-            peer.send(wire.blocktxn(half.header.name, [half.txs[place].text for place in wanted]))
-            self.taken(node, peer, half, (0, 1, 1, 0))
+            self.look("the places asked for", peer.asked_places(half), wanted)
+            message = wire.blocktxn(half.header.name, [half.txs[place].text for place in wanted])
+            peer.send(message)
+            saved -= len(message) - 24
+            self.taken(node, peer, half, (0, 1, 1, 0), saved)
             wrong = [short_id(key_of(other.header.text, 13), tx.name) for tx in all_known.txs[1:2]]
             peer.announce(other, 13, wrong)
-            peer.asked_places(other)
+            self.look("the places asked for", peer.asked_places(other), [1])
             peer.send(wire.blocktxn(other.header.name, [all_known.txs[1].text]))
             self.look("what is asked for then", peer.expect("getdata"), [(BLOCK, other.header.name)])
             peer.send(envelope(b"block", other.text))
-            self.taken(node, peer, other, (0, 1, 1, 1))
+            self.taken(node, peer, other, (0, 1, 1, 1), saved)
             self.ends(node)
 
-    def taken(self, node, peer, block, ways):
-        """A block becomes the node's tip, and its way is counted: full, compact at once, with places asked for, fallback."""
+    def taken(self, node, peer, block, ways, saved):
+        """A block becomes the node's tip. Its way is counted: full, compact at once, with places asked for, fallback; and what short ids saved."""
         self.comes("the tip", node, lambda: node.tip()[1] == shown(block.header.name))
         self.look("a pong", peer.pinged(2, ("sendcmpct", "inv")), True)
         (one,) = node.peers()
         self.look("how blocks came", (one.full, one.compact, one.completed, one.fallback), ways)
+        self.look("bytes that short ids saved", one.saved, saved)
         self.look("the mempool", [name for name in node.list("pool") if name in {shown(tx.name) for tx in block.txs}], [])
 
 

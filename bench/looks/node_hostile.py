@@ -11,8 +11,8 @@ it grew by are told.
 - Peers that ask for many blocks: one never reads, one reads a byte each second, with --whole each 20 seconds, and one reads all, but late. The
   first two connections end. One that asks for more than an outbox holds ends with WriteFault.
 - Peers that send messages of 4,000,000 bytes without end, for some seconds: ones of an unknown command, and ones that can't be read.
-- Connections that open and close at once, 1,000 of them, with --whole 10,000: threads and descriptors are given back. With --whole it goes on
-  until all slots are used up, which is told, and `restart` mends.
+- Connections that open and close at once, 1,000 of them, with --whole 10,000: threads and descriptors are given back.
+- With --whole, connections until all slots are used up, which is told, and `restart` mends.
 
 The status is 0 where all came out so.
 """
@@ -36,7 +36,7 @@ from bench.tools.messages import envelope
 from bench.tools.network import GENESIS
 from bench.tools.node_scripts import GIVEN, mined
 from bench.tools.plain_peer import BLOCK, HELLO, PlainPeer, dialled
-from bench.tools.process_talk import NodeProcess, ProcessLooks, shown
+from bench.tools.process_talk import NodeProcess, ProcessLooks, Stopwatch, shown
 from bench.tools.programs import built
 
 # How many slots serve peers that dial a node, how many those that it dials, and how many connections a slot serves.
@@ -46,11 +46,13 @@ SOON = 5
 # A block of this size is asked for so often that a socket can't take it, and so often that an outbox can't.
 LARGE, MANY, TOO_MANY = 900_000, 20, 60
 # For how many seconds a socket needn't move, how long we wait for the end then, and how the connection ends: nothing may be written to it any more.
-STILL, PATIENCE, ENDED = 30, 90, ("WriteFault", "Bye")
+STILL, PATIENCE, ENDED = 30, 240, ("WriteFault", "Bye")
 # After how many seconds a peer reads that reads late.
 LATE = 5
 # Messages of this size, for how many seconds, and by how many bytes the memory may grow meanwhile.
 HUGE, FLOOD, GROWTH = 4_000_000, 5, 100_000_000
+# In how many seconds all slots are used up at the most.
+USED_UP = 400
 PING = envelope(b"ping", struct.pack("<Q", 7))
 PONG = envelope(b"pong", struct.pack("<Q", 7))
 
@@ -80,11 +82,11 @@ class Hostile(ProcessLooks):
 
     def block_in_time(self, node, other):
         """A block that the node mines comes to the other in time."""
-        began = time.monotonic()
+        watch = Stopwatch(node, other)
         self.begins("mine", "mined 1", node.say("mine"))
         tip = node.tip()
         if self.comes("the block", other, lambda: other.tip() == tip):
-            took = time.monotonic() - began
+            took = watch.seconds()
             self.look(f"whether {took:.1f} s aren't more than {SOON}", took <= SOON, True)
 
     @staticmethod
@@ -149,6 +151,7 @@ class Hostile(ProcessLooks):
             silent, late = stack.enter_context(small(port, 4_096)), stack.enter_context(small(port, 65_536))
             for peer in (slow, silent, late):
                 peer.send(HELLO, request)
+            self.comes("what they ask for", node, lambda: all(peer.bytes_out >= MANY * LARGE for peer in node.peers()[1:4]))
             began = time.monotonic()
             reader = threading.Thread(target=self.reads_late, args=(late,), daemon=True)
             reader.start()
@@ -172,11 +175,10 @@ class Hostile(ProcessLooks):
     def a_full_outbox(self):
         """A peer that asks for more than may wait for it."""
         with self.pair("--handlers", "1") as (node, other, port), small(port, 4_096) as peer:
-            began = time.monotonic()
             peer.send(HELLO, self.large_block(node, other, TOO_MANY))
-            self.block_in_time(node, other)
+            watch = Stopwatch(node, other)
             self.look("its end", self.ended(node, 1), "WriteFault")
-            self.look("whether it ends before a still socket does", time.monotonic() - began < STILL / 2, True)
+            self.look("whether it ends before a still socket does", watch.seconds() < STILL, True)
             self.block_in_time(node, other)
 
     def large_block(self, node, other, count):
@@ -243,23 +245,26 @@ class Hostile(ProcessLooks):
             print(f"{self.name}: {count} connections in {took:.1f} s, of which {served} were served; {spent / count:.2f} ms of the processor and "
                   f"{(node.memory() - before) / count:,.0f} bytes of memory each")
             self.block_in_time(node, other)
-            if self.whole:
-                self.all_used_up(node, other, port)
 
-    def all_used_up(self, node, other, port):
+    def all_slots_used_up(self):
         """Connections until no slot is left, and a node that begins anew."""
-        end = time.monotonic() + 120
-        while not node.found("all slots are used up") and time.monotonic() < end:
-            for _ in range(100):
-                socket.create_connection(("127.0.0.1", port), PATIENCE).close()
-        self.logs(node, "a peer was turned away: all slots are used up, which restart mends")
-        print(f"{self.name}: {node.say('stats')}; {node.memory() / 1e6:.0f} MB")
-        began = time.monotonic()
-        self.look("restart", node.say("restart"), "audit yes")
-        self.begins("restart, further on", "restarted tip", node.line())
-        print(f"{self.name}: restart took {time.monotonic() - began:.1f} s; {node.memory() / 1e6:.0f} MB behind it")
-        self.comes("the link", node, lambda: [peer.phase for peer in node.peers()] == ["ready"])
-        self.block_in_time(node, other)
+        with NodeProcess(self.program, seconds=PATIENCE) as node:
+            port, began, spent = node.port(), time.monotonic(), node.processor_ms()
+            while not node.found("a peer was turned away: all slots are used up, which restart mends") and time.monotonic() < began + USED_UP:
+                for _ in range(100):
+                    socket.create_connection(("127.0.0.1", port), PATIENCE).close()
+            self.logs(node, "a peer was turned away: all slots are used up, which restart mends")
+            self.look("connections", node.say("stats").split()[6], str(INBOUND * CONNECTIONS))
+            print(f"{self.name}: {time.monotonic() - began:.0f} s, {node.processor_ms() - spent:.0f} ms of the processor, "
+                  f"memory {node.memory() / 1e6:.0f} MB")
+            began = time.monotonic()
+            self.look("restart", node.say("restart"), "audit yes")
+            self.begins("restart, further on", "restarted tip", node.line())
+            print(f"{self.name}: restart took {time.monotonic() - began:.1f} s, memory {node.memory() / 1e6:.0f} MB behind it")
+            with dialled(port) as peer:
+                peer.send(HELLO, PING)
+                self.look("the answer", PONG in received(peer, PONG), True)
+            self.ends(node)
 
 
 def listening(host):
@@ -324,7 +329,7 @@ def main():
     given = words.parse_args()
     looks = Hostile(built(given.program, "cbrelay"), given.whole)
     for look in (looks.sixty_four_at_once, looks.a_byte_a_second, looks.slow_readers, looks.a_full_outbox, looks.huge_messages,
-                 looks.unreadable_messages, looks.open_and_close):
+                 looks.unreadable_messages, looks.open_and_close, *[looks.all_slots_used_up] * given.whole):
         if given.only in (None, look.__name__):
             looks.make(look)
     return looks.told()

@@ -27,7 +27,7 @@ from bench.models.plain_block import paying
 from bench.tools.command_line import usage
 from bench.tools.network import GENESIS
 from bench.tools.node_scripts import GIVEN, SUBSIDY, mined
-from bench.tools.process_talk import NodeProcess, ProcessLooks, closed_port, shown
+from bench.tools.process_talk import NodeProcess, ProcessLooks, Stopwatch, closed_port, shown
 from bench.tools.programs import built
 
 # The first slot of peers that a node dials.
@@ -213,12 +213,12 @@ class Processes(ProcessLooks):
                 one.connect_ex(silent.getsockname())
             with NodeProcess(self.program, "--connect", f"127.0.0.1:{silent.getsockname()[1]}", "--log", "off") as node:
                 at = node.address()
-                began = time.monotonic()
                 self.begins("mine", "mined 1", node.say("mine"))
                 with NodeProcess(self.program, "--connect", at) as other:
                     other.address()
+                    watch = Stopwatch(node, other)
                     self.comes("the block comes", other, lambda: other.tip() == node.tip())
-                    self.look("whether it comes before a dial's end", time.monotonic() - began < 5, True)
+                    self.look("whether it comes before a dial's end", watch.seconds() < 5, True)
                     self.ends(other)
                 self.look("the end", node.close(), (3, ["audit yes"]))
                 self.look("the log", [line for line in node.logged if line], [])

@@ -81,10 +81,12 @@ class PlainPeer:
     # ---- compact blocks (BIP 152)
 
     def announce(self, block, nonce, ids=None):
-        """A block as a compact one, whose coinbase is whole."""
+        """A block as a compact one, whose coinbase is whole. The bytes of the payload come back."""
         key = key_of(block.header.text, nonce)
         ids = ids or [short_id(key, tx.name) for tx in block.txs[1:]]
-        self.send(wire.cmpctblock(block.header.text, nonce, ids, [(0, block.txs[0].text)]))
+        message = wire.cmpctblock(block.header.text, nonce, ids, [(0, block.txs[0].text)])
+        self.send(message)
+        return len(message) - 24
 
     def asked_places(self, block):
         """For which places of a block the node asks, None where it asks for another block's."""

@@ -40,6 +40,7 @@ class Peer:
         self.payload_in, self.bytes_out = after(rest, "in", 3), after(rest, "out", 3)
         self.messages_in, self.messages_out = after(rest, "in", 1), after(rest, "out", 1)
         self.full, self.compact, self.completed, self.fallback = (after(rest, way, 1) for way in ("full", "compact", "completed", "fallback"))
+        self.saved = after(rest, "saved", 1)
 
     def place(self):
         """Its slot, its generation and its direction."""
@@ -48,7 +49,7 @@ class Peer:
 
 def after(words, word, count):
     """The number so many words behind this one."""
-    return int(words[words.index(word) + count].removesuffix(","))
+    return int(words[words.index(word) + count])
 
 
 class NodeProcess:
@@ -162,6 +163,18 @@ class NodeProcess:
 
     # ---- what it costs
 
+    def waited(self):
+        """For how many seconds its threads have waited for a processor that others had."""
+        waited = 0
+        for name in os.listdir(f"/proc/{self.process.pid}/task"):
+            try:
+                with open(f"/proc/{self.process.pid}/task/{name}/schedstat", encoding="ascii") as file:
+                    waited += int(file.read().split()[1]) / 1e9
+            except (FileNotFoundError, ProcessLookupError):
+                # The thread has ended since, or the kernel doesn't tell.
+                pass
+        return waited
+
     def threads(self):
         """How many threads it has."""
         return len(os.listdir(f"/proc/{self.process.pid}/task"))
@@ -180,6 +193,17 @@ class NodeProcess:
         """How many bytes of memory it holds; by VmHWM, how many it held at the most."""
         with open(f"/proc/{self.process.pid}/status", encoding="ascii") as file:
             return next(int(line.split()[1]) * 1_024 for line in file if line.startswith(f"{row}:"))
+
+
+class Stopwatch:
+    """The time from now on, but for that in which these processes waited for a processor: on a busy machine that is most of it."""
+
+    def __init__(self, *nodes):
+        self.nodes, self.began, self.waited = nodes, time.monotonic(), sum(node.waited() for node in nodes)
+
+    def seconds(self):
+        waited = sum(node.waited() for node in self.nodes) - self.waited
+        return time.monotonic() - self.began - max(0, waited)
 
 
 class ProcessLooks(Looks):
