@@ -172,9 +172,9 @@ def bare(block):
     return CBlock(block.nVersion, block.hashPrevBlock, block.hashMerkleRoot, block.nTime, block.nBits, block.nNonce)
 
 
-def mined(parent, height, txs=(), mark=b"library"):
-    """A block at this height on that parent: a coinbase, and these transactions."""
-    coinbase = CMutableTransaction([CMutableTxIn(COutPoint(), CScript([height, mark]))], [CMutableTxOut(SUBSIDY, CScript([OP_TRUE]))])
+def mined(parent, height, txs=(), mark=b"library", value=SUBSIDY):
+    """A block at this height on that parent: a coinbase of this value, and these transactions."""
+    coinbase = CMutableTransaction([CMutableTxIn(COutPoint(), CScript([height, mark]))], [CMutableTxOut(value, CScript([OP_TRUE]))])
     txs = [CTransaction.from_tx(coinbase), *txs]
     root = CBlock(vtx=txs).calc_merkle_root()
     for nonce in range(1_000):
