@@ -80,7 +80,9 @@ class Processes(ProcessLooks):
         self.look("the connection", (peer.place(), peer.phase), ((0, 1, "from"), "ready"))
         self.look("the connection, of the other", (back.place(), back.phase, back.address), ((DIALLED, 1, "to"), "ready", address))
         self.look("whether messages and bytes went both ways", min(peer.messages_in, peer.messages_out, peer.payload_in, peer.bytes_out) > 0, True)
-        self.look("blocks of the one, and of the other", (blocks(peer), blocks(back)), (1, 3))
+        # They are counted at the end of a turn, in which the tip changes before.
+        self.comes("blocks of the one", one, lambda: [blocks(peer) for peer in one.peers()] == [1])
+        self.comes("blocks of the other", other, lambda: [blocks(peer) for peer in other.peers()] == [3])
         self.look("what stats tells", one.say("stats").split()[3:7], ["open", "1", "connections", "1"])
         self.look("a checkpoint", one.say("checkpoint"), "checkpoint")
 
