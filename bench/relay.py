@@ -30,7 +30,6 @@ from pathlib import Path
 if not __package__:  # called as a file
     sys.path.insert(0, str(Path(__file__).resolve().parents[1]))
 
-from bench.tools import without_compact
 from bench.tools.bars import picture
 from bench.tools.command_line import usage
 from bench.tools.full_blocks import FullChain
@@ -41,6 +40,7 @@ from bench.tools.programs import ROOT, built
 # Whom each node dials, and which one is given the block.
 SHAPES = {"a line of five nodes": ([(1, 0), (2, 1), (3, 2), (4, 3)], 0), "a star of five nodes": ([(1, 0), (2, 0), (3, 0), (4, 0)], 1)}
 COUNT, PORT, PROXY = 5, 18_444, 20_000
+FILTER = os.path.join(ROOT, "bench", "tools", "without_compact.py")
 # How many per cent of the transactions the mempools hold; None stands for whole blocks.
 WAYS = {"whole": None, "100 %": 100, "99 %": 99, "90 %": 90, "0 %": 0}
 # How long the links have to be still, and how long we wait for anything.
@@ -71,7 +71,7 @@ class Network:
 
     def filtered(self, place, number, address):
         """The address of a process that hands on what is said, but for `sendcmpct`."""
-        command = [*self.places[place].inside(), sys.executable, without_compact.__file__, str(PROXY + number), f"{address}:{PORT}"]
+        command = [*self.places[place].inside(), sys.executable, FILTER, str(PROXY + number), f"{address}:{PORT}"]
         process = subprocess.Popen(command, stdin=subprocess.PIPE, stdout=subprocess.PIPE)
         self.stack.callback(process.wait)
         self.stack.callback(process.stdin.close)
@@ -181,8 +181,9 @@ def main():
             print(f"| {shape} | {way} | {took:.2f} | {sent / 1e6:.3f} |", flush=True)
     panels = [(name, [[found[shape, way][number] for shape in SHAPES] for way in WAYS])
               for number, name in ((1, "MB on the wire, all four links"), (0, "seconds to the last tip"))]
-    caption = [f"A block of {size:,} bytes and 3,900 transactions comes to four nodes: whole, or as a compact block where the mempools hold so many of",
-               f"its transactions. Four links of {given.rate} Mbit/s each way, no delay added. Ticks of {given.tick} ms. The median of {given.rounds} blocks.",
+    caption = [f"A block of {size:,} bytes and 3,900 transactions comes to four nodes: whole, or as a compact block where the mempools hold",
+               f"so many of its transactions. Four links of {given.rate} Mbit/s each way, no delay added. Ticks of {given.tick} ms. "
+               f"The median of {given.rounds} blocks.",
                f"{machine()}; {datetime.date.today().isoformat()}. bench/relay.py, with {whose(given.program)}."]
     with open(given.out, "w", encoding="utf-8") as file:
         file.write(picture("A block of 1 MB from node to node", list(WAYS), list(SHAPES), panels, caption))

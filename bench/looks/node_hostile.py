@@ -158,13 +158,15 @@ class Hostile(ProcessLooks):
             ends = {}
             while len(ends) < 2 and time.monotonic() < began + PATIENCE:
                 self.block_in_time(node, other)
-                ends |= {slot: (time.monotonic() - began, end) for slot, end in ((1, self.end(node, 1)), (2, self.end(node, 2))) if end and slot not in ends}
+                for slot in (1, 2):
+                    if slot not in ends and self.end(node, slot):
+                        ends[slot] = time.monotonic() - began, self.end(node, slot)
                 time.sleep(0.5)
             reader.join(PATIENCE)
             for slot, what in ((1, "the slow one"), (2, "the one that never reads")):
-                took, end = ends.get(slot, (None, None))
+                took, end = ends.get(slot, (PATIENCE, None))
                 self.look(f"the end of {what}", end in ENDED, True)
-                print(f"{self.name}: the connection of {what} ended {'by ' + end + f' after {took:.0f} s' if end else 'never'}")
+                print(f"{self.name}: after {took:.0f} s the connection of {what} had the end {end}")
             self.look("the end of the late one", self.end(node, 3), None)
 
     def reads_late(self, peer):
