@@ -131,9 +131,9 @@ pub record Rests (old new : TraceView) : Type 0 where
   pub taken : is_due old ≡ true → (new.base ≡ old.session) × (new.before ≡ old.total) × (new.entries ≡ [])
   pub kept : is_due old ≡ false → (new.base ≡ old.base) × (new.before ≡ old.before) × (new.entries ≡ old.entries)
 
--- The trace of a session that is over, without its entries: the session is the base. There is no room.
+-- The trace without its entries: the session is the base, and all numbers are kept. There is no room.
 pub record IsShed (old new : TraceView) : Type 0 where
-  pub over : is_closed old.session.state ≡ true
+  pub same : IsAsBefore old new
   pub base : new.base ≡ old.session
   pub before : new.before ≡ old.total
   pub entries : new.entries ≡ []

@@ -1,4 +1,4 @@
-ghost use Rattle.std.specs.Prelude.{◌≡◌, ◌⊎◌, ℕ, ◌+◌, ◌*◌, ◌≤◌, ◌<◌, ◌^◌, List, [], ◌∷◌, true, false, Bool, None, IfOk, IsOk, IsOkUnless, OnErr};
+ghost use Rattle.std.specs.Prelude.{◌≡◌, ℕ, ◌+◌, ◌*◌, ◌≤◌, ◌<◌, ◌^◌, List, [], ◌∷◌, true, false, Bool, None, IfOk, IsOk, IsOkUnless, OnErr};
 ghost use Rattle.cb_base.specs.declared.fault.Fault.TheVariants.{Memory};
 ghost use Rattle.cb_peer_state.specs.Event.{ends_at_once};
 ghost use Rattle.cb_peer_state.specs.Outcomes.{Answers};
@@ -92,11 +92,10 @@ impl Model for Trace {
 }
 
 impl Trace {
-    ghost use Rattle.std.specs.Prelude.{◌-◌, ◌&&◌, is_none, min, length};
-    ghost use Rattle.cb_fetch.specs.Fetching.{idle};
+    ghost use Rattle.std.specs.Prelude.{◌-◌, min, length};
     ghost use Rattle.cb_peer_state.specs.Session.{openings};
     ghost use Rattle.cb_peer_state.specs.declared.event.Event.TheVariants as events;
-    ghost use Rattle.cb_trace.specs.Trace.{AskedLast, Grows, IsAsBefore, IsOpen, IsShed, NeedsBase, Readied, Rests, StandsFor, TraceSteps, TraceView, asked_from, base_account, held_of, is_due, weight_of};
+    ghost use Rattle.cb_trace.specs.Trace.{AskedLast, Grows, IsOpen, IsShed, NeedsBase, Readied, Rests, StandsFor, TraceSteps, TraceView, asked_from, base_account, held_of, is_due, weight_of};
 
     /// A trace without entries and with room for one, and the messages that open its session. The
     /// table of the session's wanted blocks has the fixed seed.
@@ -232,43 +231,36 @@ impl Trace {
         true
     }
 
-    /// Drops the entries of a trace whose session is over if they take more than `most` bytes
-    /// (`weight_of`). The session is the base then, and the numbers stay. Nothing changes if the session
-    /// isn't over, a question is open, or there is no memory for the base.
-    pub fn shed(&mut self, most: u64)
-        ensures same { IsAsBefore self.old self.new }
-        ensures shed { (self.new ≡ self.old) ⊎ IsShed self.old self.new }
-        ensures bounded { is_closed self.old.session.state ≡ true →
-            self.old.session.pending ≡ None → self.old.session.fetch ≡ idle →
-            self.old.session.compact.partial ≡ None →
-            min (weight_of self.new) (2 ^ 64 - 1) ≤ most }
-    {
-        if self.weight() > most && self.is_over() {
-            self.drop_entries();
-        }
-    }
-
-    /// Whether the session is over and has no question open.
-    fn is_over(&self) -> bool
-        ensures { result ≡ is_closed self.now.session.state && is_none self.now.session.pending }
-    {
-        self.session.state().is_closed() && !self.session.is_waiting()
-    }
-
-    /// Drops the entries of a trace whose session is over. Nothing changes if there is no memory for
-    /// the base.
-    fn drop_entries(&mut self)
+    /// Drops the entries of a trace whose session is over, if they take more than `most` bytes
+    /// (`weight_of`). The session is the base then, and all numbers stay. Otherwise nothing changes.
+    /// Returns how many bytes the entries take now.
+    ///
+    /// Never fails: the copy of a session that is over takes no memory.
+    pub fn shed(&mut self, most: u64) -> u64
         requires over { is_closed self.old.session.state ≡ true }
-        requires free { self.old.session.pending ≡ None }
-        ensures same { IsAsBefore self.old self.new }
-        ensures shed { (self.new ≡ self.old) ⊎ IsShed self.old self.new }
-        ensures done { self.old.session.fetch ≡ idle → self.old.session.compact.partial ≡ None →
-            IsShed self.old self.new }
+        requires few { most < 2 ^ 64 - 1 }
+        ensures kept { weight_of self.old ≤ most → self.new ≡ self.old }
+        ensures shed { most < weight_of self.old → IsShed self.old self.new }
+        ensures weight { result ≡ weight_of self.new }
+        ensures most { result ≤ most }
     {
-        let Ok(base) = self.session.copy(self.alloc) else {
-            return;
+        let weight = self.weight();
+        if weight <= most {
+            return weight;
+        }
+        self.drop_entries();
+        0
+    }
+
+    /// Drops the entries of a trace whose session is over. That is the base then.
+    fn drop_entries(&mut self)
+        requires { is_closed self.old.session.state ≡ true }
+        ensures { IsShed self.old self.new }
+    {
+        let Ok(last) = self.session.copy(self.alloc) else {
+            unreachable!()
         };
-        self.base = base;
+        self.base = last;
         self.before = self.total;
         self.entries = Vec::new(self.alloc);
         self.held = 0;

@@ -1,6 +1,7 @@
 -- The account of a work, one event at a time.
-use Rattle.std.proofs.Common.{◌≡◌, ◌⊎◌, ℕ, ◌+◌, Bool, true, false, List, [], ◌∷◌, ◌++◌, length, Option, inl, inr, refl, sym, ap, subst, ◌∙◌, zero-add, arith}
+use Rattle.std.proofs.Common.{◌≡◌, ◌⊎◌, ◌≤◌, ◌<◌, ℕ, ◌+◌, Bool, true, false, List, [], ◌∷◌, ◌++◌, length, Option, inl, inr, refl, sym, ap, subst, ◌∙◌, zero-add, arith}
 use Rattle.std.specs.Prelude.{None}
+use Rattle.std.proofs.lemmas.Bool.{cases_lt}
 use Rattle.std.proofs.lemmas.List.{append-nil}
 use Rattle.cb_base.specs.declared.fault.Fault.{Fault}
 use Rattle.cb_state.specs.declared.connection.Connection.{Connection}
@@ -15,7 +16,7 @@ use Rattle.cb_peer_state.specs.Event.{begins, kind_of}
 use Rattle.cb_peer_state.specs.Session.{openings}
 use Rattle.cb_peer_state.specs.State.{is_closed}
 use Rattle.cb_peer_state.specs.declared.session_state.SessionState.{SessionState}
-use Rattle.cb_trace.specs.Trace.{IsAsBefore, IsShed, Readied, StandsFor, TraceView}
+use Rattle.cb_trace.specs.Trace.{IsShed, Readied, StandsFor, TraceView, weight_of}
 use Rattle.cb_trace.specs.declared.trace.Counts.{Counts}
 use Rattle.cb_session.specs.Conversation.{Accounts, Origin, Stands, input_in, progress, with_event}
 use Rattle.cb_session.proofs.Accounts.{IsOracle, not_both}
@@ -240,15 +241,15 @@ serves_readied told refused contents has_failed oracle same old trace made items
       waits = λ e f. s.waits e f ∙ ap openings (sym set);
     }
 
--- the trace of a session that is over was shed
+-- its trace was shed
 accounts_shed : {H : Type 0} (told : H → BadgeState → List Reply → H → BadgeState → Type 0) (refused : H → BadgeState → Fault → Type 0) (from : Origin H) (trace trace' : TraceView) (hall : H) (badge : BadgeState)
-    (held : Option (List ℕ)) (failed : Bool) (written : ℕ) (inputs : List Event) (missing : List ℕ) (lost unkept : Bool) → IsAsBefore trace trace' → trace'.room ≡ 0
+    (held : Option (List ℕ)) (failed : Bool) (written : ℕ) (inputs : List Event) (missing : List ℕ) (lost unkept : Bool) → IsShed trace trace'
     → Accounts told refused from (progress trace hall badge held failed written) inputs missing lost unkept → Accounts told refused from (progress trace' hall badge held failed written) inputs missing lost unkept
-accounts_shed told refused from trace trace' hall badge held failed written inputs missing lost unkept r none a =
+accounts_shed told refused from trace trace' hall badge held failed written inputs missing lost unkept shed a =
     record {
-      settings = r.settings ∙ a.settings;
+      settings = shed.same.settings ∙ a.settings;
       history = a.history;
-      stands = r.history a.history a.stands;
+      stands = shed.same.history a.history a.stands;
       wrote = a.wrote;
       inputs_are = a.inputs_are;
       prompt = a.prompt;
@@ -256,47 +257,56 @@ accounts_shed told refused from trace trace' hall badge held failed written inpu
       each_told = a.each_told;
       write_fault = a.write_fault;
       hall_full = a.hall_full;
-      no_memory = λ _. inl (inl (inl none));
+      no_memory = λ _. inl (inl (inl shed.room));
       ticks_are = a.ticks_are;
       losses = a.losses;
     }
 
 stands_shed : {H : Type 0} (told : H → BadgeState → List Reply → H → BadgeState → Type 0) (refused : H → BadgeState → Fault → Type 0) (from : Origin H) (trace trace' : TraceView) (hall : H) (badge : BadgeState)
-    (held : Option (List ℕ)) (failed : Bool) (written : ℕ) (inputs : List Event) (held_back : List ℕ) (unkept : Bool) → IsAsBefore trace trace' → trace'.room ≡ 0
+    (held : Option (List ℕ)) (failed : Bool) (written : ℕ) (inputs : List Event) (held_back : List ℕ) (unkept : Bool) → IsShed trace trace'
     → Stands told refused from (progress trace hall badge held failed written) inputs held_back unkept → Stands told refused from (progress trace' hall badge held failed written) inputs held_back unkept
-stands_shed told refused from trace trace' hall badge held failed written inputs held_back unkept r none s =
+stands_shed told refused from trace trace' hall badge held failed written inputs held_back unkept shed s =
     record {
       sent = record {
         missing = s.sent.missing;
         lost = s.sent.lost;
-        accounts = accounts_shed told refused from trace trace' hall badge held failed written inputs s.sent.missing s.sent.lost unkept r none s.sent.accounts;
+        accounts = accounts_shed told refused from trace trace' hall badge held failed written inputs s.sent.missing s.sent.lost unkept shed s.sent.accounts;
         whole = s.sent.whole;
         told_loss = s.sent.told_loss;
       };
       unasked = s.unasked;
-      answered = subst (λ (x : SessionState). is_closed x.state ≡ false → x.pending ≡ None) (sym r.session) s.answered;
+      answered = subst (λ (x : SessionState). is_closed x.state ≡ false → x.pending ≡ None) (sym shed.same.session) s.answered;
     }
 
--- its trace was shed, or is as before
+-- its trace was shed, or is as it was
 pub serves_shed : {S H F : Type 0} (told : H → BadgeState → List Reply → H → BadgeState → Type 0) (refused : H → BadgeState → Fault → Type 0) (contents : S → Option (List ℕ)) (has_failed : S → Bool)
     (same : KeepsConnection told) (old : WorkState S H F) (trace : TraceView) (items : List (Given Input)) (ticks : ℕ)
-    → IsAsBefore old.trace trace → (trace ≡ old.trace) ⊎ IsShed old.trace trace
+    → (trace ≡ old.trace) ⊎ IsShed old.trace trace
     → Serves told refused contents has_failed old items ticks → Serves told refused contents has_failed (with_trace old trace) items ticks
-serves_shed told refused contents has_failed same old trace items ticks r (inl e) s =
+serves_shed told refused contents has_failed same old trace items ticks (inl e) s =
     subst (λ (t : TraceView). Serves told refused contents has_failed (with_trace old t) items ticks) (sym e) s
-serves_shed told refused contents has_failed same old trace items ticks r (inr shed) s =
+serves_shed told refused contents has_failed same old trace items ticks (inr shed) s =
     let held = contents s.sink in
     let after =
-    stands_shed told refused (beginning old s.hall held ticks) old.trace trace old.hall old.badge (contents old.sink) (has_failed old.sink) old.written (events_of items) (texts old.unsent) (was_starved items) r shed.room s.stands in
+    stands_shed told refused (beginning old s.hall held ticks) old.trace trace old.hall old.badge (contents old.sink) (has_failed old.sink) old.written (events_of items) (texts old.unsent) (was_starved items) shed s.stands in
     record {
       hall = s.hall;
       sink = s.sink;
       empty = s.empty;
       unfailed = s.unfailed;
       stands = moved told refused contents has_failed same s.hall held ticks old.trace.settings old.badge.connection (with_trace old trace) (events_of items) (texts old.unsent) (was_starved items) after;
-      starved = λ h. ap (λ (x : SessionState). is_closed x.state) r.session ∙ s.starved h;
-      waits = λ e f. s.waits e f ∙ ap openings (sym r.settings);
+      starved = λ h. ap (λ (x : SessionState). is_closed x.state) shed.same.session ∙ s.starved h;
+      waits = λ e f. s.waits e f ∙ ap openings (sym shed.same.settings);
     }
+
+-- which of both it is
+pub kept_or_shed : (old new : TraceView) (most : ℕ) → (weight_of old ≤ most → new ≡ old) → (most < weight_of old → IsShed old new) → (new ≡ old) ⊎ IsShed old new
+kept_or_shed old new most kept shed = elim (cases_lt most (weight_of old)) [ inl more ↦ inr (shed more) | inr few ↦ inl (kept few) ]
+
+-- over or not, as it was
+pub shed_over : {S H F : Type 0} (old : WorkState S H F) (trace : TraceView) → (trace ≡ old.trace) ⊎ IsShed old.trace trace → is_over (with_trace old trace) ≡ is_over old
+shed_over old trace (inl e) = ap (λ (t : TraceView). is_closed t.session.state) e
+shed_over old trace (inr shed) = ap (λ (x : SessionState). is_closed x.state) shed.same.session
 
 -- the flags are no part of it
 pub serves_flags : {S H F : Type 0} (told : H → BadgeState → List Reply → H → BadgeState → Type 0) (refused : H → BadgeState → Fault → Type 0) (contents : S → Option (List ℕ)) (has_failed : S → Bool)

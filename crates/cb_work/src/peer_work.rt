@@ -7,6 +7,7 @@ ghost use Rattle.cb_reader.specs.declared.input.Input.{Input};
 ghost use Rattle.cb_reader.specs.declared.input.Input.TheVariants as inputs;
 ghost use Rattle.cb_peer_state.specs.Event.{begins, ends_at_once, kind_of};
 ghost use Rattle.cb_peer_state.specs.State.{is_closed};
+ghost use Rattle.cb_trace.specs.Trace.{weight_of};
 ghost use Rattle.cb_work.specs.PeerWork.{HoldsNothing, IsPrimed, IsSamePeer, Serves, ServesNext, ServesOn, WasGiven, WasTicked, is_over, label_of};
 
 use crate::carried::{Carried, Rebuilding};
@@ -27,10 +28,6 @@ use std::alloc::Global;
 use std::marker::Model;
 use std::mem;
 use std::sync::Wait;
-
-/// How many bytes the entries of a past connection's trace take at most. A node has 64 slots with 255
-/// past connections each: together they take fewer than 64,000,000.
-const PAST_BYTES: u64 = 3_900;
 
 /// The work of one connection: the trace of its session, the badge under which it asks the hall,
 /// its slot's sink, and its flags. The hall is what Bitcoin Core keeps in ChainstateManager and
@@ -271,14 +268,18 @@ impl<S: Sink + Drop, H: Oracle + Drop, F: Flags> PeerWork<S, H, F> {
         }
     }
 
-    /// Lets the entries of a trace go whose session is over, if they take more than a past connection
-    /// may keep.
-    fn shed(&mut self)
-        ensures over { is_over self.new ≡ is_over self.old }
+    /// Lets the entries of the trace go if they take more than so many bytes. Returns how many they
+    /// take now.
+    fn shed(&mut self, most: u64) -> u64
+        requires over { is_over self.old ≡ true }
+        requires few { most ≤ 1000000 }
+        ensures weight { result ≡ weight_of self.new.trace }
+        ensures most { result ≤ most }
+        ensures over { is_over self.new ≡ true }
         ensures same { IsSamePeer F.looks self.old self.new }
         ensures serves { ServesOn H.told H.refused S.contents S.has_failed self.old self.new }
     {
-        self.trace.shed(PAST_BYTES);
+        self.trace.shed(most)
     }
 
     /// Counts what a step moved, which began with so many bytes written.
@@ -309,6 +310,8 @@ impl<S: Sink + Drop, H: Oracle + Drop, F: Flags> Work for PeerWork<S, H, F> {
     ghost primed = { λ work. IsPrimed work };
 
     ghost is_closed = { λ work. is_over work };
+
+    ghost weight = { λ work. weight_of work.trace };
 
     ghost label = { λ work. label_of work.badge.connection };
 
@@ -359,8 +362,8 @@ impl<S: Sink + Drop, H: Oracle + Drop, F: Flags> Work for PeerWork<S, H, F> {
         self.count(Carried::nothing(), written);
     }
 
-    fn retire(&mut self) {
-        self.shed();
+    fn retire(&mut self, most: u64) -> u64 {
+        self.shed(most)
     }
 }
 

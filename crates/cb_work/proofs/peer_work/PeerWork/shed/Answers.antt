@@ -1,19 +1,17 @@
 use Rattle.std.proofs.Common.{refl, sym, ap, ◌∙◌}
-use Rattle.cb_peer_state.specs.State.{is_closed}
-use Rattle.cb_peer_state.specs.declared.session_state.SessionState.{SessionState}
 use Rattle.cb_work.specs.PeerWork.{WorkState, is_over}
 use Rattle.cb_work.proofs.Keeping.{keeps}
-use Rattle.cb_work.proofs.Serving.{serves_shed}
+use Rattle.cb_work.proofs.Serving.{kept_or_shed, serves_shed, shed_over}
 use Rattle.cb_work.proofs.peer_work.PeerWork.shed.Goals as goal
 
 pub invariant_of-self : goal.invariant_of-self
 invariant_of-self g c =
     keeps g.H.Oracle.told g.H.Oracle.refused g.S.Sink.contents g.S.Sink.has_failed g.F.Flags.is_stopped _ _ c.self.invariant.items c.self.invariant.ticks c.self.invariant refl refl
-    (λ over. c.self.invariant.stopped (ap (λ (x : SessionState). is_closed x.state) (sym c.shed.ensures.same.session) ∙ over))
+    (λ over. c.self.invariant.stopped (sym (shed_over _ c.shed.new.self (kept_or_shed _ c.shed.new.self c.args.most c.shed.ensures.kept c.shed.ensures.shed)) ∙ over))
     (serves_shed g.H.Oracle.told g.H.Oracle.refused g.S.Sink.contents g.S.Sink.has_failed g.met.H.Oracle.same_connection _ c.shed.new.self c.self.invariant.items c.self.invariant.ticks
-    c.shed.ensures.same c.shed.ensures.shed c.self.invariant.serves)
+    (kept_or_shed _ c.shed.new.self c.args.most c.shed.ensures.kept c.shed.ensures.shed) c.self.invariant.serves)
 
 pub returns-clause-serves : goal.returns-clause-serves
 returns-clause-serves g c =
     rw (← c.self.view_is) (λ items ticks s.
-    serves_shed g.H.Oracle.told g.H.Oracle.refused g.S.Sink.contents g.S.Sink.has_failed g.met.H.Oracle.same_connection _ c.shed.new.self items ticks c.shed.ensures.same c.shed.ensures.shed s)
+    serves_shed g.H.Oracle.told g.H.Oracle.refused g.S.Sink.contents g.S.Sink.has_failed g.met.H.Oracle.same_connection _ c.shed.new.self items ticks (kept_or_shed _ c.shed.new.self c.args.most c.shed.ensures.kept c.shed.ensures.shed) s)
