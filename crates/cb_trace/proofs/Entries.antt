@@ -62,9 +62,9 @@ over_stays count s entry closed = ap (λ b. cond b (stays s) (cond (eqb (count +
 
 -- by cases on whether the session is over
 entry_either : (P : Stepped → Type 0) (count : ℕ) (s : SessionState) (entry : TraceEntry) → (is_closed s.state ≡ true → P (stays s)) → (is_closed s.state ≡ false → P (entry_step count s entry)) → P (entry_step count s entry)
-entry_either P count s entry over goes_on =
+entry_either P count s entry over lasts =
     let by_state : (b : Bool) → is_closed s.state ≡ b → P (entry_step count s entry) =
-    elim [ true ↦ λ closed. subst P (sym (over_stays count s entry closed)) (over closed) | false ↦ λ going. goes_on going ] in
+    elim [ true ↦ λ closed. subst P (sym (over_stays count s entry closed)) (over closed) | false ↦ λ going. lasts going ] in
     by_state (is_closed s.state) refl
 
 -- what a session was given stays
