@@ -12,14 +12,15 @@ use Rattle.cb_hall.specs.Histories.{Reply}
 use Rattle.cb_peer_state.specs.declared.settings.Settings.{Settings}
 use Rattle.cb_peer_state.specs.declared.event.Event.{Event}
 use Rattle.cb_peer_state.specs.declared.event.Event.TheVariants as events
-use Rattle.cb_peer_state.specs.Event.{begins, kind_of}
+use Rattle.cb_peer_state.specs.Event.{begins, is_told, kind_of}
 use Rattle.cb_peer_state.specs.Session.{openings}
 use Rattle.cb_peer_state.specs.State.{is_closed}
 use Rattle.cb_peer_state.specs.declared.session_state.SessionState.{SessionState}
+use Rattle.cb_trace.specs.Fold.{has_kind}
 use Rattle.cb_trace.specs.Trace.{IsShed, Readied, StandsFor, TraceView, weight_of}
 use Rattle.cb_trace.specs.declared.trace.Counts.{Counts}
 use Rattle.cb_session.specs.Conversation.{Accounts, Origin, Stands, input_in, progress, with_event}
-use Rattle.cb_session.proofs.Accounts.{IsOracle, not_both}
+use Rattle.cb_session.proofs.Accounts.{AccountsOf, IsOracle, not_both}
 use Rattle.cb_session.proofs.Standing.{stands_first, stands_ready, stands_starved}
 use Rattle.cb_crew.specs.declared.work.Given.{Given}
 use Rattle.cb_crew.specs.declared.work.Given.TheVariants as given
@@ -241,40 +242,38 @@ serves_readied told refused contents has_failed oracle same old trace made items
       waits = λ e f. s.waits e f ∙ ap openings (sym set);
     }
 
--- its trace was shed
+-- the trace was shed: the history is the same
 accounts_shed : {H : Type 0} (told : H → BadgeState → List Reply → H → BadgeState → Type 0) (refused : H → BadgeState → Fault → Type 0) (from : Origin H) (trace trace' : TraceView) (hall : H) (badge : BadgeState)
     (held : Option (List ℕ)) (failed : Bool) (written : ℕ) (inputs : List Event) (missing : List ℕ) (lost unkept : Bool) → IsShed trace trace'
-    → Accounts told refused from (progress trace hall badge held failed written) inputs missing lost unkept → Accounts told refused from (progress trace' hall badge held failed written) inputs missing lost unkept
+    → (a : Accounts told refused from (progress trace hall badge held failed written) inputs missing lost unkept) → AccountsOf told refused from (progress trace' hall badge held failed written) inputs missing lost unkept a.history
 accounts_shed told refused from trace trace' hall badge held failed written inputs missing lost unkept shed a =
     record {
-      settings = shed.same.settings ∙ a.settings;
-      history = a.history;
-      stands = shed.same.history a.history a.stands;
-      wrote = a.wrote;
-      inputs_are = a.inputs_are;
-      prompt = a.prompt;
-      replies_are = a.replies_are;
-      each_told = a.each_told;
-      write_fault = a.write_fault;
-      hall_full = a.hall_full;
-      no_memory = λ _. inl (inl (inl shed.room));
-      ticks_are = a.ticks_are;
-      losses = a.losses;
+      accounts = record {
+        settings = shed.same.settings ∙ a.settings;
+        history = a.history;
+        stands = shed.same.history a.history a.stands;
+        wrote = a.wrote;
+        inputs_are = a.inputs_are;
+        prompt = a.prompt;
+        replies_are = a.replies_are;
+        each_told = a.each_told;
+        write_fault = a.write_fault;
+        hall_full = a.hall_full;
+        no_memory = λ _. inl (inl (inl shed.room));
+        ticks_are = a.ticks_are;
+        losses = a.losses;
+      };
+      history_is = refl;
     }
 
 stands_shed : {H : Type 0} (told : H → BadgeState → List Reply → H → BadgeState → Type 0) (refused : H → BadgeState → Fault → Type 0) (from : Origin H) (trace trace' : TraceView) (hall : H) (badge : BadgeState)
     (held : Option (List ℕ)) (failed : Bool) (written : ℕ) (inputs : List Event) (held_back : List ℕ) (unkept : Bool) → IsShed trace trace'
     → Stands told refused from (progress trace hall badge held failed written) inputs held_back unkept → Stands told refused from (progress trace' hall badge held failed written) inputs held_back unkept
 stands_shed told refused from trace trace' hall badge held failed written inputs held_back unkept shed s =
+    let after = accounts_shed told refused from trace trace' hall badge held failed written inputs s.sent.missing s.sent.lost unkept shed s.sent.accounts in
     record {
-      sent = record {
-        missing = s.sent.missing;
-        lost = s.sent.lost;
-        accounts = accounts_shed told refused from trace trace' hall badge held failed written inputs s.sent.missing s.sent.lost unkept shed s.sent.accounts;
-        whole = s.sent.whole;
-        told_loss = s.sent.told_loss;
-      };
-      unasked = s.unasked;
+      sent = record { missing = s.sent.missing; lost = s.sent.lost; accounts = after.accounts; whole = s.sent.whole; told_loss = s.sent.told_loss };
+      unasked = λ some. ap (has_kind is_told) after.history_is ∙ s.unasked some;
       answered = subst (λ (x : SessionState). is_closed x.state ≡ false → x.pending ≡ None) (sym shed.same.session) s.answered;
     }
 
@@ -304,9 +303,9 @@ pub kept_or_shed : (old new : TraceView) (most : ℕ) → (weight_of old ≤ mos
 kept_or_shed old new most kept shed = elim (cases_lt most (weight_of old)) [ inl more ↦ inr (shed more) | inr few ↦ inl (kept few) ]
 
 -- over or not, as it was
-pub shed_over : {S H F : Type 0} (old : WorkState S H F) (trace : TraceView) → (trace ≡ old.trace) ⊎ IsShed old.trace trace → is_over (with_trace old trace) ≡ is_over old
-shed_over old trace (inl e) = ap (λ (t : TraceView). is_closed t.session.state) e
-shed_over old trace (inr shed) = ap (λ (x : SessionState). is_closed x.state) shed.same.session
+pub shed_closed : (old new : TraceView) → (new ≡ old) ⊎ IsShed old new → is_closed new.session.state ≡ is_closed old.session.state
+shed_closed old new (inl e) = ap (λ (t : TraceView). is_closed t.session.state) e
+shed_closed old new (inr shed) = ap (λ (x : SessionState). is_closed x.state) shed.same.session
 
 -- the flags are no part of it
 pub serves_flags : {S H F : Type 0} (told : H → BadgeState → List Reply → H → BadgeState → Type 0) (refused : H → BadgeState → Fault → Type 0) (contents : S → Option (List ℕ)) (has_failed : S → Bool)
