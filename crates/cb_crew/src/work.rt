@@ -89,6 +89,7 @@ pub trait Work: Drop {
     fn retire(&mut self, most: u64) -> u64
         requires closed { is_closed self.old ≡ true }
         requires few { most ≤ 1000000 }
+        ensures kept { weight self.old ≤ most → self.new ≡ self.old }
         ensures weight { weight self.new ≡ result }
         ensures most { result ≤ most }
         ensures closed { is_closed self.new ≡ true }

@@ -273,6 +273,7 @@ impl<S: Sink + Drop, H: Oracle + Drop, F: Flags> PeerWork<S, H, F> {
     fn shed(&mut self, most: u64) -> u64
         requires over { is_over self.old ≡ true }
         requires few { most ≤ 1000000 }
+        ensures kept { weight_of self.old.trace ≤ most → self.new ≡ self.old }
         ensures weight { result ≡ weight_of self.new.trace }
         ensures most { result ≤ most }
         ensures over { is_over self.new ≡ true }
