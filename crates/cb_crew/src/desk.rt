@@ -1,4 +1,5 @@
 ghost use Rattle.std.specs.Prelude.{◌≡◌, ◌≤◌, true, false, List, [], ◌∷◌, ◌++◌, vec_capacity};
+ghost use Rattle.std.specs.List.{sum_by};
 ghost use Rattle.cb_inbox.specs.Seat.{opening_seat};
 ghost use Rattle.cb_crew.specs.declared.desk.Step.TheVariants.{Worked, Passed};
 ghost use Rattle.cb_crew.specs.declared.work.Given.{Given};
@@ -12,6 +13,9 @@ use cb_inbox::{Inbox, Note, Queued, TakerSeat};
 use std::marker::Model;
 use std::mem;
 use std::sync::Wait;
+
+/// How many bytes the works of a desk's past connections keep together at most.
+const PAST_BYTES: u64 = 1_000_000;
 
 /// What one step did with the mark at the front of an inbox.
 #[derive(Drop)]
@@ -40,24 +44,28 @@ pub struct Count {
 /// Each connection has its own work. The first work keeps its label. Each later work has the label
 /// of the work that its open mark brought. A work was given a prefix of what was taken of its
 /// connection, in order and each once. An open work was given all of that. The works of earlier
-/// connections are closed.
+/// connections are closed, and keep at most 1,000,000 bytes together: a work that has more than is
+/// left of these lets all go as its connection is past.
 #[derive(Drop)]
 pub struct Desk<W: Work> {
     inbox: Shared<Inbox<W::Item, Fresh<W>>>,
     seat: TakerSeat<W::Item, Fresh<W>>,
     work: W,
     past: Vec<W>,
+    /// How many bytes the works of later past connections may keep.
+    room: u64,
 }
 
 impl<W: Work> Model for Desk<W> {
-    ghost use Rattle.std.specs.Prelude.{◌≡◌, ◌≤◌, vec_capacity};
+    ghost use Rattle.std.specs.Prelude.{◌≡◌, ◌≤◌, ◌+◌, vec_capacity};
+    ghost use Rattle.std.specs.List.{sum_by};
     ghost use Rattle.cb_crew.specs.Desk.{DeskState, IsDesk, desk_state};
 
     ghost Value = { DeskState W W.Item };
 
     ghost view = { λ a. desk_state a.inbox a.seat a.work a.past.items };
 
-    ghost invariant = { λ a. IsDesk W.label W.given W.is_closed (desk_state a.inbox a.seat a.work a.past.items) × (a.seat.inbox ≡ a.inbox.name) × (255 ≤ vec_capacity a.past) };
+    ghost invariant = { λ a. IsDesk W.label W.given W.is_closed (desk_state a.inbox a.seat a.work a.past.items) × (a.seat.inbox ≡ a.inbox.name) × (255 ≤ vec_capacity a.past) × (sum_by W.weight a.past.items + a.room ≡ 1000000) };
 }
 
 impl<W: Work> Travels for Desk<W> {
@@ -84,6 +92,7 @@ impl<W: Work> Desk<W> {
             seat,
             work: work.into_work(),
             past,
+            room: PAST_BYTES,
         }
     }
 
@@ -108,9 +117,11 @@ impl<W: Work> Desk<W> {
         &self.work
     }
 
-    /// The works of earlier connections, in order. All are closed.
+    /// The works of earlier connections, in order. All are closed, and they keep at most 1,000,000
+    /// bytes together.
     pub fn past(&self) -> &[W]
-        ensures { result.now ≡ self.now.past }
+        ensures past { result.now ≡ self.now.past }
+        ensures bounded { sum_by W.weight self.now.past ≤ 1000000 }
     {
         self.past.as_slice()
     }
@@ -220,6 +231,7 @@ impl<W: Work> Desk<W> {
             Some(Queued::Open(next)) => {
                 // No effect when it runs: it tells the prover what the type keeps.
                 self.seat.reached();
+                self.room -= self.work.retire(self.room);
                 let past = mem::replace(&mut self.work, next.into_work());
                 self.past.push_reserved(past);
                 Step::Passed

@@ -20,7 +20,7 @@ pub enum Given<M> {
 ///
 /// A work never changes its label. Contracts tell by the label whose work it is.
 pub trait Work: Drop {
-    ghost use Rattle.std.specs.Prelude.{◌≡◌, ℕ, Bool, true, false, List, ◌++◌, ◌∷◌, [], length};
+    ghost use Rattle.std.specs.Prelude.{◌≡◌, ◌≤◌, ℕ, Bool, true, false, List, ◌++◌, ◌∷◌, [], length};
     ghost use Rattle.cb_crew.specs.declared.work.Given.{Given};
     ghost use Rattle.cb_crew.specs.Work.{IsEnd};
 
@@ -39,6 +39,9 @@ pub trait Work: Drop {
 
     /// The work accepts nothing more.
     ghost is_closed: { Self → Bool };
+
+    /// How many bytes the work keeps that it can let go of once its connection is past, about.
+    ghost weight: { Self → ℕ };
 
     /// Whose work it is.
     ghost label: { Self → ℕ };
@@ -80,6 +83,20 @@ pub trait Work: Drop {
             given self.new items }
         ensures ticked { (items : List (Given Self.Item)) (at : List ℕ) → given self.old items →
             ticked self.old at → ticked self.new (at ++ length items ∷ []) };
+
+    /// The connection is past: the work of the next one takes its place. If the work keeps more than
+    /// `most` such bytes, it lets all of them go. Returns how many it keeps.
+    fn retire(&mut self, most: u64) -> u64
+        requires closed { is_closed self.old ≡ true }
+        requires few { most ≤ 1000000 }
+        ensures kept { weight self.old ≤ most → self.new ≡ self.old }
+        ensures weight { weight self.new ≡ result }
+        ensures most { result ≤ most }
+        ensures closed { is_closed self.new ≡ true }
+        ensures label { label self.new ≡ label self.old }
+        ensures given { (items : List (Given Self.Item)) → given self.old items →
+            given self.new items }
+        ensures ticked { (at : List ℕ) → ticked self.old at → ticked self.new at };
 }
 
 /// A work that may begin a connection: it is open, was given nothing and was never ticked.

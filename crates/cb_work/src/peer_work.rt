@@ -7,6 +7,7 @@ ghost use Rattle.cb_reader.specs.declared.input.Input.{Input};
 ghost use Rattle.cb_reader.specs.declared.input.Input.TheVariants as inputs;
 ghost use Rattle.cb_peer_state.specs.Event.{begins, ends_at_once, kind_of};
 ghost use Rattle.cb_peer_state.specs.State.{is_closed};
+ghost use Rattle.cb_trace.specs.Trace.{weight_of};
 ghost use Rattle.cb_work.specs.PeerWork.{HoldsNothing, IsPrimed, IsSamePeer, Serves, ServesNext, ServesOn, WasGiven, WasTicked, is_over, label_of};
 
 use crate::carried::{Carried, Rebuilding};
@@ -267,6 +268,21 @@ impl<S: Sink + Drop, H: Oracle + Drop, F: Flags> PeerWork<S, H, F> {
         }
     }
 
+    /// Lets the entries of the trace go if they take more than so many bytes. Returns how many they
+    /// take now.
+    fn shed(&mut self, most: u64) -> u64
+        requires over { is_over self.old ≡ true }
+        requires few { most ≤ 1000000 }
+        ensures kept { weight_of self.old.trace ≤ most → self.new ≡ self.old }
+        ensures weight { result ≡ weight_of self.new.trace }
+        ensures most { result ≤ most }
+        ensures over { is_over self.new ≡ true }
+        ensures same { IsSamePeer F.looks self.old self.new }
+        ensures serves { ServesOn H.told H.refused S.contents S.has_failed self.old self.new }
+    {
+        self.trace.shed(most)
+    }
+
     /// Counts what a step moved, which began with so many bytes written.
     fn count(&mut self, carried: Carried, written: u64)
         ensures over { is_over self.new ≡ is_over self.old }
@@ -295,6 +311,8 @@ impl<S: Sink + Drop, H: Oracle + Drop, F: Flags> Work for PeerWork<S, H, F> {
     ghost primed = { λ work. IsPrimed work };
 
     ghost is_closed = { λ work. is_over work };
+
+    ghost weight = { λ work. weight_of work.trace };
 
     ghost label = { λ work. label_of work.badge.connection };
 
@@ -343,6 +361,10 @@ impl<S: Sink + Drop, H: Oracle + Drop, F: Flags> Work for PeerWork<S, H, F> {
         let written = self.written;
         self.begin(Event::Tick);
         self.count(Carried::nothing(), written);
+    }
+
+    fn retire(&mut self, most: u64) -> u64 {
+        self.shed(most)
     }
 }
 

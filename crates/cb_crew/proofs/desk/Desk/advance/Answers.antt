@@ -1,5 +1,7 @@
 use Rattle.std.proofs.Common.{◌∙◌, ◌++◌, ◌∷◌, [], true, false, refl, sym, ap, subst, arith}
+use Rattle.std.specs.List.{sum_by}
 use Rattle.std.proofs.lemmas.Bool.{false≢true}
+use Rattle.std.proofs.lemmas.List.Sums.{sum_by_push}
 use Rattle.cb_inbox.specs.declared.queued.Queued.TheVariants as queued
 use Rattle.cb_inbox.specs.declared.queued.Queued.{Queued}
 use Rattle.cb_inbox.specs.Rule.{IsOfALine}
@@ -16,6 +18,7 @@ invariant_of-self g c = (
   desk_kept g.W.Work.label g.W.Work.given g.W.Work.is_closed c.self.inside.inbox c.self.inside.seat c.take.new.self c.self.inside.work c.make_ready-ready.new.work c.self.inside.past.items (ap (λ s. s.taken) c.in-None.ensures.none.0) c.make_ready-ready.ensures.label c.make_ready-ready.ensures.live c.make_ready-ready.ensures.given c.self.invariant.0,
   ap (λ s. s.inbox) c.in-None.ensures.none.0 ∙ c.self.invariant.1,
   c.self.invariant.2,
+  c.self.invariant.3,
 )
 
 pub invariant_of-self-in-Some-Item : goal.invariant_of-self-in-Some-Item
@@ -25,6 +28,7 @@ invariant_of-self-in-Some-Item g c = (
       (desk_kept g.W.Work.label g.W.Work.given g.W.Work.is_closed c.self.inside.inbox c.self.inside.seat c.self.inside.seat c.self.inside.work c.make_ready-ready.new.work c.self.inside.past.items refl c.make_ready-ready.ensures.label c.make_ready-ready.ensures.live c.make_ready-ready.ensures.given c.self.invariant.0),
   ap (λ s. s.inbox) c.in-Some-Item.ensures.some.0 ∙ c.self.invariant.1,
   c.self.invariant.2,
+  c.self.invariant.3,
 )
 
 pub invariant_of-self-in-Some-End : goal.invariant_of-self-in-Some-End
@@ -34,7 +38,15 @@ invariant_of-self-in-Some-End g c = (
       (desk_kept g.W.Work.label g.W.Work.given g.W.Work.is_closed c.self.inside.inbox c.self.inside.seat c.self.inside.seat c.self.inside.work c.make_ready-ready.new.work c.self.inside.past.items refl c.make_ready-ready.ensures.label c.make_ready-ready.ensures.live c.make_ready-ready.ensures.given c.self.invariant.0),
   ap (λ s. s.inbox) c.in-Some-End.ensures.some.0 ∙ c.self.invariant.1,
   c.self.invariant.2,
+  c.self.invariant.3,
 )
+
+pub retire-requires-clause-closed : goal.retire-requires-clause-closed
+retire-requires-clause-closed g c =
+    let took = c.in-Some-Open.ensures.some.0 ∙ ap (taken_more c.self.inside.seat) c.in-Some-Open.field-0-is in
+    let after = opened_after g.W.Work.label g.W.Work.given g.W.Work.is_closed c.take.new.self.queued c.self.inside.seat.taken (queued.Open c.in-Some-Open.next) refl (subst (λ ms. IsOfALine false true c.take.new.self.queued ms) (ap (λ (s : SeatState (Queued _ _)). s.taken) took) c.reached.ensures) in
+    let readied = desk_kept g.W.Work.label g.W.Work.given g.W.Work.is_closed c.self.inside.inbox c.self.inside.seat c.self.inside.seat c.self.inside.work c.make_ready-ready.new.work c.self.inside.past.items refl c.make_ready-ready.ensures.label c.make_ready-ready.ensures.live c.make_ready-ready.ensures.given c.self.invariant.0 in
+    readied.ended after.0
 
 pub push_reserved-requires : goal.push_reserved-requires
 push_reserved-requires g c =
@@ -46,12 +58,15 @@ pub invariant_of-self-in-Some-Open : goal.invariant_of-self-in-Some-Open
 invariant_of-self-in-Some-Open g c =
     let took = c.in-Some-Open.ensures.some.0 ∙ ap (taken_more c.self.inside.seat) c.in-Some-Open.field-0-is in
     let after = opened_after g.W.Work.label g.W.Work.given g.W.Work.is_closed c.take.new.self.queued c.self.inside.seat.taken (queued.Open c.in-Some-Open.next) refl (subst (λ ms. IsOfALine false true c.take.new.self.queued ms) (ap (λ (s : SeatState (Queued _ _)). s.taken) took) c.reached.ensures) in
-    let kept = desk_kept g.W.Work.label g.W.Work.given g.W.Work.is_closed c.self.inside.inbox c.self.inside.seat c.self.inside.seat c.self.inside.work c.make_ready-ready.new.work c.self.inside.past.items refl c.make_ready-ready.ensures.label c.make_ready-ready.ensures.live c.make_ready-ready.ensures.given c.self.invariant.0 in
+    let readied = desk_kept g.W.Work.label g.W.Work.given g.W.Work.is_closed c.self.inside.inbox c.self.inside.seat c.self.inside.seat c.self.inside.work c.make_ready-ready.new.work c.self.inside.past.items refl c.make_ready-ready.ensures.label c.make_ready-ready.ensures.live c.make_ready-ready.ensures.given c.self.invariant.0 in
+    let kept = desk_kept g.W.Work.label g.W.Work.given g.W.Work.is_closed c.self.inside.inbox c.self.inside.seat c.self.inside.seat c.make_ready-ready.new.work c.retire.new.self c.self.inside.past.items refl c.retire.ensures.label (λ live. absurd (false≢true (sym live ∙ c.retire.ensures.closed))) c.retire.ensures.given readied in
     let fresh = subst (IsFresh g.W.Work.given g.W.Work.ticked g.W.Work.is_closed) (sym c.replace-past.ensures.after) c.into_work.ensures.fresh in (
       subst (λ ws. IsDesk g.W.Work.label g.W.Work.given g.W.Work.is_closed (desk_state c.self.inside.inbox c.take.new.self c.replace-past.new.dest ws)) (sym (c.push_reserved.ensures.items ∙ ap (λ w. c.self.inside.past.items ++ w ∷ []) c.replace-past.ensures.value))
-          (desk_opened g.W.Work.label g.W.Work.given g.W.Work.is_closed g.W.Work.ticked c.self.inside.inbox c.self.inside.seat c.take.new.self c.make_ready-ready.new.work c.replace-past.new.dest c.in-Some-Open.next c.self.inside.past.items (queued.Open c.in-Some-Open.next) refl (ap g.W.Work.label (c.replace-past.ensures.after ∙ c.into_work.ensures.work)) took refl after.0 fresh kept),
+          (desk_opened g.W.Work.label g.W.Work.given g.W.Work.is_closed g.W.Work.ticked c.self.inside.inbox c.self.inside.seat c.take.new.self c.retire.new.self c.replace-past.new.dest c.in-Some-Open.next c.self.inside.past.items (queued.Open c.in-Some-Open.next) refl (ap g.W.Work.label (c.replace-past.ensures.after ∙ c.into_work.ensures.work)) took refl after.0 fresh kept),
       ap (λ s. s.inbox) c.in-Some-Open.ensures.some.0 ∙ c.self.invariant.1,
       omega (arith, c.push_reserved.ensures.capacity, c.self.invariant.2),
+      (let more = ap (sum_by g.W.Work.weight) (c.push_reserved.ensures.items ∙ ap (λ w. c.self.inside.past.items ++ w ∷ []) c.replace-past.ensures.value) ∙ sum_by_push g.W.Work.weight c.self.inside.past.items c.retire.new.self in
+          omega (arith, more, c.retire.ensures.weight, c.retire.ensures.most, c.self.invariant.3)),
     )
 
 pub returns-in-None-clause-ticks : goal.returns-in-None-clause-ticks
@@ -77,4 +92,4 @@ returns-in-Some-Open-clause-ticks g c =
     let new = desk_state c.self.inside.inbox c.take.new.self c.replace-past.new.dest c.push_reserved.new.self.items in
     let fresh = subst (IsFresh g.W.Work.given g.W.Work.ticked g.W.Work.is_closed) (sym c.replace-past.ensures.after) c.into_work.ensures.fresh in
     subst (λ (old : DeskState _ _). NotTicked g.W.Work.ticked old new) c.self.view_is
-    (works_next g.W.Work.ticked (IsUnticked g.W.Work.ticked) (desk_state c.self.inside.inbox c.self.inside.seat c.self.inside.work c.self.inside.past.items) new c.make_ready-ready.new.work (c.push_reserved.ensures.items ∙ ap (λ w. c.self.inside.past.items ++ w ∷ []) c.replace-past.ensures.value) c.make_ready-ready.ensures.ticked fresh.unticked)
+    (works_next g.W.Work.ticked (IsUnticked g.W.Work.ticked) (desk_state c.self.inside.inbox c.self.inside.seat c.self.inside.work c.self.inside.past.items) new c.retire.new.self (c.push_reserved.ensures.items ∙ ap (λ w. c.self.inside.past.items ++ w ∷ []) c.replace-past.ensures.value) (λ at t. c.retire.ensures.ticked at (c.make_ready-ready.ensures.ticked at t)) fresh.unticked)
