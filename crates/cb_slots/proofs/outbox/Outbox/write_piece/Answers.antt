@@ -1,4 +1,4 @@
-use Rattle.std.proofs.Common.{◌≡◌, ◌-◌, ◌++◌, length, take, drop}
+use Rattle.std.proofs.Common.{◌-◌, ◌++◌, length, take, drop}
 use Rattle.std.proofs.KnownBytes.{Appends-kept, Appends-trans}
 use Rattle.cb_slots.proofs.Writing.{gone_more, gone_part, on_err}
 use Rattle.cb_slots.proofs.outbox.Outbox.write_piece.Goals as goal
