@@ -1,5 +1,5 @@
 -- What waits to be written to a connection's socket.
-use Rattle.std.specs.Prelude.{◌≡◌, ℕ, ◌+◌, ◌≤◌, Bool, true, false, List, [], ◌++◌, length}
+use Rattle.std.specs.Prelude.{ℕ, ◌+◌, ◌≤◌, Bool, true, false, List, [], ◌++◌, length}
 
 -- A queue of bytes: those that wait, in order, and whether it takes further ones.
 pub record QueueState : Type 0 where
