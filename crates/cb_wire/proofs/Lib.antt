@@ -1,4 +1,5 @@
 pub mod Envelopes
+pub mod Hashing
 pub mod Messages
 pub mod Names
 pub mod Streams
