@@ -24,49 +24,14 @@ from pathlib import Path
 if not __package__:  # called as a file
     sys.path.insert(0, str(Path(__file__).resolve().parents[2]))
 
-from bench.models.plain_block import NULL_POINT, AnyTx, MinedBlock
 from bench.tools.command_line import usage
-from bench.tools.network import GENESIS
-from bench.tools.node_scripts import GIVEN
+from bench.tools.full_blocks import TXS, FullChain
 from bench.tools.node_talk import NodeTalk
 from bench.tools.programs import built
 
 NODES, HANDLERS, ROUNDS = 8, (1, 4), 5
-SUBSIDY, OUTPUTS, TXS, SIZE = 5_000_000_000, 4_000, 3_900, 250
 STAR_TXS, QUIET = 10_000, 0.3
 MINED, LOOPED = 20, 200
-
-
-def fan(height, outputs):
-    """A coinbase that pays to so many outputs."""
-    script = height.to_bytes(4, "little") + bytes([GIVEN])
-    return AnyTx([(NULL_POINT, script)], [SUBSIDY // outputs] * outputs)
-
-
-def spending(tx, index, size):
-    """A transaction of this size that spends one output of another."""
-    bare = AnyTx([((tx.name, index), b"")], [tx.values[index] - 1])
-    return AnyTx([((tx.name, index), bytes(size - len(bare.text)))], [tx.values[index] - 1])
-
-
-class Chain:
-    """Blocks that no node mined: fans, and behind each a block that spends all of its outputs."""
-
-    def __init__(self, rounds, txs, outputs=OUTPUTS):
-        self.fans, self.blocks, name, height = [], [], GENESIS, 0
-        for _ in range(rounds):
-            height += 1
-            block = MinedBlock(name, height, [fan(height, outputs)])
-            self.fans.append(block)
-            spends = [spending(block.txs[0], index, SIZE) for index in range(txs)]
-            height += 1
-            full = MinedBlock(block.header.name, height, [coinbase_of(height), *spends])
-            self.blocks.append(full)
-            name = full.header.name
-
-
-def coinbase_of(height):
-    return fan(height, 1)
 
 
 def linked(program, handlers, pairs):
@@ -149,7 +114,7 @@ def catching_up(program, handlers, chain):
 
 def star(program, handlers):
     """Transactions from node 0 to seven others."""
-    chain = Chain(1, STAR_TXS, STAR_TXS + 100)
+    chain = FullChain(1, STAR_TXS, STAR_TXS + 100)
     with linked(program, handlers, STAR) as nodes:
         nodes.say(f"block 0 {chain.fans[0].text.hex()}")
         settle(nodes)
@@ -196,7 +161,7 @@ def mining_alone(line):
 def main():
     words = usage(__doc__, program="the program", line="bench_line, if not the one in its crate").parse_args()
     program, line = built(words.program, "cbrelay"), built(words.line, "bench_line")
-    chain = Chain(ROUNDS, TXS)
+    chain = FullChain(ROUNDS, TXS)
     print("| blocks of a line of eight | handlers | ms to the last tip | processor ms a node | bytes out of node 0 in all | how blocks came |")
     print("|---|---|---|---|---|---|")
     for handlers in HANDLERS:

@@ -6,9 +6,7 @@ It needs the built program (crates/cbrelay/out/cbrelay, as ./build leaves it), p
 
 - A node's 32 slots are used up, and one is freed by a kick and used again. With --all each slot is used until it has had 256 connections, and
   then there is none: that takes a minute more.
-- A peer asks for many blocks and reads nothing. The others go on meanwhile; its connection ends with WriteFault once a write finds no room for 20 seconds.
-- While a node's only handler waits in such a write, a slot whose reader was told to stop can't put its end mark in, since its inbox is full, and
-  in another the end mark has filled the inbox. The next connection goes to the next slot that was left, and then there is no slot.
+- A peer asks for many blocks and reads nothing. The others go on meanwhile; its connection ends with WriteFault once too much waits for it, or its socket took nothing for 30 seconds.
 - Peers end in the middle of a message, once with the end of the stream and once by a reset, and others send bytes that are no message, a
   payload that can't be read, or nothing at all. The nodes go on.
 
@@ -19,7 +17,6 @@ import socket
 import struct
 import sys
 import time
-from contextlib import ExitStack
 from pathlib import Path
 
 if not __package__:  # called as a file
@@ -37,8 +34,6 @@ from bench.tools.node_talk import NodeTalk, peer
 from bench.tools.programs import built
 
 SLOTS, CONNECTIONS = 32, 256
-# How many marks an inbox holds.
-MARKS = 256
 # How often a link is tried, and after how many rounds of kicks without a link no slot is left.
 TRIES, IDLE_ROUNDS = 100, 3
 LARGE, ASKED = 900_000, 60
@@ -47,11 +42,9 @@ PING = envelope(b"ping", bytes(8))
 PONG = PING[:4] + b"pong"
 UNREADABLE = envelope(b"ping", bytes(7))
 # How long a write may wait, and how long we wait for its end.
-TIMEOUT, PATIENCE = 20, 60
-# The slots of the peers by which inboxes become full, and how often that is tried where the machine is too slow.
-PEERS, FULL_TRIES = ("1", "2", "3", "4", "5"), 3
-# How many bytes tell that blocks are written to a peer, and how often we look whether all threads sleep.
-MUCH, LOOKS_AT_REST = 10_000, 5
+TIMEOUT, PATIENCE = 30, 90
+# How often we look whether all threads sleep.
+LOOKS_AT_REST = 5
 
 
 class Peers(Looks):
@@ -77,8 +70,8 @@ class Peers(Looks):
             self.look("a link more", nodes.say("link 0 1"), "no slot")
             threads = len(nodes.states())
             self.look("a kick", nodes.say(f"kick 0 {OUTBOUND + 5}"), None)
-            # Both readers return. A link before that could use node 0's slot in vain.
-            until(lambda: rests(nodes, threads - 2), time.monotonic() + TIMEOUT)
+            # Both connections' readers and writers return. A link before that could use node 0's slot in vain.
+            until(lambda: rests(nodes, threads - 4), time.monotonic() + TIMEOUT)
             self.look("a link again", nodes.say("link 0 1"), None)
             self.look("a block", nodes.say("mine 0"), None)
             self.look("a wait", nodes.say("wait"), None)
@@ -187,80 +180,6 @@ class Peers(Looks):
                 rows = self.ends("a peer that never reads", nodes, height, 3)
             self.look("the peer's end", [row[7] for row in rows if row[1:4] == ["1", "slot", "2"]], ["WriteFault"])
 
-    # ---- full inboxes
-
-    def full_inboxes(self):
-        """Slots whose inboxes are full are passed over. A try in which that isn't so in time tells nothing, and is made again."""
-        for _ in range(FULL_TRIES):
-            with NodeTalk(self.program, 3, 1, "--stats", seconds=PATIENCE) as nodes, ExitStack() as stack:
-                much = self.asked_of(nodes)
-                streams = self.peers_first(nodes, stack)
-                told = links_beside(nodes, streams, much)
-                if told is not None:
-                    self.look("links beside full inboxes", told, [None, None, "no slot"])
-                    self.after_full_inboxes(nodes, streams)
-                    return
-        self.look("inboxes that are full before a write ends", False, True)
-
-    def peers_first(self, nodes, stack):
-        """Uses all slots of node 1. Those of PEERS serve the peers that come back, whose inboxes are empty, the others nodes 0 and 2."""
-        self.look("a link", nodes.say("link 2 1"), None)
-        [port] = nodes.ports()
-        # All wait to be accepted, so they are taken for node 2, whose own connections wait behind them.
-        streams = [stack.enter_context(peer(port)) for _ in PEERS]
-        for stream in streams:
-            self.look("a peer's link", nodes.say("link 2 1"), None)
-            stream.sendall(HELLO + PING)
-            self.look("a pong", pongs(stream, 1), 1)
-        for _ in range(SLOTS - 1 - len(PEERS)):
-            self.look("a link", nodes.say("link 0 1"), None)
-        self.look("a wait", nodes.say("wait"), None)
-        return streams
-
-    def after_full_inboxes(self, nodes, streams):
-        """The handler is free again. What lay in the inboxes is served, and the nodes go on."""
-        _, _, holder, ended, roomy = streams
-        end_by_reset(holder)
-        self.look("pongs after a full inbox", [pongs(stream, MARKS) for stream in (ended, roomy)], [MARKS - 1, MARKS - 2])
-        self.look("a block", nodes.say("mine 0"), None)
-        self.look("a wait", nodes.say("wait"), None)
-        rows = [row for row in self.ends("full inboxes", nodes, 3, 3) if row[1] == "1" and row[3] in PEERS]
-        ends = [row[7] for row in rows if row[5] == "1"]
-        self.look("the peers' ends", ends, ["WriteFault", "BadMessage", "WriteFault", "Bye", "Bye"])
-        self.look("slots of second connections", [row[3] for row in rows if row[5] != "1"], [PEERS[0], PEERS[4]])
-
-
-def links_beside(nodes, streams, much):
-    """What becomes of three links to node 1 while it has full inboxes; nothing if they weren't so before a write may have ended by itself.
-
-    The handler takes the slots' turns in order. First it writes to the first peer, which reads nothing, until that resets its connection. Then it
-    finds the unreadable message of the second peer, whose reader it tells to stop, and writes to the third, which reads nothing. So the first
-    peer's slot is free, the second's inbox has no room for the end mark, the fourth's none for an open mark, and the fifth's has room for both.
-    """
-    first, stopped, holder, ended, roomy = streams
-    threads = len(nodes.states())
-    end = time.monotonic() + TIMEOUT
-    first.sendall(much)
-    until(lambda: is_written_to(first), end)
-    holder.sendall(much)
-    stopped.sendall(UNREADABLE + PING * 2 * MARKS)
-    for stream, count in ((ended, MARKS - 1), (roomy, MARKS - 2)):
-        stream.sendall(PING * count)
-        stream.shutdown(socket.SHUT_WR)
-    # The readers of the fourth and the fifth have returned, and then that of the first. That of the second waits.
-    until(lambda: rests(nodes, threads - 2), end)
-    end_by_reset(first)
-    until(lambda: is_written_to(holder), end)
-    until(lambda: rests(nodes, threads - 3), end)
-    # The first link goes to the first peer's slot, the second to the fifth's.
-    told = [nodes.say("link 2 1") for _ in range(3)]
-    return told if time.monotonic() < end else None
-
-
-def is_written_to(stream):
-    """Whether more came to a peer than is sent to one that asks for nothing."""
-    return len(stream.recv(MUCH, socket.MSG_PEEK)) == MUCH
-
 
 def rests(nodes, threads):
     """Whether the nodes have so many threads, which all sleep at several looks in a row."""
@@ -304,7 +223,6 @@ def main():
                      (looks.unreadable, "BadMessage"), (looks.many_pings, "Bye")):
         looks.with_peer(act.__name__, act, end)
     looks.never_reads()
-    looks.full_inboxes()
     if words.all:
         looks.every_connection()
     return looks.told()

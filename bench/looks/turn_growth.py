@@ -4,7 +4,8 @@
 It needs the built program (crates/bench_peers/out/bench_peers, as ./build --all leaves it), a C compiler as `cc`, and python3, and takes
 half a minute. The program serves one peer on one thread. The Nth growth fails, and N goes up until a run makes fewer.
 
-Each run has to end as with ample memory, or with status 4. What a connection wrote then is a beginning of what it writes with ample
+Each run has to end as with ample memory, or with status 4. The first crew that can't be made gives its works back, and the program makes
+another one with them: so such a run ends as with ample memory. What a connection wrote then is a beginning of what it writes with ample
 memory; connections behind one that ended early may be answered otherwise, since the hall was given less. Each trace replays.
 """
 
@@ -22,7 +23,7 @@ from bench.tools.growths import build, refuse_each
 from bench.tools.messages import pings
 from bench.tools.peers_play import connections_of, peer_line, summary_of
 from bench.tools.programs import built
-from bench.tools.relay_rows import relay
+from bench.tools.relay_rows import asked_often, relay
 
 # The places of the inbox, into which a whole connection goes.
 CAPACITY = 1_024
@@ -37,6 +38,7 @@ def script_of(*streams):
 def runs():
     """What is run: a name and the script."""
     yield "the example relay.bin", script_of(b"", relay().said())
+    yield "a checkpoint while a block is rebuilt", script_of(b"", asked_often().said())
     yield "a connection, and the next", script_of(pings(2), Relay(3).stream)
     yield from ((f"a conversation, seed {seed}", script_of(b"", (Relay if seed % 2 else Conversation)(seed).stream)) for seed in range(1, 5))
 

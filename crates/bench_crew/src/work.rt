@@ -64,6 +64,9 @@ impl Work for HashWork {
 
     ghost is_closed = { is_over };
 
+    // A tally takes a few bytes.
+    ghost weight = { λ work. 0 };
+
     ghost label = { λ work. work.peer };
 
     fn whose(&self) -> u64 {
@@ -92,4 +95,10 @@ impl Work for HashWork {
     }
 
     fn tick<R: Wait>(&mut self, _rt: &R) {}
+
+    fn weighs(&self) -> u64 {
+        0
+    }
+
+    fn let_go(&mut self) {}
 }

@@ -29,7 +29,7 @@ use std::thread::Threads;
 /// What a line came to.
 #[derive(Clone, Copy, PartialEq, Eq)]
 enum Outcome {
-    /// It was noted, or all traces replay.
+    /// It was noted, or no trace replays otherwise.
     Right,
     /// A trace doesn't replay.
     Unlike,

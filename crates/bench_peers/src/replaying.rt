@@ -108,14 +108,23 @@ fn step_again(
     }
 }
 
-/// Whether a trace replays: a new session that is given its events again comes to the same state,
-/// asks the questions that the trace tells, and sends what was written. If memory ran out or a
-/// write failed, what was written is a prefix of that.
-///
-/// Fails only with `Fault::Memory`.
-pub fn replays(alloc: Global, trace: &Trace, written: &[u8]) -> Result<bool, Fault> {
+/// What came of the replay of a trace.
+#[derive(Clone, Copy, PartialEq, Eq)]
+pub enum Verdict {
+    /// A new session that is given its events again comes to the same state, asks the questions
+    /// that the trace tells, and sends what was written. If memory ran out or a write failed, what
+    /// was written is a prefix of that.
+    Alike,
+    /// The new session does otherwise.
+    Unlike,
+    /// A checkpoint stands for its first events, so no new session can be given them.
+    Checkpointed,
+}
+
+/// What comes of the replay of a trace. Fails only with `Fault::Memory`.
+pub fn verdict_of(alloc: Global, trace: &Trace, written: &[u8]) -> Result<Verdict, Fault> {
     if trace.before().entries > 0 {
-        return Ok(false);
+        return Ok(Verdict::Checkpointed);
     }
     match Session::new(alloc, SETTINGS) {
         Ok((session, opening)) => {
@@ -123,7 +132,11 @@ pub fn replays(alloc: Global, trace: &Trace, written: &[u8]) -> Result<bool, Fau
             let alike = is_alike(alloc, &mut session, opening.as_slice(), trace, written);
             drop(session);
             drop(opening);
-            alike
+            match alike {
+                Ok(true) => Ok(Verdict::Alike),
+                Ok(false) => Ok(Verdict::Unlike),
+                Err(fault) => Err(fault),
+            }
         }
         Err(fault) => Err(fault),
     }

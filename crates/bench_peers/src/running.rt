@@ -32,8 +32,8 @@ struct Common {
     hall: BenchHall,
 }
 
-/// Plays the script, and appends what is printed. Returns whether all traces replay, or `None` if
-/// the script has no peer or a number is out of range.
+/// Plays the script, and appends what is printed. Returns whether no trace replays otherwise, or
+/// `None` if the script has no peer or a number is out of range.
 ///
 /// Fails if memory runs out or a thread can't be started.
 pub fn play<R: Threads + Wait + Sync + Send + Copy + Drop + 'static>(
@@ -209,7 +209,7 @@ fn reader_of<'a, R: Wait + Copy + Drop>(
     })
 }
 
-/// Appends what a run came to. Returns whether all traces replay. Fails if memory ran out, in the
+/// Appends what a run came to. Returns whether no trace replays otherwise. Fails if memory ran out, in the
 /// run or here.
 fn tell<R: Wait + Drop>(
     rt: &R,

@@ -41,7 +41,8 @@ where
     serve_by_threads(rt, alloc, signals, backlogs, made, readers)
 }
 
-/// A crew with these works.
+/// A crew with these works. If memory lacks they come back, and the crew is tried once more with
+/// them.
 pub fn man<W: Work, R: Wait>(
     rt: &R,
     alloc: Global,
@@ -63,7 +64,10 @@ pub fn man<W: Work, R: Wait>(
     }
     match Crew::new(rt, alloc, works, handlers, capacity) {
         Ok(made) => Ok(made),
-        Err((_, fault)) => Err(fault),
+        Err((back, _)) => match Crew::new(rt, alloc, back, handlers, capacity) {
+            Ok(made) => Ok(made),
+            Err((_, fault)) => Err(fault),
+        },
     }
 }
 

@@ -1,4 +1,4 @@
-use crate::replaying::replays;
+use crate::replaying::{Verdict, verdict_of};
 use crate::works::BenchWork;
 use cb_base::Fault;
 use cb_crew::Desk;
@@ -15,9 +15,10 @@ pub struct Summary {
     entries: u64,
     /// How many bytes were written.
     written: u64,
-    /// How many traces replay, and how many don't.
+    /// How many traces replay, how many don't, and how many can't be replayed from their beginning.
     alike: u64,
     unlike: u64,
+    checkpointed: u64,
     /// Whether memory ran out for a connection.
     starved: bool,
 }
@@ -31,11 +32,12 @@ impl Summary {
             written: 0,
             alike: 0,
             unlike: 0,
+            checkpointed: 0,
             starved: false,
         }
     }
 
-    /// Whether all traces replay.
+    /// Whether no trace replays otherwise.
     pub fn is_alike(&self) -> bool {
         self.unlike == 0
     }
@@ -46,12 +48,16 @@ impl Summary {
     }
 
     /// Adds a connection.
-    fn add<R: Wait + Drop>(&mut self, work: &BenchWork<R>, alike: bool) {
+    fn add<R: Wait + Drop>(&mut self, work: &BenchWork<R>, verdict: Verdict) {
         self.connections = self.connections.saturating_add(1);
         self.entries = self.entries.saturating_add(work.trace().total().entries);
         self.written = self.written.saturating_add(work.written());
-        self.alike = self.alike.saturating_add(u64::from(alike));
-        self.unlike = self.unlike.saturating_add(u64::from(!alike));
+        let count = match verdict {
+            Verdict::Alike => &mut self.alike,
+            Verdict::Unlike => &mut self.unlike,
+            Verdict::Checkpointed => &mut self.checkpointed,
+        };
+        *count = count.saturating_add(1);
         self.starved |= is_starved(work.trace().state());
     }
 
@@ -63,11 +69,12 @@ impl Summary {
             written,
             alike,
             unlike,
+            checkpointed,
             starved: _,
         } = *self;
         writeln!(
             out,
-            "connections {connections} entries {entries} written {written} alike {alike} unlike {unlike} height {} pool {}",
+            "connections {connections} entries {entries} written {written} alike {alike} unlike {unlike} checkpointed {checkpointed} height {} pool {}",
             look.height, look.pool
         )?;
         Ok(())
@@ -112,8 +119,8 @@ fn tell_work<R: Wait + Drop>(
     if verbose {
         tell_connection(alloc, work, out)?;
     }
-    let alike = replays(alloc, work.trace(), work.sink().bytes())?;
-    summary.add(work, alike);
+    let verdict = verdict_of(alloc, work.trace(), work.sink().bytes())?;
+    summary.add(work, verdict);
     Ok(())
 }
 

@@ -1,17 +1,21 @@
 -- The task that the words name, and how it ended.
-use Rattle.std.proofs.Common.{◌≡◌, ℕ, Bool, true, false, List, [], ◌⊎◌, inl, inr, codes, Option, Some, None, Result, Ok, Err, IfOk, IfErr, MatchResult, sym, subst}
+use Rattle.std.proofs.Common.{◌≡◌, ℕ, Bool, true, false, List, [], ◌⊎◌, inl, inr, codes, Option, Some, None, Result, Ok, Err, IfOk, IfErr, MatchResult, ap, sym, subst, ◌∙◌}
+use Rattle.std.specs.Io.KnownBytes.{Appends}
 use Rattle.std.specs.Prelude.{if◌then◌else◌}
 use Rattle.std.specs.Str.{bytes_eq}
 use Rattle.clap.specs.Words.{fault_of}
 use Rattle.cb_run.specs.declared.ending.Status.{Status}
 use Rattle.cb_run.specs.declared.ending.Halt.{Halt}
-use Rattle.cb_run.specs.Ending.{HasCause, status_code}
+use Rattle.cb_run.specs.declared.ending.Halt.TheVariants.{Memory, ReadFailed, TooManyLines, WriteFailed}
+use Rattle.cb_run.specs.Ending.{HasCause, halt_status, status_code}
 use Rattle.cb_decode.specs.Report.{ReportsKnown}
 use Rattle.cb_run_nodes.specs.declared.running.RunOrders.{RunOrders}
-use Rattle.cb_command.specs.Command.{EndsEarly, Halts, PrintsReport, code_of}
+use Rattle.cb_command.specs.Command.{EndsEarly, EndsNode, Halts, HasNodeCause, PrintsReport, code_of}
 use Rattle.cb_command.specs.Words.{AreWithin, ByTask, entered, program, task_in, task_named}
 use Rattle.cb_command.specs.declared.commanding.Task.{Task}
-use Rattle.cb_command.specs.declared.commanding.Task.TheVariants.{Decode, Serve, Sim, Run}
+use Rattle.cb_command.specs.declared.commanding.Task.TheVariants.{Decode, Serve, Sim, Run, Node}
+use Rattle.cb_command.specs.declared.node_words.BadWords.{BadWords}
+use Rattle.cb_node_process.specs.declared.orders.NodeOrders.{NodeOrders}
 
 -- a run with its status, or one that ended early
 pub done : (Prints : ℕ → Type 0) (Same : Type 0) (input : Option (List ℕ)) (read_failed write_failed : Bool) (told tells : Option (List ℕ)) (failed : Bool) (ended : Result ℕ Halt) (code : ℕ) → IfOk ended Prints
@@ -29,26 +33,114 @@ decoded Same input held holds read_failed write_failed told tells failed (Err ha
     inr (halt, cause, subst (λ (r : Result ℕ Halt). MatchResult r (λ c. (code ≡ c) × Same) (EndsEarly told tells failed code)) is settled)
 
 -- the orders of `run` are those that were found
-by_words : (orders other : RunOrders) (serve sim run : Bool) → Run other ≡ (if serve then Serve else if sim then Sim else if run then Run orders else Decode) → other ≡ orders
-by_words orders other true sim run is = absurd (let clash : Run other ≡ Serve = is in cc)
-by_words orders other false true run is = absurd (let clash : Run other ≡ Sim = is in cc)
-by_words orders other false false true is = let same : Run other ≡ Run orders = is in cc
-by_words orders other false false false is = absurd (let clash : Run other ≡ Decode = is in cc)
+by_words : (orders other : RunOrders) (found : Result NodeOrders BadWords) (serve sim run node : Bool) → Run other ≡ (if serve then Serve else if sim then Sim else if run then Run orders else if node then Node found else Decode) → other ≡ orders
+by_words orders other found true sim run node is = absurd (let clash : Run other ≡ Serve = is in cc)
+by_words orders other found false true run node is = absurd (let clash : Run other ≡ Sim = is in cc)
+by_words orders other found false false true node is = let same : Run other ≡ Run orders = is in cc
+by_words orders other found false false false true is = absurd (let clash : Run other ≡ Node found = is in cc)
+by_words orders other found false false false false is = absurd (let clash : Run other ≡ Decode = is in cc)
 
-by_name : (orders other : RunOrders) (name : Option (List ℕ)) → Run other ≡ task_named orders name → other ≡ orders
-by_name orders other None is = absurd (let clash : Run other ≡ Decode = is in cc)
-by_name orders other (Some name) is = by_words orders other (bytes_eq name (codes "serve")) (bytes_eq name (codes "sim")) (bytes_eq name (codes "run")) is
+by_name : (orders other : RunOrders) (found : Result NodeOrders BadWords) (name : Option (List ℕ)) → Run other ≡ task_named orders found name → other ≡ orders
+by_name orders other found None is = absurd (let clash : Run other ≡ Decode = is in cc)
+by_name orders other found (Some name) is = by_words orders other found (bytes_eq name (codes "serve")) (bytes_eq name (codes "sim")) (bytes_eq name (codes "run")) (bytes_eq name (codes "node")) is
+
+-- and those of `node`
+node_by_words : (orders : RunOrders) (found other : Result NodeOrders BadWords) (serve sim run node : Bool) → Node other ≡ (if serve then Serve else if sim then Sim else if run then Run orders else if node then Node found else Decode) → other ≡ found
+node_by_words orders found other true sim run node is = absurd (let clash : Node other ≡ Serve = is in cc)
+node_by_words orders found other false true run node is = absurd (let clash : Node other ≡ Sim = is in cc)
+node_by_words orders found other false false true node is = absurd (let clash : Node other ≡ Run orders = is in cc)
+node_by_words orders found other false false false true is = let same : Node other ≡ Node found = is in cc
+node_by_words orders found other false false false false is = absurd (let clash : Node other ≡ Decode = is in cc)
+
+node_by_name : (orders : RunOrders) (found other : Result NodeOrders BadWords) (name : Option (List ℕ)) → Node other ≡ task_named orders found name → other ≡ found
+node_by_name orders found other None is = absurd (let clash : Node other ≡ Decode = is in cc)
+node_by_name orders found other (Some name) is = node_by_words orders found other (bytes_eq name (codes "serve")) (bytes_eq name (codes "sim")) (bytes_eq name (codes "run")) (bytes_eq name (codes "node")) is
 
 -- A task was run, whatever it told for the orders that the words give.
-pub runs_task : {Refused Lacked : Type 0} (Decodes Serves Simulates : Type 0) (Runs : RunOrders → Type 0) (found task : Task) (words whole : List (List ℕ)) → found ≡ task → words ≡ whole → fault_of program words ≡ []
-    → ((orders : RunOrders) × AreWithin orders × (found ≡ task_in orders words)) → ((orders : RunOrders) → task ≡ task_in orders words → ByTask task Decodes Serves Simulates (Runs orders))
-    → Refused ⊎ (Lacked ⊎ ((fault_of program whole ≡ []) × ((orders : RunOrders) × AreWithin orders × ByTask (task_in orders whole) Decodes Serves Simulates (Runs orders))))
-runs_task Decodes Serves Simulates Runs found task words whole named same none given ran =
+pub runs_task : {Refused Lacked : Type 0} (Decodes Serves Simulates : Type 0) (Runs : RunOrders → Type 0) (Nodes : Result NodeOrders BadWords → Type 0) (found task : Task) (words whole : List (List ℕ)) → found ≡ task → words ≡ whole → fault_of program words ≡ []
+    → ((orders : RunOrders) × (node : Result NodeOrders BadWords) × AreWithin orders × (found ≡ task_in orders node words)) → ((orders : RunOrders) (node : Result NodeOrders BadWords) → task ≡ task_in orders node words → ByTask task Decodes Serves Simulates (Runs orders) (Nodes node))
+    → Refused ⊎ (Lacked ⊎ ((fault_of program whole ≡ []) × ((orders : RunOrders) × (node : Result NodeOrders BadWords) × AreWithin orders × ByTask (task_in orders node whole) Decodes Serves Simulates (Runs orders) (Nodes node))))
+runs_task Decodes Serves Simulates Runs Nodes found task words whole named same none given ran =
     let orders : RunOrders = given.0 in
-    let is : task ≡ task_in orders words = subst (λ (t : Task). t ≡ task_in orders words) named given.2 in
-    let told : ByTask (task_in orders words) Decodes Serves Simulates (Runs orders) = subst (λ (t : Task). ByTask t Decodes Serves Simulates (Runs orders)) is (ran orders is) in
-    inr (inr (subst (λ (w : List (List ℕ)). fault_of program w ≡ []) same none, (orders, given.1, subst (λ (w : List (List ℕ)). ByTask (task_in orders w) Decodes Serves Simulates (Runs orders)) same told)))
+    let node : Result NodeOrders BadWords = given.1 in
+    let is : task ≡ task_in orders node words = subst (λ (t : Task). t ≡ task_in orders node words) named given.3 in
+    let told : ByTask (task_in orders node words) Decodes Serves Simulates (Runs orders) (Nodes node) = subst (λ (t : Task). ByTask t Decodes Serves Simulates (Runs orders) (Nodes node)) is (ran orders node is) in
+    inr (inr (subst (λ (w : List (List ℕ)). fault_of program w ≡ []) same none, (orders, node, given.2, subst (λ (w : List (List ℕ)). ByTask (task_in orders node w) Decodes Serves Simulates (Runs orders) (Nodes node)) same told)))
 
 -- what holds for the orders with which `run` was called holds for those that the words give
-pub for_orders : (P : RunOrders → Type 0) (other orders : RunOrders) (words : List (List ℕ)) → P other → Run other ≡ task_in orders words → P orders
-for_orders P other orders words holds is = subst P (by_name orders other (entered words) is) holds
+pub for_orders : (P : RunOrders → Type 0) (other orders : RunOrders) (node : Result NodeOrders BadWords) (words : List (List ℕ)) → P other → Run other ≡ task_in orders node words → P orders
+for_orders P other orders node words holds is = subst P (by_name orders other node (entered words) is) holds
+
+-- the same of `node`
+pub for_node : (P : Result NodeOrders BadWords → Type 0) (other : Result NodeOrders BadWords) (orders : RunOrders) (node : Result NodeOrders BadWords) (words : List (List ℕ)) → P other → Node other ≡ task_in orders node words → P node
+for_node P other orders node words holds is = subst P (node_by_name orders node other (entered words) is) holds
+
+-- ---- how a node ended
+
+-- why it ended early, where standard error was told of it afterwards
+node_cause : (write_failed marked failed : Bool) (halt : Halt) → (halt ≡ Memory) ⊎ ((halt ≡ ReadFailed) ⊎ ((halt ≡ WriteFailed) × ((write_failed ≡ true) ⊎ (marked ≡ true)))) → (marked ≡ true → failed ≡ true) → HasNodeCause write_failed failed halt
+node_cause write_failed marked failed halt why stays =
+    elim why [
+      | inl is ↦ subst (HasNodeCause write_failed failed) (sym is) tt
+      | inr other ↦ elim other [
+        | inl is ↦ subst (HasNodeCause write_failed failed) (sym is) tt
+        | inr wrote ↦ subst (HasNodeCause write_failed failed) (sym wrote.0) (elim wrote.1 [
+          | inl out ↦ inl out
+          | inr was ↦ inr (stays was)
+        ])
+      ]
+    ]
+
+-- standard error had been told nothing before, or had failed
+node_early : (told mid tells : Option (List ℕ)) (marked failed : Bool) (halt : Halt) (code : ℕ) → (mid ≡ told) ⊎ (marked ≡ true) → EndsEarly mid tells failed code halt → (marked ≡ true → failed ≡ true) → EndsEarly told tells failed code halt
+node_early told mid tells marked failed halt code quiet ends stays =
+    elim quiet [
+      | inl same ↦ subst (λ (x : Option (List ℕ)). EndsEarly x tells failed code halt) same ends
+      | inr was ↦ (inr (stays was), ends.1)
+    ]
+
+node_halted : (told mid tells : Option (List ℕ)) (write_failed marked failed : Bool) (halt : Halt) (code : ℕ) → (halt ≡ Memory) ⊎ ((halt ≡ ReadFailed) ⊎ ((halt ≡ WriteFailed) × ((write_failed ≡ true) ⊎ (marked ≡ true))))
+    → (mid ≡ told) ⊎ (marked ≡ true) → EndsEarly mid tells failed code halt → (marked ≡ true → failed ≡ true) → EndsNode write_failed told tells failed code
+node_halted told mid tells write_failed marked failed halt code why quiet ends stays =
+    (halt, node_cause write_failed marked failed halt why stays, node_early told mid tells marked failed halt code quiet ends stays)
+
+-- a standard error that is the same has been told the same
+pub quiet_of : {E : Type 0} (contents : E → Option (List ℕ)) (mid told : E) (marked : Bool) (ended : Result ℕ Halt) → IfErr ended (λ halt. (mid ≡ told) ⊎ (marked ≡ true)) → IfErr ended (λ halt. (contents mid ≡ contents told) ⊎ (marked ≡ true))
+quiet_of contents mid told marked (Ok status) quiet = tt
+quiet_of contents mid told marked (Err halt) quiet =
+    elim quiet [
+      | inl same ↦ inl (ap contents same)
+      | inr was ↦ inr was
+    ]
+
+-- A node ran, or told why it can't listen, or ended early; and standard error was told of that.
+pub node_ran : (Prints : ℕ → Type 0) (Before After Same : Type 0) (told mid tells : Option (List ℕ)) (text : List ℕ) (write_failed marked failed : Bool) (ended : Result ℕ Halt) (code : ℕ)
+    → IfOk ended (λ status. (Prints status × Before) ⊎ (Appends told mid text × (status ≡ 3)))
+    → IfErr ended (λ halt. (halt ≡ Memory) ⊎ ((halt ≡ ReadFailed) ⊎ ((halt ≡ WriteFailed) × ((write_failed ≡ true) ⊎ (marked ≡ true)))))
+    → IfErr ended (λ halt. (mid ≡ told) ⊎ (marked ≡ true))
+    → MatchResult ended (λ c. (code ≡ c) × After) (EndsEarly mid tells failed code)
+    → (Before → After → Same) → (After → tells ≡ mid) → (marked ≡ true → failed ≡ true)
+    → (Prints code × Same) ⊎ ((Appends told tells text × (code ≡ 3)) ⊎ EndsNode write_failed told tells failed code)
+node_ran Prints Before After Same told mid tells text write_failed marked failed (Ok status) code ok why quiet settled both same stays =
+    elim ok [
+      | inl ran ↦ inl (subst Prints (sym settled.0) ran.0, both ran.1 settled.1)
+      | inr deaf ↦ inr (inl (subst (λ (x : Option (List ℕ)). Appends told x text) (sym (same settled.1)) deaf.0, settled.0 ∙ deaf.1))
+    ]
+node_ran Prints Before After Same told mid tells text write_failed marked failed (Err halt) code ok why quiet settled both same stays =
+    inr (inr (node_halted told mid tells write_failed marked failed halt code why quiet settled stays))
+
+-- Words of `node` that can't be followed: standard error was told so, or that memory ran out.
+pub node_refused : (After : Type 0) (told mid tells : Option (List ℕ)) (text : List ℕ) (write_failed marked failed : Bool) (ended : Result ℕ Halt) (code : ℕ)
+    → IfOk ended (λ status. (status ≡ 3) × Appends told mid text)
+    → IfErr ended (λ halt. (halt ≡ Memory) ⊎ ((halt ≡ WriteFailed) × (marked ≡ true)))
+    → IfErr ended (λ halt. (mid ≡ told) ⊎ (marked ≡ true))
+    → MatchResult ended (λ c. (code ≡ c) × After) (EndsEarly mid tells failed code)
+    → (After → tells ≡ mid) → (marked ≡ true → failed ≡ true)
+    → (Appends told tells text × (code ≡ 3)) ⊎ EndsNode write_failed told tells failed code
+node_refused After told mid tells text write_failed marked failed (Ok status) code ok why quiet settled same stays =
+    inl (subst (λ (x : Option (List ℕ)). Appends told x text) (sym (same settled.1)) ok.1, settled.0 ∙ ok.0)
+node_refused After told mid tells text write_failed marked failed (Err halt) code ok why quiet settled same stays =
+    inr (node_halted told mid tells write_failed marked failed halt code (elim why [
+      | inl is ↦ inl is
+      | inr wrote ↦ inr (inr (wrote.0, inr wrote.1))
+    ]) quiet settled stays)

@@ -1,14 +1,17 @@
 -- The outcome of a run of the program: its exit status, and what standard error was told.
-use Rattle.std.specs.Prelude.{◌≡◌, ℕ, Bool, true, false, ◌⊎◌, List, [], ◌++◌, Option, Result, Ok, Err}
+use Rattle.std.specs.Prelude.{◌≡◌, ℕ, Bool, true, false, ◌⊎◌, ⊤, List, [], ◌++◌, codes, Option, Result, Ok, Err}
 use Rattle.std.specs.Io.KnownBytes.{Appends}
 use Rattle.cb_peer_state.specs.declared.state.CloseReason.{CloseReason}
 use Rattle.cb_run.specs.declared.ending.Status.{Status}
 use Rattle.cb_run.specs.declared.ending.Status.TheVariants.{Usage, BadInput}
 use Rattle.cb_run.specs.declared.ending.Halt.{Halt}
-use Rattle.cb_run.specs.declared.ending.Halt.TheVariants.{ReadFailed, WriteFailed}
+use Rattle.cb_run.specs.declared.ending.Halt.TheVariants.{Memory, TooManyLines, ReadFailed, WriteFailed}
 use Rattle.cb_run.specs.Ending.{HasCause, status_code, halt_status, halt_line}
 use Rattle.cb_decode.specs.Report.{ReportsKnown}
+use Rattle.cb_command.specs.declared.node_words.BadWords.{BadWords}
 use Rattle.cb_command.specs.Peer.{closed_text, reason_status}
+use Rattle.cb_node_process.specs.declared.orders.NodeOrders.{NodeOrders}
+use Rattle.cb_node_process.specs.Telling.{TellsAll, deaf_text}
 
 -- The exit status as a number.
 abbrev pub code_of : Result Status Halt → Result ℕ Halt
@@ -51,3 +54,26 @@ abbrev pub TellsPeer : Bool → Bool → Option (List ℕ) → Option (List ℕ)
 TellsPeer read_failed write_failed told tells errors_failed code reason =
     (Appends told tells (closed_text reason ++ failure_line read_failed write_failed) × (code ≡ status_code (peer_status read_failed write_failed reason)))
     ⊎ ((errors_failed ≡ true) × (code ≡ status_code BadInput))
+
+-- Why `node` ends early: memory ran out, standard input can't be read, or a write failed, to standard
+-- output or to standard error.
+abbrev pub HasNodeCause : Bool → Bool → Halt → Type 0
+HasNodeCause write_failed errors_failed Memory = ⊤
+HasNodeCause write_failed errors_failed TooManyLines = ⊥
+HasNodeCause write_failed errors_failed ReadFailed = ⊤
+HasNodeCause write_failed errors_failed WriteFailed = (write_failed ≡ true) ⊎ (errors_failed ≡ true)
+
+-- It ended early. Standard error was told why, or failed itself.
+abbrev pub EndsNode : Bool → Option (List ℕ) → Option (List ℕ) → Bool → ℕ → Type 0
+EndsNode write_failed told tells errors_failed code = (halt : Halt) × HasNodeCause write_failed errors_failed halt × EndsEarly told tells errors_failed code halt
+
+-- what standard error is told of words of `node` that can't be followed
+abbrev pub bad_words_text : List ℕ
+bad_words_text = codes "error: --listen and --connect take ADDR:PORT, as 127.0.0.1:18444, and --log off, error, warn, info, debug or trace\n"
+
+-- `node` printed all that a run prints, and told standard error nothing (`Same`); or it told why it
+-- didn't begin, with status 3; or it ended early.
+abbrev pub RunsNode : Type 0 → Option (List ℕ) → Option (List ℕ) → Bool → Option (List ℕ) → Option (List ℕ) → Bool → Result NodeOrders BadWords → ℕ → Type 0
+RunsNode Same held holds write_failed told tells errors_failed (Ok orders) code =
+    (TellsAll held holds code × Same) ⊎ ((Appends told tells (deaf_text orders.listen) × (code ≡ 3)) ⊎ EndsNode write_failed told tells errors_failed code)
+RunsNode Same held holds write_failed told tells errors_failed (Err bad) code = (Appends told tells bad_words_text × (code ≡ 3)) ⊎ EndsNode write_failed told tells errors_failed code

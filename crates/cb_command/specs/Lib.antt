@@ -1,3 +1,4 @@
 pub mod Command
+pub mod NodeWords
 pub mod Peer
 pub mod Words

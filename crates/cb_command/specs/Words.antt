@@ -1,12 +1,15 @@
 -- What the words of a command line ask for.
-use Rattle.std.specs.Prelude.{◌≡◌, ◌≢◌, ℕ, ◌≤◌, pos, true, false, if◌then◌else◌, ⊤, List, [], codes, Option, Some, None, option_map}
+use Rattle.std.specs.Prelude.{◌≡◌, ◌≢◌, ℕ, ◌≤◌, pos, true, false, if◌then◌else◌, ⊤, List, [], codes, Option, Some, None, Result, IfOk, option_map}
 use Rattle.std.specs.Str.{bytes_eq}
 use Rattle.clap.specs.Words.{App, Rule, fault_of, new_app, new_rule, subcommand_of, takes, with_rule, with_subcommand}
 use Rattle.clap.specs.declared.builder.action.ArgAction.TheVariants.{SetTrue}
 use Rattle.clap.specs.declared.builder.value_parser.ValueParser.TheVariants as parsers
 use Rattle.cb_run_nodes.specs.declared.running.RunOrders.{RunOrders}
 use Rattle.cb_command.specs.declared.commanding.Task.{Task}
-use Rattle.cb_command.specs.declared.commanding.Task.TheVariants.{Decode, Serve, Sim, Run}
+use Rattle.cb_command.specs.declared.commanding.Task.TheVariants.{Decode, Serve, Sim, Run, Node}
+use Rattle.cb_command.specs.declared.node_words.BadWords.{BadWords}
+use Rattle.cb_command.specs.NodeWords.{IsNodeOrders, node_line}
+use Rattle.cb_node_process.specs.declared.orders.NodeOrders.{NodeOrders}
 
 -- A command that prints its version.
 abbrev pub with_version : App → App
@@ -28,9 +31,13 @@ run_line = with_rule (with_rule (with_rule (new_app (codes "run")) (sized (codes
 abbrev pub plain_program : App
 plain_program = with_subcommand (with_subcommand (with_subcommand (with_version (new_app (codes "cbrelay"))) (new_app (codes "decode")).top) (new_app (codes "serve")).top) (new_app (codes "sim")).top
 
--- The program's command line: with `run` too.
+-- The same with `run` too.
+abbrev pub scripted_program : App
+scripted_program = with_subcommand plain_program run_line.top
+
+-- The program's command line: with `node` too.
 abbrev pub program : App
-program = with_subcommand plain_program run_line.top
+program = with_subcommand scripted_program node_line.top
 
 -- The command that the words name, if any. The first word is the program's name.
 abbrev pub entered : List (List ℕ) → Option (List ℕ)
@@ -43,25 +50,27 @@ AreWithin orders = ((1 ≤ orders.sizes.nodes) × (orders.sizes.nodes ≤ 8)) ×
 -- The same of a task's orders, if it has any.
 abbrev pub IsWithin : Task → Type 0
 IsWithin (Run orders) = AreWithin orders
+IsWithin (Node node) = IfOk node IsNodeOrders
 IsWithin other = ⊤
 
--- The task of that command, with these orders for `run`; `decode` if none is named.
-abbrev pub task_named : RunOrders → Option (List ℕ) → Task
-task_named orders None = Decode
-task_named orders (Some name) =
-    if bytes_eq name (codes "serve") then Serve else if bytes_eq name (codes "sim") then Sim else if bytes_eq name (codes "run") then Run orders else Decode
+-- The task of that command, with these orders for `run` and for `node`; `decode` if none is named.
+abbrev pub task_named : RunOrders → Result NodeOrders BadWords → Option (List ℕ) → Task
+task_named orders node None = Decode
+task_named orders node (Some name) =
+    if bytes_eq name (codes "serve") then Serve else if bytes_eq name (codes "sim") then Sim else if bytes_eq name (codes "run") then Run orders else if bytes_eq name (codes "node") then Node node else Decode
 
--- The task that the words ask for, with these orders for `run`.
-abbrev pub task_in : RunOrders → List (List ℕ) → Task
-task_in orders words = task_named orders (entered words)
+-- The task that the words ask for, with these orders for `run` and for `node`.
+abbrev pub task_in : RunOrders → Result NodeOrders BadWords → List (List ℕ) → Task
+task_in orders node words = task_named orders node (entered words)
 
 -- Clap doesn't accept the words, and finds a fault in them.
 abbrev pub AreRefused : List (List ℕ) → Type 0
 AreRefused words = (takes program words ≡ false) × (fault_of program words ≢ [])
 
--- One of four statements, by the task.
-abbrev pub ByTask : Task → Type 0 → Type 0 → Type 0 → Type 0 → Type 0
-ByTask Decode decodes serves simulates runs = decodes
-ByTask Serve decodes serves simulates runs = serves
-ByTask Sim decodes serves simulates runs = simulates
-ByTask (Run orders) decodes serves simulates runs = runs
+-- One of five statements, by the task.
+abbrev pub ByTask : Task → Type 0 → Type 0 → Type 0 → Type 0 → Type 0 → Type 0
+ByTask Decode decodes serves simulates runs nodes = decodes
+ByTask Serve decodes serves simulates runs nodes = serves
+ByTask Sim decodes serves simulates runs nodes = simulates
+ByTask (Run orders) decodes serves simulates runs nodes = runs
+ByTask (Node node) decodes serves simulates runs nodes = nodes

@@ -1,34 +1,41 @@
 //! The command line and its commands.
 
-ghost use Rattle.std.specs.Prelude.{◌≡◌, ◌⊎◌, ◌≤◌, ℕ, true, false, IsErrOf, List, [], ◌∷◌, codes, map, option_map, string_bytes, IfOk, IfErr, MatchResult};
+ghost use Rattle.std.specs.Prelude.{◌≡◌, ◌⊎◌, ◌≤◌, ℕ, true, false, IsErrOf, List, [], ◌∷◌, codes, map, option_map, string_bytes, IfOk, IfErr, MatchResult, Result};
 ghost use Rattle.std.specs.Io.KnownBytes.{Appends};
 ghost use Rattle.cb_peer_state.specs.declared.state.CloseReason.{CloseReason};
 ghost use Rattle.cb_peer_state.specs.declared.state.CloseReason.TheVariants as reasons;
 ghost use Rattle.cb_run.specs.declared.ending.Halt.TheVariants.{Memory, ReadFailed, WriteFailed};
 ghost use Rattle.cb_run.specs.declared.ending.Status.TheVariants.{Usage};
-ghost use Rattle.cb_command.specs.Command.{PrintsReport, EndsEarly, Halts, Refuses, TellsPeer, code_of};
+ghost use Rattle.cb_command.specs.Command.{PrintsReport, EndsEarly, Halts, Refuses, RunsNode, TellsPeer, bad_words_text, code_of};
 ghost use Rattle.cb_run.specs.Ending.{halt_status, halt_line};
 ghost use Rattle.cb_command.specs.Peer.{WasServed};
 ghost use Rattle.cb_sim.specs.SimInput.{SimulatesKnown};
-ghost use Rattle.cb_command.specs.Words.{AreRefused, AreWithin, ByTask, IsWithin, flag, plain_program, program, sized, task_in, task_named};
+ghost use Rattle.cb_command.specs.Words.{AreRefused, AreWithin, ByTask, IsWithin, flag, plain_program, program, scripted_program, sized, task_in, task_named};
 ghost use Rattle.cb_run_nodes.specs.Summary.{RunsKnown};
+ghost use Rattle.cb_node_process.specs.declared.orders.NodeOrders.{NodeOrders};
+ghost use Rattle.cb_command.specs.NodeWords.{IsNodeOrders};
+ghost use Rattle.cb_command.specs.declared.node_words.BadWords.{BadWords};
 ghost use Rattle.cb_run_nodes.specs.declared.running.RunOrders.{RunOrders};
 ghost use Rattle.clap.specs.Words.{FailsBy, app_of, fault_of, kind_of, rule_of, takes};
 ghost use Rattle.clap.specs.declared.error.kind.ErrorKind.TheVariants.{OutOfMemory};
 
+use crate::node_words::{
+    BadWords, NODE_USE, connect_arg, listen_arg, log_arg, node_orders_of, threads_arg, tick_arg,
+};
 use crate::serve::serve_peer;
 use cb_base::Seed;
 use cb_decode::decode;
 use cb_io::{Sink, Source};
+use cb_node_process::{NodeOrders, ProcessHost, run_node};
 use cb_run::{Halt, Status, write_all};
-use cb_run_nodes::{Host, RunOrders, Sizes, run_nodes};
+use cb_run_nodes::{RunOrders, Sizes, run_nodes};
 use cb_sim::simulate;
 use clap::error::ErrorKind;
 use clap::{Arg, ArgAction, ArgMatches, Command, value_parser};
 use std::alloc::{AllocError, Global};
 
 /// The command that a command line names.
-#[derive(Clone, Copy, PartialEq, Eq)]
+#[derive(Drop)]
 pub enum Task {
     /// `decode`: print the items of a stream.
     Decode,
@@ -39,6 +46,8 @@ pub enum Task {
     Sim,
     /// `run`: play a script of nodes that are joined over loopback.
     Run(RunOrders),
+    /// `node`: run a node until its operator ends it.
+    Node(Result<NodeOrders, BadWords>),
 }
 
 /// The version that `--version` prints.
@@ -53,12 +62,14 @@ Exit status:
   0  all was done
   1  the command line was refused, or help or the version was asked for
   2  sim: an act was refused; run: a node refused what it was given
-  3  the input has a fault, or a read or a write failed; run: also a slot, a socket, a wait or an audit
+  3  the input has a fault, or a read or a write failed; run: also a slot, a socket, a wait or an audit;
+     node: also an address, a port that is in use, a peer that was never reached, or an audit
   4  memory ran out
 
 Examples:
   echo fabfb5da76657261636b000000000000000000005df6e0e2 | cbrelay decode
-  printf 'link 0 1\\nmine 0\\nwait\\n' | cbrelay run --nodes 2 --handlers 1";
+  printf 'link 0 1\\nmine 0\\nwait\\n' | cbrelay run --nodes 2 --handlers 1
+  cbrelay node --listen 127.0.0.1:18444";
 
 /// The text that `run --help` prints below the options.
 const RUN_USE: &str = "\
@@ -84,9 +95,10 @@ Example:
 ///
 /// The first word is the program's name. All input is read from `reader`. Output goes to `writer`.
 /// Messages about the command line, and about a failed read or write, go to `errors`; `serve` also
-/// prints there why its session ended. The tables of the halls of `serve` and `run` have the fixed
-/// seed, so that a run takes the same steps each time.
-pub fn command<N: Host, R: Source, W: Sink, E: Sink>(
+/// prints there why its session ended, and `node` why it can't listen. `node` reads standard input
+/// and logs on standard error by `rt`. The tables of the halls of `serve`, `run` and `node` have the
+/// fixed seed, so that a run takes the same steps each time.
+pub fn command<N: ProcessHost, R: Source, W: Sink, E: Sink>(
     rt: N,
     alloc: Global,
     words: Vec<String>,
@@ -108,8 +120,8 @@ pub fn command<N: Host, R: Source, W: Sink, E: Sink>(
         (E.has_failed errors.new) result Memory × (reader.new ≡ reader.old)
         × (writer.new ≡ writer.old))
         ⊎ ((fault_of program (map string_bytes words.items) ≡ [])
-        × ((orders : RunOrders) × AreWithin orders
-        × ByTask (task_in orders (map string_bytes words.items))
+        × ((orders : RunOrders) × (node : Result NodeOrders BadWords) × AreWithin orders
+        × ByTask (task_in orders node (map string_bytes words.items))
         ((PrintsReport (R.remaining reader.old) (W.contents writer.old)
         (W.contents writer.new) result × (errors.new ≡ errors.old))
         ⊎ Halts (R.remaining reader.old) (R.has_failed reader.new) (W.has_failed writer.new)
@@ -128,29 +140,34 @@ pub fn command<N: Host, R: Source, W: Sink, E: Sink>(
         ((RunsKnown orders.sizes.nodes orders.stats (R.remaining reader.old)
         (W.contents writer.old) (W.contents writer.new) result × (errors.new ≡ errors.old))
         ⊎ Halts (R.remaining reader.old) (R.has_failed reader.new) (W.has_failed writer.new)
-        (E.contents errors.old) (E.contents errors.new) (E.has_failed errors.new) result)))) }
+        (E.contents errors.old) (E.contents errors.new) (E.has_failed errors.new) result)
+        ((reader.new ≡ reader.old)
+        × RunsNode (errors.new ≡ errors.old) (W.contents writer.old) (W.contents writer.new)
+        (W.has_failed writer.new) (E.contents errors.old) (E.contents errors.new)
+        (E.has_failed errors.new) node result)))) }
     // The words and their commands.
-    ensures named { (orders : RunOrders) (name : List ℕ) →
-        (task_in orders (name ∷ []) ≡ Task.Decode)
-        × (task_in orders (name ∷ codes "decode" ∷ []) ≡ Task.Decode)
-        × (task_in orders (name ∷ codes "serve" ∷ []) ≡ Task.Serve)
-        × (task_in orders (name ∷ codes "sim" ∷ []) ≡ Task.Sim)
-        × (task_in orders (name ∷ codes "run" ∷ codes "--nodes" ∷ codes "8" ∷ codes "--handlers"
-        ∷ codes "16" ∷ []) ≡ Task.Run orders) }
+    ensures named { (orders : RunOrders) (node : Result NodeOrders BadWords) (name : List ℕ) →
+        (task_in orders node (name ∷ []) ≡ Task.Decode)
+        × (task_in orders node (name ∷ codes "decode" ∷ []) ≡ Task.Decode)
+        × (task_in orders node (name ∷ codes "serve" ∷ []) ≡ Task.Serve)
+        × (task_in orders node (name ∷ codes "sim" ∷ []) ≡ Task.Sim)
+        × (task_in orders node (name ∷ codes "run" ∷ codes "--nodes" ∷ codes "8"
+        ∷ codes "--handlers" ∷ codes "16" ∷ []) ≡ Task.Run orders)
+        × (task_in orders node (name ∷ codes "node" ∷ []) ≡ Task.Node node) }
     // Clap accepts these words.
     ensures taken { (name : List ℕ) →
         (takes program (name ∷ []) ≡ true) × (takes program (name ∷ codes "decode" ∷ []) ≡ true)
         × (takes program (name ∷ codes "serve" ∷ []) ≡ true)
         × (takes program (name ∷ codes "sim" ∷ []) ≡ true)
         × (takes program (name ∷ codes "run" ∷ codes "--nodes" ∷ codes "8" ∷ codes "--handlers"
-        ∷ codes "16" ∷ []) ≡ true) }
+        ∷ codes "16" ∷ []) ≡ true) × (takes program (name ∷ codes "node" ∷ []) ≡ true) }
 {
     seeded_command(rt, alloc, Seed::fixed(), words, reader, writer, errors)
 }
 
-/// As `command`. The tables of the halls of `serve` and `run` have this seed, which changes no
-/// result. Peers choose the keys of these tables, so a seed that no peer knows keeps a lookup short.
-pub fn seeded_command<N: Host, R: Source, W: Sink, E: Sink>(
+/// As `command`. The tables of the halls of `serve`, `run` and `node` have this seed, which changes
+/// no result. Peers choose the keys of these tables, so a seed that no peer knows keeps a lookup short.
+pub fn seeded_command<N: ProcessHost, R: Source, W: Sink, E: Sink>(
     rt: N,
     alloc: Global,
     seed: Seed,
@@ -173,8 +190,8 @@ pub fn seeded_command<N: Host, R: Source, W: Sink, E: Sink>(
         (E.has_failed errors.new) result Memory × (reader.new ≡ reader.old)
         × (writer.new ≡ writer.old))
         ⊎ ((fault_of program (map string_bytes words.items) ≡ [])
-        × ((orders : RunOrders) × AreWithin orders
-        × ByTask (task_in orders (map string_bytes words.items))
+        × ((orders : RunOrders) × (node : Result NodeOrders BadWords) × AreWithin orders
+        × ByTask (task_in orders node (map string_bytes words.items))
         ((PrintsReport (R.remaining reader.old) (W.contents writer.old)
         (W.contents writer.new) result × (errors.new ≡ errors.old))
         ⊎ Halts (R.remaining reader.old) (R.has_failed reader.new) (W.has_failed writer.new)
@@ -193,13 +210,18 @@ pub fn seeded_command<N: Host, R: Source, W: Sink, E: Sink>(
         ((RunsKnown orders.sizes.nodes orders.stats (R.remaining reader.old)
         (W.contents writer.old) (W.contents writer.new) result × (errors.new ≡ errors.old))
         ⊎ Halts (R.remaining reader.old) (R.has_failed reader.new) (W.has_failed writer.new)
-        (E.contents errors.old) (E.contents errors.new) (E.has_failed errors.new) result)))) }
+        (E.contents errors.old) (E.contents errors.new) (E.has_failed errors.new) result)
+        ((reader.new ≡ reader.old)
+        × RunsNode (errors.new ≡ errors.old) (W.contents writer.old) (W.contents writer.new)
+        (W.has_failed writer.new) (E.contents errors.old) (E.contents errors.new)
+        (E.has_failed errors.new) node result)))) }
 {
     match task_of(alloc, words.as_slice()) {
         Ok(Task::Decode) => settle(code_of(decode(alloc, reader, writer)), errors),
         Ok(Task::Serve) => answer_peer(alloc, seed, reader, writer, errors),
         Ok(Task::Sim) => settle(simulate(alloc, reader, writer), errors),
         Ok(Task::Run(orders)) => settle(run_nodes(rt, alloc, seed, orders, reader, writer), errors),
+        Ok(Task::Node(node)) => start_node(rt, alloc, seed, node, writer, errors),
         Err(error) => settle_refusal(alloc, &error, errors),
     }
 }
@@ -224,6 +246,47 @@ pub fn refuse_foreign<E: Sink>(errors: &mut E) -> u8
     match write_all(errors, b"error: a word of the command line isn't UTF-8\n") {
         Ok(()) => Status::Usage.code(),
         Err(halt) => halt.status().code(),
+    }
+}
+
+/// Runs a node, or tells why the words of `node` can't be followed. Returns the exit status.
+fn start_node<N: ProcessHost, W: Sink, E: Sink>(
+    rt: N,
+    alloc: Global,
+    seed: Seed,
+    node: Result<NodeOrders, BadWords>,
+    writer: &mut W,
+    errors: &mut E,
+) -> u8
+    requires { IfOk node IsNodeOrders }
+    ensures runs { RunsNode (errors.new ≡ errors.old) (W.contents writer.old)
+        (W.contents writer.new) (W.has_failed writer.new) (E.contents errors.old)
+        (E.contents errors.new) (E.has_failed errors.new) node result }
+{
+    match node {
+        Ok(orders) => settle(run_node(rt, alloc, seed, orders, writer, errors), errors),
+        Err(bad) => settle(refuse_words(bad, errors), errors),
+    }
+}
+
+/// Tells why the words of `node` can't be followed. Returns the exit status.
+fn refuse_words<E: Sink>(bad: BadWords, errors: &mut E) -> Result<u8, Halt>
+    ensures told { IfOk result (λ status. (status ≡ 3)
+        × Appends (E.contents errors.old) (E.contents errors.new) bad_words_text) }
+    ensures err { IfErr result
+        (λ halt. (halt ≡ Memory) ⊎ ((halt ≡ WriteFailed) × (E.has_failed errors.new ≡ true))) }
+    ensures quiet { IfErr result
+        (λ halt. (errors.new ≡ errors.old) ⊎ (E.has_failed errors.new ≡ true)) }
+{
+    match bad {
+        BadWords::Memory => Err(Halt::Memory),
+        BadWords::Value => {
+            write_all(
+                errors,
+                b"error: --listen and --connect take ADDR:PORT, as 127.0.0.1:18444, and --log off, error, warn, info, debug or trace\n",
+            )?;
+            Ok(Status::BadInput.code())
+        }
     }
 }
 
@@ -286,6 +349,22 @@ fn code_of(ended: Result<Status, Halt>) -> Result<u8, Halt>
 fn command_line<'a>(alloc: Global) -> Result<Command<'a>, AllocError>
     ensures { IfOk result (λ line. app_of line ≡ program) }
 {
+    let line = scripted_line(alloc)?;
+    let node = Command::new(alloc, "node")
+        .about("Run a node: listen, dial, relay, and answer the lines of standard input")
+        .after_help(NODE_USE)
+        .arg(listen_arg(alloc))?
+        .arg(connect_arg(alloc))?
+        .arg(threads_arg(alloc))?
+        .arg(tick_arg(alloc))?
+        .arg(log_arg(alloc))?;
+    line.subcommand(node)
+}
+
+/// The command line without `node`.
+fn scripted_line<'a>(alloc: Global) -> Result<Command<'a>, AllocError>
+    ensures { IfOk result (λ line. app_of line ≡ scripted_program) }
+{
     let line = plain_line(alloc)?;
     let script = Command::new(alloc, "run")
         .about("Play a script of nodes that are joined over loopback")
@@ -296,7 +375,7 @@ fn command_line<'a>(alloc: Global) -> Result<Command<'a>, AllocError>
     line.subcommand(script)
 }
 
-/// The command line without `run`.
+/// The command line without `run` and `node`.
 fn plain_line<'a>(alloc: Global) -> Result<Command<'a>, AllocError>
     ensures { IfOk result (λ line. app_of line ≡ plain_program) }
 {
@@ -304,7 +383,7 @@ fn plain_line<'a>(alloc: Global) -> Result<Command<'a>, AllocError>
     let serve = Command::new(alloc, "serve").about("Answer a peer: its bytes in, ours out");
     let sim = Command::new(alloc, "sim").about("Run the crew's core, a line for each act");
     Command::new(alloc, "cbrelay")
-        .about("Answers one Bitcoin peer on standard input, and decodes messages (regtest)")
+        .about("A Bitcoin node for compact block relay, and its parts (regtest)")
         .version(VERSION)
         .after_help(USE)
         .subcommand(decode)?
@@ -352,8 +431,9 @@ fn stats_arg<'a>(alloc: Global) -> Arg<'a>
 /// The task that the words name; `decode` if they name none. Fails if clap refuses the words or
 /// asks to print help or the version, or if memory runs out.
 fn task_of(alloc: Global, words: &[String]) -> Result<Task, clap::Error>
-    ensures task { IfOk result (λ task. (orders : RunOrders) × AreWithin orders
-        × (task ≡ task_in orders (map string_bytes words.now))) }
+    ensures task { IfOk result (λ task. (orders : RunOrders)
+        × (node : Result NodeOrders BadWords) × AreWithin orders
+        × (task ≡ task_in orders node (map string_bytes words.now))) }
     ensures within { IfOk result (λ task. IsWithin task) }
     ensures kinds { FailsBy (fault_of program (map string_bytes words.now)) result }
     ensures passes { IfErr result
@@ -361,7 +441,11 @@ fn task_of(alloc: Global, words: &[String]) -> Result<Task, clap::Error>
 {
     let line = command_line(alloc)?;
     match line.try_get_matches_from(words) {
-        Ok(matches) => Ok(task_named(matches.subcommand_name(), orders_of(&matches))),
+        Ok(matches) => Ok(task_named(
+            matches.subcommand_name(),
+            orders_of(&matches),
+            node_orders_of(alloc, &matches),
+        )),
         Err(error) => Err(error),
     }
 }
@@ -397,16 +481,19 @@ fn size_of(run: &ArgMatches, name: &str, most: u16) -> u16
     run.get_one::<u16>(name).unwrap_or(1).clamp(1, most)
 }
 
-/// The task of the command that was named, with these orders for `run`; `decode` if none was.
-fn task_named(name: Option<&str>, orders: RunOrders) -> Task
-    requires { AreWithin orders }
-    ensures named { result ≡ task_named orders (option_map (λ text. text.now) name.entry) }
+/// The task of the command that was named, with these orders for `run` and for `node`; `decode` if
+/// none was.
+fn task_named(name: Option<&str>, orders: RunOrders, node: Result<NodeOrders, BadWords>) -> Task
+    requires orders { AreWithin orders }
+    requires node { IfOk node IsNodeOrders }
+    ensures named { result ≡ task_named orders node (option_map (λ text. text.now) name.entry) }
     ensures within { IsWithin result }
 {
     match name {
         Some("serve") => Task::Serve,
         Some("sim") => Task::Sim,
         Some("run") => Task::Run(orders),
+        Some("node") => Task::Node(node),
         Some(_) | None => Task::Decode,
     }
 }

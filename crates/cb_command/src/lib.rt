@@ -2,6 +2,8 @@
 #![tactic(auto)]
 
 mod commanding;
+mod node_words;
 mod serve;
 
 pub use commanding::{Task, command, refuse_foreign, refuse_unseeded, seeded_command};
+pub use node_words::BadWords;

@@ -18,9 +18,11 @@ use Rattle.cb_inbox.proofs.Seats.{ended_now}
 use Rattle.cb_crew.specs.declared.work.Given.{Given}
 use Rattle.cb_crew.specs.declared.desk.Step.{Step}
 use Rattle.cb_crew.specs.declared.desk.Step.TheVariants as step
-use Rattle.cb_crew.specs.Work.{AreWorksOf, IsEnd, IsFresh, WorksOn, brought_by, connections_of, first_of, given_by, openings_of}
-use Rattle.cb_crew.specs.Desk.{DeskState, HasServed, HasTaken, IsDesk, IsSameDesk, IsSameLine, IsServed, Stepped, desk_state}
-use Rattle.cb_crew.proofs.Works.{onto_last, connections_more, connections_again, zip_push, zip_last, zip_swap, follows_front, opens_last, works_more, works_passed, works_kept, works_fresh, works_count}
+use Rattle.cb_crew.specs.Past.{IsPushed}
+use Rattle.cb_crew.specs.Work.{AreWorksOf, IsEnd, IsFresh, IsKeptOrLetGo, WorksOn, brought_by, connections_of, first_of, given_by, openings_of}
+use Rattle.cb_crew.specs.Desk.{DeskState, HasServed, HasTaken, IsDesk, IsSameDesk, IsSameLine, IsServed, Stepped, desk_state, first_label}
+use Rattle.cb_crew.proofs.LettingGo.{kept_closed}
+use Rattle.cb_crew.proofs.Works.{onto_last, connections_more, connections_again, zip_all, zip_flip, zip_push, zip_last, zip_swap, zip_then, follows_front, opens_last, works_more, works_passed, works_kept, works_fresh, works_count}
 
 -- what is closed where it isn't open
 closed_if : (b c : Bool) → (b ≡ false → c ≡ false) → c ≡ true → b ≡ true
@@ -42,7 +44,7 @@ first_stays (first ∷ past) old new = refl
 
 module _ {W : Type 0} (label : W → ℕ) where
   -- the latest became another value of one label
-  same_first : (past : List W) (old new : W) → label new ≡ label old → label (first_of past new) ≡ label (first_of past old)
+  pub same_first : (past : List W) (old new : W) → label new ≡ label old → label (first_of past new) ≡ label (first_of past old)
   same_first [] old new same = same
   same_first (first ∷ past) old new same = refl
 
@@ -109,7 +111,7 @@ module _ {W M : Type 0} (label : W → ℕ) (given : W → List (Given M) → Ty
   }
 
   -- what an open mark stands behind, and how many connections there were before it
-  pub opened_after : (queued taken : List (Queued M W)) (mark : Queued M W) → is_open mark ≡ true → IsOfALine false true queued (taken ++ mark ∷ []) → (has_ended taken ≡ true) × (connections is_open taken < 256)
+  opened_after : (queued taken : List (Queued M W)) (mark : Queued M W) → is_open mark ≡ true → IsOfALine false true queued (taken ++ mark ∷ []) → (has_ended taken ≡ true) × (connections is_open taken < 256)
   opened_after queued taken mark opens s =
       let all = s.knows.all_taken refl in
       let whole = queued_parts s.reached in
@@ -117,8 +119,8 @@ module _ {W M : Type 0} (label : W → ℕ) (given : W → List (Given M) → Ty
       let front = follows_front is_end is_open false (taken ++ mark ∷ []) s.line.inbox (subst (λ ms. OpensFollowEnds is_end is_open false ms) (whole ∙ ap (λ ms. ms ++ s.line.inbox) (sym all)) seen) in
       (sym (opens_last is_end is_open false taken mark front) ∙ opens, omega (arith, few s.reached, ap (connections is_open) (whole ∙ ap (λ ms. ms ++ s.line.inbox) (sym all)), sum_by-append {X = Queued M W} (λ m. cond (is_open m) 1 0) (taken ++ mark ∷ []) s.line.inbox, connections_push is_open taken mark, ap {B = ℕ} (λ (b : Bool). cond b 1 0) opens))
 
-  -- an open mark was taken: the work is past, and the next connection's work takes its place
-  pub desk_opened : (ticked : W → List ℕ → Type 0) (inbox : InboxState) (seat now : SeatState (Queued M W)) (old new opening : W) (past : List W) (mark : Queued M W) → mark ≡ queued.Open opening → label new ≡ label opening → now ≡ taken_more seat mark → is_open mark ≡ true → has_ended seat.taken ≡ true → IsFresh given ticked is_closed new → IsDesk label given is_closed (desk_state inbox seat old past) → IsDesk label given is_closed (desk_state inbox now new (past ++ old ∷ []))
+  -- an open mark was taken, and nothing let go
+  desk_opened : (ticked : W → List ℕ → Type 0) (inbox : InboxState) (seat now : SeatState (Queued M W)) (old new opening : W) (past : List W) (mark : Queued M W) → mark ≡ queued.Open opening → label new ≡ label opening → now ≡ taken_more seat mark → is_open mark ≡ true → has_ended seat.taken ≡ true → IsFresh given ticked is_closed new → IsDesk label given is_closed (desk_state inbox seat old past) → IsDesk label given is_closed (desk_state inbox now new (past ++ old ∷ []))
   desk_opened ticked inbox seat now old new opening past mark brings labelled took opens behind fresh d = record {
     whose = subst (λ ms. AreWorksOf label (label (first_of (past ++ old ∷ []) new)) ms ((past ++ old ∷ []) ++ new ∷ [])) (ap (λ m. seat.taken ++ m ∷ []) (sym brings) ∙ sym (ap (λ (s : SeatState (Queued M W)). s.taken) took)) (whose_opened label seat.taken past old new opening labelled d.whose);
     works = subst (λ (s : SeatState (Queued M W)). AllZip (WorksOn given is_closed) ((past ++ old ∷ []) ++ new ∷ []) (connections_of s.taken)) (sym took)
@@ -128,9 +130,69 @@ module _ {W M : Type 0} (label : W → ℕ) (given : W → List (Given M) → Ty
     ended = λ e. absurd (false≢true (sym (ap (λ (s : SeatState (Queued M W)). has_ended s.taken) took ∙ (ended_now seat.taken mark ∙ no_end mark opens)) ∙ e));
   }
 
+  module _ (ticked : W → List ℕ → Type 0) (weight : W → ℕ) where
+    abbrev Kept : W → W → Type 0
+    Kept = IsKeptOrLetGo label given ticked is_closed weight
+
+    kept_label : (old new : W) → Kept old new → label new ≡ label old
+    kept_label old new (inl same) = ap label same
+    kept_label old new (inr gone) = gone.labelled
+
+    kept_labels : (old now : List W) → AllZip Kept old now → map label now ≡ map label old
+    kept_labels [] [] all = refl
+    kept_labels [] (y ∷ now) all = absurd all
+    kept_labels (x ∷ old) [] all = absurd all
+    kept_labels (x ∷ old) (y ∷ now) all = ap (λ l. l ∷ map label now) (kept_label x y all.0) ∙ ap (λ ls. label x ∷ ls) (kept_labels old now all.1)
+
+    kept_first : (old now : List W) (work : W) → AllZip Kept old now → label (first_of now work) ≡ label (first_of old work)
+    kept_first [] [] work all = refl
+    kept_first [] (y ∷ now) work all = absurd all
+    kept_first (x ∷ old) [] work all = absurd all
+    kept_first (x ∷ old) (y ∷ now) work all = kept_label x y all.0
+
+    kept_works : (work new : W) (connection : List (Given M)) → Kept work new → WorksOn given is_closed work connection → WorksOn given is_closed new connection
+    kept_works work new connection (inl same) w = subst (λ (v : W). WorksOn given is_closed v connection) (sym same) w
+    kept_works work new connection (inr gone) w = works_kept given is_closed work new connection (λ live. absurd (false≢true (sym live ∙ gone.closed))) gone.given w
+
+    kept_given : (work new : W) → Kept work new → (items : List (Given M)) → given work items → given new items
+    kept_given work new (inl same) items was = subst (λ (v : W). given v items) (sym same) was
+    kept_given work new (inr gone) items was = gone.given items was
+
+    -- past works let go
+    desk_let_go : (inbox : InboxState) (seat : SeatState (Queued M W)) (work : W) (past now : List W) → AllZip Kept past now → IsDesk label given is_closed (desk_state inbox seat work past) → IsDesk label given is_closed (desk_state inbox seat work now)
+    desk_let_go inbox seat work past now kept d =
+        let all = zip_push Kept past now work work kept (inl refl) in
+        record {
+          whose = kept_labels (past ++ work ∷ []) (now ++ work ∷ []) all ∙ (d.whose ∙ ap (λ l. l ∷ map label (openings_of seat.taken)) (sym (kept_first past now work kept)));
+          works = zip_then (λ new old. Kept old new) (WorksOn given is_closed) (WorksOn given is_closed) (λ new old connection k w. kept_works old new connection k w)
+              (now ++ work ∷ []) (past ++ work ∷ []) (connections_of seat.taken) (zip_flip Kept (past ++ work ∷ []) (now ++ work ∷ []) all) d.works;
+          past_closed = zip_all Kept (λ work. is_closed work ≡ true) (λ work. is_closed work ≡ true) (kept_closed label given ticked is_closed weight) past now kept d.past_closed;
+          ended = d.ended;
+        }
+
+    -- an open mark was taken: the work is past, and the next connection's work takes its place
+    pub desk_pushed : (inbox : InboxState) (seat now : SeatState (Queued M W)) (old new opening : W) (past works : List W) → label new ≡ label opening → now ≡ taken_more seat (queued.Open opening) → has_ended seat.taken ≡ true → IsFresh given ticked is_closed new → IsPushed label given ticked is_closed weight old past works
+        → IsDesk label given is_closed (desk_state inbox seat old past) → IsDesk label given is_closed (desk_state inbox now new works)
+    desk_pushed inbox seat now old new opening past works labelled took behind fresh pushed d =
+        let kept = pushed.became.0 in
+        let same = desk_kept inbox seat seat old pushed.latest past refl (kept_label old pushed.latest kept) (λ live. absurd (false≢true (sym live ∙ kept_closed label given ticked is_closed weight old pushed.latest kept (d.ended behind)))) (kept_given old pushed.latest kept) d in
+        desk_let_go inbox now new (past ++ pushed.latest ∷ []) works pushed.past.each (desk_opened ticked inbox seat now pushed.latest new opening past (queued.Open opening) refl labelled took refl behind fresh same)
+
+    -- the first connection's work has its label still
+    pub first_pushed : (old new : DeskState W M) → IsPushed label given ticked is_closed weight old.work old.past new.past → first_label label new ≡ first_label label old
+    first_pushed old new pushed =
+        kept_first (old.past ++ pushed.latest ∷ []) new.past new.work pushed.past.each
+        ∙ (ap label (first_stays old.past pushed.latest new.work) ∙ same_first label old.past old.work pushed.latest (kept_label old.work pushed.latest pushed.became.0))
+
   -- there is room for one more past work
-  pub past_room : (inbox : InboxState) (seat : SeatState (Queued M W)) (work : W) (past : List W) → connections is_open seat.taken < 256 → IsDesk label given is_closed (desk_state inbox seat work past) → length past < 255
+  past_room : (inbox : InboxState) (seat : SeatState (Queued M W)) (work : W) (past : List W) → connections is_open seat.taken < 256 → IsDesk label given is_closed (desk_state inbox seat work past) → length past < 255
   past_room inbox seat work past few_ d = omega (arith, works_count given is_closed (past ++ work ∷ []) seat.taken d.works, length-append past (work ∷ []), few_)
+
+  -- an open mark was taken: the connection had ended, and there is room for one more past work
+  pub open_behind : (inbox : InboxState) (seat now : SeatState (Queued M W)) (work next : W) (past : List W) → now ≡ taken_more seat (queued.Open next) → IsOfALine false true now.queued now.taken → IsDesk label given is_closed (desk_state inbox seat work past) → (has_ended seat.taken ≡ true) × (length past < 255)
+  open_behind inbox seat now work next past took line d =
+      let after = opened_after now.queued seat.taken (queued.Open next) refl (subst (λ ms. IsOfALine false true now.queued ms) (ap (λ (s : SeatState (Queued M W)). s.taken) took) line) in
+      (after.0, past_room inbox seat work past after.1 d)
 
 -- ---- serving, mark by mark
 

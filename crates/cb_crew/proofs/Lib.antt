@@ -4,6 +4,7 @@ mod Settling
 mod Sorting
 mod Turns
 pub mod Desks
+pub mod LettingGo
 pub mod NewCrews
 pub mod RingCalls
 pub mod RingEnds

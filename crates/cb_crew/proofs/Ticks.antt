@@ -1,82 +1,60 @@
 -- What was ticked, as a desk is served mark by mark.
-use Rattle.std.proofs.Common.{◌≡◌, ℕ, Bool, List, [], ◌∷◌, ◌++◌, length, drop, All, refl, sym, ap, subst, ◌∙◌, arith}
+use Rattle.std.proofs.Common.{◌≡◌, ℕ, Bool, List, [], ◌∷◌, ◌++◌, length, All, sym, ap, subst, ◌∙◌}
+use Rattle.std.specs.List.{AllZip}
 use Rattle.std.proofs.lemmas.List.{append_assoc}
-use Rattle.std.proofs.lemmas.List.Elements.{All-nil, All-cons, All-head, All-tail}
+use Rattle.std.proofs.lemmas.List.Elements.{All-append, All-cons, All-nil}
 use Rattle.cb_crew.specs.declared.work.Given.{Given}
 use Rattle.cb_crew.specs.Work.{IsTicked, IsUnticked}
 use Rattle.cb_crew.specs.Desk.{DeskState, NotTicked, TickedOnce, WorksAfter}
+use Rattle.cb_crew.proofs.Works.{zip_all, zip_parts, zip_push, zip_refl, zip_then}
 
--- ---- a list that grew at its last place
+abbrev Never : {W : Type 0} → (W → List ℕ → Type 0) → W → Type 0
+Never ticked work = ticked work []
 
-abbrev first_or : {X : Type 0} → X → List X → X
-first_or d [] = d
-first_or d (x ∷ xs) = x
-
-heads : {X : Type 0} (x y : X) (xs ys : List X) → x ∷ xs ≡ y ∷ ys → x ≡ y
-heads x y xs ys e = ap (first_or x) e
-
-tails : {X : Type 0} (x y : X) (xs ys : List X) → x ∷ xs ≡ y ∷ ys → xs ≡ ys
-tails {X} x y xs ys e = ap (λ (l : List X). drop 1 l) e
-
-none_or_one : {X : Type 0} (xs : List X) (x : X) (ys : List X) → [] ≡ xs ++ x ∷ ys → ⊥
-none_or_one {X} [] x ys e = let n = ap (λ (l : List X). length l) e in omega arith
-none_or_one {X} (z ∷ xs) x ys e = let n = ap (λ (l : List X). length l) e in omega arith
-
--- behind the front stands one of which the first holds, and those behind it are all such as the second says
-record Grown {W : Type 0} (is : W → Type 0) (each : W → Type 0) (front now : List W) : Type 0 where
-  pub latest : W
-  pub later : List W
-  pub works : now ≡ front ++ latest ∷ later
-  pub became : is latest
-  pub later_all : All each later
-
--- the last of them became another, and more stand behind it
-last_more : {W : Type 0} (each : W → Type 0) (xs : List W) (old new : W) (more : List W) → All each (xs ++ old ∷ []) → (each old → each new) → All each more → All each (xs ++ new ∷ more)
-last_more each [] old new more all step rest = All-cons each new more (step (All-head each old [] all)) rest
-last_more each (x ∷ xs) old new more all step rest = All-cons each x (xs ++ new ∷ more) (All-head each x (xs ++ old ∷ []) all) (last_more each xs old new more (All-tail each x (xs ++ old ∷ []) all) step rest)
-
-grown_more : {W : Type 0} (is each : W → Type 0) (front xs : List W) (old new : W) (more : List W) (latest : W) (later : List W) → xs ++ old ∷ [] ≡ front ++ latest ∷ later → is latest → All each later → (is old → is new) → (each old → each new) → All each more → Grown is each front (xs ++ new ∷ more)
-grown_more is each [] [] old new more latest later same held all step step_each rest = record { latest = new; later = more; works = refl; became = step (subst is (sym (heads old latest [] later same)) held); later_all = rest }
-grown_more is each [] (x ∷ xs) old new more latest later same held all step step_each rest = record {
-  latest = x;
-  later = xs ++ new ∷ more;
-  works = refl;
-  became = subst is (sym (heads x latest (xs ++ old ∷ []) later same)) held;
-  later_all = last_more each xs old new more (subst (All each) (sym (tails x latest (xs ++ old ∷ []) later same)) all) step_each rest;
-}
-grown_more is each (y ∷ front) [] old new more latest later same held all step step_each rest = absurd (none_or_one front latest later (tails old y [] (front ++ latest ∷ later) same))
-grown_more is each (y ∷ front) (x ∷ xs) old new more latest later same held all step step_each rest =
-    let behind = grown_more is each front xs old new more latest later (tails x y (xs ++ old ∷ []) (front ++ latest ∷ later) same) held all step step_each rest in
-    record {
-      latest = behind.latest;
-      later = behind.later;
-      works = ap (λ w. w ∷ (xs ++ new ∷ more)) (heads x y (xs ++ old ∷ []) (front ++ latest ∷ later) same) ∙ ap (λ ws. y ∷ ws) behind.works;
-      became = behind.became;
-      later_all = behind.later_all;
-    }
-
--- ---- the works of a desk
+never_still : {W : Type 0} (ticked : W → List ℕ → Type 0) (works now : List W) → AllZip (IsUnticked ticked) works now → All (Never ticked) works → All (Never ticked) now
+never_still ticked works now kept never = zip_all (IsUnticked ticked) (Never ticked) (Never ticked) (λ work after still is. still [] is) works now kept never
 
 module _ {W M : Type 0} (ticked : W → List ℕ → Type 0) (becomes : W → W → Type 0) where
   -- the works of past connections are the same
   pub works_same : (old new : DeskState W M) → new.past ≡ old.past → becomes old.work new.work → WorksAfter ticked becomes old new
-  works_same old new past became = record { latest = new.work; later = []; works = ap (λ ws. ws ++ new.work ∷ []) past; became = became; later_none = All-nil (λ work. ticked work []) }
+  works_same old new past became = record {
+    earlier = old.past;
+    latest = new.work;
+    later = [];
+    works = ap (λ ws. ws ++ new.work ∷ []) past;
+    earlier_none = zip_refl (IsUnticked ticked) (λ work at t. t) old.past;
+    became = became;
+    later_none = All-nil (Never ticked);
+  }
 
   -- a work came that was not ticked
-  pub works_next : (old new : DeskState W M) (latest : W) → new.past ≡ old.past ++ latest ∷ [] → becomes old.work latest → ticked new.work [] → WorksAfter ticked becomes old new
-  works_next old new latest past became none = record {
-    latest = latest;
-    later = new.work ∷ [];
-    works = ap (λ ws. ws ++ new.work ∷ []) past ∙ append_assoc old.past (latest ∷ []) (new.work ∷ []);
-    became = became;
-    later_none = All-cons (λ work. ticked work []) new.work [] none (All-nil (λ work. ticked work []));
-  }
+  pub works_next : (old new : DeskState W M) (latest : W) → AllZip (IsUnticked ticked) (old.past ++ latest ∷ []) new.past → ((now : W) → IsUnticked ticked latest now → becomes old.work now) → Never ticked new.work → WorksAfter ticked becomes old new
+  works_next old new latest past became none =
+      let parts = zip_parts (IsUnticked ticked) old.past latest [] new.past past in
+      record {
+        earlier = parts.front;
+        latest = parts.at;
+        later = parts.behind ++ new.work ∷ [];
+        works = ap (λ ws. ws ++ new.work ∷ []) parts.is ∙ append_assoc parts.front (parts.at ∷ parts.behind) (new.work ∷ []);
+        earlier_none = parts.fronts;
+        became = became parts.at parts.ats;
+        later_none = All-append (Never ticked) parts.behind (new.work ∷ []) (never_still ticked [] parts.behind parts.behinds (All-nil (Never ticked))) (All-cons (Never ticked) new.work [] none (All-nil (Never ticked)));
+      }
 
   -- one step more, in which none was ticked
   pub works_step : (old mid new : DeskState W M) → ((latest now : W) → becomes old.work latest → IsUnticked ticked latest now → becomes old.work now) → WorksAfter ticked becomes old mid → NotTicked ticked mid new → WorksAfter ticked becomes old new
   works_step old mid new keeps a b =
-      let grown = grown_more (λ work. becomes old.work work) (λ work. ticked work []) old.past mid.past mid.work b.latest b.later a.latest a.later a.works a.became a.later_none (λ became. keeps mid.work b.latest became b.became) (λ none. b.became [] none) b.later_none in
-      record { latest = grown.latest; later = grown.later; works = b.works ∙ grown.works; became = grown.became; later_none = grown.later_all }
+      let all = zip_push (IsUnticked ticked) mid.past b.earlier mid.work b.latest b.earlier_none b.became in
+      let parts = zip_parts (IsUnticked ticked) a.earlier a.latest a.later (b.earlier ++ b.latest ∷ []) (subst (λ ws. AllZip (IsUnticked ticked) ws (b.earlier ++ b.latest ∷ [])) a.works all) in
+      record {
+        earlier = parts.front;
+        latest = parts.at;
+        later = parts.behind ++ b.later;
+        works = b.works ∙ (sym (append_assoc b.earlier (b.latest ∷ []) b.later) ∙ (ap (λ ws. ws ++ b.later) parts.is ∙ append_assoc parts.front (parts.at ∷ parts.behind) b.later));
+        earlier_none = zip_then (IsUnticked ticked) (IsUnticked ticked) (IsUnticked ticked) (λ x y z kept more at t. more at (kept at t)) old.past a.earlier parts.front a.earlier_none parts.fronts;
+        became = keeps a.latest parts.at a.became parts.ats;
+        later_none = All-append (Never ticked) parts.behind b.later (never_still ticked a.later parts.behind parts.behinds a.later_none) b.later_none;
+      }
 
 module _ {W M : Type 0} (given : W → List (Given M) → Type 0) (ticked : W → List ℕ → Type 0) (is_closed : W → Bool) where
   pub ticked_step : (old mid new : DeskState W M) → TickedOnce given ticked is_closed old mid → NotTicked ticked mid new → TickedOnce given ticked is_closed old new

@@ -108,7 +108,7 @@ module _ {W M : Type 0} (label : W → ℕ) (is_closed : W → Bool) where
 
 module _ {W M : Type 0} (label : W → ℕ) (given : W → List (Given M) → Type 0) (ticked : W → List ℕ → Type 0) (is_closed : W → Bool) where
   told_ticked : (desk after : DeskState W M) (note : SeatState (Queued M W)) → TickedOnce given ticked is_closed (desk_told desk note) after → TickedOnce given ticked is_closed desk after
-  told_ticked desk after note t = record { latest = t.latest; later = t.later; works = t.works; became = t.became; later_none = t.later_none }
+  told_ticked desk after note t = record { earlier = t.earlier; latest = t.latest; later = t.later; works = t.works; earlier_none = t.earlier_none; became = t.became; later_none = t.later_none }
 
   -- whether its seat was told something before makes no difference
   pub heard_ticked : (hand new : HandState (DeskState W M)) (desk heard : DeskState W M) (peer : ℕ) (note : SeatState (Queued M W)) (back : Option (SeatState (Queued M W))) → Hears desk heard peer note back → GivesTicked label given ticked is_closed hand new heard → GivesTicked label given ticked is_closed hand new desk

@@ -1,8 +1,9 @@
 -- What works were given, as marks are taken one after another.
-use Rattle.std.proofs.Common.{◌≡◌, ℕ, Bool, true, false, cond, List, [], ◌∷◌, ◌++◌, length, map, refl, sym, ap, ◌∙◌, arith}
+use Rattle.std.proofs.Common.{◌≡◌, ℕ, zero, suc, ◌<◌, Bool, true, false, cond, List, [], ◌∷◌, ◌++◌, length, map, get_or, set, All, refl, sym, ap, ◌∙◌, arith}
 use Rattle.std.specs.List.{AllZip, slice_split, onto_first, flat_map}
 use Rattle.std.proofs.lemmas.Bool.{false≢true}
 use Rattle.std.proofs.lemmas.List.{append-nil, append_assoc, length-map}
+use Rattle.std.proofs.lemmas.List.Elements.{All-nil, All-cons, All-head, All-tail}
 use Rattle.std.proofs.lemmas.Grind.{flat_map-append}
 use Rattle.std.proofs.lemmas.List.Splits.{length-slice_split}
 use Rattle.cb_sched.specs.Line.{connections}
@@ -107,6 +108,69 @@ zip_length R [] [] all = refl
 zip_length R [] (y ∷ ys) all = absurd all
 zip_length R (x ∷ xs) [] all = absurd all
 zip_length R (x ∷ xs) (y ∷ ys) all = omega (arith, zip_length R xs ys all.1)
+
+pub zip_refl : {A : Type 0} (R : A → A → Type 0) → ((x : A) → R x x) → (xs : List A) → AllZip R xs xs
+zip_refl R same [] = tt
+zip_refl R same (x ∷ xs) = (same x, zip_refl R same xs)
+
+pub zip_then : {A B C : Type 0} (R : A → B → Type 0) (S : B → C → Type 0) (T : A → C → Type 0) → ((x : A) (y : B) (z : C) → R x y → S y z → T x z) → (xs : List A) (ys : List B) (zs : List C) → AllZip R xs ys → AllZip S ys zs → AllZip T xs zs
+zip_then R S T step [] [] [] all more = tt
+zip_then R S T step [] [] (z ∷ zs) all more = absurd more
+zip_then R S T step [] (y ∷ ys) zs all more = absurd all
+zip_then R S T step (x ∷ xs) [] zs all more = absurd all
+zip_then R S T step (x ∷ xs) (y ∷ ys) [] all more = absurd more
+zip_then R S T step (x ∷ xs) (y ∷ ys) (z ∷ zs) all more = (step x y z all.0 more.0, zip_then R S T step xs ys zs all.1 more.1)
+
+pub zip_append : {A B : Type 0} (R : A → B → Type 0) (xs : List A) (ys : List B) (us : List A) (vs : List B) → AllZip R xs ys → AllZip R us vs → AllZip R (xs ++ us) (ys ++ vs)
+zip_append R [] [] us vs all more = more
+zip_append R [] (y ∷ ys) us vs all more = absurd all
+zip_append R (x ∷ xs) [] us vs all more = absurd all
+zip_append R (x ∷ xs) (y ∷ ys) us vs all more = (all.0, zip_append R xs ys us vs all.1 more)
+
+-- one of the second list became another
+pub zip_set : {A B : Type 0} (R : A → B → Type 0) (xs : List A) (ys : List B) (i : ℕ) (new d : B) → i < length ys → ((x : A) → R x (get_or ys i d) → R x new) → AllZip R xs ys → AllZip R xs (set ys i new)
+zip_set R [] [] i new d lt step all = tt
+zip_set R [] (y ∷ ys) i new d lt step all = absurd all
+zip_set R (x ∷ xs) [] i new d lt step all = absurd all
+zip_set R (x ∷ xs) (y ∷ ys) zero new d lt step all = (step x all.0, all.1)
+zip_set R (x ∷ xs) (y ∷ ys) (suc i) new d lt step all = (all.0, zip_set R xs ys i new d (omega (arith, lt)) step all.1)
+
+pub zip_flip : {A B : Type 0} (R : A → B → Type 0) (xs : List A) (ys : List B) → AllZip R xs ys → AllZip (λ y x. R x y) ys xs
+zip_flip R [] [] all = tt
+zip_flip R [] (y ∷ ys) all = absurd all
+zip_flip R (x ∷ xs) [] all = absurd all
+zip_flip R (x ∷ xs) (y ∷ ys) all = (all.0, zip_flip R xs ys all.1)
+
+pub zip_weaker : {A B : Type 0} (R S : A → B → Type 0) → ((x : A) (y : B) → R x y → S x y) → (xs : List A) (ys : List B) → AllZip R xs ys → AllZip S xs ys
+zip_weaker R S step [] [] all = tt
+zip_weaker R S step [] (y ∷ ys) all = absurd all
+zip_weaker R S step (x ∷ xs) [] all = absurd all
+zip_weaker R S step (x ∷ xs) (y ∷ ys) all = (step x y all.0, zip_weaker R S step xs ys all.1)
+
+-- what holds of each of the first list tells what holds of each of the second
+pub zip_all : {A B : Type 0} (R : A → B → Type 0) (P : A → Type 0) (Q : B → Type 0) → ((x : A) (y : B) → R x y → P x → Q y) → (xs : List A) (ys : List B) → AllZip R xs ys → All P xs → All Q ys
+zip_all R P Q step [] [] all each = All-nil Q
+zip_all R P Q step [] (y ∷ ys) all each = absurd all
+zip_all R P Q step (x ∷ xs) [] all each = absurd all
+zip_all R P Q step (x ∷ xs) (y ∷ ys) all each = All-cons Q y ys (step x y all.0 (All-head P x xs each)) (zip_all R P Q step xs ys all.1 (All-tail P x xs each))
+
+-- the second list, cut where the first is
+pub record ZipParts {A B : Type 0} (R : A → B → Type 0) (xs : List A) (x : A) (more : List A) (zs : List B) : Type 0 where
+  pub front : List B
+  pub at : B
+  pub behind : List B
+  pub is : zs ≡ front ++ at ∷ behind
+  pub fronts : AllZip R xs front
+  pub ats : R x at
+  pub behinds : AllZip R more behind
+
+pub zip_parts : {A B : Type 0} (R : A → B → Type 0) (xs : List A) (x : A) (more : List A) (zs : List B) → AllZip R (xs ++ x ∷ more) zs → ZipParts R xs x more zs
+zip_parts R [] x more [] all = absurd all
+zip_parts R [] x more (z ∷ zs) all = record { front = []; at = z; behind = zs; is = refl; fronts = tt; ats = all.0; behinds = all.1 }
+zip_parts R (y ∷ xs) x more [] all = absurd all
+zip_parts R (y ∷ xs) x more (z ∷ zs) all =
+    let p = zip_parts R xs x more zs all.1 in
+    record { front = z ∷ p.front; at = p.at; behind = p.behind; is = ap (λ ws. z ∷ ws) p.is; fronts = (all.0, p.fronts); ats = p.ats; behinds = p.behinds }
 
 -- ---- marks in turn
 

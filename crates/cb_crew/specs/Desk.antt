@@ -10,6 +10,7 @@ use Rattle.cb_inbox.specs.Seat.{InboxState, SeatState}
 use Rattle.cb_crew.specs.declared.work.Given.{Given}
 use Rattle.cb_crew.specs.declared.desk.Step.{Step}
 use Rattle.cb_crew.specs.declared.desk.Step.TheVariants as step
+use Rattle.cb_crew.specs.Past.{OldestLetGo, StaysIfFew}
 use Rattle.cb_crew.specs.Work.{AreWorksOf, IsTicked, IsUnticked, WorksOn, connections_of, first_of}
 
 pub record DeskState (W M : Type 0) : Type 0 where
@@ -90,12 +91,14 @@ pub record HasServedAll {W M : Type 0} (old new : DeskState W M) : Type 0 where
 
 -- ---- ticks
 
--- The works of a desk before and after. The earlier works are unchanged. The latest work became
--- `latest`, as `becomes` tells. The works that came since were never ticked.
+-- The works of a desk before and after. No earlier work was ticked. The latest work became `latest`,
+-- as `becomes` tells. The works that came since were never ticked.
 pub record WorksAfter {W M : Type 0} (ticked : W → List ℕ → Type 0) (becomes : W → W → Type 0) (old new : DeskState W M) : Type 0 where
+  pub earlier : List W
   pub latest : W
   pub later : List W
-  pub works : new.past ++ new.work ∷ [] ≡ old.past ++ latest ∷ later
+  pub works : new.past ++ new.work ∷ [] ≡ earlier ++ latest ∷ later
+  pub earlier_none : AllZip (IsUnticked ticked) old.past earlier
   pub became : becomes old.work latest
   pub later_none : All (λ work. ticked work []) later
 
@@ -107,3 +110,15 @@ TickedOnce given ticked is_closed old new = WorksAfter ticked (IsTicked given ti
 -- no work was ticked
 abbrev pub NotTicked : {W M : Type 0} → (W → List ℕ → Type 0) → DeskState W M → DeskState W M → Type 0
 NotTicked ticked old new = WorksAfter ticked (IsUnticked ticked) old new
+
+-- ---- what the works of past connections keep
+
+-- `ended` are the works of the connections that ended since, each as it was then, or without the
+-- bytes that it kept if these were more than 1,000,000. The first of them is the latest work from
+-- before, unchanged if that was closed. Since then each past work stayed as it was or let go, and
+-- the latest stayed as far as 1,000,000 bytes go.
+pub record PastAfter {W M : Type 0} (label : W → ℕ) (given : W → List (Given M) → Type 0) (ticked : W → List ℕ → Type 0) (is_closed : W → Bool) (weight : W → ℕ) (old new : DeskState W M) : Type 0 where
+  pub ended : List W
+  pub few : All (λ work. weight work ≤ 1000000) ended
+  pub past : OldestLetGo label given ticked is_closed weight (old.past ++ ended) new.past
+  pub closed : is_closed old.work ≡ true → StaysIfFew label given ticked is_closed weight old.work (first_of ended new.work)

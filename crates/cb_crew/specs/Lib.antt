@@ -2,6 +2,7 @@ pub mod Crew
 pub mod Desk
 pub mod Hand
 pub mod Headline
+pub mod Past
 pub mod Ring
 pub mod RingRule
 pub mod RingTests

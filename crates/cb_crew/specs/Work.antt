@@ -1,5 +1,5 @@
 -- What a work was given of its connection, and when it was ticked.
-use Rattle.std.specs.Prelude.{◌≡◌, ℕ, Bool, true, false, List, [], ◌∷◌, ◌++◌, length, map}
+use Rattle.std.specs.Prelude.{◌≡◌, ◌⊎◌, ℕ, Bool, true, false, List, [], ◌∷◌, ◌++◌, length, map}
 use Rattle.std.specs.List.{flat_map}
 use Rattle.cb_sched.specs.Laws.{IsBeginning}
 use Rattle.cb_sched.specs.Parts.{parts}
@@ -66,3 +66,15 @@ pub record IsTicked {W M : Type 0} (was_given : W → List (Given M) → Type 0)
 -- it wasn't ticked again
 abbrev pub IsUnticked : {W : Type 0} → (W → List ℕ → Type 0) → W → W → Type 0
 IsUnticked ticked old new = (at : List ℕ) → ticked old at → ticked new at
+
+-- It let go of the bytes that it kept. It is closed, and else it is as before.
+pub record HasLetGo {W M : Type 0} (label : W → ℕ) (was_given : W → List (Given M) → Type 0) (ticked : W → List ℕ → Type 0) (is_closed : W → Bool) (weight : W → ℕ) (old new : W) : Type 0 where
+  pub nothing : weight new ≡ 0
+  pub labelled : label new ≡ label old
+  pub given : (items : List (Given M)) → was_given old items → was_given new items
+  pub unticked : IsUnticked ticked old new
+  pub closed : is_closed new ≡ true
+
+-- it is as before, or it let go
+abbrev pub IsKeptOrLetGo : {W M : Type 0} → (W → ℕ) → (W → List (Given M) → Type 0) → (W → List ℕ → Type 0) → (W → Bool) → (W → ℕ) → W → W → Type 0
+IsKeptOrLetGo label was_given ticked is_closed weight old new = (new ≡ old) ⊎ HasLetGo label was_given ticked is_closed weight old new

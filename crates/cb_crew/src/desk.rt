@@ -1,10 +1,12 @@
 ghost use Rattle.std.specs.Prelude.{◌≡◌, ◌≤◌, true, false, List, [], ◌∷◌, ◌++◌, vec_capacity};
+ghost use Rattle.std.specs.List.{sum_by};
 ghost use Rattle.cb_inbox.specs.Seat.{opening_seat};
 ghost use Rattle.cb_crew.specs.declared.desk.Step.TheVariants.{Worked, Passed};
 ghost use Rattle.cb_crew.specs.declared.work.Given.{Given};
 ghost use Rattle.cb_crew.specs.Work.{IsEnd, IsTicked, IsUnticked};
-ghost use Rattle.cb_crew.specs.Desk.{IsDesk, IsSameLine, IsServed, HasServedAll, NotTicked, Stepped, TickedOnce, desk_note, desk_state, desk_told, first_label};
+ghost use Rattle.cb_crew.specs.Desk.{IsDesk, IsSameLine, IsServed, HasServedAll, NotTicked, PastAfter, Stepped, TickedOnce, desk_note, desk_state, desk_told, first_label};
 
+use crate::past::PastWorks;
 use crate::ring_rule::Travels;
 use crate::work::{Fresh, Given, Work};
 use cb_base::Shared;
@@ -40,24 +42,25 @@ pub struct Count {
 /// Each connection has its own work. The first work keeps its label. Each later work has the label
 /// of the work that its open mark brought. A work was given a prefix of what was taken of its
 /// connection, in order and each once. An open work was given all of that. The works of earlier
-/// connections are closed.
+/// connections are closed, and keep at most 1,000,000 bytes together: the oldest let go first, so the
+/// latest are kept whole as far as these bytes go.
 #[derive(Drop)]
 pub struct Desk<W: Work> {
     inbox: Shared<Inbox<W::Item, Fresh<W>>>,
     seat: TakerSeat<W::Item, Fresh<W>>,
     work: W,
-    past: Vec<W>,
+    past: PastWorks<W>,
 }
 
 impl<W: Work> Model for Desk<W> {
-    ghost use Rattle.std.specs.Prelude.{◌≡◌, ◌≤◌, vec_capacity};
+    ghost use Rattle.std.specs.Prelude.{◌≡◌, ◌≤◌};
     ghost use Rattle.cb_crew.specs.Desk.{DeskState, IsDesk, desk_state};
 
     ghost Value = { DeskState W W.Item };
 
-    ghost view = { λ a. desk_state a.inbox a.seat a.work a.past.items };
+    ghost view = { λ a. desk_state a.inbox a.seat a.work a.past.works };
 
-    ghost invariant = { λ a. IsDesk W.label W.given W.is_closed (desk_state a.inbox a.seat a.work a.past.items) × (a.seat.inbox ≡ a.inbox.name) × (255 ≤ vec_capacity a.past) };
+    ghost invariant = { λ a. IsDesk W.label W.given W.is_closed (desk_state a.inbox a.seat a.work a.past.works) × (a.seat.inbox ≡ a.inbox.name) × (255 ≤ a.past.capacity) };
 }
 
 impl<W: Work> Travels for Desk<W> {
@@ -83,7 +86,7 @@ impl<W: Work> Desk<W> {
             inbox,
             seat,
             work: work.into_work(),
-            past,
+            past: PastWorks::new(past),
         }
     }
 
@@ -108,11 +111,13 @@ impl<W: Work> Desk<W> {
         &self.work
     }
 
-    /// The works of earlier connections, in order. All are closed.
+    /// The works of earlier connections, in order. All are closed, and they keep at most 1,000,000
+    /// bytes together.
     pub fn past(&self) -> &[W]
-        ensures { result.now ≡ self.now.past }
+        ensures past { result.now ≡ self.now.past }
+        ensures bounded { sum_by W.weight self.now.past ≤ 1000000 }
     {
-        self.past.as_slice()
+        self.past.works()
     }
 
     /// A fact for the prover: what the works of this desk were given of what was taken from its
@@ -128,7 +133,7 @@ impl<W: Work> Desk<W> {
     pub fn into_works(self) -> (W, Vec<W>)
         ensures { (result.0 ≡ self.work) × (result.1.items ≡ self.past) }
     {
-        (self.work, self.past)
+        (self.work, self.past.into_works())
     }
 
     /// Learns from a note of the reader how much was queued.
@@ -148,6 +153,7 @@ impl<W: Work> Desk<W> {
         requires { budget ≤ 64 }
         ensures served { IsServed W.is_closed self.old self.new budget result.worked result.passed }
         ensures ticks { TickedOnce W.given W.ticked W.is_closed self.old self.new }
+        ensures past { PastAfter W.label W.given W.ticked W.is_closed W.weight self.old self.new }
         ensures label { first_label W.label self.new ≡ first_label W.label self.old }
     {
         self.tick(rt);
@@ -175,6 +181,7 @@ impl<W: Work> Desk<W> {
     pub fn serve_all<R: Wait>(&mut self, rt: &R)
         ensures served { HasServedAll self.old self.new }
         ensures ticks { NotTicked W.ticked self.old self.new }
+        ensures past { PastAfter W.label W.given W.ticked W.is_closed W.weight self.old self.new }
         ensures label { first_label W.label self.new ≡ first_label W.label self.old }
     {
         for _ in rt.forever() {
@@ -197,7 +204,7 @@ impl<W: Work> Desk<W> {
         ensures line { IsSameLine self.old self.new }
         ensures past { self.new.past ≡ self.old.past }
         ensures label { W.label self.new.work ≡ W.label self.old.work }
-        ensures closed { W.is_closed self.old.work ≡ true → W.is_closed self.new.work ≡ true }
+        ensures closed { W.is_closed self.old.work ≡ true → self.new.work ≡ self.old.work }
         ensures ticked { IsTicked W.given W.ticked W.is_closed self.old.work self.new.work }
     {
         if !self.work.closed() {
@@ -206,10 +213,11 @@ impl<W: Work> Desk<W> {
     }
 
     /// Takes the mark at the front of the inbox and gives it to the work if that is open. An open
-    /// mark brings the work of the next connection.
+    /// mark brings the work of the next connection, and the work is past.
     fn advance<R: Wait>(&mut self, rt: &R) -> Step
         ensures stepped { Stepped W.is_closed self.old self.new result }
         ensures ticks { NotTicked W.ticked self.old self.new }
+        ensures past { PastAfter W.label W.given W.ticked W.is_closed W.weight self.old self.new }
         ensures label { first_label W.label self.new ≡ first_label W.label self.old }
     {
         let ready = make_ready(&mut self.work);
@@ -221,7 +229,7 @@ impl<W: Work> Desk<W> {
                 // No effect when it runs: it tells the prover what the type keeps.
                 self.seat.reached();
                 let past = mem::replace(&mut self.work, next.into_work());
-                self.past.push_reserved(past);
+                self.past.push(past);
                 Step::Passed
             }
         }
@@ -234,6 +242,7 @@ fn make_ready<W: Work>(work: &mut W) -> bool
         (W.is_closed work.old ≡ false) × (W.is_closed work.new ≡ false) × W.primed work.new }
     ensures closed { result ≡ false → W.is_closed work.new ≡ true }
     ensures live { W.is_closed work.new ≡ false → W.is_closed work.old ≡ false }
+    ensures still { W.is_closed work.old ≡ true → work.new ≡ work.old }
     ensures given { (items : List (Given W.Item)) → W.given work.old items →
         W.given work.new items }
     ensures label { W.label work.new ≡ W.label work.old }

@@ -8,6 +8,7 @@ mod desk;
 mod finish;
 mod handler;
 mod new_crew;
+mod past;
 mod reader_side;
 mod ring;
 mod ring_rule;

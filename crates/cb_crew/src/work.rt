@@ -20,7 +20,7 @@ pub enum Given<M> {
 ///
 /// A work never changes its label. Contracts tell by the label whose work it is.
 pub trait Work: Drop {
-    ghost use Rattle.std.specs.Prelude.{◌≡◌, ℕ, Bool, true, false, List, ◌++◌, ◌∷◌, [], length};
+    ghost use Rattle.std.specs.Prelude.{◌≡◌, ◌-◌, ◌^◌, ℕ, Bool, true, false, List, ◌++◌, ◌∷◌, [], length, min};
     ghost use Rattle.cb_crew.specs.declared.work.Given.{Given};
     ghost use Rattle.cb_crew.specs.Work.{IsEnd};
 
@@ -39,6 +39,9 @@ pub trait Work: Drop {
 
     /// The work accepts nothing more.
     ghost is_closed: { Self → Bool };
+
+    /// How many bytes the work keeps that it can let go of once its connection is past, about.
+    ghost weight: { Self → ℕ };
 
     /// Whose work it is.
     ghost label: { Self → ℕ };
@@ -80,6 +83,20 @@ pub trait Work: Drop {
             given self.new items }
         ensures ticked { (items : List (Given Self.Item)) (at : List ℕ) → given self.old items →
             ticked self.old at → ticked self.new (at ++ length items ∷ []) };
+
+    /// How many bytes the work keeps that it can let go of; `u64::MAX` if that is more.
+    fn weighs(&self) -> u64
+        ensures { result ≡ min (weight self.now) (2 ^ 64 - 1) };
+
+    /// Lets go of these bytes. The work's connection is past, and it is closed.
+    fn let_go(&mut self)
+        requires { is_closed self.old ≡ true }
+        ensures weight { weight self.new ≡ 0 }
+        ensures closed { is_closed self.new ≡ true }
+        ensures label { label self.new ≡ label self.old }
+        ensures given { (items : List (Given Self.Item)) → given self.old items →
+            given self.new items }
+        ensures ticked { (at : List ℕ) → ticked self.old at → ticked self.new at };
 }
 
 /// A work that may begin a connection: it is open, was given nothing and was never ticked.

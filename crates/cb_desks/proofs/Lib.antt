@@ -1,1 +1,4 @@
 pub mod Listing
+pub mod Placed
+pub mod Searching
+pub mod Uneven

@@ -1,21 +1,15 @@
 -- Traces that are listed one after another.
 use Rattle.std.proofs.Common.{◌≡◌, ◌∙◌, ℕ, ◌+◌, ◌<◌, ◌≤◌, List, [], ◌∷◌, ◌++◌, length, take, get_or, sym, ap, append_assoc}
-use Rattle.std.specs.Prelude.{Err, Ok, Result, map}
+use Rattle.std.specs.Prelude.{map}
 use Rattle.std.specs.List.{flat_map}
 use Rattle.std.proofs.lemmas.List.{append-nil, map-append, take_all, take_more}
 use Rattle.std.proofs.lemmas.List.Concat.{flat_map-append}
-use Rattle.cb_journal.specs.Journal.{JournalState}
-use Rattle.cb_audit.specs.declared.auditing.Split.{Split}
-use Rattle.cb_audit.specs.declared.auditing.Split.TheVariants.{Memory, Count, Differs}
-use Rattle.cb_audit.specs.Audit.{Audits}
-use Rattle.cb_audit.specs.Order.{AuditedTrace}
-use Rattle.cb_desks.specs.Desks.{AuditsDesks}
 
 -- one work after another
 pub map_first : {A B : Type 0} (f : A → B) (list : List B) (xs : List A) → list ≡ list ++ map f (take 0 xs)
 map_first f list xs = sym (append-nil list)
 
-one_more : {A : Type 0} (xs : List A) (n : ℕ) (here : A) → n < length xs → here ≡ get_or xs n here → take (n + 1) xs ≡ take n xs ++ here ∷ []
+pub one_more : {A : Type 0} (xs : List A) (n : ℕ) (here : A) → n < length xs → here ≡ get_or xs n here → take (n + 1) xs ≡ take n xs ++ here ∷ []
 one_more xs n here low is = take_more xs n here low ∙ ap (λ (x : _). take n xs ++ x ∷ []) (sym is)
 
 pub map_more : {A B : Type 0} (f : A → B) (list so_far more : List B) (xs : List A) (n : ℕ) (here : A) → so_far ≡ list ++ map f (take n xs) → n < length xs → here ≡ get_or xs n here → more ≡ so_far ++ f here ∷ []
@@ -39,10 +33,3 @@ flat_more f so_far more xs n here is low own added =
 
 pub flat_all : {A B : Type 0} (f : A → List B) (so_far : List B) (xs : List A) (n : ℕ) → so_far ≡ flat_map f (take n xs) → length xs ≤ n → so_far ≡ flat_map f xs
 flat_all f so_far xs n is past = is ∙ ap (flat_map f) (take_all n xs past)
-
--- what an audit of the list tells
-pub audits_desks : (hall : JournalState) (audited : List AuditedTrace) (result : Result (Unit {0}) Split) → Audits hall audited result → AuditsDesks hall audited result
-audits_desks hall audited (Ok done) told = told
-audits_desks hall audited (Err Memory) told = tt
-audits_desks hall audited (Err (Count connection)) told = told
-audits_desks hall audited (Err (Differs connection place)) told = told

@@ -1,13 +1,13 @@
 -- The traces of the works of a crew's desks: the logs of the events that the connections' sessions
 -- were given.
-use Rattle.std.specs.Prelude.{List, ◌∷◌, [], ◌++◌, map, Result, Err}
+use Rattle.std.specs.Prelude.{ℕ, ◌==◌, if◌then◌else◌, List, ◌∷◌, [], ◌++◌, map, Option, None, Some}
 use Rattle.std.specs.List.{flat_map}
+use Rattle.cb_state.specs.declared.connection.Connection.{Connection}
+use Rattle.cb_state.specs.Announcers.{same_connection}
 use Rattle.cb_crew.specs.Desk.{DeskState}
 use Rattle.cb_work.specs.PeerWork.{WorkState}
-use Rattle.cb_journal.specs.Journal.{JournalState}
-use Rattle.cb_audit.specs.declared.auditing.Split.{Split}
-use Rattle.cb_audit.specs.declared.auditing.Split.TheVariants.{Memory}
-use Rattle.cb_audit.specs.Audit.{Audits}
+use Rattle.cb_journal.specs.Connections.{Slots}
+use Rattle.cb_audit.specs.Counting.{granted}
 use Rattle.cb_audit.specs.Order.{AuditedTrace}
 
 -- The trace of a connection's work.
@@ -22,7 +22,12 @@ traces_of_desk desk = map trace_of_work (desk.past ++ desk.work ∷ [])
 abbrev pub traces_of : {S H F M : Type 0} → List (DeskState (WorkState S H F) M) → List AuditedTrace
 traces_of desks = flat_map traces_of_desk desks
 
--- What an audit of desks tells. Nothing is said of want of memory, which the list of traces takes too.
-abbrev pub AuditsDesks : JournalState → List AuditedTrace → Result (Unit {0}) Split → Type 0
-AuditsDesks hall audited (Err Memory) = Unit {0}
-AuditsDesks hall audited other = Audits hall audited other
+-- How many answers the trace of a connection has, if it has one.
+abbrev pub told_in : List AuditedTrace → Connection → Option ℕ
+told_in [] connection = None
+told_in (one ∷ others) connection = if same_connection one.connection connection then Some one.trace.total.told else told_in others connection
+
+-- The first connection that was granted another number of questions than its trace has answers.
+abbrev pub uneven_in : Slots → List AuditedTrace → Option Connection
+uneven_in slots [] = None
+uneven_in slots (one ∷ others) = if granted slots one.connection == one.trace.total.told then uneven_in slots others else Some one.connection

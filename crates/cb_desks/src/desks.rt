@@ -1,8 +1,10 @@
 ghost use Rattle.std.specs.Prelude.{◌≡◌, ◌++◌, IfOk, IsOkUnless};
 ghost use Rattle.cb_base.specs.declared.fault.Fault.TheVariants.{Memory};
+ghost use Rattle.cb_audit.specs.Audit.{Audits};
 ghost use Rattle.cb_audit.specs.Order.{AreInOrder};
-ghost use Rattle.cb_desks.specs.Desks.{AuditsDesks, traces_of, traces_of_desk};
+ghost use Rattle.cb_desks.specs.Desks.{traces_of, traces_of_desk};
 
+use crate::counting::first_uneven;
 use cb_audit::{Audited, Split, audit};
 use cb_base::Fault;
 use cb_crew::Desk;
@@ -52,15 +54,19 @@ pub fn traces<'a, S: Sink + Drop, H: Oracle + Drop, F: Flags>(
 /// desks by peers, and a desk's works by generations.
 ///
 /// Fails as `audit` does, and with `Split::Memory` also if there isn't enough memory to list the
-/// traces.
+/// traces. The numbers are compared before that, without memory: where they differ, `Split::Count`
+/// is told.
 pub fn audit_desks<S: Sink + Drop, H: Oracle + Drop, F: Flags>(
     alloc: Global,
     hall: &Hall,
     desks: &[Desk<PeerWork<S, H, F>>],
 ) -> Result<(), Split>
     requires order { AreInOrder (traces_of desks.now) }
-    ensures { AuditsDesks hall.now (traces_of desks.now) result }
+    ensures { Audits hall.now (traces_of desks.now) result }
 {
+    if let Some(connection) = first_uneven(hall.record(), desks) {
+        return Err(Split::Count(connection));
+    }
     match traces(alloc, desks) {
         Ok(list) => audit(alloc, hall, list.as_slice()),
         Err(_) => Err(Split::Memory),

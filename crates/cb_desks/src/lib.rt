@@ -2,6 +2,7 @@
 //! and each work has the trace of its session.
 #![tactic(auto)]
 
+mod counting;
 mod desks;
 
 pub use cb_audit::{Audited, Split, are_in_order, audit};

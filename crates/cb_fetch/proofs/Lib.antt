@@ -1,4 +1,5 @@
 pub mod Falling
+pub mod Grown
 pub mod Limits
 pub mod Needed
 pub mod Once

@@ -1,4 +1,4 @@
-ghost use Rattle.std.specs.Prelude.{◌≡◌, ◌≤◌, ◌<◌, [], false, fold, length, nat_lt, IfOk, IsOk, IsOkUnless, OnErr, OnOk};
+ghost use Rattle.std.specs.Prelude.{◌≡◌, ◌≤◌, ◌<◌, [], false, fold, length, nat_lt, take, IfOk, IsOk, IsOkUnless, OnErr, OnOk};
 ghost use Rattle.cb_base.specs.declared.fault.Fault.TheVariants.{Memory};
 ghost use Rattle.cb_fetch.specs.Fetching.{as_blocks, asks_now, block_in, blocks_in, fallen_back, has, idle, is_due, is_fetched, landed, request_of, requests_of, taken_on, taking_on, wanting, wanting_all, with_flight, with_wanted};
 
@@ -139,10 +139,12 @@ impl Fetch {
     }
 
     /// Appends a block to the wanted ones, unless it is in flight or wanted, or 2,000 are wanted.
-    /// Fails only with `Fault::Memory`, and never if nothing is to change.
+    /// Fails only with `Fault::Memory`, and never if nothing is to change. After an error nothing
+    /// has changed.
     fn want_one(&mut self, hash: Hash256) -> Result<(), Fault>
         ensures wanted { OnOk result (self.new ≡ wanting self.old hash) }
         ensures memory { IsOkUnless result Memory }
+        ensures err { OnErr result (self.new ≡ self.old) }
         ensures unpaid { wanting self.old hash ≡ self.old → IsOk result }
     {
         if self.is_fetched(&hash) {
@@ -167,21 +169,41 @@ impl Fetch {
         self.put_wanted(hash)
     }
 
-    /// Queues missing blocks for download: each becomes wanted, in order, unless it is in flight or
-    /// wanted, or 2,000 are wanted.
-    ///
-    /// Fails only with `Fault::Memory`, and never if no block becomes wanted. What is wanted after
-    /// that error isn't specified, so the value is then of no use.
-    pub fn want(&mut self, hashes: &[Hash256]) -> Result<(), Fault>
+    /// Queues blocks for download as `want` does. After an error the first of them may be wanted,
+    /// behind those that were.
+    fn want_each(&mut self, hashes: &[Hash256]) -> Result<(), Fault>
         ensures wanted { OnOk result (self.new ≡ wanting_all self.old hashes.now) }
         ensures memory { IsOkUnless result Memory }
-        ensures unpaid { length hashes.now ≡ 0 → IsOk result }
+        ensures flight { self.new.flight ≡ self.old.flight }
+        ensures front { take (length self.old.wanted) self.new.wanted ≡ self.old.wanted }
         ensures known { wanting_all self.old hashes.now ≡ self.old → IsOk result }
     {
         for hash in hashes {
             self.want_one(*hash)?;
         }
         Ok(())
+    }
+
+    /// Queues missing blocks for download: each becomes wanted, in order, unless it is in flight or
+    /// wanted, or 2,000 are wanted.
+    ///
+    /// Fails only with `Fault::Memory`, and never if no block becomes wanted. After an error nothing
+    /// has changed.
+    pub fn want(&mut self, hashes: &[Hash256]) -> Result<(), Fault>
+        ensures wanted { OnOk result (self.new ≡ wanting_all self.old hashes.now) }
+        ensures memory { IsOkUnless result Memory }
+        ensures err { OnErr result (self.new ≡ self.old) }
+        ensures unpaid { length hashes.now ≡ 0 → IsOk result }
+        ensures known { wanting_all self.old hashes.now ≡ self.old → IsOk result }
+    {
+        let before = self.wanted.len();
+        match self.want_each(hashes) {
+            Ok(()) => Ok(()),
+            Err(fault) => {
+                self.wanted.truncate(before);
+                Err(fault)
+            }
+        }
     }
 
     /// Notes that a compact block couldn't be rebuilt (BIP 152), so that the whole block is needed.

@@ -79,6 +79,7 @@ fn first_step(w: &[u32x4; 16], v: [u32x4; 8], t: usize) -> [u32x4; 8]
     round(v, added)
 }
 
+/// Rounds `t` to `t + 3` of the first 16.
 #[inline(always)]
 fn first_four_steps(w: &[u32x4; 16], v: [u32x4; 8], t: usize) -> [u32x4; 8]
     requires { t + 4 ≤ 16 }
@@ -106,6 +107,7 @@ fn step(w: &mut [u32x4; 16], v: [u32x4; 8], turn: usize, place: usize) -> [u32x4
     round(v, added)
 }
 
+/// Four rounds, from round `16 * turn + place` on, with their words of the schedules.
 #[inline(always)]
 fn four_steps(w: &mut [u32x4; 16], v: [u32x4; 8], turn: usize, place: usize) -> [u32x4; 8]
     requires low { 1 ≤ turn }
@@ -178,6 +180,7 @@ fn padding_step(v: [u32x4; 8], t: usize) -> [u32x4; 8]
     round(v, u32x4::splat(PADDING_ROUNDS[t]))
 }
 
+/// Rounds `t` to `t + 3` over that padding.
 #[inline(always)]
 fn padding_four_steps(v: [u32x4; 8], t: usize) -> [u32x4; 8]
     requires { t + 4 ≤ 64 }

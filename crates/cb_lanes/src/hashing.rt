@@ -1,5 +1,5 @@
 //! SHA-256 twice over, of four messages at a time.
-ghost use Rattle.std.specs.Prelude.{◌≡◌, ℕ, ◌<◌, ◌≤◌, ◌/◌, List, [], ◌∷◌, length, IfOk, IsOkUnless};
+ghost use Rattle.std.specs.Prelude.{◌≡◌, ℕ, ◌+◌, ◌<◌, ◌≤◌, ◌/◌, List, [], ◌∷◌, length, take, IfOk, IsOk, IsOkUnless, vec_capacity, vec_len};
 ghost use Rattle.sha2.specs.Sha256.{digest_bytes, final_hash, hash_after, initial_hash_256, padded_message, sha256};
 ghost use Rattle.cb_base.specs.DoubleHash.{double_hash};
 ghost use Rattle.cb_base.specs.declared.fault.Fault.TheVariants.{Memory};
@@ -198,9 +198,11 @@ fn gains_by_lanes(first: usize, second: usize, third: usize, fourth: usize) -> b
     (most + 1).saturating_mul(3) / 2 < a.saturating_add(b).saturating_add(c).saturating_add(d) + 4
 }
 
-/// The double hashes of four texts. They are hashed side by side if that takes fewer instructions:
-/// then padding is appended to them. Fails only with `Fault::Memory`.
-pub fn dsha_four(
+/// The double hashes of four texts, which are hashed side by side: padding is appended to them. They
+/// still stand in front of it, after an error too.
+///
+/// Fails only with `Fault::Memory`, and never if each has a free capacity of 72 bytes.
+fn dsha_by_lanes(
     first: &mut Vec<u8>,
     second: &mut Vec<u8>,
     third: &mut Vec<u8>,
@@ -210,15 +212,15 @@ pub fn dsha_four(
         ∷ double_hash second.old.items ∷ double_hash third.old.items
         ∷ double_hash fourth.old.items ∷ []) }
     ensures memory { IsOkUnless result Memory }
+    ensures first { take (length first.old.items) first.new.items ≡ first.old.items }
+    ensures second { take (length second.old.items) second.new.items ≡ second.old.items }
+    ensures third { take (length third.old.items) third.new.items ≡ third.old.items }
+    ensures fourth { take (length fourth.old.items) fourth.new.items ≡ fourth.old.items }
+    ensures full { vec_len first.old + 72 ≤ vec_capacity first.old
+        → vec_len second.old + 72 ≤ vec_capacity second.old
+        → vec_len third.old + 72 ≤ vec_capacity third.old
+        → vec_len fourth.old + 72 ≤ vec_capacity fourth.old → IsOk result }
 {
-    if !gains_by_lanes(first.len(), second.len(), third.len(), fourth.len()) {
-        return Ok([
-            dsha(first.as_slice()),
-            dsha(second.as_slice()),
-            dsha(third.as_slice()),
-            dsha(fourth.as_slice()),
-        ]);
-    }
     pad(first)?;
     pad(second)?;
     pad(third)?;
@@ -229,4 +231,45 @@ pub fn dsha_four(
         third.as_slice(),
         fourth.as_slice(),
     ))
+}
+
+/// The double hashes of four texts. They are hashed side by side if that takes fewer instructions:
+/// then padding is appended to them, and taken off again. The texts are the same after the call,
+/// after an error too.
+///
+/// Fails only with `Fault::Memory`, and never if each has a free capacity of 72 bytes.
+pub fn dsha_four(
+    first: &mut Vec<u8>,
+    second: &mut Vec<u8>,
+    third: &mut Vec<u8>,
+    fourth: &mut Vec<u8>,
+) -> Result<[Hash256; 4], Fault>
+    ensures hashes { IfOk result (λ hashes. hashes ≡ double_hash first.old.items
+        ∷ double_hash second.old.items ∷ double_hash third.old.items
+        ∷ double_hash fourth.old.items ∷ []) }
+    ensures memory { IsOkUnless result Memory }
+    ensures first { first.new.items ≡ first.old.items }
+    ensures second { second.new.items ≡ second.old.items }
+    ensures third { third.new.items ≡ third.old.items }
+    ensures fourth { fourth.new.items ≡ fourth.old.items }
+    ensures full { vec_len first.old + 72 ≤ vec_capacity first.old
+        → vec_len second.old + 72 ≤ vec_capacity second.old
+        → vec_len third.old + 72 ≤ vec_capacity third.old
+        → vec_len fourth.old + 72 ≤ vec_capacity fourth.old → IsOk result }
+{
+    let (a, b, c, d) = (first.len(), second.len(), third.len(), fourth.len());
+    if !gains_by_lanes(a, b, c, d) {
+        return Ok([
+            dsha(first.as_slice()),
+            dsha(second.as_slice()),
+            dsha(third.as_slice()),
+            dsha(fourth.as_slice()),
+        ]);
+    }
+    let hashes = dsha_by_lanes(first, second, third, fourth);
+    first.truncate(a);
+    second.truncate(b);
+    third.truncate(c);
+    fourth.truncate(d);
+    hashes
 }

@@ -13,6 +13,7 @@ pub(crate) fn add(x: u32x4, y: u32x4) -> u32x4
     x + y
 }
 
+/// The bits that are 1 in exactly one of the two.
 #[inline(always)]
 fn xor(x: u32x4, y: u32x4) -> u32x4
     ensures { (k : ℕ) → k < 4 → slice_index result k ≡ bit_xor (slice_index x k) (slice_index y k) }
@@ -20,6 +21,7 @@ fn xor(x: u32x4, y: u32x4) -> u32x4
     x ^ y
 }
 
+/// The bits that are 1 in both.
 #[inline(always)]
 fn and(x: u32x4, y: u32x4) -> u32x4
     ensures { (k : ℕ) → k < 4 → slice_index result k ≡ bit_and (slice_index x k) (slice_index y k) }
@@ -27,6 +29,7 @@ fn and(x: u32x4, y: u32x4) -> u32x4
     x & y
 }
 
+/// All bits the other way round.
 #[inline(always)]
 fn not(x: u32x4) -> u32x4
     ensures { (k : ℕ) → k < 4 → slice_index result k ≡ bit_not w32 (slice_index x k) }
@@ -34,6 +37,7 @@ fn not(x: u32x4) -> u32x4
     !x
 }
 
+/// The bits `by` places further to the right, with zeros on the left.
 #[inline(always)]
 fn shift_right(x: u32x4, by: u32) -> u32x4
     requires { by < 32 }
@@ -42,6 +46,7 @@ fn shift_right(x: u32x4, by: u32) -> u32x4
     x >> u32x4::splat(by)
 }
 
+/// The bits `by` places further to the right. Those that leave on the right come in on the left.
 #[inline(always)]
 fn rotate_right(x: u32x4, by: u32) -> u32x4
     requires { (0 < by) × (by < 32) }

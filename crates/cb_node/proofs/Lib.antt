@@ -1,1 +1,2 @@
+mod OnBest
 mod Slots

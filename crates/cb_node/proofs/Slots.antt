@@ -14,37 +14,10 @@ use Rattle.cb_crew.specs.Turn.{HandlerState}
 use Rattle.cb_crew.specs.Crew.{AreHandlersOf, AreSidesOf, CrewState, HasPlace, inbox_of}
 use Rattle.cb_service.specs.declared.promises.OfCrew.{OfCrew}
 use Rattle.cb_service.specs.Service.{HandBack}
-use Rattle.cb_slots.specs.declared.choosing.Standing.{Standing}
-use Rattle.cb_slots.specs.declared.choosing.Standing.TheVariants as standing
 use Rattle.cb_slots.specs.declared.fault.NodeFault.{NodeFault}
-use Rattle.cb_slots.specs.Choosing.{HasNone, IsLowest, is_used}
+use Rattle.cb_slots.specs.Choosing.{IsLowest}
 use Rattle.cb_slots.specs.Slot.{AreAlike, AreAlikeBut, AreSlotsOf, AreThreadsOf, IsInboxOf, IsNew, SlotState, WaitsAt, attached, inboxes_of, names_in, new_slot, uses_of}
 use Rattle.cb_node.specs.Node.{NodeState, node_state, with_used}
-
--- ---- what standings tell
-
-unused_if : (s : Standing) → is_used s ≡ false → s ≡ standing.Unused
-unused_if standing.Unused is = refl
-unused_if standing.Left is = absurd (let z : true ≡ false = is in cc)
-unused_if standing.Busy is = absurd (let z : true ≡ false = is in cc)
-
--- the lowest that stands so is the lowest that never had a socket
-pub lowest_unused : (all : List Standing) (uses : List Bool) (first end n : ℕ) → map is_used all ≡ uses → IsLowest all standing.Unused first end n → IsLowest uses false first end n
-lowest_unused all uses first end n same low = record {
-  from = low.from;
-  before = low.before;
-  within = subst (λ us. n < length us) same (omega (arith, low.within, length-map all is_used));
-  there = subst (λ us. get_or us n false ≡ false) same (get_or-map is_used all n standing.Unused false low.within ∙ ap is_used low.there);
-  lowest = λ k from lt is.
-      let here : k < length all = omega (arith, lt, low.within) in
-      low.lowest k from lt (unused_if _ (sym (get_or-map is_used all k standing.Unused false here) ∙ subst (λ us. get_or us k false ≡ false) (sym same) is));
-}
-
--- where none stands so, each had a socket
-pub none_unused : (all : List Standing) (uses : List Bool) (first end : ℕ) → map is_used all ≡ uses → HasNone all standing.Unused first end → HasNone uses false first end
-none_unused all uses first end same none k from lt within is =
-    let here : k < length all = omega (arith, within, ap length same, length-map all is_used) in
-    none k from lt here (unused_if _ (sym (get_or-map is_used all k standing.Unused false here) ∙ subst (λ us. get_or us k false ≡ false) (sym same) is))
 
 -- ---- one slot changes
 
@@ -86,11 +59,11 @@ attached_set old mid new n d alike is = record {
 pub waits_at : (slots : List SlotState) (n : ℕ) (d : SlotState) → n < length slots → (get_or slots n d).waits ≡ true → WaitsAt slots n
 waits_at slots n d lt is = get_or-map (λ (s : SlotState). s.waits) slots n d false lt ∙ is
 
--- the lowest that never had a socket waits
-pub waits_unused : (all : List Standing) (slots : List SlotState) (first end n : ℕ) (d : SlotState) (told : Bool) → map is_used all ≡ uses_of slots → IsLowest all standing.Unused first end n → n < length slots
+-- one that never had a socket waits
+pub waits_unused : (slots : List SlotState) (first end n : ℕ) (d : SlotState) (told : Bool) → IsLowest (uses_of slots) false first end n → n < length slots
     → told ≡ (get_or slots n d).waits → ((get_or slots n d).used ≡ false → told ≡ true) → WaitsAt slots n
-waits_unused all slots first end n d told same low lt is unused =
-    let used : (get_or slots n d).used ≡ false = sym (get_or-map (λ (s : SlotState). s.used) slots n d false lt) ∙ (lowest_unused all (uses_of slots) first end n same low).there in
+waits_unused slots first end n d told low lt is unused =
+    let used : (get_or slots n d).used ≡ false = sym (get_or-map (λ (s : SlotState). s.used) slots n d false lt) ∙ low.there in
     waits_at slots n d lt (sym is ∙ unused used)
 
 -- a slot that waits was put there

@@ -3,6 +3,7 @@
 //! reader thread reads each connection.
 #![tactic(auto)]
 
+mod looking;
 mod node;
 mod opening;
 mod peering;
@@ -14,8 +15,10 @@ mod tests;
 
 pub use cb_hall::{Hall, Look};
 pub use cb_journal::{Answer, Local};
-pub use cb_slots::{NodeFault, Report};
+pub use cb_peer::{CloseReason, State};
+pub use cb_slots::{Link, NodeFault, Report};
 pub use cb_work::Totals;
+pub use looking::{Admitted, BlockLook};
 pub use node::{Node, NodeEnd};
 pub use opening::NodeWork;
 pub use settings::NodeSettings;

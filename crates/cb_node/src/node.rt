@@ -38,7 +38,8 @@ pub struct NodeEnd<R: Wait + Drop> {
 /// connection is served by the lowest slot of its kind that never had a socket, or else by the
 /// lowest whose latest connection was read to its end and whose inbox has room.
 ///
-/// A write to a peer that finds no room for `WRITE_MILLISECONDS` fails, which ends the connection.
+/// A write to a peer fails if 32,000,000 bytes wait for its socket, or if that took nothing for
+/// `WRITE_MILLISECONDS`. It ends the connection.
 #[derive(Drop)]
 pub struct Node<R: Wait + Drop> {
     pub(crate) service: Service<R>,
@@ -104,7 +105,7 @@ impl<
         self.service.settings.time = time;
     }
 
-    /// How many milliseconds a write to the peer of a later connection may wait, at least 1.
+    /// How many milliseconds the socket of a later connection may take nothing, at least 1.
     pub fn set_write_timeout(&mut self, milliseconds: u64)
         ensures { self.new ≡ self.old }
     {
@@ -123,8 +124,7 @@ impl<
         ensures ok { IfOk result (λ slot. self.new ≡ with_used self.old slot) }
         ensures err { OnErr result (self.new ≡ self.old) }
         ensures no_slot { result ≡ Err NoSlot → HasNone self.old.used false 0 self.old.inbound }
-        ensures deaf { self.old.listens ≡ None →
-            (result ≡ Err NoSlot) ⊎ (result ≡ Err Io) ⊎ (result ≡ Err Memory) }
+        ensures deaf { self.old.listens ≡ None → (result ≡ Err NoSlot) ⊎ (result ≡ Err Io) }
     {
         let end = self.inbound();
         self.look_for_slot(0, end)?;
@@ -144,8 +144,7 @@ impl<
         ensures none { result ≡ Ok None → self.new ≡ self.old }
         ensures err { OnErr result (self.new ≡ self.old) }
         ensures no_slot { result ≡ Err NoSlot → HasNone self.old.used false 0 self.old.inbound }
-        ensures deaf { self.old.listens ≡ None →
-            (result ≡ Err NoSlot) ⊎ (result ≡ Err Io) ⊎ (result ≡ Err Memory) }
+        ensures deaf { self.old.listens ≡ None → (result ≡ Err NoSlot) ⊎ (result ≡ Err Io) }
     {
         let end = self.inbound();
         self.look_for_slot(0, end)?;

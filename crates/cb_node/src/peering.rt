@@ -1,5 +1,5 @@
-ghost use Rattle.std.specs.Prelude.{◌≡◌, ◌⊎◌, ◌≤◌, false, None, length, IfErr, IfOk, OnErr, Err};
-ghost use Rattle.cb_slots.specs.declared.fault.NodeFault.TheVariants.{Io, Memory, NoSlot};
+ghost use Rattle.std.specs.Prelude.{◌≡◌, ◌≤◌, false, None, length, IfErr, IfOk, OnErr, Err};
+ghost use Rattle.cb_slots.specs.declared.fault.NodeFault.TheVariants.{Io, NoSlot};
 ghost use Rattle.cb_slots.specs.Choosing.{HasNone, IsChosen};
 ghost use Rattle.cb_node.specs.Node.{with_used};
 
@@ -38,14 +38,12 @@ impl<
         self.slots.len() as u16
     }
 
-    /// Fails with `NodeFault::NoSlot` if none of these slots, as it seems, can serve a connection, and
-    /// else only with `NodeFault::Memory`.
+    /// Fails only with `NodeFault::NoSlot`: if none of these slots, as it seems, can serve a connection.
     pub(crate) fn look_for_slot(&self, first: u16, end: u16) -> Result<(), NodeFault>
-        ensures no_slot { IfErr result
-            (λ fault. fault ≡ NoSlot → HasNone self.now.used false first end) }
-        ensures kinds { IfErr result (λ fault. (fault ≡ NoSlot) ⊎ (fault ≡ Memory)) }
+        ensures no_slot { IfErr result (λ fault. HasNone self.now.used false first end) }
+        ensures kinds { IfErr result (λ fault. fault ≡ NoSlot) }
     {
-        if self.service.has_slot(self.slots.as_slice(), first, end)? {
+        if self.service.has_slot(self.slots.as_slice(), first, end) {
             Ok(())
         } else {
             Err(NodeFault::NoSlot)

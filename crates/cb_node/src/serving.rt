@@ -7,9 +7,7 @@ use crate::opening::{NodeWork, NotReady, new_work};
 use crate::settings::{NodeSettings, session_settings};
 use cb_base::{Fault, Shared};
 use cb_hall::{Badge, Hall};
-use cb_slots::{
-    Common, Link, Links, Next, NodeFault, Slot, Standing, lowest, shared, standings_of,
-};
+use cb_slots::{Common, Link, Links, Next, NodeFault, Slot, has_left, lowest_unused, shared};
 use std::alloc::Global;
 use std::marker::{Copy, Send};
 use std::net::TcpStream;
@@ -37,22 +35,14 @@ pub struct Service<R: Wait + Drop> {
 }
 
 impl<R: Threads + Wait + Copy + Send + Drop + 'static> Service<R> {
-    #[tactic(auto, using(crate::proofs::Slots::none_unused))]
     /// Whether one of these slots, as it seems, can serve a connection: it never had a socket, or its
-    /// reader has returned.
-    pub fn has_slot(
-        &self,
-        slots: &[Slot<NodeWork<R>>],
-        first: u16,
-        end: u16,
-    ) -> Result<bool, NodeFault>
-        ensures none { result ≡ Ok false → HasNone (uses_of slots.now) false first end }
-        ensures kinds { IfErr result (λ fault. fault ≡ Memory) }
+    /// reader has returned and it hasn't had all its connections.
+    pub fn has_slot(&self, slots: &[Slot<NodeWork<R>>], first: u16, end: u16) -> bool
+        ensures none { result ≡ false → HasNone (uses_of slots.now) false first end }
     {
-        let standings = standings_of(self.alloc, slots)?;
-        match lowest(standings.as_slice(), Standing::Unused, first, end) {
-            Some(_) => Ok(true),
-            None => Ok(lowest(standings.as_slice(), Standing::Left, first, end).is_some()),
+        match lowest_unused(slots, first, end) {
+            Some(_) => true,
+            None => has_left(slots, first, end),
         }
     }
 
@@ -74,19 +64,19 @@ impl<R: Threads + Wait + Copy + Send + Drop + 'static> Service<R> {
         ensures err { OnErr result (AreAlike slots.old.items slots.new.items) }
         ensures no_slot { result ≡ Err NoSlot → HasNone (uses_of slots.old.items) false first end }
     {
-        let stream = self.set_up(stream)?;
+        self.set_up(&stream)?;
         let number = self.find(slots, first, end)?;
+        let stream = shared(self.alloc, stream)?;
         self.attach(slots, number, stream)
     }
 
-    /// Makes a socket ready to be shared: what is written to it isn't held back, and a write may wait
-    /// for as long as the node allows.
-    fn set_up(&self, stream: TcpStream) -> Result<Shared<TcpStream>, NodeFault>
-        ensures kinds { IfErr result (λ fault. (fault ≡ Io) ⊎ (fault ≡ Memory)) }
+    /// Makes a socket ready: what is written to it isn't held back, and a write may wait for as long as
+    /// the node allows.
+    fn set_up(&self, stream: &TcpStream) -> Result<(), NodeFault>
+        ensures kinds { IfErr result (λ fault. fault ≡ Io) }
     {
         stream.set_nodelay(true)?;
-        stream.set_write_timeout(Some(Duration::from_millis(self.write_milliseconds)))?;
-        Ok(shared(self.alloc, stream)?)
+        Ok(stream.set_write_timeout(Some(Duration::from_millis(self.write_milliseconds)))?)
     }
 
     /// Gives the connection that waits in a slot its socket. Returns the slot's number.
@@ -125,15 +115,14 @@ impl<R: Threads + Wait + Copy + Send + Drop + 'static> Service<R> {
         ensures waits { IfOk result (WaitsAt slots.new.items) }
         ensures no_slot { result ≡ Err NoSlot → HasNone (uses_of slots.old.items) false first end }
     {
-        let standings = standings_of(self.alloc, slots.as_slice())?;
-        let unused = lowest(standings.as_slice(), Standing::Unused, first, end);
+        let unused = lowest_unused(slots.as_slice(), first, end);
         match unused {
             Some(number) => {
                 // No effect when it runs: it tells the prover that its first connection waits.
                 let _ = slots[usize::from(number)].waits();
                 Ok(number)
             }
-            None => self.find_left(slots, standings.as_slice(), first, end),
+            None => self.find_left(slots, first, end),
         }
     }
 
@@ -141,10 +130,9 @@ impl<R: Threads + Wait + Copy + Send + Drop + 'static> Service<R> {
     /// socket, which is opened for it.
     ///
     /// Fails with `NodeFault::NoSlot` if there is none.
-    pub fn find_left(
+    fn find_left(
         &self,
         slots: &mut Vec<Slot<NodeWork<R>>>,
-        standings: &[Standing],
         first: u16,
         end: u16,
     ) -> Result<u16, NodeFault>
@@ -155,8 +143,7 @@ impl<R: Threads + Wait + Copy + Send + Drop + 'static> Service<R> {
         ensures waits { IfOk result (WaitsAt slots.new.items) }
     {
         for number in first..end {
-            let is_left = standings.get(usize::from(number)) == Some(&Standing::Left);
-            if self.ready_if(slots, is_left, number)? {
+            if self.ready_if_left(slots, number)? {
                 return Ok(number);
             }
         }
@@ -165,10 +152,9 @@ impl<R: Threads + Wait + Copy + Send + Drop + 'static> Service<R> {
 
     /// Opens the next connection of the slot with this number, if its reader has left it and none waits
     /// there. Returns whether one waits then.
-    fn ready_if(
+    fn ready_if_left(
         &self,
         slots: &mut Vec<Slot<NodeWork<R>>>,
-        is_left: bool,
         number: u16,
     ) -> Result<bool, NodeFault>
         requires slots { AreSlotsOf self.now.common.crew slots.old.items }
@@ -176,11 +162,26 @@ impl<R: Threads + Wait + Copy + Send + Drop + 'static> Service<R> {
         ensures alike { AreAlike slots.old.items slots.new.items }
         ensures waits { result ≡ Ok true → WaitsAt slots.new.items number }
     {
-        if is_left {
-            self.ready(&mut slots[usize::from(number)], number)
+        if slots[usize::from(number)].is_left() {
+            self.ready_at(slots, number)
         } else {
             Ok(false)
         }
+    }
+
+    /// Opens the next connection of the slot with this number, if none waits there. Returns whether one
+    /// waits then.
+    pub fn ready_at(
+        &self,
+        slots: &mut Vec<Slot<NodeWork<R>>>,
+        number: u16,
+    ) -> Result<bool, NodeFault>
+        requires slots { AreSlotsOf self.now.common.crew slots.old.items }
+        requires number { (number < length slots.old.items) × (number < 64) }
+        ensures alike { AreAlike slots.old.items slots.new.items }
+        ensures waits { result ≡ Ok true → WaitsAt slots.new.items number }
+    {
+        self.ready(&mut slots[usize::from(number)], number)
     }
 
     /// Opens a slot's next connection, if none waits there. Returns whether one waits then.
@@ -241,7 +242,11 @@ impl<R: Threads + Wait + Copy + Send + Drop + 'static> Service<R> {
         let settings = session_settings(&self.settings, number);
         match new_work(self.rt, self.alloc, settings, badge, &link, &self.hall) {
             Ok(work) => Ok(Next { work, link }),
-            Err(refused) => Err(refused),
+            Err(refused) => {
+                // No session ends this link, so it would never leave its list.
+                link.status.stop();
+                Err(refused)
+            }
         }
     }
 

@@ -17,8 +17,9 @@ use std::net::{Net, TcpListener, TcpStream};
 use std::sync::{Mutex, Wait};
 use std::thread::Threads;
 
-/// How many milliseconds a write to a peer may wait, if nothing else is told.
-pub const WRITE_MILLISECONDS: u64 = 20_000;
+/// How many milliseconds a peer's socket may take nothing before a write to it has failed, if nothing
+/// else is told.
+pub const WRITE_MILLISECONDS: u64 = 30_000;
 
 /// The works of a node's slots and what their threads share, in the order of the slots.
 #[derive(Drop)]

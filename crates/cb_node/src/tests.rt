@@ -1,11 +1,13 @@
 //! Nodes over loopback.
-ghost use Rattle.std.specs.Prelude.{◌+◌, ◌≤◌};
+ghost use Rattle.std.specs.Prelude.{◌+◌, ◌≤◌, length};
+ghost use Rattle.cb_slots.specs.Slot.{AreAlike, AreSlotsOf};
 
 use crate::node::loopback;
+use crate::serving::Service;
 use crate::{Hall, Local, Node, NodeEnd, NodeFault, NodeSettings, NodeWork};
 use cb_crew::{Desk, Work};
 use cb_desks::{Audited, are_in_order, audit, traces};
-use cb_slots::Standing;
+use cb_slots::Slot;
 use std::alloc::Global;
 use std::marker::{Copy, Send};
 use std::net::{Net, TcpListener, TcpStream};
@@ -120,13 +122,24 @@ fn mines<R: Place>(node: &Node<R>) -> bool {
     }
 }
 
+/// Whether a connection waits in the first of so many slots, for which it may be opened.
+fn readies_first<R: Place>(
+    service: &Service<R>,
+    slots: &mut Vec<Slot<NodeWork<R>>>,
+    end: u16,
+) -> bool
+    requires slots { AreSlotsOf service.now.common.crew slots.old.items }
+    requires end { (end ≤ length slots.old.items) × (length slots.old.items ≤ 64) }
+    ensures alike { AreAlike slots.old.items slots.new.items }
+{
+    end > 0 && service.ready_at(slots, 0) == Ok(true)
+}
+
 /// Whether the first slot refuses another connection, as its latest one is still read. What was
 /// made for it stays in the slot.
 fn refuses_another<R: Place>(node: &mut Node<R>) -> bool {
     let end = node.count();
-    node.service
-        .find_left(&mut node.slots, &[Standing::Left], 0, end)
-        == Err(NodeFault::NoSlot)
+    !readies_first(&node.service, &mut node.slots, end)
 }
 
 /// The generation of the last report.

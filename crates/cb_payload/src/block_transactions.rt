@@ -1,11 +1,12 @@
 //! The payloads of `getblocktxn` and `blocktxn` (BIP 152).
-ghost use Rattle.std.specs.Prelude.{◌≡◌, ◌-◌, ◌^◌, ◌<◌, ◌≤◌, [], ◌++◌, length, min, IfOk, IsOk, IsOkUnless, OnOk, Ok, Err};
+ghost use Rattle.std.specs.Prelude.{◌≡◌, ◌-◌, ◌^◌, ◌<◌, ◌≤◌, [], ◌++◌, length, min, IfOk, IsOk, IsOkUnless, OnErr, OnOk, Ok, Err};
 ghost use Rattle.cb_base.specs.CompactSize.{compact_text};
 ghost use Rattle.cb_base.specs.declared.fault.Fault.{Fault};
 ghost use Rattle.cb_base.specs.declared.fault.Fault.TheVariants.{Memory};
 ghost use Rattle.cb_tx.specs.Reading.{GivesInMemory};
 ghost use Rattle.cb_tx.specs.Text.{list_text};
 ghost use Rattle.cb_payload.specs.BlockTransactions.{BlockTxsTakesMemory, IsBlockTxs, IsTxsRequest, TxsRequestTakesMemory, block_txs_at, block_txs_count_at, block_txs_text, txs_request_at, txs_request_count_at, txs_request_text};
+ghost use Rattle.cb_tx.specs.Writing.{Extends};
 
 use crate::listed::Listed;
 use crate::lists::read_list;
@@ -63,10 +64,11 @@ pub fn read_txs_request(
 }
 
 /// Appends the payload of a `getblocktxn` to `out`. Fails only with `Fault::Memory`; `out` may then
-/// end with a part of the payload.
+/// end with a part of the payload, behind what it had.
 #[tactic(auto, unfolding(crate::specs::BlockTransactions::txs_request_text), using(cb_tx::proofs::Appends::appends))]
 pub fn put_txs_request(out: &mut Vec<u8>, request: &BlockTransactionsRequest) -> Result<(), Fault>
     ensures ok { OnOk result (out.new.items ≡ out.old.items ++ txs_request_text request.now) }
+    ensures err { OnErr result (Extends out.old.items out.new.items) }
     ensures memory { IsOkUnless result Memory }
     ensures kept { OnOk result (IsTxsRequest request.now) }
 {
@@ -100,10 +102,11 @@ pub fn read_block_txs(alloc: Global, cursor: &mut Cursor) -> Result<BlockTransac
 }
 
 /// Appends the payload of a `blocktxn` to `out`. Fails only with `Fault::Memory`; `out` may then
-/// end with a part of the payload.
+/// end with a part of the payload, behind what it had.
 #[tactic(auto, unfolding(crate::specs::BlockTransactions::block_txs_text), using(cb_tx::proofs::Appends::appends))]
 pub fn put_block_txs(out: &mut Vec<u8>, txs: &BlockTransactions) -> Result<(), Fault>
     ensures ok { OnOk result (out.new.items ≡ out.old.items ++ block_txs_text txs.now) }
+    ensures err { OnErr result (Extends out.old.items out.new.items) }
     ensures memory { IsOkUnless result Memory }
     ensures kept { OnOk result (IsBlockTxs txs.now) }
 {

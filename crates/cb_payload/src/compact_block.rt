@@ -1,9 +1,10 @@
 //! The payload of `cmpctblock` (BIP 152).
-ghost use Rattle.std.specs.Prelude.{◌≡◌, ◌-◌, ◌^◌, ◌<◌, ◌++◌, length, min, IfOk, IsOkUnless, OnOk, Ok, Err};
+ghost use Rattle.std.specs.Prelude.{◌≡◌, ◌-◌, ◌^◌, ◌<◌, ◌++◌, length, min, IfOk, IsOkUnless, OnErr, OnOk, Ok, Err};
 ghost use Rattle.cb_base.specs.declared.fault.Fault.{Fault};
 ghost use Rattle.cb_base.specs.declared.fault.Fault.TheVariants.{Memory};
 ghost use Rattle.cb_tx.specs.Reading.{GivesInMemory};
 ghost use Rattle.cb_payload.specs.CompactBlocks.{CompactBlockTakesMemory, IsCompactBlock, compact_block_at, compact_block_count_at, compact_block_text};
+ghost use Rattle.cb_tx.specs.Writing.{Extends};
 
 use crate::short_form::{CompactTxs, put_short_form, read_short_form};
 use cb_base::{Cursor, Fault};
@@ -51,10 +52,11 @@ pub fn read_compact_block(alloc: Global, cursor: &mut Cursor) -> Result<HeaderAn
 }
 
 /// Appends the payload of a `cmpctblock` to `out`. Fails only with `Fault::Memory`; `out` may then
-/// end with a part of the payload.
+/// end with a part of the payload, behind what it had.
 #[tactic(auto, unfolding(crate::specs::CompactBlocks::compact_block_text), using(cb_tx::proofs::Appends::appends))]
 pub fn put_compact_block(out: &mut Vec<u8>, block: &HeaderAndShortIds) -> Result<(), Fault>
     ensures ok { OnOk result (out.new.items ≡ out.old.items ++ compact_block_text block.now) }
+    ensures err { OnErr result (Extends out.old.items out.new.items) }
     ensures memory { IsOkUnless result Memory }
     // Each number is in the range of its field, each hash has 32 bytes, and the compact block has 1
     // to 16,666 transactions.

@@ -1,10 +1,11 @@
 //! The payloads of `sendcmpct` (BIP 152) and `getheaders`.
-ghost use Rattle.std.specs.Prelude.{◌≡◌, ◌^◌, ◌<◌, ◌≤◌, ◌++◌, length, IfOk, IsOk, IsOkUnless, OnOk, Ok, Err};
+ghost use Rattle.std.specs.Prelude.{◌≡◌, ◌^◌, ◌<◌, ◌≤◌, ◌++◌, length, IfOk, IsOk, IsOkUnless, OnErr, OnOk, Ok, Err};
 ghost use Rattle.cb_base.specs.CompactSize.{Gives};
 ghost use Rattle.cb_base.specs.declared.fault.Fault.{Fault};
 ghost use Rattle.cb_base.specs.declared.fault.Fault.TheVariants.{Memory};
 ghost use Rattle.cb_tx.specs.Reading.{GivesInMemory};
 ghost use Rattle.cb_payload.specs.Requests.{IsRequest, TakesMemory, compact_relay_at, compact_relay_text, flag_at, request_at, request_count_at, request_text};
+ghost use Rattle.cb_tx.specs.Writing.{Extends};
 
 use crate::inventory::Locator;
 use crate::lists::{locator_size, read_list};
@@ -67,10 +68,11 @@ pub fn read_compact_relay(cursor: &mut Cursor) -> Result<CompactRelay, Fault>
 }
 
 /// Appends the payload of a `sendcmpct` to `out`. Fails only with `Fault::Memory`; `out` may then
-/// end with a part of the payload.
+/// end with a part of the payload, behind what it had.
 #[tactic(auto, unfolding(crate::specs::Requests::compact_relay_text), using(cb_tx::proofs::Appends::appends))]
 pub fn put_compact_relay(out: &mut Vec<u8>, relay: &CompactRelay) -> Result<(), Fault>
     ensures ok { OnOk result (out.new.items ≡ out.old.items ++ compact_relay_text relay.now) }
+    ensures err { OnErr result (Extends out.old.items out.new.items) }
     ensures memory { IsOkUnless result Memory }
     ensures kept { OnOk result (relay.now.version < 2 ^ 64) }
 {
@@ -104,10 +106,11 @@ pub fn read_request(alloc: Global, cursor: &mut Cursor) -> Result<HeadersRequest
 }
 
 /// Appends the payload of a `getheaders` to `out`. Fails only with `Fault::Memory`; `out` may then
-/// end with a part of the payload.
+/// end with a part of the payload, behind what it had.
 #[tactic(auto, unfolding(crate::specs::Requests::request_text), using(cb_tx::proofs::Appends::appends))]
 pub fn put_request(out: &mut Vec<u8>, request: &HeadersRequest) -> Result<(), Fault>
     ensures ok { OnOk result (out.new.items ≡ out.old.items ++ request_text request.now) }
+    ensures err { OnErr result (Extends out.old.items out.new.items) }
     ensures memory { IsOkUnless result Memory }
     ensures kept { OnOk result (IsRequest request.now) }
 {

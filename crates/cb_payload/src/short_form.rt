@@ -1,9 +1,10 @@
-ghost use Rattle.std.specs.Prelude.{◌≡◌, ◌+◌, ◌-◌, ◌^◌, ◌<◌, ◌≤◌, ◌++◌, length, min, All, IfOk, IfErr, IsOk, IsOkUnless, IsTrue, ◌↔◌, OnOk, Ok, Err};
+ghost use Rattle.std.specs.Prelude.{◌≡◌, ◌+◌, ◌-◌, ◌^◌, ◌<◌, ◌≤◌, ◌++◌, length, min, All, IfOk, IfErr, IsOk, IsOkUnless, IsTrue, ◌↔◌, OnErr, OnOk, Ok, Err};
 ghost use Rattle.cb_base.specs.CompactSize.{Gives};
 ghost use Rattle.cb_base.specs.declared.fault.Fault.{Fault};
 ghost use Rattle.cb_base.specs.declared.fault.Fault.TheVariants.{Memory};
 ghost use Rattle.cb_tx.specs.Reading.{GivesInMemory, count_at};
 ghost use Rattle.cb_payload.specs.ShortForms.{FormTakesMemory, IsPrefilled, IsShortForm, IsShortId, prefilled_count_at, short_form_at, short_form_text};
+ghost use Rattle.cb_tx.specs.Writing.{Extends};
 
 use crate::prefilled::PrefilledTransaction;
 use crate::short_ids::{ids_size, put_ids, read_ids};
@@ -166,10 +167,11 @@ pub fn read_short_form(alloc: Global, cursor: &mut Cursor) -> Result<CompactTxs,
 }
 
 /// Appends both lists, each after its count, to `out`. Fails only with `Fault::Memory`; `out` may
-/// then end with a part of them.
+/// then end with a part of them, behind what it had.
 #[tactic(auto, unfolding(crate::specs::ShortForms::short_form_text), using(cb_tx::proofs::Appends::appends))]
 pub fn put_short_form(out: &mut Vec<u8>, txs: &CompactTxs) -> Result<(), Fault>
     ensures ok { OnOk result (out.new.items ≡ out.old.items ++ short_form_text txs.now) }
+    ensures err { OnErr result (Extends out.old.items out.new.items) }
     ensures memory { IsOkUnless result Memory }
     ensures kept { OnOk result (All IsPrefilled txs.now.prefilled) }
     ensures form { IsShortForm txs.now }

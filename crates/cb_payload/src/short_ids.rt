@@ -1,11 +1,12 @@
 //! Reading and writing lists of short ids (BIP 152): a count, then 6 bytes for each, little-endian.
-ghost use Rattle.std.specs.Prelude.{◌≡◌, ℕ, ◌-◌, ◌^◌, ◌<◌, List, ◌++◌, length, min, All, IfOk, IsOk, IsOkUnless, MatchResult, OnOk, Ok, Err, ◌⊎◌};
+ghost use Rattle.std.specs.Prelude.{◌≡◌, ℕ, ◌-◌, ◌^◌, ◌<◌, List, ◌++◌, length, min, All, IfOk, IsOk, IsOkUnless, MatchResult, OnErr, OnOk, Ok, Err, ◌⊎◌};
 ghost use Rattle.cb_base.specs.CompactSize.{Gives};
 ghost use Rattle.cb_base.specs.declared.fault.Fault.{Fault};
 ghost use Rattle.cb_base.specs.declared.fault.Fault.TheVariants.{Memory};
 ghost use Rattle.cb_tx.specs.Reading.{CountsSome, count_at, items_at, list_at};
 ghost use Rattle.cb_tx.specs.Text.{list_text};
 ghost use Rattle.cb_payload.specs.ShortForms.{IsShortId, short_id_at, short_id_text};
+ghost use Rattle.cb_tx.specs.Writing.{Extends};
 
 use cb_base::{Cursor, Fault, put_compact};
 use cb_tx::{compact_size, read_count};
@@ -54,10 +55,11 @@ pub fn read_ids(alloc: Global, cursor: &mut Cursor) -> Result<Vec<u64>, Fault>
 }
 
 /// Appends the count and the short ids to `out`. Fails only with `Fault::Memory`; `out` may then
-/// end with a part of them.
+/// end with a part of them, behind what it had.
 #[tactic(auto, unfolding(cb_tx::specs::Text::list_text), using(cb_tx::proofs::Appends::appends))]
 pub fn put_ids(out: &mut Vec<u8>, ids: &[u64]) -> Result<(), Fault>
     ensures ok { OnOk result (out.new.items ≡ out.old.items ++ list_text short_id_text ids.now) }
+    ensures err { OnErr result (Extends out.old.items out.new.items) }
     ensures memory { IsOkUnless result Memory }
 {
     put_compact(out, ids.len() as u64)?;

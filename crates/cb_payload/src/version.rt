@@ -1,5 +1,5 @@
 //! The payload of `version`.
-ghost use Rattle.std.specs.Prelude.{if◌then◌else◌, ◌≡◌, ℕ, ◌^◌, ◌<◌, ◌≤◌, Bool, true, not, FitsSigned, List, ◌++◌, length, min, IfOk, IsOkUnless, MatchResult, OnOk, IsOk, Ok, Err};
+ghost use Rattle.std.specs.Prelude.{if◌then◌else◌, ◌≡◌, ℕ, ◌^◌, ◌<◌, ◌≤◌, Bool, true, not, FitsSigned, List, ◌++◌, length, min, IfOk, IsOkUnless, MatchResult, OnErr, OnOk, IsOk, Ok, Err};
 ghost use Rattle.std.specs.Int.{w32, w64, to_le_bytes, cast_unsigned};
 ghost use Rattle.cb_base.specs.CompactSize.{Gives};
 ghost use Rattle.cb_base.specs.Reading.{bytes_at};
@@ -7,6 +7,7 @@ ghost use Rattle.cb_base.specs.declared.fault.Fault.{Fault};
 ghost use Rattle.cb_base.specs.declared.fault.Fault.TheVariants.{Memory};
 ghost use Rattle.cb_payload.specs.RoundTrip as reading;
 ghost use Rattle.cb_payload.specs.Version.{IsAddress, IsVersion, TakesMemory, address_at, address_text, agent_at, agent_text, relay_of, version_at, version_text};
+ghost use Rattle.cb_tx.specs.Writing.{Extends};
 
 use crate::listed::Listed;
 use cb_base::{Cursor, Fault, copy_bytes, put_compact};
@@ -163,6 +164,7 @@ pub fn read_version(alloc: Global, payload: &[u8]) -> Result<Version, Fault>
 #[tactic(auto, unfolding(crate::specs::Version::address_text), using(cb_tx::proofs::Appends::appends))]
 fn put_address(out: &mut Vec<u8>, address: NetAddress) -> Result<(), Fault>
     ensures ok { OnOk result (out.new.items ≡ out.old.items ++ address_text address) }
+    ensures err { OnErr result (Extends out.old.items out.new.items) }
     ensures memory { IsOkUnless result Memory }
     ensures kept { IsAddress address }
 {
@@ -175,6 +177,7 @@ fn put_address(out: &mut Vec<u8>, address: NetAddress) -> Result<(), Fault>
 #[tactic(auto, unfolding(crate::specs::Version::agent_text), using(cb_tx::proofs::Appends::appends))]
 fn put_agent(out: &mut Vec<u8>, agent: &Agent) -> Result<(), Fault>
     ensures ok { OnOk result (out.new.items ≡ out.old.items ++ agent_text agent.now) }
+    ensures err { OnErr result (Extends out.old.items out.new.items) }
     ensures memory { IsOkUnless result Memory }
     ensures kept { length agent.now ≤ 256 }
 {
@@ -194,6 +197,7 @@ fn put_numbers(out: &mut Vec<u8>, version: &Version) -> Result<(), Fault>
         ++ (to_le_bytes w32 (cast_unsigned w32 version.now.version)
         ++ (to_le_bytes w64 version.now.services
         ++ to_le_bytes w64 (cast_unsigned w64 version.now.time)))) }
+    ensures err { OnErr result (Extends out.old.items out.new.items) }
     ensures memory { IsOkUnless result Memory }
     ensures version { OnOk result (FitsSigned w32 version.now.version) }
     ensures services { OnOk result (version.now.services < 2 ^ 64) }
@@ -212,6 +216,7 @@ fn put_tail(out: &mut Vec<u8>, version: &Version) -> Result<(), Fault>
         (out.new.items
         ≡ out.old.items ++ (to_le_bytes w64 version.now.nonce ++ (agent_text version.now.agent
         ++ to_le_bytes w32 (cast_unsigned w32 version.now.height)))) }
+    ensures err { OnErr result (Extends out.old.items out.new.items) }
     ensures memory { IsOkUnless result Memory }
     ensures nonce { OnOk result (version.now.nonce < 2 ^ 64) }
     ensures agent { OnOk result (length version.now.agent ≤ 256) }
@@ -235,6 +240,7 @@ fn relay_byte(relay: bool) -> u8
 #[tactic(auto, unfolding(crate::specs::Version::version_text, crate::specs::Version::version_fields), using(cb_tx::proofs::Appends::appends))]
 pub fn put_version(out: &mut Vec<u8>, version: &Version) -> Result<(), Fault>
     ensures ok { OnOk result (out.new.items ≡ out.old.items ++ version_text version.now) }
+    ensures err { OnErr result (Extends out.old.items out.new.items) }
     ensures memory { IsOkUnless result Memory }
     ensures kept { OnOk result (IsVersion version.now) }
 {

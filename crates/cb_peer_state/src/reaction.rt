@@ -1,4 +1,4 @@
-ghost use Rattle.std.specs.Prelude.{◌≡◌, ◌∷◌, ◌++◌, [], List, None, Some, IfOk, IsOk, IsOkUnless, OnOk};
+ghost use Rattle.std.specs.Prelude.{◌≡◌, ◌∷◌, ◌++◌, [], List, None, Some, IfOk, IsOk, IsOkUnless, OnErr, OnOk};
 ghost use Rattle.cb_base.specs.declared.fault.Fault.TheVariants.{Memory};
 ghost use Rattle.cb_block.specs.declared.header.Header.{Header};
 ghost use Rattle.cb_peer_state.specs.declared.stage.Stage.TheVariants as stages;
@@ -78,12 +78,14 @@ pub fn one_message(alloc: Global, message: BoundedMessage) -> Result<Vec<Bounded
 }
 
 /// Appends a message, if there is one. Fails only with `Fault::Memory`, and never if there is none.
+/// The list is then unchanged.
 pub fn push_some(
     messages: &mut Vec<BoundedMessage>,
     message: Option<BoundedMessage>,
 ) -> Result<(), Fault>
     ensures messages { OnOk result (messages.new.items ≡ messages.old.items ++ as_list message) }
     ensures memory { IsOkUnless result Memory }
+    ensures err { OnErr result (messages.new.items ≡ messages.old.items) }
     ensures none { message ≡ None → IsOk result }
 {
     match message {

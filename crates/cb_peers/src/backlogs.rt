@@ -1,3 +1,6 @@
+ghost use Rattle.std.specs.Prelude.{IsOkUnless};
+ghost use Rattle.cb_base.specs.declared.fault.Fault.TheVariants.{Memory};
+
 use cb_base::{Fault, Shared};
 use cb_crew::Turn;
 use cb_service::AfterTurn;
@@ -30,7 +33,9 @@ pub struct Backlogs {
 impl Backlogs {
     /// The backlogs of so many peers, from whose inboxes nothing was taken. Fails only with
     /// `Fault::Memory`.
-    pub fn new(alloc: Global, peers: u16) -> Result<Backlogs, Fault> {
+    pub fn new(alloc: Global, peers: u16) -> Result<Backlogs, Fault>
+        ensures { IsOkUnless result Memory }
+    {
         let mut all = Vec::with_capacity(alloc, usize::from(peers))?;
         for _ in 0..peers {
             all.push(Backlog {

@@ -1,5 +1,5 @@
 //! What each connection of a run moved.
-ghost use Rattle.std.specs.Prelude.{◌≡◌, ◌⊎◌, ℕ, List, true, IfErr, OnOk, IsOkUnless};
+ghost use Rattle.std.specs.Prelude.{◌≡◌, ◌⊎◌, ℕ, List, true, Err, IfErr, OnOk, IsOkUnless};
 ghost use Rattle.std.specs.Io.KnownBytes.{Appends};
 ghost use Rattle.cb_base.specs.declared.fault.Fault.TheVariants as faults;
 ghost use Rattle.cb_run.specs.declared.ending.Halt.TheVariants.{Memory, WriteFailed};
@@ -24,6 +24,8 @@ pub fn print_stats<N: Wait + Drop, W: Sink>(
         × Appends (W.contents writer.old) (W.contents writer.new) rest) }
     ensures err { IfErr result
         (λ halt. (halt ≡ Memory) ⊎ ((halt ≡ WriteFailed) × (W.has_failed writer.new ≡ true))) }
+    // The text is made before anything is written.
+    ensures starved { result ≡ Err Memory → writer.new ≡ writer.old }
 {
     let mut text = String::new(alloc);
     print_nodes(ends, &mut text).map_err(Halt::of_memory)?;

@@ -5,6 +5,6 @@ mod line;
 mod outcome;
 mod telling;
 
-pub use line::{Line, read_line};
+pub use line::{Line, message, read_line};
 pub use outcome::{Outcome, Tally};
 pub use telling::{line_at, print_outcome, print_unreadable};

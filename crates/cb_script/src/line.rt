@@ -158,8 +158,9 @@ fn block(alloc: Global, rest: &str, nodes: u16) -> Result<Option<Line>, Fault>
     }
 }
 
-/// The message with this name whose payload is written in hex. Fails only with `Fault::Memory`.
-fn message(alloc: Global, name: &str, text: &str) -> Result<Option<Message>, Fault>
+/// The message with this name whose payload is written in hex; `None` if it can't be read so. Fails
+/// only with `Fault::Memory`.
+pub fn message(alloc: Global, name: &str, text: &str) -> Result<Option<Message>, Fault>
     requires { IsCommand name.now }
     ensures exact { IfOk result (λ read. read ≡ message_of name.now text.now) }
     ensures memory { IsOkUnless result Memory }

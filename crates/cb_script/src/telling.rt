@@ -1,5 +1,5 @@
 //! Reading the current line of a script, and printing what became of it.
-ghost use Rattle.std.specs.Prelude.{◌≡◌, ◌⊎◌, true, IfOk, IfErr, IfSome, IsOkUnless, OnOk};
+ghost use Rattle.std.specs.Prelude.{◌≡◌, ◌⊎◌, true, Err, IfOk, IfErr, IfSome, IsOkUnless, OnOk};
 ghost use Rattle.std.specs.Io.KnownBytes.{Appends};
 ghost use Rattle.cb_run.specs.declared.ending.Halt.TheVariants.{Memory, WriteFailed};
 ghost use Rattle.cb_script.specs.Outcomes.{outcome_text, unreadable_text};
@@ -34,6 +34,8 @@ pub fn print_outcome<W: Sink>(
         (Appends (W.contents writer.old) (W.contents writer.new) (outcome_text number outcome)) }
     ensures err { IfErr result
         (λ halt. (halt ≡ Memory) ⊎ ((halt ≡ WriteFailed) × (W.has_failed writer.new ≡ true))) }
+    // The text is made before anything is written.
+    ensures starved { result ≡ Err Memory → writer.new ≡ writer.old }
 {
     let mut text = String::new(alloc);
     outcome.print(number, &mut text).map_err(Halt::of_memory)?;
@@ -46,6 +48,8 @@ pub fn print_unreadable<W: Sink>(alloc: Global, number: u64, writer: &mut W) -> 
         (Appends (W.contents writer.old) (W.contents writer.new) (unreadable_text number)) }
     ensures err { IfErr result
         (λ halt. (halt ≡ Memory) ⊎ ((halt ≡ WriteFailed) × (W.has_failed writer.new ≡ true))) }
+    // The text is made before anything is written.
+    ensures starved { result ≡ Err Memory → writer.new ≡ writer.old }
 {
     let text = format!(in alloc; "{number} unreadable\n")?;
     write_all(writer, text.as_bytes())

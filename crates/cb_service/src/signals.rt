@@ -1,3 +1,6 @@
+ghost use Rattle.std.specs.Prelude.{IsOkUnless};
+ghost use Rattle.cb_base.specs.declared.fault.Fault.TheVariants.{Memory};
+
 use cb_base::Fault;
 use std::alloc::Global;
 use std::sync::Wait;
@@ -26,7 +29,9 @@ pub struct Signals {
 
 impl Signals {
     /// The signals of a crew with so many peers. Fails only with `Fault::Memory`.
-    pub fn new(alloc: Global, peers: u16) -> Result<Signals, Fault> {
+    pub fn new(alloc: Global, peers: u16) -> Result<Signals, Fault>
+        ensures { IsOkUnless result Memory }
+    {
         let mut readers = Vec::with_capacity(alloc, usize::from(peers))?;
         for _ in 0..peers {
             readers.push(Parker::new())?;

@@ -1,1 +1,3 @@
+mod Lowest
 mod Placing
+mod Writing

@@ -1,7 +1,5 @@
 -- Which slot comes next.
-use Rattle.std.specs.Prelude.{◌≡◌, ◌≢◌, ℕ, ◌<◌, ◌≤◌, ◌⊎◌, Bool, true, false, List, length, slice_index_or}
-use Rattle.cb_slots.specs.declared.choosing.Standing.{Standing}
-use Rattle.cb_slots.specs.declared.choosing.Standing.TheVariants as standing
+use Rattle.std.specs.Prelude.{◌≡◌, ◌≢◌, ℕ, ◌<◌, ◌≤◌, ◌⊎◌, Bool, false, List, length, slice_index_or}
 
 -- Of the places from `first` to before `end`, this is the lowest at which the list has the wanted
 -- value.
@@ -15,12 +13,6 @@ pub record IsLowest {A : Type 0} (list : List A) (wanted : A) (first end place :
 -- At none of these places the list has the wanted value.
 abbrev pub HasNone : {A : Type 0} → List A → A → ℕ → ℕ → Type 0
 HasNone list wanted first end = (k : ℕ) → first ≤ k → k < end → k < length list → slice_index_or list k wanted ≢ wanted
-
--- whether a slot that stands so ever had a socket
-abbrev pub is_used : Standing → Bool
-is_used standing.Unused = false
-is_used standing.Left = true
-is_used standing.Busy = true
 
 -- Of the slots from `first` to before `end`, this one is the lowest that never had a socket. Or it
 -- is any of them, where each had one.

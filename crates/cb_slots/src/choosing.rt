@@ -1,46 +1,43 @@
-ghost use Rattle.std.specs.Prelude.{◌≡◌, None, IfOk, IfSome, map};
-ghost use Rattle.cb_slots.specs.Choosing.{HasNone, IsLowest, is_used};
+ghost use Rattle.std.specs.Prelude.{◌≡◌, ◌↔◌, false, true, None, Some, IfSome, slice_get};
+ghost use Rattle.cb_slots.specs.Choosing.{HasNone, IsLowest};
 ghost use Rattle.cb_slots.specs.Slot.{uses_of};
 
 use crate::slot::Slot;
 use cb_crew::Work;
 use cb_reader::Input;
-use std::alloc::{AllocError, Global};
 
-/// How a slot stands when a connection is to be made.
-#[derive(Clone, Copy, Debug, PartialEq, Eq)]
-pub enum Standing {
-    /// It never had a socket.
-    Unused,
-    /// It had one, and the reader of its latest connection has returned or says that it does.
-    Left,
-    /// The reader of its latest connection reads on.
-    Busy,
-}
-
-/// How these slots stand, in their order.
-pub fn standings_of<W: Work<Item = Input>>(
-    alloc: Global,
-    slots: &[Slot<W>],
-) -> Result<Vec<Standing>, AllocError>
-    ensures { IfOk result (λ all. map is_used all.items ≡ uses_of slots.now) }
+/// The lowest slot from `first` to before `end` that never had a socket. `None` if there is none.
+pub fn lowest_unused<W: Work<Item = Input>>(slots: &[Slot<W>], first: u16, end: u16) -> Option<u16>
+    ensures lowest { IfSome result (IsLowest (uses_of slots.now) false first end) }
+    ensures none { result ≡ None → HasNone (uses_of slots.now) false first end }
 {
-    let mut all = Vec::new(alloc);
-    for slot in slots {
-        all.push(slot.standing())?;
-    }
-    Ok(all)
-}
-
-/// The lowest slot from `first` to before `end` that stands so. `None` if there is none.
-pub fn lowest(standings: &[Standing], wanted: Standing, first: u16, end: u16) -> Option<u16>
-    ensures lowest { IfSome result (IsLowest standings.now wanted first end) }
-    ensures none { result ≡ None → HasNone standings.now wanted first end }
-{
-    for slot in first..end {
-        if standings.get(usize::from(slot)) == Some(&wanted) {
-            return Some(slot);
+    for number in first..end {
+        if is_unused(slots, number) {
+            return Some(number);
         }
     }
     None
+}
+
+/// Whether a slot from `first` to before `end` was left (`Slot::is_left`).
+pub fn has_left<W: Work<Item = Input>>(slots: &[Slot<W>], first: u16, end: u16) -> bool {
+    for place in first..end {
+        if slots
+            .get(usize::from(place))
+            .is_some_and(|slot| slot.is_left())
+        {
+            return true;
+        }
+    }
+    false
+}
+
+/// Whether there is a slot with this number, and it never had a socket.
+fn is_unused<W: Work<Item = Input>>(slots: &[Slot<W>], number: u16) -> bool
+    ensures { (result ≡ true) ↔ (slice_get (uses_of slots.now) number ≡ Some false) }
+{
+    match slots.get(usize::from(number)) {
+        Some(slot) => slot.is_unused(),
+        None => false,
+    }
 }

@@ -75,6 +75,7 @@ pub fn crew_slots<W: Work<Item = Input>, R: Wait>(
     ensures handlers { IfOk result
         (λ crewed. AreHandlersOf crewed.common.crew crewed.handlers.items
         × (crewed.common.crew.handlers ≡ handlers)) }
+    ensures memory { IsOkUnless result Memory }
 {
     let NewCrew {
         crew,
@@ -106,6 +107,7 @@ fn new_crew<W: Work, R: Wait>(
         × (made.crew.handlers ≡ handlers)) }
     ensures seats { IfOk result (λ made. AreOpeningSeats made.crew made.readers.items) }
     ensures handlers { IfOk result (λ made. AreHandlersOf made.crew made.handlers.items) }
+    ensures memory { IsOkUnless result Memory }
 {
     let mut works = Vec::new(alloc);
     for one in fresh {
@@ -119,7 +121,8 @@ fn new_crew<W: Work, R: Wait>(
 
 /// What the slots of this crew share. Fails only with `Fault::Memory`.
 fn common_of<W: Work>(alloc: Global, crew: Crew<W>) -> Result<Common<W>, Fault>
-    ensures { IfOk result (λ common. common.crew ≡ crew) }
+    ensures crew { IfOk result (λ common. common.crew ≡ crew) }
+    ensures memory { IsOkUnless result Memory }
 {
     let peers = crew.peers();
     Ok(Common {
@@ -143,6 +146,7 @@ fn slots_of<W: Work<Item = Input>, R: Wait>(
     requires links { length links.items ≡ length seats.items }
     ensures slots { IfOk result (λ slots. AreSlotsOf crew.now slots.items
         × (slots.items ≡ map new_slot crew.now.inboxes)) }
+    ensures memory { IsOkUnless result Memory }
 {
     let mut slots = Vec::with_capacity(alloc, usize::from(crew.peers()))?;
     let mut number = 0u16;

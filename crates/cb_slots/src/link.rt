@@ -1,3 +1,7 @@
+ghost use Rattle.std.specs.Prelude.{◌≡◌, IfOk, IsOkUnless};
+ghost use Rattle.cb_base.specs.declared.fault.Fault.TheVariants.{Memory};
+
+use crate::outbox::{Outbox, WriterEnd};
 use crate::socket::Socket;
 use cb_base::{Fault, Shared};
 use cb_crew::Turn;
@@ -6,6 +10,7 @@ use cb_service::AfterTurn;
 use cb_work::ConnectionStatus;
 use std::alloc::Global;
 use std::io::{self, Write};
+use std::net::TcpStream;
 use std::sync::atomic::{AtomicBool, Ordering};
 use std::sync::{Mutex, Wait};
 
@@ -18,18 +23,24 @@ pub struct Link {
     pub status: Shared<ConnectionStatus>,
     /// The connection's socket.
     pub socket: Socket,
+    /// What its session wrote and the socket hasn't taken yet.
+    pub outbox: Outbox,
     /// Whether the connection's reader has said that it returns.
     left: AtomicBool,
 }
 
 impl Link {
     /// The link of a connection that isn't made yet. Fails only with `Fault::Memory`.
-    pub fn new(alloc: Global, generation: u64) -> Result<Shared<Link>, Fault> {
+    pub fn new(alloc: Global, generation: u64) -> Result<Shared<Link>, Fault>
+        ensures made { IfOk result (λ link. link.generation ≡ generation) }
+        ensures memory { IsOkUnless result Memory }
+    {
         let status = Shared::new(alloc, ConnectionStatus::new())?;
         let link = Link {
             generation,
             status,
             socket: Socket::new(),
+            outbox: Outbox::new(alloc),
             left: AtomicBool::new(false),
         };
         Ok(Shared::new(alloc, link)?)
@@ -44,13 +55,37 @@ impl Link {
     pub fn is_left(&self) -> bool {
         self.left.load(Ordering::SeqCst)
     }
+
+    /// Closes the connection if its session is over: it is read no more, and what its session wrote
+    /// still goes out. Returns whether nothing of it is left to be done.
+    pub fn close_if_over<R: Wait>(&self, rt: &R) -> bool {
+        if !self.status.is_stopped() {
+            return false;
+        }
+        self.socket.stop_reading(rt);
+        self.outbox.close(rt);
+        self.outbox.is_done()
+    }
+
+    /// Writes to the connection's socket what comes into the outbox, until the connection is over and
+    /// what waits went out, or the socket takes nothing more. Then it shuts the socket, which ends the
+    /// session. The thread has to return then.
+    pub fn write_out<R: Wait>(&self, rt: &R, stream: &TcpStream) {
+        let end = self.outbox.write_to(rt, stream, &mut &*stream);
+        if end == WriterEnd::Still {
+            self.status.set_still();
+        }
+        self.socket.close(rt);
+        self.outbox.finish(rt);
+    }
 }
 
-/// What a connection's session writes to: the connection's socket, once it's there. Before that a
-/// write fails, as it does after the socket was closed.
+/// What a connection's session writes to: the connection's outbox, once its socket is there. A write
+/// takes all or fails. It fails before the socket is there, after the connection was closed, after the
+/// socket took nothing for too long, if the outbox is full, and ever after such a failure.
 #[derive(Drop)]
 pub struct SocketWriter<R: Drop> {
-    /// By which it waits for the socket's place.
+    /// By which it waits for the outbox's lock.
     pub rt: R,
     /// The connection.
     pub link: Shared<Link>,
@@ -58,8 +93,8 @@ pub struct SocketWriter<R: Drop> {
 
 impl<R: Wait + Drop> Write for SocketWriter<R> {
     fn write(&mut self, piece: &[u8]) -> io::Result<usize> {
-        let stream = self.link.socket.stream(&self.rt)?;
-        (&*stream).write(piece)
+        self.link.outbox.push(&self.rt, piece)?;
+        Ok(piece.len())
     }
 
     fn flush(&mut self) -> io::Result<()> {
@@ -75,7 +110,9 @@ pub struct Links {
 
 impl Links {
     /// No connections of so many slots. Fails only with `Fault::Memory`.
-    pub fn new(alloc: Global, slots: u16) -> Result<Links, Fault> {
+    pub fn new(alloc: Global, slots: u16) -> Result<Links, Fault>
+        ensures memory { IsOkUnless result Memory }
+    {
         let mut all = Vec::with_capacity(alloc, usize::from(slots))?;
         for _ in 0..slots {
             all.push(Mutex::new(Vec::new(alloc)))?;
@@ -84,7 +121,9 @@ impl Links {
     }
 
     /// Adds a connection of this slot. Fails only with `Fault::Memory`.
-    pub fn add<R: Wait>(&self, rt: &R, slot: u16, link: Shared<Link>) -> Result<(), Fault> {
+    pub fn add<R: Wait>(&self, rt: &R, slot: u16, link: Shared<Link>) -> Result<(), Fault>
+        ensures memory { IsOkUnless result Memory }
+    {
         if let Some(links) = self.slots.get(usize::from(slot)) {
             let mut links = links.lock(rt);
             links.push(link)?;
@@ -92,19 +131,14 @@ impl Links {
         Ok(())
     }
 
-    /// Closes the socket of each connection of this slot whose session is over, and of no other.
+    /// Closes each connection of this slot whose session is over, and no other: it is read no more,
+    /// and what its session wrote still goes out.
     pub fn close_ended<R: Wait>(&self, rt: &R, slot: u16) {
         let Some(links) = self.slots.get(usize::from(slot)) else {
             return;
         };
         let mut links = links.lock(rt);
-        links.retain(|link| {
-            let over = link.status.is_stopped();
-            if over {
-                link.socket.close(rt);
-            }
-            !over
-        });
+        links.retain(|link| !link.close_if_over(rt));
     }
 
     /// Shuts the sockets of all connections for reading.
@@ -114,7 +148,8 @@ impl Links {
         }
     }
 
-    /// Closes the sockets of all connections.
+    /// Closes all connections, and waits until what their sessions wrote went out, at most for half a
+    /// minute.
     pub fn close_all<R: Wait>(&self, rt: &R) {
         for links in self.slots.as_slice() {
             close_all(rt, links.lock(rt).as_slice());
@@ -129,16 +164,19 @@ fn stop_reading_all<R: Wait>(rt: &R, links: &[Shared<Link>]) {
     }
 }
 
-/// Closes the sockets of these connections.
+/// Closes these connections, and waits until what their sessions wrote went out.
 fn close_all<R: Wait>(rt: &R, links: &[Shared<Link>]) {
     for link in links {
+        link.outbox.close(rt);
+    }
+    for link in links {
+        link.outbox.wait(rt);
         link.socket.close(rt);
     }
 }
 
-/// After each turn of a handler: counts what it took, and closes the sockets of the slot's
-/// connections whose sessions are over. So a reader that waits for bytes of such a connection
-/// wakes.
+/// After each turn of a handler: counts what it took, and closes the slot's connections whose sessions
+/// are over. So a reader that waits for bytes of such a connection wakes.
 #[derive(Drop)]
 pub struct CloseEnded {
     /// Where it is counted what was taken.

@@ -1,15 +1,13 @@
-ghost use Rattle.std.specs.Prelude.{◌≡◌, ◌⊎◌, ◌<◌, ◌^◌, true, false, length, None, IfErr, OnErr, OnOk};
+ghost use Rattle.std.specs.Prelude.{◌≡◌, ◌⊎◌, ◌↔◌, ◌<◌, ◌^◌, true, false, length, None, IfErr, OnErr, OnOk};
 ghost use Rattle.cb_base.specs.declared.fault.Fault.TheVariants as faults;
 ghost use Rattle.cb_inbox.specs.Seat.{opening_seat};
 ghost use Rattle.cb_crew.specs.Crew.{HasPlace, inbox_of};
 ghost use Rattle.cb_slots.specs.declared.fault.NodeFault.TheVariants.{Io, Memory};
-ghost use Rattle.cb_slots.specs.Choosing.{is_used};
 ghost use Rattle.cb_slots.specs.Slot.{HasLeft, IsInboxOf, IsNew, IsUnspent, LastsIf, attached, new_slot, reopened};
 
-use crate::choosing::Standing;
 use crate::fault::NodeFault;
 use crate::link::Link;
-use crate::threads::{Errand, NoThread, Reading, join_reading, start_reading, unread};
+use crate::threads::{Errand, NoThread, Reading, join_reading, start_threads, unread};
 use cb_base::{Fault, Shared};
 use cb_crew::{Crew, Fresh, ReaderSide, Work};
 use cb_hall::Badge;
@@ -28,6 +26,9 @@ use std::thread::Threads;
 
 /// With this many marks queued over all connections, no further connection is opened.
 const MOST_QUEUED: u64 = 1 << 40;
+
+/// How many connections a slot serves at most, one after another.
+const MOST_CONNECTIONS: u64 = 256;
 
 /// What the slots of a node share.
 #[derive(Drop)]
@@ -138,17 +139,17 @@ impl<W: Work<Item = Input>> Slot<W> {
         self.next.is_none()
     }
 
-    /// How the slot stands.
-    pub fn standing(&self) -> Standing
-        ensures { is_used result ≡ self.now.used }
+    /// Whether the slot never had a socket.
+    pub fn is_unused(&self) -> bool
+        ensures { (result ≡ true) ↔ (self.now.used ≡ false) }
     {
-        if !self.used {
-            Standing::Unused
-        } else if self.is_lent() && !self.latest.is_left() {
-            Standing::Busy
-        } else {
-            Standing::Left
-        }
+        !self.used
+    }
+
+    /// Whether the slot had a socket, the reader of its latest connection has returned or says that it
+    /// does, and that wasn't its last connection.
+    pub fn is_left(&self) -> bool {
+        self.used && !self.is_spent() && (!self.is_lent() || self.latest.is_left())
     }
 
     /// Whether the thread of a connection's reader has the side.
@@ -162,6 +163,22 @@ impl<W: Work<Item = Input>> Slot<W> {
             self.latest.status.set_tick();
             signals.ring();
         }
+    }
+
+    /// One more owner of what the threads of the latest connection share with the node. Fails only
+    /// with `Fault::Memory`.
+    pub fn link(&self) -> Result<Shared<Link>, Fault>
+        ensures { IfErr result (λ fault. fault ≡ faults.Memory) }
+    {
+        Ok(self.latest.clone()?)
+    }
+
+    /// Whether the slot can take no further connection: the latest is the last of 256, and has its
+    /// socket.
+    pub fn is_spent(&self) -> bool
+        ensures { result ≡ true → self.now.waits ≡ false }
+    {
+        self.latest.generation >= MOST_CONNECTIONS && !self.waits
     }
 
     /// Appends what each connection of this slot moved. Fails only with `Fault::Memory`.
@@ -229,6 +246,7 @@ impl<W: Work<Item = Input>> Slot<W> {
         ensures opened { result ≡ Ok true → self.new ≡ reopened self.old }
         ensures refused { result ≡ Ok false → self.new ≡ self.old }
         ensures err { OnErr result (self.new ≡ self.old) }
+        ensures memory { IfErr result (λ fault. fault ≡ faults.Memory) }
     {
         self.past.reserve(1)?;
         let Some(next) = self.next.take() else {
@@ -263,8 +281,8 @@ impl<W: Work<Item = Input>> Slot<W> {
         }
     }
 
-    /// Gives the connection that waits its socket, and starts the thread that reads it. If that
-    /// fails, the connection still waits.
+    /// Gives the connection that waits its socket, and starts the threads that read and write it. If
+    /// that fails, the connection still waits.
     pub fn attach<R: Threads + Wait + Copy + Send + Drop + 'static>(
         &mut self,
         rt: &R,
@@ -301,7 +319,7 @@ impl<W: Work<Item = Input>> Slot<W> {
             unreachable!()
         };
         self.latest.socket.fill(rt, stream);
-        match start_reading(rt, errand, seat) {
+        match start_threads(rt, &self.latest, errand, seat) {
             Ok(thread) => {
                 self.seating = Some(Seating::Lent(thread));
                 self.used = true;

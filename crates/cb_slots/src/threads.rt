@@ -122,7 +122,7 @@ pub fn unread<O: Opening + Drop>(seat: ReaderSeat<Input, O>) -> Left<O>
 ///
 /// Fails with `NodeFault::Io` if no thread can be made, and with `NodeFault::Memory`. The seat then
 /// comes back.
-pub fn start_reading<
+fn start_reading<
     W: Work<Item = Input> + Send + 'static,
     R: Threads + Wait + Copy + Send + Drop + 'static,
 >(
@@ -172,6 +172,75 @@ pub fn start_reading<
                 seat: live(rt, (refused.value)()),
                 cause: NodeFault::Io,
             })
+        }
+    }
+}
+
+/// Starts the thread that writes what a connection's session sends. It returns once the connection is
+/// over and what waits went out, or the socket takes nothing more; the connection's outbox tells that
+/// it does.
+///
+/// Fails with `NodeFault::Io` if no thread can be made, and with `NodeFault::Memory`.
+fn start_writing<R: Threads + Wait + Copy + Send + Drop + 'static>(
+    rt: &R,
+    link: &Shared<Link>,
+    stream: &Shared<TcpStream>,
+) -> Result<(), NodeFault>
+    ensures kinds { IfErr result (λ fault. (fault ≡ Io) ⊎ (fault ≡ Memory)) }
+{
+    let (owner, stream) = (link.clone()?, stream.clone()?);
+    link.outbox.open(rt);
+    let rt_of_thread = *rt;
+    let started = thread::spawn(rt, move || {
+        let (rt, link, stream) = (rt_of_thread, owner, stream);
+        link.write_out(&rt, &stream);
+    });
+    match started {
+        // Who closes the connection waits by its outbox.
+        Ok(thread) => {
+            drop(thread);
+            Ok(())
+        }
+        Err(refused) => {
+            drop(refused);
+            link.outbox.cancel(rt);
+            Err(NodeFault::Io)
+        }
+    }
+}
+
+/// Starts the threads that write and read a connection. If either can't be started, neither runs, and
+/// the seat comes back. Fails as `start_reading` does.
+pub fn start_threads<
+    W: Work<Item = Input> + Send + 'static,
+    R: Threads + Wait + Copy + Send + Drop + 'static,
+>(
+    rt: &R,
+    link: &Shared<Link>,
+    errand: Errand<W>,
+    seat: ReaderSeat<Input, Fresh<W>>,
+) -> Result<Reading<Fresh<W>>, NoThread<Fresh<W>>>
+    requires slot { errand.slot < length errand.crew.inboxes }
+    requires inbox { IsSideOf errand.crew errand.slot (Live seat) }
+    requires place { length seat.queued < 2 ^ 48 }
+    ensures started { IfOk result (λ thread. (inbox_for thread).name ≡ seat.inbox) }
+    ensures refused { IfErr result
+        (λ back. (back.seat.inbox ≡ seat.inbox) × (length back.seat.queued < 2 ^ 48)) }
+    ensures kinds { IfErr result (λ back. (back.cause ≡ Io) ⊎ (back.cause ≡ Memory)) }
+{
+    if let Err(cause) = start_writing(rt, link, &errand.stream) {
+        return Err(NoThread { seat, cause });
+    }
+    match start_reading(rt, errand, seat) {
+        Ok(thread) => {
+            // Its session may be over already. No turn of a handler would close it then.
+            link.close_if_over(rt);
+            Ok(thread)
+        }
+        Err(refused) => {
+            link.outbox.close(rt);
+            link.outbox.wait(rt);
+            Err(refused)
         }
     }
 }

@@ -1,6 +1,7 @@
 -- What an entry makes of a session that goes on.
-use Rattle.std.proofs.Common.{◌≡◌, ℕ, ◌+◌, ◌≢◌, ◌<◌, Bool, true, false, cond, eqb, Some, refl, sym, ap, subst, inl, inr, ◌⊎◌}
+use Rattle.std.proofs.Common.{◌≡◌, ℕ, ◌+◌, ◌≢◌, ◌<◌, Bool, true, false, cond, eqb, Some, None, ◌∙◌, refl, sym, ap, subst, inl, inr, ◌⊎◌}
 use Rattle.std.specs.Prelude.{◌^◌}
+use Rattle.cb_fetch.specs.Fetching.{idle}
 use Rattle.cb_journal.specs.declared.answer.Answer.{Answer}
 use Rattle.cb_journal.specs.declared.question.Question.{Question}
 use Rattle.cb_peer_state.specs.declared.event.Event.{Event}
@@ -13,7 +14,7 @@ use Rattle.cb_peer_state.specs.Event.{ends_at_once, is_reader_end}
 use Rattle.cb_peer_state.specs.Session.{Stepped, closes, open_step, stays, step_of}
 use Rattle.cb_peer_state.specs.declared.session_state.SessionState.{SessionState}
 use Rattle.cb_peer_state.specs.State.{is_closed}
-use Rattle.cb_peer_laws.proofs.Steps.{AsksIt, IsOver, closes_over, open_asks, open_bye, open_ends, open_fewer, open_over, open_settings}
+use Rattle.cb_peer_laws.proofs.Steps.{AsksIt, IsOver, Steps, closes_over, ends_by, goes_on, open_asks, open_bye, open_ends, open_fewer, open_over, open_settings, open_steps, passes}
 use Rattle.cb_trace.specs.declared.trace.TraceEntry.{TraceEntry}
 use Rattle.cb_trace.specs.Fold.{entry_step}
 use Rattle.cb_trace.proofs.Folds.{entry_cases}
@@ -61,9 +62,9 @@ over_stays count s entry closed = ap (λ b. cond b (stays s) (cond (eqb (count +
 
 -- by cases on whether the session is over
 entry_either : (P : Stepped → Type 0) (count : ℕ) (s : SessionState) (entry : TraceEntry) → (is_closed s.state ≡ true → P (stays s)) → (is_closed s.state ≡ false → P (entry_step count s entry)) → P (entry_step count s entry)
-entry_either P count s entry over goes_on =
+entry_either P count s entry over lasts =
     let by_state : (b : Bool) → is_closed s.state ≡ b → P (entry_step count s entry) =
-    elim [ true ↦ λ closed. subst P (sym (over_stays count s entry closed)) (over closed) | false ↦ λ going. goes_on going ] in
+    elim [ true ↦ λ closed. subst P (sym (over_stays count s entry closed)) (over closed) | false ↦ λ going. lasts going ] in
     by_state (is_closed s.state) refl
 
 -- what a session was given stays
@@ -85,3 +86,26 @@ entry_bye count s entry =
 -- the question that an entry asks is open, or nothing changed
 pub entry_asks_any : (count : ℕ) (s : SessionState) (entry : TraceEntry) → AsksIt s (entry_step count s entry)
 entry_asks_any count s entry = entry_either (AsksIt s) count s entry (λ _. inr refl) (λ going. entry_asks count s entry going)
+
+-- ---- what is left of a session that is over
+
+-- No question is open, and no block is being downloaded or rebuilt.
+pub record HasNothingLeft (s : SessionState) : Type 0 where
+  pub pending : s.pending ≡ None
+  pub fetch : s.fetch ≡ idle
+  pub partial : s.compact.partial ≡ None
+
+closes_left : (s : SessionState) (why : CloseReason) → HasNothingLeft (closes why s).session
+closes_left s why = record { pending = refl; fetch = refl; partial = refl }
+
+steps_left : (s : SessionState) (event : Event) (made : Stepped) → Steps s event made → is_closed s.state ≡ false → is_closed made.session.state ≡ true → HasNothingLeft made.session
+steps_left s event made (passes e) going closed = absurd (let clash : false ≡ true = sym going ∙ ap (λ (m : Stepped). is_closed m.session.state) (sym e) ∙ closed in cc)
+steps_left s event made (goes_on after same) going closed = absurd (let clash : false ≡ true = sym after ∙ closed in cc)
+steps_left s event made (ends_by why bye e) going closed = subst (λ (m : Stepped). HasNothingLeft m.session) (sym e) (closes_left s why)
+
+-- an entry that ends a session leaves nothing, and one behind that changes nothing
+pub entry_left : (count : ℕ) (s : SessionState) (entry : TraceEntry) → (is_closed s.state ≡ true → HasNothingLeft s) → is_closed (entry_step count s entry).session.state ≡ true → HasNothingLeft (entry_step count s entry).session
+entry_left count s entry left =
+    entry_either (λ made. is_closed made.session.state ≡ true → HasNothingLeft made.session) count s entry (λ _. left)
+    (λ going. entry_cases (λ made. is_closed made.session.state ≡ true → HasNothingLeft made.session) count s entry going
+    (λ _ _. closes_left s reasons.TraceFull) (λ _ _ _. closes_left s reasons.Memory) (λ _ _. steps_left s entry.event (open_step s entry.event) (open_steps s entry.event going) going))

@@ -1,6 +1,7 @@
 -- A trace, one entry at a time, and its checkpoints.
-use Rattle.std.proofs.Common.{◌≡◌, ℕ, ◌+◌, ◌-◌, ◌<◌, ◌≤◌, Bool, true, false, List, [], ◌∷◌, ◌++◌, Option, Some, None, Result, Err, refl, sym, ap, subst, ◌∙◌, append_assoc, arith, inl, inr}
+use Rattle.std.proofs.Common.{◌≡◌, ℕ, ◌+◌, ◌*◌, ◌-◌, ◌<◌, ◌≤◌, Bool, true, false, List, [], ◌∷◌, ◌++◌, Option, Some, None, Result, Err, refl, sym, ap, subst, ◌∙◌, append_assoc, arith, inl, inr}
 use Rattle.std.specs.Prelude.{◌^◌, ◌||◌, IsOk, is_none, min, nat_lt, not, length}
+use Rattle.std.specs.List.{fold}
 use Rattle.std.proofs.lemmas.Bool.{and_parts}
 use Rattle.std.proofs.lemmas.List.Sums.{sum_by_push}
 use Rattle.std.proofs.lemmas.List.{append-nil}
@@ -22,10 +23,10 @@ use Rattle.cb_peer_state.specs.Session.{Stepped, is_light, spares, takes_no_memo
 use Rattle.cb_peer_state.specs.declared.session_state.SessionState.{SessionState}
 use Rattle.cb_peer_state.specs.State.{is_closed, opening}
 use Rattle.cb_peer_laws.proofs.Steps.{AsksIt}
-use Rattle.cb_trace.specs.Fold.{Account, account_of, entry_step, session_of}
-use Rattle.cb_trace.specs.Trace.{AreCounts, AsksPending, Grows, IsTrace, LacksBase, NeedsBase, Rests, StandsFor, TraceSteps, TraceView, counts_with, held_of, is_due, next_step}
+use Rattle.cb_trace.specs.Fold.{Account, account_of, account_step, entry_step, first_account, session_of}
+use Rattle.cb_trace.specs.Trace.{AreCounts, AsksPending, Grows, IsShed, IsTrace, LacksBase, NeedsBase, Rests, StandsFor, TraceSteps, TraceView, counts_with, held_of, is_due, next_step, weight_of}
 use Rattle.cb_trace.proofs.Folds.{EachOpen_more, account_of_more, count_is, counts_more, items_few, told_few}
-use Rattle.cb_trace.proofs.Entries.{entry_asks, entry_ends, entry_full}
+use Rattle.cb_trace.proofs.Entries.{HasNothingLeft, entry_asks, entry_ends, entry_full, entry_left}
 
 abbrev pub view : Settings → SessionState → Counts → List TraceEntry → SessionState → Counts → ℕ → TraceView
 view settings base before entries session total room =
@@ -211,3 +212,51 @@ needs_base trace s copied fault same due is unpaid =
 pub lacks_base : (old between new : TraceView) → between ≡ old → is_due old ≡ true → NeedsBase old.session → Grows between new (record { event = events.NoMemory; starved = false }) → is_closed new.session.state ≡ true → LacksBase old new
 lacks_base old between new same due needs grows closed =
     record { due = due; needs = needs; grows = subst (λ (trace : TraceView). Grows trace new (record { event = events.NoMemory; starved = false })) same grows; closed = closed }
+
+-- ---- the trace of a session that is over
+
+fold_left : (account : Account) (entries : List TraceEntry) → (is_closed account.session.state ≡ true → HasNothingLeft account.session) → is_closed (fold account_step account entries).session.state ≡ true → HasNothingLeft (fold account_step account entries).session
+fold_left account [] left = left
+fold_left account (entry ∷ entries) left = fold_left (account_step account entry) entries (entry_left account.count account.session entry left)
+
+session_left : (settings : Settings) (history : List TraceEntry) → is_closed (session_of settings history).state ≡ true → HasNothingLeft (session_of settings history)
+unfolding account_of
+session_left settings history = fold_left (first_account settings) history (λ closed. absurd (let clash : false ≡ true = closed in cc))
+
+pub trace_left : (trace : TraceView) → IsTrace trace → is_closed trace.session.state ≡ true → HasNothingLeft trace.session
+trace_left trace t closed =
+    subst HasNothingLeft (sym t.stands.session) (session_left trace.settings t.history (ap (λ (s : SessionState). is_closed s.state) (sym t.stands.session) ∙ closed))
+
+-- its session's copy takes no memory
+pub copies : (trace : TraceView) (s : SessionState) (copied : Result SessionState Fault) (fault : Fault) → s ≡ trace.session → IsTrace trace → is_closed trace.session.state ≡ true → copied ≡ Err fault
+    → (s.pending ≡ None → s.fetch ≡ idle → s.compact.partial ≡ None → IsOk copied) → ⊥
+copies trace s copied fault same t closed is unpaid =
+    let left = subst HasNothingLeft (sym same) (trace_left trace t closed) in
+    failed copied fault is (unpaid left.pending left.fetch left.partial)
+
+-- it is shed
+pub is_shed : (settings : Settings) (base base' : SessionState) (before : Counts) (es es' : List TraceEntry) (x : SessionState) (t : Counts) (r r' : ℕ) → base' ≡ x → es' ≡ [] → r' ≡ 0
+    → IsShed (view settings base before es x t r) (view settings base' t es' x t r')
+is_shed settings base base' before es es' x t r r' b e none =
+    record {
+      same = record { settings = refl; session = refl; total = refl; history = λ history h. taken_stands settings base base' before es es' x t r r' b e history h };
+      base = b;
+      before = refl;
+      entries = e;
+      room = none;
+    }
+
+pub trace_shed : (settings : Settings) (base base' : SessionState) (before : Counts) (es es' : List TraceEntry) (x : SessionState) (t : Counts) (r r' : ℕ) → base' ≡ x → es' ≡ [] → is_closed x.state ≡ true
+    → IsTrace (view settings base before es x t r) → IsTrace (view settings base' t es' x t r')
+trace_shed settings base base' before es es' x t r r' b e closed trace =
+    record {
+      history = trace.history;
+      stands = taken_stands settings base base' before es es' x t r r' b e trace.history trace.stands;
+      free = ap (λ (s : SessionState). s.pending) b ∙ (trace_left (view settings base before es x t r) trace closed).pending;
+      spare = λ going. absurd (let clash : false ≡ true = sym going ∙ closed in cc);
+      limit = λ going. absurd (let clash : false ≡ true = sym going ∙ closed in cc);
+    }
+
+-- without entries it takes no bytes
+pub shed_weighs : (old new : TraceView) → IsShed old new → weight_of new ≡ 0
+shed_weighs old new shed = ap (λ (entries : List TraceEntry). held_of entries + 256 * length entries) shed.entries

@@ -1,6 +1,6 @@
 -- A trace: a session, and the log of its events since the base. It stands for all entries since the
 -- beginning. Those before the base were dropped, and their numbers are kept.
-use Rattle.std.specs.Prelude.{◌≡◌, ◌≢◌, ◌⊎◌, ℕ, ◌+◌, ◌≤◌, ◌<◌, ◌^◌, ◌||◌, ◌&&◌, Bool, true, false, List, [], ◌∷◌, ◌++◌, length, nat_lt, not, is_none, Option, None, if◌then◌else◌}
+use Rattle.std.specs.Prelude.{◌≡◌, ◌≢◌, ◌⊎◌, ℕ, ◌+◌, ◌*◌, ◌≤◌, ◌<◌, ◌^◌, ◌||◌, ◌&&◌, Bool, true, false, List, [], ◌∷◌, ◌++◌, length, nat_lt, not, is_none, Option, None, if◌then◌else◌}
 use Rattle.std.specs.List.{sum_by}
 use Rattle.cb_fetch.specs.Fetching.{idle}
 use Rattle.cb_journal.specs.declared.question.Question.{Question}
@@ -76,6 +76,10 @@ pub record IsTrace (trace : TraceView) : Type 0 where
 abbrev pub held_of : List TraceEntry → ℕ
 held_of entries = sum_by (λ entry. held_by entry.event) entries
 
+-- How many bytes the entries take, about: those that they hold, and 256 for each.
+abbrev pub weight_of : TraceView → ℕ
+weight_of trace = held_of trace.entries + 256 * length trace.entries
+
 -- A checkpoint is due: no question is open, and there are 65,000 entries or more, or they hold more
 -- than 8,000,000 bytes.
 abbrev pub is_due : TraceView → Bool
@@ -126,6 +130,14 @@ pub record Rests (old new : TraceView) : Type 0 where
   pub same : IsAsBefore old new
   pub taken : is_due old ≡ true → (new.base ≡ old.session) × (new.before ≡ old.total) × (new.entries ≡ [])
   pub kept : is_due old ≡ false → (new.base ≡ old.base) × (new.before ≡ old.before) × (new.entries ≡ old.entries)
+
+-- The trace without its entries: the session is the base, and all numbers are kept. There is no room.
+pub record IsShed (old new : TraceView) : Type 0 where
+  pub same : IsAsBefore old new
+  pub base : new.base ≡ old.session
+  pub before : new.before ≡ old.total
+  pub entries : new.entries ≡ []
+  pub room : new.room ≡ 0
 
 -- The session has blocks in download, or a block that is being rebuilt (BIP 152). Only then its
 -- copy takes memory while no question is open.

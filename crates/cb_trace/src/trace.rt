@@ -23,6 +23,9 @@ const ENTRIES_KEPT: usize = 65_000;
 /// A checkpoint is due when the entries hold more bytes than this.
 const BYTES_KEPT: u64 = 8_000_000;
 
+/// How many bytes an entry takes, about, beside those that it holds.
+const ENTRY_BYTES: u64 = 256;
+
 /// One entry of a trace: an event that the session was given, and whether it lacked the memory for
 /// it (starved).
 #[derive(Drop)]
@@ -92,7 +95,7 @@ impl Trace {
     ghost use Rattle.std.specs.Prelude.{◌-◌, min, length};
     ghost use Rattle.cb_peer_state.specs.Session.{openings};
     ghost use Rattle.cb_peer_state.specs.declared.event.Event.TheVariants as events;
-    ghost use Rattle.cb_trace.specs.Trace.{AskedLast, Grows, IsOpen, NeedsBase, Readied, Rests, StandsFor, TraceSteps, TraceView, asked_from, base_account, held_of, is_due};
+    ghost use Rattle.cb_trace.specs.Trace.{AskedLast, Grows, IsOpen, IsShed, NeedsBase, Readied, Rests, StandsFor, TraceSteps, TraceView, asked_from, base_account, held_of, is_due, weight_of};
 
     /// A trace without entries and with room for one, and the messages that open its session. The
     /// table of the session's wanted blocks has the fixed seed.
@@ -226,6 +229,50 @@ impl Trace {
         self.entries.clear();
         self.held = 0;
         true
+    }
+
+    /// Drops the entries of a trace whose session is over, if they take more than `most` bytes
+    /// (`weight_of`). The session is the base then, and all numbers stay. Otherwise nothing changes.
+    /// Returns how many bytes the entries take now.
+    ///
+    /// Never fails: the copy of a session that is over takes no memory.
+    pub fn shed(&mut self, most: u64) -> u64
+        requires over { is_closed self.old.session.state ≡ true }
+        requires few { most < 2 ^ 64 - 1 }
+        ensures kept { weight_of self.old ≤ most → self.new ≡ self.old }
+        ensures shed { most < weight_of self.old → IsShed self.old self.new }
+        ensures weight { result ≡ weight_of self.new }
+        ensures most { result ≤ most }
+    {
+        let weight = self.weight();
+        if weight <= most {
+            return weight;
+        }
+        self.drop_entries();
+        0
+    }
+
+    /// Drops the entries of a trace whose session is over. That is the base then.
+    fn drop_entries(&mut self)
+        requires { is_closed self.old.session.state ≡ true }
+        ensures { IsShed self.old self.new }
+    {
+        let Ok(last) = self.session.copy(self.alloc) else {
+            unreachable!()
+        };
+        self.base = last;
+        self.before = self.total;
+        self.entries = Vec::new(self.alloc);
+        self.held = 0;
+    }
+
+    /// How many bytes the entries take; `u64::MAX` if that is more.
+    pub fn weight(&self) -> u64
+        ensures { result ≡ min (weight_of self.now) (2 ^ 64 - 1) }
+    {
+        let entries = self.entries.len() as u64;
+        self.held
+            .saturating_add(entries.saturating_mul(ENTRY_BYTES))
     }
 
     /// Whether a checkpoint is due.

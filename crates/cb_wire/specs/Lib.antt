@@ -1,4 +1,5 @@
 pub mod Command
 pub mod Envelope
 pub mod Grammar
+pub mod Hashes
 pub mod Stream

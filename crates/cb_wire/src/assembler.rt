@@ -8,6 +8,7 @@ ghost use Rattle.cb_wire.specs.Envelope.{front_at};
 
 use crate::envelope::{Front, HEADER_LEN, front_of, item_of};
 use crate::item::Item;
+use crate::payload_hashes::PayloadHashes;
 use bytes::BytesMut;
 use cb_base::Fault;
 use std::alloc::Global;
@@ -123,11 +124,13 @@ fn cut_items(alloc: Global, bytes: &[u8]) -> Result<Cut, Fault>
     ensures unpaid { front_at bytes.now ≡ Partial → IsOk result }
 {
     let mut items = Vec::with_capacity(alloc, count_whole(bytes))?;
+    let mut hashes = PayloadHashes::new(alloc);
     let mut rest = bytes;
     loop {
         match front_of(rest) {
             Front::Whole(size) => {
-                items.push(item_of(alloc, rest, size)?)?;
+                let hash = hashes.next(rest, size)?;
+                items.push(item_of(alloc, rest, size, &hash)?)?;
                 let (_, after) = rest.split_at(HEADER_LEN + size);
                 rest = after;
             }

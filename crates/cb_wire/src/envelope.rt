@@ -1,9 +1,10 @@
-ghost use Rattle.std.specs.Prelude.{◌≡◌, ℕ, ◌+◌, ◌≤◌, length, take, drop, IfOk, IsOkUnless, IfSome};
+ghost use Rattle.std.specs.Prelude.{◌≡◌, ℕ, ◌+◌, ◌≤◌, List, length, take, drop, IfOk, IsOkUnless, IfSome};
 ghost use Rattle.std.specs.Prelude.{◌==◌, position};
 ghost use Rattle.std.specs.List.{list_all};
 ghost use Rattle.std.specs.Option.{option_map};
 ghost use Rattle.std.specs.Str.{bytes_eq};
 ghost use Rattle.cb_base.specs.declared.fault.Fault.TheVariants.{Memory};
+ghost use Rattle.cb_base.specs.DoubleHash.{double_hash};
 ghost use Rattle.cb_wire.specs.Command.{IsCommand, command_in, is_command, is_command_byte, known_command, name_length};
 ghost use Rattle.cb_wire.specs.Grammar.{payload_at};
 ghost use Rattle.cb_wire.specs.Envelope.{IsFrontOf, checksum, front_at, item_at, item_under, outcome, told_length};
@@ -13,7 +14,7 @@ use crate::command::{Command, UnknownName};
 use crate::item::Item;
 use crate::message::{Message, read_payload};
 use crate::payload::Payload;
-use cb_base::{Cursor, Fault, dsha};
+use cb_base::{Fault, Hash256};
 use std::alloc::Global;
 use std::str::from_utf8;
 
@@ -71,20 +72,31 @@ fn length_told(bytes: &[u8]) -> u32
     u32::from_le_bytes([bytes[16], bytes[17], bytes[18], bytes[19]])
 }
 
-/// The item of the envelope at the front, whose payload has `size` bytes. Faults within the payload
-/// are part of the item.
+/// The payload of the envelope at the front, which has `size` bytes.
+pub fn payload_of(bytes: &[u8], size: usize) -> &[u8]
+    requires { 24 + size ≤ length bytes.now }
+    ensures { result.now ≡ take size (drop 24 bytes.now) }
+{
+    let (_, rest) = bytes.split_at(HEADER_LEN);
+    let (payload, _) = rest.split_at(size);
+    payload
+}
+
+/// The item of the envelope at the front, whose payload has `size` bytes and this double hash.
+/// Faults within the payload are part of the item.
 ///
 /// Fails only with `Fault::Memory`.
 #[tactic(auto, unfolding(crate::specs::Envelope::item_at))]
-pub fn item_of(alloc: Global, bytes: &[u8], size: usize) -> Result<Item, Fault>
+pub fn item_of(alloc: Global, bytes: &[u8], size: usize, hash: &Hash256) -> Result<Item, Fault>
     requires there { 24 + size ≤ length bytes.now }
     requires limit { size ≤ 4000000 }
+    requires hash { hash.now ≡ double_hash (take size (drop 24 bytes.now)) }
     ensures item { IfOk result (λ item. item ≡ item_at size bytes.now) }
     ensures memory { IsOkUnless result Memory }
 {
-    let (header, rest) = bytes.split_at(HEADER_LEN);
-    let (payload, _) = rest.split_at(size);
-    if !has_checksum(header, payload) {
+    let (header, _) = bytes.split_at(HEADER_LEN);
+    let payload = payload_of(bytes, size);
+    if !has_checksum(header, hash) {
         return Ok(Item::Damaged);
     }
     match command_of(header) {
@@ -93,14 +105,14 @@ pub fn item_of(alloc: Global, bytes: &[u8], size: usize) -> Result<Item, Fault>
     }
 }
 
-/// Whether the last 4 bytes of the header are the payload's checksum.
+/// Whether the last 4 bytes of the header are the checksum of the payload with this double hash.
 #[tactic(auto, unfolding(crate::specs::Envelope::checksum))]
-fn has_checksum(header: &[u8], payload: &[u8]) -> bool
+fn has_checksum(header: &[u8], hash: &Hash256) -> bool
     requires { length header.now ≡ 24 }
-    ensures { result ≡ bytes_eq (drop 20 header.now) (checksum payload.now) }
+    ensures { (payload : List ℕ) → hash.now ≡ double_hash payload →
+        result ≡ bytes_eq (drop 20 header.now) (checksum payload) }
 {
     let (_, told) = header.split_at(20);
-    let hash = dsha(payload);
     let (computed, _) = hash.0.split_at(4);
     told == computed
 }

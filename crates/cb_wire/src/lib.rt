@@ -15,6 +15,7 @@ mod item;
 mod laws;
 mod message;
 mod payload;
+mod payload_hashes;
 
 pub use assembler::{Assembler, Fed};
 pub use bounded::BoundedMessage;

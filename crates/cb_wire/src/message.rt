@@ -2,13 +2,14 @@
 //! command.rt.
 //!
 //! Payloads of several fields are read and written in cb_payload.
-ghost use Rattle.std.specs.Prelude.{◌≡◌, ◌^◌, ◌<◌, ◌≤◌, ◌⊎◌, ◌++◌, IsTrue, ◌↔◌, length, IfOk, IsOk, IsOkUnless, OnOk, Ok, Err, Some};
+ghost use Rattle.std.specs.Prelude.{◌≡◌, ◌^◌, ◌<◌, ◌≤◌, ◌⊎◌, ◌++◌, IsTrue, ◌↔◌, length, IfOk, IsOk, IsOkUnless, OnErr, OnOk, Ok, Err, Some};
 ghost use Rattle.std.specs.Int.{w64, to_le_bytes};
 ghost use Rattle.cb_base.specs.declared.fault.Fault.{Fault};
 ghost use Rattle.cb_base.specs.declared.fault.Fault.TheVariants.{Memory};
 ghost use Rattle.cb_wire.specs.Command.{IsCommand, IsUnknownName};
 ghost use Rattle.cb_wire.specs.Grammar.{HoldsNothing, IsMessage, IsPaid, IsUnpaid, IsWithinLimits, name_of, payload_at, payload_text, whole};
 ghost use Rattle.cb_payload.specs.RoundTrip.{Gives};
+ghost use Rattle.cb_tx.specs.Writing.{Extends};
 
 use crate::command::{Command, UnknownName};
 use crate::payload::Payload;
@@ -123,9 +124,11 @@ fn whole<T: Drop>(value: T, cursor: &Cursor) -> Result<T, Fault>
 }
 
 /// Appends the payload of a message to `out`. Fails only with `Fault::Memory`; `out` may then end
-/// with a part of the payload.
+/// with a part of the payload, behind what it had.
+#[tactic(auto, using(cb_tx::proofs::Appends::appends))]
 pub fn put_payload(out: &mut Vec<u8>, message: &Message) -> Result<(), Fault>
     ensures ok { OnOk result (out.new.items ≡ out.old.items ++ payload_text message.now) }
+    ensures err { OnErr result (Extends out.old.items out.new.items) }
     ensures memory { IsOkUnless result Memory }
     // Each number is in the range of its field, each hash has 32 bytes, and each list is within its
     // limit.
@@ -152,8 +155,10 @@ pub fn put_payload(out: &mut Vec<u8>, message: &Message) -> Result<(), Fault>
 }
 
 /// Appends the nonce of a `ping` or a `pong`. Fails only with `Fault::Memory`.
+#[tactic(auto, using(cb_tx::proofs::Appends::appends))]
 fn put_nonce(out: &mut Vec<u8>, nonce: u64) -> Result<(), Fault>
     ensures ok { OnOk result (out.new.items ≡ out.old.items ++ to_le_bytes w64 nonce) }
+    ensures err { OnErr result (Extends out.old.items out.new.items) }
     ensures memory { IsOkUnless result Memory }
     ensures kept { nonce < 2 ^ 64 }
 {
@@ -162,8 +167,10 @@ fn put_nonce(out: &mut Vec<u8>, nonce: u64) -> Result<(), Fault>
 }
 
 /// Appends the payload of an unknown command. Fails only with `Fault::Memory`.
+#[tactic(auto, using(cb_tx::proofs::Appends::appends))]
 fn put_unknown(out: &mut Vec<u8>, name: &UnknownName, payload: &Payload) -> Result<(), Fault>
     ensures ok { OnOk result (out.new.items ≡ out.old.items ++ payload.now) }
+    ensures err { OnErr result (Extends out.old.items out.new.items) }
     ensures memory { IsOkUnless result Memory }
     ensures kept { IsUnknownName name.now }
 {

@@ -1,5 +1,7 @@
 -- The account of a work, one event at a time.
-use Rattle.std.proofs.Common.{◌≡◌, ℕ, ◌+◌, Bool, true, false, List, [], ◌∷◌, ◌++◌, length, Option, refl, sym, ap, subst, ◌∙◌, zero-add, arith}
+use Rattle.std.proofs.Common.{◌≡◌, ◌⊎◌, ◌≤◌, ◌<◌, ℕ, ◌+◌, Bool, true, false, List, [], ◌∷◌, ◌++◌, length, Option, inl, inr, refl, sym, ap, subst, ◌∙◌, zero-add, arith}
+use Rattle.std.specs.Prelude.{None}
+use Rattle.std.proofs.lemmas.Bool.{cases_lt}
 use Rattle.std.proofs.lemmas.List.{append-nil}
 use Rattle.cb_base.specs.declared.fault.Fault.{Fault}
 use Rattle.cb_state.specs.declared.connection.Connection.{Connection}
@@ -10,12 +12,15 @@ use Rattle.cb_hall.specs.Histories.{Reply}
 use Rattle.cb_peer_state.specs.declared.settings.Settings.{Settings}
 use Rattle.cb_peer_state.specs.declared.event.Event.{Event}
 use Rattle.cb_peer_state.specs.declared.event.Event.TheVariants as events
-use Rattle.cb_peer_state.specs.Event.{begins, kind_of}
+use Rattle.cb_peer_state.specs.Event.{begins, is_told, kind_of}
 use Rattle.cb_peer_state.specs.Session.{openings}
-use Rattle.cb_trace.specs.Trace.{Readied, StandsFor, TraceView}
+use Rattle.cb_peer_state.specs.State.{is_closed}
+use Rattle.cb_peer_state.specs.declared.session_state.SessionState.{SessionState}
+use Rattle.cb_trace.specs.Fold.{has_kind}
+use Rattle.cb_trace.specs.Trace.{IsShed, Readied, StandsFor, TraceView, weight_of}
 use Rattle.cb_trace.specs.declared.trace.Counts.{Counts}
-use Rattle.cb_session.specs.Conversation.{Origin, Stands, input_in, progress, with_event}
-use Rattle.cb_session.proofs.Accounts.{IsOracle, not_both}
+use Rattle.cb_session.specs.Conversation.{Accounts, Origin, Stands, input_in, progress, with_event}
+use Rattle.cb_session.proofs.Accounts.{AccountsOf, IsOracle, not_both}
 use Rattle.cb_session.proofs.Standing.{stands_first, stands_ready, stands_starved}
 use Rattle.cb_crew.specs.declared.work.Given.{Given}
 use Rattle.cb_crew.specs.declared.work.Given.TheVariants as given
@@ -236,6 +241,71 @@ serves_readied told refused contents has_failed oracle same old trace made items
       starved = λ h. not_both _ none h;
       waits = λ e f. s.waits e f ∙ ap openings (sym set);
     }
+
+-- the trace was shed: the history is the same
+accounts_shed : {H : Type 0} (told : H → BadgeState → List Reply → H → BadgeState → Type 0) (refused : H → BadgeState → Fault → Type 0) (from : Origin H) (trace trace' : TraceView) (hall : H) (badge : BadgeState)
+    (held : Option (List ℕ)) (failed : Bool) (written : ℕ) (inputs : List Event) (missing : List ℕ) (lost unkept : Bool) → IsShed trace trace'
+    → (a : Accounts told refused from (progress trace hall badge held failed written) inputs missing lost unkept) → AccountsOf told refused from (progress trace' hall badge held failed written) inputs missing lost unkept a.history
+accounts_shed told refused from trace trace' hall badge held failed written inputs missing lost unkept shed a =
+    record {
+      accounts = record {
+        settings = shed.same.settings ∙ a.settings;
+        history = a.history;
+        stands = shed.same.history a.history a.stands;
+        wrote = a.wrote;
+        inputs_are = a.inputs_are;
+        prompt = a.prompt;
+        replies_are = a.replies_are;
+        each_told = a.each_told;
+        write_fault = a.write_fault;
+        hall_full = a.hall_full;
+        no_memory = λ _. inl (inl (inl shed.room));
+        ticks_are = a.ticks_are;
+        losses = a.losses;
+      };
+      history_is = refl;
+    }
+
+stands_shed : {H : Type 0} (told : H → BadgeState → List Reply → H → BadgeState → Type 0) (refused : H → BadgeState → Fault → Type 0) (from : Origin H) (trace trace' : TraceView) (hall : H) (badge : BadgeState)
+    (held : Option (List ℕ)) (failed : Bool) (written : ℕ) (inputs : List Event) (held_back : List ℕ) (unkept : Bool) → IsShed trace trace'
+    → Stands told refused from (progress trace hall badge held failed written) inputs held_back unkept → Stands told refused from (progress trace' hall badge held failed written) inputs held_back unkept
+stands_shed told refused from trace trace' hall badge held failed written inputs held_back unkept shed s =
+    let after = accounts_shed told refused from trace trace' hall badge held failed written inputs s.sent.missing s.sent.lost unkept shed s.sent.accounts in
+    record {
+      sent = record { missing = s.sent.missing; lost = s.sent.lost; accounts = after.accounts; whole = s.sent.whole; told_loss = s.sent.told_loss };
+      unasked = λ some. ap (has_kind is_told) after.history_is ∙ s.unasked some;
+      answered = subst (λ (x : SessionState). is_closed x.state ≡ false → x.pending ≡ None) (sym shed.same.session) s.answered;
+    }
+
+-- its trace was shed, or is as it was
+pub serves_shed : {S H F : Type 0} (told : H → BadgeState → List Reply → H → BadgeState → Type 0) (refused : H → BadgeState → Fault → Type 0) (contents : S → Option (List ℕ)) (has_failed : S → Bool)
+    (same : KeepsConnection told) (old : WorkState S H F) (trace : TraceView) (items : List (Given Input)) (ticks : ℕ)
+    → (trace ≡ old.trace) ⊎ IsShed old.trace trace
+    → Serves told refused contents has_failed old items ticks → Serves told refused contents has_failed (with_trace old trace) items ticks
+serves_shed told refused contents has_failed same old trace items ticks (inl e) s =
+    subst (λ (t : TraceView). Serves told refused contents has_failed (with_trace old t) items ticks) (sym e) s
+serves_shed told refused contents has_failed same old trace items ticks (inr shed) s =
+    let held = contents s.sink in
+    let after =
+    stands_shed told refused (beginning old s.hall held ticks) old.trace trace old.hall old.badge (contents old.sink) (has_failed old.sink) old.written (events_of items) (texts old.unsent) (was_starved items) shed s.stands in
+    record {
+      hall = s.hall;
+      sink = s.sink;
+      empty = s.empty;
+      unfailed = s.unfailed;
+      stands = moved told refused contents has_failed same s.hall held ticks old.trace.settings old.badge.connection (with_trace old trace) (events_of items) (texts old.unsent) (was_starved items) after;
+      starved = λ h. ap (λ (x : SessionState). is_closed x.state) shed.same.session ∙ s.starved h;
+      waits = λ e f. s.waits e f ∙ ap openings (sym shed.same.settings);
+    }
+
+-- which of both it is
+pub kept_or_shed : (old new : TraceView) (most : ℕ) → (weight_of old ≤ most → new ≡ old) → (most < weight_of old → IsShed old new) → (new ≡ old) ⊎ IsShed old new
+kept_or_shed old new most kept shed = elim (cases_lt most (weight_of old)) [ inl more ↦ inr (shed more) | inr few ↦ inl (kept few) ]
+
+-- over or not, as it was
+pub shed_closed : (old new : TraceView) → (new ≡ old) ⊎ IsShed old new → is_closed new.session.state ≡ is_closed old.session.state
+shed_closed old new (inl e) = ap (λ (t : TraceView). is_closed t.session.state) e
+shed_closed old new (inr shed) = ap (λ (x : SessionState). is_closed x.state) shed.same.session
 
 -- the flags are no part of it
 pub serves_flags : {S H F : Type 0} (told : H → BadgeState → List Reply → H → BadgeState → Type 0) (refused : H → BadgeState → Fault → Type 0) (contents : S → Option (List ℕ)) (has_failed : S → Bool)

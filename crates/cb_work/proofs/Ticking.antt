@@ -1,5 +1,5 @@
 -- How often a work was ticked, one call at a time.
-use Rattle.std.proofs.Common.{◌≡◌, ℕ, ◌+◌, Bool, true, false, List, [], ◌∷◌, ◌++◌, length, sym, ap, ◌∙◌, arith, inl, inr}
+use Rattle.std.proofs.Common.{◌≡◌, ℕ, ◌+◌, Bool, true, false, List, [], ◌∷◌, ◌++◌, length, sym, ap, subst, ◌∙◌, arith, inl, inr}
 use Rattle.std.specs.Prelude.{filter}
 use Rattle.std.proofs.lemmas.List.{length-append}
 use Rattle.std.proofs.lemmas.List.Elements.{filter-append}
@@ -48,6 +48,23 @@ ticked_on told refused contents has_failed looks old new at items going looked s
       ticks = t.ticks;
       serves = serves t.items t.ticks t.serves;
       each = inl (each_open t.ticks t.answers (is_over old) going t.each);
+    }
+
+-- nor was one whose session is over
+pub ticked_over : {S H F : Type 0} (told : H → BadgeState → List Reply → H → BadgeState → Type 0) (refused : H → BadgeState → Fault → Type 0) (contents : S → Option (List ℕ)) (has_failed : S → Bool) (looks : F → List Bool → Type 0)
+    (old new : WorkState S H F) (at : List ℕ)
+    → is_over old ≡ true → is_over new ≡ true → ((answers : List Bool) → looks old.flags answers → looks new.flags answers)
+    → ((given : List (Given Input)) (ticks : ℕ) → Serves told refused contents has_failed old given ticks → Serves told refused contents has_failed new given ticks)
+    → WasTicked told refused contents has_failed looks old at → WasTicked told refused contents has_failed looks new at
+ticked_over told refused contents has_failed looks old new at over still looked serves t =
+    record {
+      answers = t.answers;
+      looked = looked t.answers t.looked;
+      often = t.often;
+      items = t.items;
+      ticks = t.ticks;
+      serves = serves t.items t.ticks t.serves;
+      each = subst (λ (b : Bool). EachTick t.ticks t.answers b) (over ∙ sym still) t.each;
     }
 
 -- it was ticked, and its session was given so many ticks more

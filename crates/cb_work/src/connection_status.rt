@@ -4,6 +4,7 @@ ghost use Rattle.cb_work.specs.Flags.{HasLooked};
 use crate::flags::Flags;
 use crate::traffic::{BlockPath, Brought, Totals, Traffic};
 use cb_base::Shared;
+use cb_peer_state::{CloseReason, State};
 use std::sync::atomic::{AtomicBool, AtomicU64, Ordering};
 
 /// What the threads of one connection share. A handler's thread serves the connection's
@@ -26,6 +27,10 @@ pub struct ConnectionStatus {
     saved: AtomicU64,
     /// The bytes of the block that was handed to the hall last.
     given: AtomicU64,
+    /// How far the session is, as `state_code` writes it.
+    state: AtomicU64,
+    /// Whether the connection's socket took nothing for too long.
+    still: AtomicBool,
 }
 
 impl ConnectionStatus {
@@ -45,6 +50,8 @@ impl ConnectionStatus {
             fallback: AtomicU64::new(0),
             saved: AtomicU64::new(0),
             given: AtomicU64::new(0),
+            state: AtomicU64::new(0),
+            still: AtomicBool::new(false),
         }
     }
 
@@ -99,6 +106,25 @@ impl ConnectionStatus {
         }
     }
 
+    /// The connection's socket took nothing for too long: it is about to be shut.
+    pub fn set_still(&self) {
+        self.still.store(true, Ordering::SeqCst);
+    }
+
+    /// How far the session is, as its work told last. It tells why a session is over before it
+    /// sets the stop flag.
+    ///
+    /// A socket that was shut since it took nothing is to the session as one that the peer closed.
+    /// Here such an end is a failed write.
+    pub fn state(&self) -> State {
+        match state_of(self.state.load(Ordering::SeqCst)) {
+            State::Closed(CloseReason::Bye) if self.still.load(Ordering::SeqCst) => {
+                State::Closed(CloseReason::WriteFault)
+            }
+            state => state,
+        }
+    }
+
     /// Counts what one step moved. The item's payload lies in the inbox no more.
     fn count(&self, traffic: &Traffic) {
         self.queued.fetch_sub(traffic.payload, Ordering::SeqCst);
@@ -111,6 +137,8 @@ impl ConnectionStatus {
             self.saved
                 .fetch_add(self.saved_by(brought), Ordering::SeqCst);
         }
+        self.state
+            .store(state_code(traffic.state), Ordering::SeqCst);
     }
 
     /// Notes the size of a block that is handed to the hall: the bytes of its `block`'s payload.
@@ -207,5 +235,62 @@ impl Flags for PeerFlags {
 
     fn tell(&mut self, traffic: &Traffic) {
         self.status.count(traffic);
+    }
+}
+
+/// The number that stands for how far a session is: 0 to 2 while it goes on, and from 3 on why it is
+/// over.
+fn state_code(state: State) -> u64 {
+    match state {
+        State::Start => 0,
+        State::Greeted => 1,
+        State::Ready => 2,
+        State::Closed(reason) => reason_code(reason),
+    }
+}
+
+/// The number that stands for why a session is over.
+fn reason_code(reason: CloseReason) -> u64 {
+    match reason {
+        CloseReason::Bye => 3,
+        CloseReason::BadStream => 4,
+        CloseReason::BadMessage => 5,
+        CloseReason::BadBlock => 6,
+        CloseReason::BadRequest => 7,
+        CloseReason::OldPeer => 8,
+        CloseReason::SelfPeer => 9,
+        CloseReason::Kicked => 10,
+        CloseReason::Memory => 11,
+        CloseReason::TraceFull => 12,
+        CloseReason::HallFull => 13,
+        CloseReason::WriteFault => 14,
+    }
+}
+
+/// How far a session is for which this number stands.
+fn state_of(code: u64) -> State {
+    match code {
+        0 => State::Start,
+        1 => State::Greeted,
+        2 => State::Ready,
+        other => State::Closed(reason_of(other)),
+    }
+}
+
+/// Why a session is over for which this number stands.
+fn reason_of(code: u64) -> CloseReason {
+    match code {
+        3 => CloseReason::Bye,
+        4 => CloseReason::BadStream,
+        5 => CloseReason::BadMessage,
+        6 => CloseReason::BadBlock,
+        7 => CloseReason::BadRequest,
+        8 => CloseReason::OldPeer,
+        9 => CloseReason::SelfPeer,
+        10 => CloseReason::Kicked,
+        11 => CloseReason::Memory,
+        12 => CloseReason::TraceFull,
+        13 => CloseReason::HallFull,
+        _ => CloseReason::WriteFault,
     }
 }

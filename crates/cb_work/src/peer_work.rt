@@ -1,4 +1,4 @@
-ghost use Rattle.std.specs.Prelude.{◌≡◌, ◌≤◌, ◌++◌, ◌∷◌, true, false, Bool, List, ℕ, [], IfOk, IfErr};
+ghost use Rattle.std.specs.Prelude.{◌≡◌, ◌++◌, ◌∷◌, true, false, Bool, List, ℕ, [], IfOk, IfErr};
 ghost use Rattle.cb_base.specs.declared.fault.Fault.TheVariants.{Memory};
 ghost use Rattle.cb_crew.specs.declared.work.Given.{Given};
 ghost use Rattle.cb_crew.specs.declared.work.Given.TheVariants as given;
@@ -7,6 +7,7 @@ ghost use Rattle.cb_reader.specs.declared.input.Input.{Input};
 ghost use Rattle.cb_reader.specs.declared.input.Input.TheVariants as inputs;
 ghost use Rattle.cb_peer_state.specs.Event.{begins, ends_at_once, kind_of};
 ghost use Rattle.cb_peer_state.specs.State.{is_closed};
+ghost use Rattle.cb_trace.specs.Trace.{weight_of};
 ghost use Rattle.cb_work.specs.PeerWork.{HoldsNothing, IsPrimed, IsSamePeer, Serves, ServesNext, ServesOn, WasGiven, WasTicked, is_over, label_of};
 
 use crate::carried::{Carried, Rebuilding};
@@ -267,6 +268,17 @@ impl<S: Sink + Drop, H: Oracle + Drop, F: Flags> PeerWork<S, H, F> {
         }
     }
 
+    /// Lets the entries of the trace go, so it is its checkpoint alone.
+    fn shed(&mut self)
+        requires over { is_over self.old ≡ true }
+        ensures weight { weight_of self.new.trace ≡ 0 }
+        ensures over { is_over self.new ≡ true }
+        ensures same { IsSamePeer F.looks self.old self.new }
+        ensures serves { ServesOn H.told H.refused S.contents S.has_failed self.old self.new }
+    {
+        self.trace.shed(0);
+    }
+
     /// Counts what a step moved, which began with so many bytes written.
     fn count(&mut self, carried: Carried, written: u64)
         ensures over { is_over self.new ≡ is_over self.old }
@@ -280,6 +292,7 @@ impl<S: Sink + Drop, H: Oracle + Drop, F: Flags> PeerWork<S, H, F> {
             written: self.written.saturating_sub(written),
             sent: mem::replace(&mut self.untold, 0),
             block,
+            state: self.trace.state(),
         });
     }
 }
@@ -294,6 +307,8 @@ impl<S: Sink + Drop, H: Oracle + Drop, F: Flags> Work for PeerWork<S, H, F> {
     ghost primed = { λ work. IsPrimed work };
 
     ghost is_closed = { λ work. is_over work };
+
+    ghost weight = { λ work. weight_of work.trace };
 
     ghost label = { λ work. label_of work.badge.connection };
 
@@ -343,14 +358,24 @@ impl<S: Sink + Drop, H: Oracle + Drop, F: Flags> Work for PeerWork<S, H, F> {
         self.begin(Event::Tick);
         self.count(Carried::nothing(), written);
     }
+
+    fn weighs(&self) -> u64 {
+        self.trace.weight()
+    }
+
+    fn let_go(&mut self) {
+        self.shed()
+    }
 }
 
-/// Sets the stop flag if the session is over.
+/// Sets the stop flag if the session is over. Before that it tells why.
 fn stop_if_over<F: Flags>(trace: &Trace, flags: &mut F)
     ensures stopped { is_closed trace.now.session.state ≡ true → F.is_stopped flags.new ≡ true }
     ensures looked { (answers : List Bool) → F.looks flags.old answers → F.looks flags.new answers }
 {
-    if trace.state().is_closed() {
+    let state = trace.state();
+    if state.is_closed() {
+        flags.tell(&Traffic::nothing(state));
         flags.stop();
     }
 }

@@ -248,6 +248,7 @@ fn is_counted(alloc: Global) -> Option<bool> {
             path: BlockPath::Compact,
             payload: 4,
         }),
+        state: State::Greeted,
     });
     let expected = Totals {
         messages: 1,
@@ -260,10 +261,36 @@ fn is_counted(alloc: Global) -> Option<bool> {
         fallback: 0,
         saved: 100,
     };
-    Some(flags.status().queued() == 6 && flags.status().totals() == expected)
+    let greeted = flags.status().state() == State::Greeted;
+    Some(greeted && flags.status().queued() == 6 && flags.status().totals() == expected)
 }
 
 #[test]
 fn what_a_step_moves_is_counted(rt: HostRuntime) {
     assert!(rt; is_counted(rt.alloc()) == Some(true));
+}
+
+/// Whether this end of a session is told so, over a socket that was still or not.
+fn is_told(alloc: Global, given: CloseReason, is_still: bool, told: CloseReason) -> Option<bool> {
+    let mut flags = PeerFlags::new(Shared::new(alloc, ConnectionStatus::new()).ok()?);
+    if is_still {
+        flags.status().set_still();
+    }
+    flags.tell(&Traffic::nothing(State::Closed(given)));
+    Some(flags.status().state() == State::Closed(told))
+}
+
+/// Over a still socket the end of the stream is a failed write. Any other end stays as it is.
+const ENDS: &[(CloseReason, bool, CloseReason)] = &[
+    (CloseReason::Bye, false, CloseReason::Bye),
+    (CloseReason::Bye, true, CloseReason::WriteFault),
+    (CloseReason::Kicked, true, CloseReason::Kicked),
+    (CloseReason::BadStream, false, CloseReason::BadStream),
+];
+
+#[test]
+fn the_end_over_a_still_socket_is_a_failed_write(rt: HostRuntime) {
+    for (given, is_still, told) in ENDS {
+        assert!(rt; is_told(rt.alloc(), *given, *is_still, *told) == Some(true));
+    }
 }

@@ -1,3 +1,5 @@
+use cb_peer_state::State;
+
 /// How a block came that was handed to the hall.
 #[derive(Clone, Copy, Debug, PartialEq, Eq)]
 pub enum BlockPath {
@@ -22,8 +24,8 @@ pub struct Brought {
     pub payload: u64,
 }
 
-/// What one step of a connection moved.
-#[derive(Clone, Copy, Debug, PartialEq, Eq)]
+/// What one step of a connection moved, and how far its session is then.
+#[derive(Clone, Copy, PartialEq, Eq)]
 pub struct Traffic {
     /// The number of messages read: 0 or 1.
     pub messages: u64,
@@ -35,6 +37,22 @@ pub struct Traffic {
     pub sent: u64,
     /// The block that the step handed to the hall, if it did.
     pub block: Option<Brought>,
+    /// How far the session is after the step.
+    pub state: State,
+}
+
+impl Traffic {
+    /// Nothing was moved by a session that is so far.
+    pub fn nothing(state: State) -> Traffic {
+        Traffic {
+            messages: 0,
+            payload: 0,
+            written: 0,
+            sent: 0,
+            block: None,
+            state,
+        }
+    }
 }
 
 /// What one connection moved so far. Each number stops at no bound: it wraps at 2^64.

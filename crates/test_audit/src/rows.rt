@@ -2,13 +2,13 @@ ghost use Rattle.std.specs.Prelude.{◌≡◌, ◌≤◌, IfSome, length};
 
 use cb_audit::{Split, are_in_order};
 use cb_base::Shared;
-use cb_crew::{Desk, Fresh, Work};
+use cb_crew::{Count, Desk, Fresh, Work};
 use cb_desks::{audit_desks, traces};
 use cb_hall::{Badge, Hall};
 use cb_inbox::{Inbox, ReaderSeat};
 use cb_io::Out;
 use cb_journal::Question;
-use cb_peer::Settings;
+use cb_peer::{CloseReason, Settings, State};
 use cb_reader::Input;
 use cb_state::Connection;
 use cb_wire::{Assembler, Entries, Item};
@@ -594,4 +594,72 @@ fn a_past_connection_is_audited_as_the_latest(rt: HostRuntime) {
     for pair in PAIRS {
         assert!(rt; is_pair_audited(&rt, rt.alloc(), pair));
     }
+}
+
+/// What three turns of a desk come to, of which the peer is kicked before the second.
+#[derive(Clone, Copy, PartialEq, Eq)]
+struct Turns {
+    before: Count,
+    kicked: Count,
+    last: Count,
+    state: State,
+    /// The items in the trace, and the bytes written.
+    items: u64,
+    written: u64,
+}
+
+/// Makes three turns, the first of which takes three marks.
+fn turns_of<R: Wait + Copy + Drop>(
+    rt: &R,
+    hall: &Mutex<Hall>,
+    desk: &mut Desk<MemoryWork<R>>,
+) -> Option<Turns> {
+    let before = desk.serve(rt, 3);
+    hall.lock(rt).kick(0).ok()?;
+    let kicked = desk.serve(rt, 64);
+    let last = desk.serve(rt, 64);
+    Some(Turns {
+        before,
+        kicked,
+        last,
+        state: desk.work().trace().state(),
+        items: desk.work().trace().total().items,
+        written: desk.work().written(),
+    })
+}
+
+/// The turns of a desk in whose inbox `PINGS` lie.
+fn turns_around_a_kick<R: Wait + Copy + Drop>(rt: &R, alloc: Global) -> Option<Turns> {
+    let (hall, badge) = new_shared_hall(alloc)?;
+    let work = new_work(rt, alloc, badge, hall.clone().ok()?)?;
+    let (mut desk, mut reader) = new_desk(alloc, work)?;
+    if !put_sent(rt, alloc, desk.inbox(), &mut reader, PINGS) {
+        return None;
+    }
+    turns_of(rt, &hall, &mut desk)
+}
+
+/// The kick comes after the first ping was answered. The second is taken and closes the session,
+/// which is told of one `pong` alone. The third stays in the inbox until the next turn passes it
+/// over.
+#[test]
+fn row_18_in_an_inbox(rt: HostRuntime) {
+    let expected = Turns {
+        before: Count {
+            worked: 3,
+            passed: 0,
+        },
+        kicked: Count {
+            worked: 1,
+            passed: 0,
+        },
+        last: Count {
+            worked: 0,
+            passed: 1,
+        },
+        state: State::Closed(CloseReason::Kicked),
+        items: 4,
+        written: 121 + 24 + 24 + 33 + 93 + 32,
+    };
+    assert!(rt; turns_around_a_kick(&rt, rt.alloc()) == Some(expected));
 }

@@ -1,7 +1,7 @@
-ghost use Rattle.std.specs.Prelude.{◌≡◌, ◌≤◌, length, IfOk, IfSome};
+ghost use Rattle.std.specs.Prelude.{◌≡◌, ◌≤◌, ◌+◌, length, IfOk, IfSome};
 ghost use Rattle.cb_inbox.specs.Seat.{opening_seat};
 
-use crate::lister::Lister;
+use crate::lister::{Lister, WEIGHT};
 use cb_base::{Fault, Shared};
 use cb_crew::{Count, Desk, Fresh};
 use cb_inbox::{Inbox, ReaderSeat};
@@ -76,7 +76,8 @@ fn row_c_a_work_that_closes(rt: HostRuntime) -> Result<(), Fail> {
 /// Ends a reader's connection and opens the next with this work, in which it queues one item.
 fn go_on<R: Wait>(rt: &R, inbox: &Line, reader: Reader, next: Fresh<Lister>) -> Option<Reader>
     requires { (reader.inbox ≡ inbox.now.name) × (length reader.queued ≤ 3) }
-    ensures { IfSome result (λ opened. opened.inbox ≡ inbox.now.name) }
+    ensures inbox { IfSome result (λ opened. opened.inbox ≡ inbox.now.name) }
+    ensures queued { IfSome result (λ opened. length opened.queued ≤ length reader.queued + 3) }
 {
     let ended = reader.end(rt, inbox).ok()?;
     let mut reader = ended.open(rt, inbox, next).ok()?;
@@ -128,4 +129,34 @@ fn a_desk_serves_all(rt: HostRuntime) -> Result<(), Fail> {
     let (work, past) = desk.into_works();
     assert!(rt; work.has([5].as_slice(), false, 0) && past.len() == 1 && past[0].has(&[], true, 0));
     Ok(())
+}
+
+// The works of past connections keep at most 1,000,000 bytes together: the latest keeps its 600,000, the one before it none.
+#[test]
+fn past_works_keep_what_fits(rt: HostRuntime) -> Result<(), Fail> {
+    let place = new_place(rt.alloc())?;
+    let shared = place.inbox;
+    let mut desk = place.desk;
+    let inbox = &*shared;
+    let first = Fresh::new(Lister::new(rt.alloc(), 1, 2));
+    let second = Fresh::new(Lister::new(rt.alloc(), 2, 2));
+    let Some(reader) = go_on(&rt, inbox, place.reader, first) else {
+        return Err(Fail::from("the first connection didn't end"));
+    };
+    let Some(mut reader) = go_on(&rt, inbox, reader, second) else {
+        return Err(Fail::from("the second connection didn't end"));
+    };
+    desk.learn(reader.note(inbox));
+    desk.serve_all(&rt);
+    let kept = weights(desk.past());
+    assert!(rt; kept == Some((0, WEIGHT)) && desk.work().weight == WEIGHT);
+    Ok(())
+}
+
+/// How many bytes each of two works keeps.
+fn weights(works: &[Lister]) -> Option<(u64, u64)> {
+    let [first, second] = works else {
+        return None;
+    };
+    Some((first.weight, second.weight))
 }

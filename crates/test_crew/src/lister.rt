@@ -14,8 +14,11 @@ use std::thread;
 /// How often a step looks whether the other has begun.
 const MOST_LOOKS: u32 = 10_000_000;
 
+/// How many bytes a work says that it keeps.
+pub const WEIGHT: u64 = 600_000;
+
 /// A work that keeps what it was given and counts its ticks. It closes at the end, with its last item of `most`, or where memory
-/// lacks. It may have a gate, at which each of its steps waits.
+/// lacks. It keeps 600,000 bytes, as it says, until it lets go. It may have a gate, at which each of its steps waits.
 #[derive(Drop)]
 pub struct Lister {
     pub label: u16,
@@ -23,6 +26,7 @@ pub struct Lister {
     pub ended: bool,
     pub shut: bool,
     pub missed: bool,
+    pub weight: u64,
     pub most: usize,
     pub items: Vec<u64>,
     pub gate: Option<Shared<Gate>>,
@@ -59,6 +63,8 @@ impl Work for Lister {
     ghost primed = { λ work. vec_len work.items < vec_capacity work.items };
 
     ghost is_closed = { λ work. work.ended || work.shut };
+
+    ghost weight = { λ work. work.weight };
 
     ghost label = { λ work. work.label };
 
@@ -100,6 +106,14 @@ impl Work for Lister {
     fn tick<R: Wait>(&mut self, _rt: &R) {
         self.ticks = self.ticks.saturating_add(1);
     }
+
+    fn weighs(&self) -> u64 {
+        self.weight
+    }
+
+    fn let_go(&mut self) {
+        self.weight = 0;
+    }
 }
 
 impl Lister {
@@ -115,6 +129,7 @@ impl Lister {
             ended: false,
             shut: false,
             missed: false,
+            weight: WEIGHT,
             most,
             items: Vec::new(alloc),
             gate: None,

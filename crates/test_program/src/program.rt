@@ -2,13 +2,15 @@
 
 use cb_command::command;
 use cb_io::{In, Out};
-use cb_run_nodes::Host;
+use cb_node_process::ProcessHost;
 use std::alloc::{AllocError, Global};
+use std::io::StdinLock;
 use std::net::{TcpListener, TcpStream};
 use std::test::*;
 
-/// The kinds of the host's sockets. A test that calls for the host names them: its proof needs that.
-type Sockets = Option<(TcpListener, TcpStream)>;
+/// The kinds of the host's sockets and of its standard input. A test that calls for the host names
+/// them: its proof needs that.
+type HostTypes = Option<(TcpListener, TcpStream, StdinLock<'static>)>;
 
 /// A run: the word behind the program's name, if there is one, what is read, and what it comes to.
 #[derive(Clone, Copy)]
@@ -33,7 +35,7 @@ fn words_of(alloc: Global, word: &str) -> Result<Vec<String>, AllocError> {
 }
 
 /// The status of a run of the program. It says nothing of what is read and written, so that its caller's states stay small.
-fn status_of<N: Host>(
+fn status_of<N: ProcessHost>(
     rt: N,
     alloc: Global,
     words: Vec<String>,
@@ -45,7 +47,7 @@ fn status_of<N: Host>(
 }
 
 /// Whether the program comes to what the run says, with these words.
-fn comes_to<N: Host>(rt: N, alloc: Global, words: Vec<String>, run: Run<'_>) -> bool {
+fn comes_to<N: ProcessHost>(rt: N, alloc: Global, words: Vec<String>, run: Run<'_>) -> bool {
     let mut reader = In::new(run.read);
     let mut writer = Out::new(Vec::new(alloc));
     let mut errors = Out::new(Vec::new(alloc));
@@ -56,7 +58,7 @@ fn comes_to<N: Host>(rt: N, alloc: Global, words: Vec<String>, run: Run<'_>) -> 
 }
 
 /// Whether the program comes to what the run says.
-fn is_so<N: Host>(rt: N, alloc: Global, run: Run<'_>) -> bool {
+fn is_so<N: ProcessHost>(rt: N, alloc: Global, run: Run<'_>) -> bool {
     match words_of(alloc, run.word) {
         Ok(words) => comes_to(rt, alloc, words, run),
         Err(_) => false,
@@ -64,7 +66,7 @@ fn is_so<N: Host>(rt: N, alloc: Global, run: Run<'_>) -> bool {
 }
 
 /// Whether a command prints this text of that one, tells nothing on standard error, and ends with this status.
-fn prints<N: Host>(
+fn prints<N: ProcessHost>(
     rt: N,
     alloc: Global,
     word: &'static str,
@@ -86,7 +88,7 @@ fn prints<N: Host>(
 }
 
 /// Whether a peer that sends the one bytes is sent the others, both in hex, and told so why its connection is closed.
-fn serves<N: Host>(
+fn serves<N: ProcessHost>(
     rt: N,
     alloc: Global,
     sent: &str,
@@ -121,14 +123,14 @@ const ROW_16_PRINTED: &str =
 
 #[test]
 fn row_16(rt: HostRuntime) {
-    let _sockets: Sockets = None;
+    let _types: HostTypes = None;
     assert!(rt; prints(rt, rt.alloc(), "sim", ROW_16, ROW_16_PRINTED, 2));
 }
 
 /// Of the crew's core.
 #[test]
 fn row_a_too_many_peers(rt: HostRuntime) {
-    let _sockets: Sockets = None;
+    let _types: HostTypes = None;
     assert!(rt;
         prints(
             rt,
@@ -150,7 +152,7 @@ const CONNECTIONS_PRINTED: &str =
 /// Of connection after connection.
 #[test]
 fn row_a_connection_after_connection(rt: HostRuntime) {
-    let _sockets: Sockets = None;
+    let _types: HostTypes = None;
     assert!(rt; prints(rt, rt.alloc(), "sim", CONNECTIONS, CONNECTIONS_PRINTED, 2));
 }
 
@@ -161,7 +163,7 @@ const ROW_19_PRINTED: &str = "verack\ndamaged\nunknown hello 5\nrest 0\n";
 
 #[test]
 fn row_19(rt: HostRuntime) {
-    let _sockets: Sockets = None;
+    let _types: HostTypes = None;
     for word in ["", "decode"] {
         assert!(rt;
             prints(rt, rt.alloc(), word, ROW_19, ROW_19_PRINTED, 0),
@@ -175,7 +177,7 @@ const FOREIGN: &str = "f9beb4d90000000000000000000000000000000000000000";
 
 #[test]
 fn row_20(rt: HostRuntime) {
-    let _sockets: Sockets = None;
+    let _types: HostTypes = None;
     for (text, printed, status) in [
         ("fabfb5da7665", "rest 6\n", 0),
         ("", "rest 0\n", 0),
@@ -199,7 +201,7 @@ const VERACK: &str = "fabfb5da76657261636b000000000000000000005df6e0e2";
 
 #[test]
 fn row_21(rt: HostRuntime) {
-    let _sockets: Sockets = None;
+    let _types: HostTypes = None;
     assert!(rt; serves(rt, rt.alloc(), PING, PONG, "closed Bye\n", 0));
     assert!(rt; serves(rt, rt.alloc(), VERACK, "", "closed Bye\n", 0));
 }
@@ -207,7 +209,7 @@ fn row_21(rt: HostRuntime) {
 /// Of envelopes and pings.
 #[test]
 fn row_a_a_ping_without_its_nonce(rt: HostRuntime) {
-    let _sockets: Sockets = None;
+    let _types: HostTypes = None;
     let printed = "bad ping F2 Truncated\nrest 0\n";
     assert!(rt; prints(rt, rt.alloc(), "decode", PING_WITHOUT_NONCE, printed, 0));
     assert!(rt;
@@ -239,7 +241,7 @@ const OWN_VERSION: &str =
 
 #[test]
 fn row_22(rt: HostRuntime) {
-    let _sockets: Sockets = None;
+    let _types: HostTypes = None;
     for (sent, answered, closed, status) in [
         (HANDSHAKE, HANDSHAKE_ANSWERED, "closed Bye\n", 0),
         (OLD_VERSION, "", "closed OldPeer\n", 3),
@@ -262,7 +264,7 @@ const FIRST_BLOCK_PRINTED: &str =
 /// Of transactions, blocks and trees.
 #[test]
 fn row_c_decode_tells_the_first_block(rt: HostRuntime) {
-    let _sockets: Sockets = None;
+    let _types: HostTypes = None;
     assert!(rt;
         prints(
             rt,
@@ -285,7 +287,7 @@ const COMPACT_BLOCKS_PRINTED: &str =
 /// Of compact blocks.
 #[test]
 fn row_a_compact_blocks_of_nothing(rt: HostRuntime) {
-    let _sockets: Sockets = None;
+    let _types: HostTypes = None;
     assert!(rt;
         prints(
             rt,
@@ -308,7 +310,7 @@ node 2 height 1 tip 5442fb6e469a9d6d101a0ad5d65aae7ac8fb873a0387a38676257c3dabb2
 
 #[test]
 fn row_24(rt: HostRuntime) {
-    let _sockets: Sockets = None;
+    let _types: HostTypes = None;
     assert!(rt;
         prints(
             rt,
@@ -326,7 +328,7 @@ const WITH_A_CHECKPOINT: &str = "link 0 1\nlink 1 2\ncheckpoint 0\nmine 0\nwait\
 /// Of checkpoints.
 #[test]
 fn row_c_a_checkpoint_before_a_block(rt: HostRuntime) {
-    let _sockets: Sockets = None;
+    let _types: HostTypes = None;
     assert!(rt;
         prints(
             rt,
@@ -346,7 +348,7 @@ const SIZE_64: &str =
 /// Of nodes over loopback.
 #[test]
 fn row_a_a_transaction_of_64_bytes(rt: HostRuntime) {
-    let _sockets: Sockets = None;
+    let _types: HostTypes = None;
     let printed =
         "1 F8 Size64\nnode 0 height 0 tip 0f9188f13cb7b2c71f2a335e3a4fc328bf5beb436012afca590b1a11466e2206 pool 0 audit yes\n";
     assert!(rt;

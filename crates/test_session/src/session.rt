@@ -8,7 +8,7 @@ use cb_session::{
     Source, State, serve, serve_by,
 };
 use std::alloc::Global;
-use std::io::{Read, Result as IoResult};
+use std::io::{Error, ErrorKind, Read, Result as IoResult};
 use std::test::*;
 
 /// A `verack`, one whose checksum is wrong, the command `hello`, which isn't known, and a `ping`.
@@ -268,15 +268,58 @@ fn over_behind(written: u64) -> Option<Outcome> {
     })
 }
 
+/// Behind each number of bytes below those of a `pong`.
 #[test]
 fn a_writer_that_takes_nothing_more_ends_the_session(rt: HostRuntime) {
-    for size in [0u32, 1, 24, 31] {
+    for size in 0u32..32 {
         let expected = over_behind(u64::from(size));
         assert!(rt;
             cut_at(rt.alloc(), size as usize) == expected,
             "behind {size}"
         );
     }
+}
+
+/// Gives these bytes, and then fails.
+#[derive(Drop)]
+struct Breaking<'a> {
+    rest: &'a [u8],
+}
+
+impl Read for Breaking<'_> {
+    fn read(&mut self, buffer: &mut [u8]) -> IoResult<usize> {
+        if self.rest.is_empty() {
+            return Err(Error::from(ErrorKind::BrokenPipe));
+        }
+        self.rest.read(buffer)
+    }
+}
+
+/// A `ping`, and a `ping` of which the payload's last four bytes are missing.
+const PING_AND_A_CUT_ONE: &[u8] = b"\
+\xfa\xbf\xb5\xdaping\0\0\0\0\0\0\0\0\x08\0\0\0\x7e\xf0\xca\x62\0\0\0\0\0\0\0\0\
+\xfa\xbf\xb5\xdaping\0\0\0\0\0\0\0\0\x08\0\0\0\x7e\xf0\xca\x62\0\0\0\0";
+
+/// What a connection comes to whose reads fail behind these bytes, where one `pong` is sent.
+fn broken_off(alloc: Global, given: &[u8]) -> Option<Outcome> {
+    let mut reader = In::new(Breaking { rest: given });
+    answered(alloc, SETTINGS, &mut reader, PONG)
+}
+
+/// A read that fails ends the session as its peer's own end does. Of a message that it cuts short
+/// nothing comes.
+#[test]
+fn a_read_that_fails_ends_the_session(rt: HostRuntime) {
+    let expected = Outcome {
+        read: ReadEnd::Fault,
+        entries: 3,
+        kept: 3,
+        written: 32,
+        calls: 1,
+        ..BYE
+    };
+    assert!(rt; broken_off(rt.alloc(), PING) == Some(expected));
+    assert!(rt; broken_off(rt.alloc(), PING_AND_A_CUT_ONE) == Some(expected));
 }
 
 /// What a connection comes to that this node made, and whose peer sends nothing.

@@ -1,53 +1,68 @@
-use Rattle.std.proofs.Common.{rules, ◌≡◌, ◌⊎◌, ap, map, refl, sym, inl, inr, ◌∙◌, arith}
+use Rattle.std.proofs.Common.{rules, ◌≡◌, ◌⊎◌, Result, ap, map, refl, sym, inl, inr, ◌∙◌, arith}
 use Rattle.std.specs.Prelude.{string_bytes}
 use Rattle.clap.specs.Words.{kind_of}
 use Rattle.cb_sim.specs.SimInput.{SimulatesKnown}
 use Rattle.cb_run_nodes.specs.Summary.{RunsKnown}
 use Rattle.cb_run_nodes.specs.declared.running.RunOrders.{RunOrders}
-use Rattle.cb_command.specs.Command.{Halts}
-use Rattle.cb_command.specs.declared.commanding.Task.TheVariants.{Decode, Serve, Sim, Run}
+use Rattle.cb_command.specs.Command.{Halts, RunsNode}
+use Rattle.cb_command.specs.declared.commanding.Task.TheVariants.{Decode, Serve, Sim, Run, Node}
+use Rattle.cb_command.specs.declared.node_words.BadWords.{BadWords}
+use Rattle.cb_node_process.specs.declared.orders.NodeOrders.{NodeOrders}
 use Rattle.cb_command.proofs.Entering.{failed_parse}
-use Rattle.cb_command.proofs.Running.{decoded, done, for_orders, runs_task}
+use Rattle.cb_command.proofs.Running.{decoded, done, for_node, for_orders, runs_task}
 use Rattle.cb_command.proofs.commanding.seeded_command.Goals as goal
 
 pub returns-in-Ok-Decode-clause-ran : goal.returns-in-Ok-Decode-clause-ran
 returns-in-Ok-Decode-clause-ran g c =
-    runs_task _ _ _ _ c.in-Ok-Decode.field-0 Decode (map string_bytes c.as_slice.result.now) (map string_bytes c.args.words.items) (search rules) (ap (map string_bytes) c.as_slice.ensures.value)
+    runs_task _ _ _ _ _ c.in-Ok-Decode.field-0 Decode (map string_bytes c.as_slice.result.now) (map string_bytes c.args.words.items) (search rules) (ap (map string_bytes) c.as_slice.ensures.value)
     c.in-Ok-Decode.ensures.kinds c.in-Ok-Decode.ensures.task
-    (λ orders is.
+    (λ orders node is.
     decoded (c.settle.new.errors ≡ c.args.errors.now) (g.R.Source.remaining c.args.reader.now) (g.W.Sink.contents c.args.writer.now) (g.W.Sink.contents c.decode.new.writer) (g.R.Source.has_failed c.decode.new.reader) (g.W.Sink.has_failed c.decode.new.writer) (g.E.Sink.contents c.args.errors.now) (g.E.Sink.contents c.settle.new.errors)
     (g.E.Sink.has_failed c.settle.new.errors) c.decode.result c.code_of.result c.settle.result c.code_of.ensures c.decode.ensures.report c.decode.ensures.halts
     c.settle.ensures.settled)
 
 pub returns-in-Ok-Serve-clause-ran : goal.returns-in-Ok-Serve-clause-ran
 returns-in-Ok-Serve-clause-ran g c =
-    runs_task _ _ _ _ c.in-Ok-Serve.field-0 Serve (map string_bytes c.as_slice.result.now) (map string_bytes c.args.words.items) (search rules) (ap (map string_bytes) c.as_slice.ensures.value)
+    runs_task _ _ _ _ _ c.in-Ok-Serve.field-0 Serve (map string_bytes c.as_slice.result.now) (map string_bytes c.args.words.items) (search rules) (ap (map string_bytes) c.as_slice.ensures.value)
     c.in-Ok-Serve.ensures.kinds c.in-Ok-Serve.ensures.task
-    (λ orders is. c.answer_peer.ensures)
+    (λ orders node is. c.answer_peer.ensures)
 
 pub returns-in-Ok-Sim-clause-ran : goal.returns-in-Ok-Sim-clause-ran
 returns-in-Ok-Sim-clause-ran g c =
-    runs_task _ _ _ _ c.in-Ok-Sim.field-0 Sim (map string_bytes c.as_slice.result.now) (map string_bytes c.args.words.items) (search rules) (ap (map string_bytes) c.as_slice.ensures.value)
+    runs_task _ _ _ _ _ c.in-Ok-Sim.field-0 Sim (map string_bytes c.as_slice.result.now) (map string_bytes c.args.words.items) (search rules) (ap (map string_bytes) c.as_slice.ensures.value)
     c.in-Ok-Sim.ensures.kinds c.in-Ok-Sim.ensures.task
-    (λ orders is.
+    (λ orders node is.
     done (SimulatesKnown (g.R.Source.remaining c.args.reader.now) (g.W.Sink.contents c.args.writer.now) (g.W.Sink.contents c.simulate.new.writer)) (c.settle-in-Ok-Sim.new.errors ≡ c.args.errors.now) (g.R.Source.remaining c.args.reader.now) (g.R.Source.has_failed c.simulate.new.reader) (g.W.Sink.has_failed c.simulate.new.writer) (g.E.Sink.contents c.args.errors.now) (g.E.Sink.contents c.settle-in-Ok-Sim.new.errors)
     (g.E.Sink.has_failed c.settle-in-Ok-Sim.new.errors) c.simulate.result c.settle-in-Ok-Sim.result c.simulate.ensures.report c.simulate.ensures.halts c.settle-in-Ok-Sim.ensures.settled)
 
 pub returns-in-Ok-Run-clause-ran : goal.returns-in-Ok-Run-clause-ran
 returns-in-Ok-Run-clause-ran g c =
-    runs_task _ _ _ _ c.in-Ok-Run.field-0 (Run c.in-Ok-Run.orders) (map string_bytes c.as_slice.result.now) (map string_bytes c.args.words.items) (search rules) (ap (map string_bytes) c.as_slice.ensures.value)
+    runs_task _ _ _ _ _ c.in-Ok-Run.field-0 (Run c.in-Ok-Run.orders) (map string_bytes c.as_slice.result.now) (map string_bytes c.args.words.items) (search rules) (ap (map string_bytes) c.as_slice.ensures.value)
     c.in-Ok-Run.ensures.kinds c.in-Ok-Run.ensures.task
-    (λ orders is.
+    (λ orders node is.
     for_orders
     (λ (o : RunOrders).
     (RunsKnown o.sizes.nodes o.stats (g.R.Source.remaining c.args.reader.now) (g.W.Sink.contents c.args.writer.now) (g.W.Sink.contents c.run_nodes.new.writer) c.settle-in-Ok-Run.result × (c.settle-in-Ok-Run.new.errors ≡ c.args.errors.now))
     ⊎ Halts (g.R.Source.remaining c.args.reader.now) (g.R.Source.has_failed c.run_nodes.new.reader) (g.W.Sink.has_failed c.run_nodes.new.writer) (g.E.Sink.contents c.args.errors.now) (g.E.Sink.contents c.settle-in-Ok-Run.new.errors)
     (g.E.Sink.has_failed c.settle-in-Ok-Run.new.errors) c.settle-in-Ok-Run.result)
-    c.in-Ok-Run.orders orders (map string_bytes c.as_slice.result.now)
+    c.in-Ok-Run.orders orders node (map string_bytes c.as_slice.result.now)
     (done (RunsKnown c.in-Ok-Run.orders.sizes.nodes c.in-Ok-Run.orders.stats (g.R.Source.remaining c.args.reader.now) (g.W.Sink.contents c.args.writer.now) (g.W.Sink.contents c.run_nodes.new.writer)) (c.settle-in-Ok-Run.new.errors ≡ c.args.errors.now) (g.R.Source.remaining c.args.reader.now) (g.R.Source.has_failed c.run_nodes.new.reader) (g.W.Sink.has_failed c.run_nodes.new.writer) (g.E.Sink.contents c.args.errors.now) (g.E.Sink.contents c.settle-in-Ok-Run.new.errors)
     (g.E.Sink.has_failed c.settle-in-Ok-Run.new.errors) c.run_nodes.result c.settle-in-Ok-Run.result
     c.run_nodes.ensures.runs c.run_nodes.ensures.halts c.settle-in-Ok-Run.ensures.settled)
     is)
+
+pub returns-in-Ok-Node-clause-ran : goal.returns-in-Ok-Node-clause-ran
+returns-in-Ok-Node-clause-ran g c =
+    runs_task _ _ _ _ _ c.in-Ok-Node.field-0 (Node c.in-Ok-Node.node) (map string_bytes c.as_slice.result.now) (map string_bytes c.args.words.items) (search rules) (ap (map string_bytes) c.as_slice.ensures.value)
+    c.in-Ok-Node.ensures.kinds c.in-Ok-Node.ensures.task
+    (λ orders node is. (
+      refl,
+      for_node
+          (λ (n : Result NodeOrders BadWords).
+          RunsNode (c.start_node.new.errors ≡ c.args.errors.now) (g.W.Sink.contents c.args.writer.now) (g.W.Sink.contents c.start_node.new.writer) (g.W.Sink.has_failed c.start_node.new.writer) (g.E.Sink.contents c.args.errors.now) (g.E.Sink.contents c.start_node.new.errors)
+          (g.E.Sink.has_failed c.start_node.new.errors) n c.start_node.result)
+          c.in-Ok-Node.node orders node (map string_bytes c.as_slice.result.now) c.start_node.ensures.runs is,
+    ))
 
 pub returns-clause-ran : goal.returns-clause-ran
 returns-clause-ran g c =

@@ -1,6 +1,6 @@
-use Rattle.std.proofs.Common.{◌≡◌, ap, sym, map, ◌∙◌}
+use Rattle.std.proofs.Common.{◌≡◌, ap, subst, sym, map, ◌∙◌}
 use Rattle.std.specs.Prelude.{option_map, string_bytes}
-use Rattle.clap.specs.Words.{App, app_of, fault_of, is_simple, is_simple_and_free, subcommand_of, takes}
+use Rattle.clap.specs.Words.{App, HasKind, app_of, fault_of, is_simple, is_simple_and_free, subcommand_of, takes}
 use Rattle.cb_command.specs.Words.{program, task_named}
 use Rattle.cb_command.proofs.Entering.{name_of_rows, program_is_free, program_is_simple}
 use Rattle.cb_command.proofs.commanding.task_of.Goals as goal
@@ -10,7 +10,7 @@ returns-in-Ok-clause-task c =
     let whole : app_of c.in_ok-line.line ≡ program = c.in_ok-line.ensures in
     let words = map string_bytes c.args.words.now in
     let rows = (c.in-Ok.ensures.matches (ap is_simple whole ∙ program_is_simple)).1 ∙ ap (λ (a : App). subcommand_of a words) whole in
-    (c.orders_of.result, c.orders_of.ensures, c.task_named.ensures.named ∙ ap (task_named c.orders_of.result) (c.subcommand_name.ensures ∙ name_of_rows c.in-Ok.matches ∙ ap (option_map (λ found. found.0)) rows))
+    (c.orders_of.result, c.node_orders_of.result, c.orders_of.ensures, c.task_named.ensures.named ∙ ap (task_named c.orders_of.result c.node_orders_of.result) (c.subcommand_name.ensures ∙ name_of_rows c.in-Ok.matches ∙ ap (option_map (λ found. found.0)) rows))
 
 pub returns-in-Err-clause-passes : goal.returns-in-Err-clause-passes
 returns-in-Err-clause-passes c = λ taken.
@@ -20,3 +20,8 @@ pub returns-in-Ok-clause-kinds : goal.returns-in-Ok-clause-kinds
 returns-in-Ok-clause-kinds c =
     let whole : app_of c.in_ok-line.line ≡ program = c.in_ok-line.ensures in
     sym (ap (λ (a : App). fault_of a (map string_bytes c.args.words.now)) whole) ∙ c.in-Ok.ensures.kinds (ap is_simple_and_free whole ∙ program_is_free)
+
+pub returns-in-Err-clause-kinds : goal.returns-in-Err-clause-kinds
+returns-in-Err-clause-kinds c =
+    let whole : app_of c.in_ok-line.line ≡ program = c.in_ok-line.ensures in
+    subst (λ (a : App). HasKind (fault_of a (map string_bytes c.args.words.now)) c.in-Err.error) whole (c.in-Err.ensures.kinds (ap is_simple_and_free whole ∙ program_is_free))

@@ -26,8 +26,7 @@ loop-seat-preserved g c = record {
       (c.push_reserved.ensures.items ∙ ap (λ s. c.loop-seat.slots.items ++ s ∷ []) c.new.ensures);
 }
 
-pub returns : goal.returns
-returns g c =
-    let none = none_left (zip_first c.loop-seat.seat-iterator) (zip_second c.loop-seat.seat-iterator) c.in-None.ensures.steps c.loop-seat.invariant.placing.as_many in record {
-      slots = placing_all c.args.crew.now c.loop-seat.number c.loop-seat.slots.items _ _ c.loop-seat.invariant.placing none;
-    }
+pub returns-clause-slots : goal.returns-clause-slots
+returns-clause-slots g c =
+    let none = none_left (zip_first c.loop-seat.seat-iterator) (zip_second c.loop-seat.seat-iterator) c.in-None.ensures.steps c.loop-seat.invariant.placing.as_many in
+    placing_all c.args.crew.now c.loop-seat.number c.loop-seat.slots.items _ _ c.loop-seat.invariant.placing none

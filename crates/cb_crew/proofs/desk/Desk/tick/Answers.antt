@@ -4,4 +4,4 @@ use Rattle.cb_crew.proofs.desk.Desk.tick.Goals as goal
 
 pub invariant_of-self : goal.invariant_of-self
 invariant_of-self g c =
-    (desk_kept g.W.Work.label g.W.Work.given g.W.Work.is_closed c.self.inside.inbox c.self.inside.seat c.self.inside.seat c.self.inside.work c.tick.new.self c.self.inside.past.items refl c.tick.ensures.label (λ _. sym c.closed.ensures ∙ c.if-not-closed.true) c.tick.ensures.given c.self.invariant.0, c.self.invariant.1, c.self.invariant.2)
+    (desk_kept g.W.Work.label g.W.Work.given g.W.Work.is_closed c.self.inside.inbox c.self.inside.seat c.self.inside.seat c.self.inside.work c.tick.new.self c.self.inside.past.works refl c.tick.ensures.label (λ _. sym c.closed.ensures ∙ c.if-not-closed.true) c.tick.ensures.given c.self.invariant.0, c.self.invariant.1, c.self.invariant.2)

@@ -1,0 +1,342 @@
+#!/usr/bin/env python3
+"""Runs a process `cbrelay node` with many peers and with ones that behave badly: python3 bench/looks/node_hostile.py [PROGRAM] [--whole]
+[--only NAME]
+
+It needs the built program (crates/cbrelay/out/cbrelay, as ./build leaves it), python3 and Linux, and takes some two minutes, with --whole
+some ten. Beside each peer another node is linked, and blocks go on to it in time. Of each look the processor's time, the most memory and what
+it grew by are told.
+
+- 64 connections at once: 48 peers dial the node, and it dials 16. One more of each is turned away. A block is told to all.
+- A peer that sends a byte a second: it says a ping so, in part only without --whole.
+- Peers that ask for many blocks: one never reads, one reads a byte each second, with --whole each 20 seconds, and one reads all, but late. The
+  first two connections end with WriteFault once their sockets were still. One that asks for more than an outbox holds ends with it at once.
+- Peers that send messages of 4,000,000 bytes without end, for some seconds: ones of an unknown command, and ones that can't be read.
+- Connections that open and close at once, 1,000 of them, with --whole 10,000: threads and descriptors are given back.
+- With --whole, connections until all slots are used up, which is told, and `restart` mends.
+
+The status is 0 where all came out so.
+"""
+
+import hashlib
+import socket
+import struct
+import sys
+import threading
+import time
+from contextlib import ExitStack, contextmanager
+from pathlib import Path
+
+if not __package__:  # called as a file
+    sys.path.insert(0, str(Path(__file__).resolve().parents[2]))
+
+from bench.models import plain_wire as wire
+from bench.models.plain_block import sized
+from bench.tools.command_line import usage
+from bench.tools.messages import envelope
+from bench.tools.network import GENESIS
+from bench.tools.node_scripts import GIVEN, mined
+from bench.tools.plain_peer import BLOCK, HELLO, PlainPeer, dialled
+from bench.tools.process_talk import NodeProcess, ProcessLooks, Stopwatch, shown
+from bench.tools.programs import built
+
+# How many slots serve peers that dial a node, how many those that it dials, and how many connections a slot serves.
+INBOUND, OUTBOUND, CONNECTIONS = 48, 16, 256
+# In how many seconds a block comes to a peer beside bad ones.
+SOON = 5
+# A block of this size is asked for so often that a socket can't take it, and so often that an outbox can't.
+LARGE, MANY, TOO_MANY = 900_000, 20, 60
+# For how many seconds a socket needn't move, in how many its connection has ended at the most, and how long we wait for that.
+STILL, ENDED, PATIENCE = 30, 50, 240
+# After how many seconds a peer reads that reads late.
+LATE = 5
+# Messages of this size, for how many seconds, and by how many bytes the memory may grow meanwhile.
+HUGE, FLOOD, GROWTH = 4_000_000, 5, 100_000_000
+# In how many seconds all slots are used up at the most.
+USED_UP = 400
+PING = envelope(b"ping", struct.pack("<Q", 7))
+PONG = envelope(b"pong", struct.pack("<Q", 7))
+
+
+class Hostile(ProcessLooks):
+    """A node, another node that is linked to it, and peers that are none."""
+
+    def __init__(self, program, whole):
+        super().__init__("node_hostile", program)
+        self.whole = whole
+
+    @contextmanager
+    def pair(self, *words):
+        """Two linked nodes: the port of the first comes with them. What the first one took is told at the end, and both end well."""
+        with NodeProcess(self.program, *words, seconds=PATIENCE) as node:
+            port = node.port()
+            with NodeProcess(self.program, "--connect", f"127.0.0.1:{port}", seconds=PATIENCE) as other:
+                other.address()
+                self.comes("the link", node, lambda: [peer.phase for peer in node.peers()] == ["ready"])
+                before, spent, began = node.memory(), node.processor_ms(), time.monotonic()
+                yield node, other, port
+                took, spent = time.monotonic() - began, node.processor_ms() - spent
+                print(f"{self.name}: {took:.1f} s, {spent:.0f} ms of the processor, memory {before / 1e6:.0f} MB before, "
+                      f"{node.memory('VmHWM') / 1e6:.0f} MB at the most, {node.memory() / 1e6:.0f} MB at last")
+                self.ends(other)
+            self.ends(node)
+
+    def block_in_time(self, node, other):
+        """A block that the node mines comes to the other in time."""
+        watch = Stopwatch(node, other)
+        self.begins("mine", "mined 1", node.say("mine"))
+        tip = node.tip()
+        if self.comes("the block", other, lambda: other.tip() == tip):
+            took = watch.seconds()
+            self.look(f"whether {took:.1f} s aren't more than {SOON}", took <= SOON, True)
+
+    @staticmethod
+    def end(node, slot):
+        """How the connection of a slot ended, as the log tells; None where it didn't."""
+        return next((line.rpartition(" ")[2] for line in node.found(rf"in slot {slot} closed: ")), None)
+
+    def ended(self, node, slot):
+        """How the connection of a slot ends; None where it doesn't in time."""
+        node.until(lambda: self.end(node, slot), PATIENCE)
+        return self.end(node, slot)
+
+    # ---- many at once
+
+    def sixty_four_at_once(self):
+        """48 peers dial the node, of which one is the other node, and it dials 16."""
+        with self.pair() as (node, other, port), ExitStack() as stack:
+            threads = node.threads()
+            listener = stack.enter_context(socket.create_server(("127.0.0.1", 0), backlog=64))
+            hosts = [f"127.0.0.{count + 2}:{listener.getsockname()[1]}" for count in range(OUTBOUND + 1)]
+            listeners = [listener, *(stack.enter_context(listening(host)) for host in hosts)]
+            peers = [stack.enter_context(dialled(port)) for _ in range(INBOUND - 1)]
+            for host, one in zip(hosts[:OUTBOUND], listeners[1:]):
+                self.begins("connect", f"connected {host}", node.say(f"connect {host}"))
+                peers.append(stack.enter_context(PlainPeer(one.accept()[0])))
+            for peer in peers:
+                peer.send(HELLO)
+            self.comes("64 handshakes", node, lambda: [one.phase for one in node.peers()] == ["ready"] * (INBOUND + OUTBOUND))
+            self.look("a dial more", node.say(f"connect {hosts[OUTBOUND]}"), "error no slot")
+            with socket.create_connection(("127.0.0.1", port), PATIENCE) as more:
+                self.look("a peer more", more.recv(1), b"")
+            self.logs(node, "a peer was turned away: no slot is free")
+            began = time.monotonic()
+            self.block_in_time(node, other)
+            name = node.tip()[1]
+            for peer in peers:
+                ((_, told),) = peer.expect("inv", ("version", "verack", "sendheaders", "sendcmpct", "getheaders"))
+                self.look("the block that is told", shown(told), name)
+            print(f"{self.name}: a block is told to 64 peers in {time.monotonic() - began:.2f} s; {node.threads()} threads")
+            stack.close()
+            self.comes("their end", node, lambda: len(node.peers()) == 1)
+            # Addresses are dialled again, and each dial has a thread for a moment.
+            self.comes("their threads' end", node, lambda: node.threads() <= threads + OUTBOUND)
+
+    # ---- slow ones
+
+    def a_byte_a_second(self):
+        """A peer that sends a byte a second. Without --whole that goes on for ten seconds, and the rest comes faster."""
+        with self.pair() as (node, other, port), dialled(port) as peer:
+            for count, byte in enumerate(HELLO + PING):
+                peer.send(bytes([byte]))
+                time.sleep(1 if self.whole or count < 10 else 0.01)
+                if count % 10 == 0 and (self.whole or count < 11):
+                    self.block_in_time(node, other)
+            self.look("the answer", PONG in received(peer, PONG), True)
+
+    def slow_readers(self):
+        """Three peers ask for blocks: one never reads, one reads a byte now and then, and one reads all of it, but late."""
+        with self.pair("--handlers", "1") as (node, other, port), ExitStack() as stack:
+            request = self.large_block(node, other, MANY)
+            slow = stack.enter_context(reading_bytes(port, 20 if self.whole else 1))
+            silent, late = stack.enter_context(small(port, 4_096)), stack.enter_context(small(port, 65_536))
+            for peer in (slow, silent, late):
+                peer.send(HELLO, request)
+            self.comes("what they ask for", node, lambda: all(peer.bytes_out >= MANY * LARGE for peer in node.peers()[1:4]))
+            began = time.monotonic()
+            reader = threading.Thread(target=self.reads_late, args=(late,), daemon=True)
+            reader.start()
+            ends = {}
+            while len(ends) < 2 and time.monotonic() < began + PATIENCE:
+                self.block_in_time(node, other)
+                for slot in (1, 2):
+                    if slot not in ends and self.end(node, slot):
+                        ends[slot] = time.monotonic() - began, self.end(node, slot)
+                time.sleep(0.5)
+            reader.join(PATIENCE)
+            for slot, what in ((1, "the slow one"), (2, "the one that never reads")):
+                took, end = ends.get(slot, (PATIENCE, None))
+                self.look(f"the end of {what}", end, "WriteFault")
+                self.look(f"whether {what} ends in time", STILL / 2 < took < ENDED, True)
+                print(f"{self.name}: after {took:.0f} s the connection of {what} had the end {end}")
+            self.look("the end of the late one", self.end(node, 3), None)
+
+    def reads_late(self, peer):
+        """Reads all that a peer asked for, but not at once."""
+        time.sleep(LATE)
+        self.look("whether all comes to the late one", read_all(peer, MANY * LARGE), True)
+
+    def a_full_outbox(self):
+        """A peer that asks for more than may wait for it."""
+        with self.pair("--handlers", "1") as (node, other, port), small(port, 4_096) as peer:
+            peer.send(HELLO, self.large_block(node, other, TOO_MANY))
+            watch = Stopwatch(node, other)
+            self.look("its end", self.ended(node, 1), "WriteFault")
+            self.look("whether it ends before a still socket does", watch.seconds() < STILL, True)
+            self.block_in_time(node, other)
+
+    def large_block(self, node, other, count):
+        """The node is given a large block, which comes to the other. A message that asks for it so often comes back."""
+        block = mined(GENESIS, 1, GIVEN)
+        large = sized(block.header.name, LARGE)
+        for one in (block, large):
+            self.begins("submit-block", "submitted", node.say(f"submit-block {one.text.hex()}"))
+        self.comes("the large block", other, lambda: other.tip() == node.tip())
+        return wire.entries(b"getdata", [(BLOCK, large.header.name)] * count)
+
+    # ---- loud ones
+
+    def huge_messages(self):
+        """Messages of 4,000,000 bytes of an unknown command, for some seconds, from four peers."""
+        message = envelope(b"filler", hashlib.sha256(b"filler").digest() * (HUGE // 32))
+        with self.pair() as (node, other, port), ExitStack() as stack:
+            before = node.memory()
+            peers = [stack.enter_context(dialled(port)) for _ in range(4)]
+            end = time.monotonic() + (FLOOD if not self.whole else 10 * FLOOD)
+            sent, threads = [0] * len(peers), []
+            for place, peer in enumerate(peers):
+                peer.send(HELLO)
+                threads.append(threading.Thread(target=flood, args=(peer, message, end, sent, place), daemon=True))
+                threads[-1].start()
+            while time.monotonic() < end:
+                self.block_in_time(node, other)
+                time.sleep(0.2)
+            for thread in threads:
+                thread.join(PATIENCE)
+            for peer in peers:
+                peer.send(PING)
+                self.look("the answer", PONG in received(peer, PONG), True)
+            self.look(f"whether the memory grew by {GROWTH:,} bytes at the most", node.memory("VmHWM") - before <= GROWTH, True)
+            print(f"{self.name}: {sum(sent) * len(message) / 1e6:,.0f} MB came")
+
+    def unreadable_messages(self):
+        """Messages of 4,000,000 bytes that can't be read, or are longer than any may be."""
+        with self.pair() as (node, other, port):
+            for slot, (command, size, end) in enumerate([(b"inv", HUGE, "BadMessage"), (b"headers", HUGE, "BadMessage"),
+                                                         (b"block", HUGE, "BadMessage"), (b"filler", HUGE + 1, "BadStream")], 1):
+                with dialled(port) as peer:
+                    try:
+                        peer.send(HELLO, envelope(command, b"\xfd" * size))
+                    except OSError:  # it was closed meanwhile
+                        pass
+                    self.look(f"the end behind {command} of {size} bytes", self.ended(node, slot), end)
+                self.block_in_time(node, other)
+
+    # ---- connections that open and close
+
+    def open_and_close(self):
+        """Connections that open and close at once. Those for which no slot is free are turned away."""
+        count = 10_000 if self.whole else 1_000
+        with self.pair() as (node, other, port):
+            threads, descriptors, before, spent, began = node.threads(), node.descriptors(), node.memory(), node.processor_ms(), time.monotonic()
+            for _ in range(count):
+                socket.create_connection(("127.0.0.1", port), PATIENCE).close()
+            self.comes("their end", node, lambda: len(node.peers()) == 1)
+            took, spent = time.monotonic() - began, node.processor_ms() - spent
+            served = int(node.say("stats").split()[6]) - 1
+            self.comes("their threads' end", node, lambda: node.threads() <= threads)
+            self.comes("their descriptors' end", node, lambda: node.descriptors() <= descriptors)
+            print(f"{self.name}: {count} connections in {took:.1f} s, of which {served} were served; {spent / count:.2f} ms of the processor and "
+                  f"{(node.memory() - before) / count:,.0f} bytes of memory each")
+            self.block_in_time(node, other)
+
+    def all_slots_used_up(self):
+        """Connections until no slot is left, and a node that begins anew."""
+        with NodeProcess(self.program, seconds=PATIENCE) as node:
+            port, began, spent = node.port(), time.monotonic(), node.processor_ms()
+            while not node.found("a peer was turned away: all slots are used up, which restart mends") and time.monotonic() < began + USED_UP:
+                for _ in range(100):
+                    socket.create_connection(("127.0.0.1", port), PATIENCE).close()
+            self.logs(node, "a peer was turned away: all slots are used up, which restart mends")
+            self.look("connections", node.say("stats").split()[6], str(INBOUND * CONNECTIONS))
+            print(f"{self.name}: {time.monotonic() - began:.0f} s, {node.processor_ms() - spent:.0f} ms of the processor, "
+                  f"memory {node.memory() / 1e6:.0f} MB")
+            began = time.monotonic()
+            self.look("restart", node.say("restart"), "audit yes")
+            self.begins("restart, further on", "restarted tip", node.line())
+            print(f"{self.name}: restart took {time.monotonic() - began:.1f} s, memory {node.memory() / 1e6:.0f} MB behind it")
+            with dialled(port) as peer:
+                peer.send(HELLO, PING)
+                self.look("the answer", PONG in received(peer, PONG), True)
+            self.ends(node)
+
+
+def listening(host):
+    """A listener at an address of this machine."""
+    name, _, port = host.partition(":")
+    return socket.create_server((name, int(port)), backlog=4)
+
+
+def small(port, size):
+    """A peer whose socket holds little."""
+    stream = socket.socket()
+    stream.setsockopt(socket.SOL_SOCKET, socket.SO_RCVBUF, size)
+    stream.settimeout(PATIENCE)
+    stream.connect(("127.0.0.1", port))
+    return PlainPeer(stream)
+
+
+@contextmanager
+def reading_bytes(port, pause):
+    """A peer that reads a byte after each pause, by a thread of its own."""
+    with small(port, 4_096) as peer:
+        def read():
+            while peer.stream.fileno() >= 0:
+                time.sleep(pause)
+                try:
+                    peer.stream.recv(1)
+                except OSError:
+                    return
+
+        threading.Thread(target=read, daemon=True).start()
+        yield peer
+
+
+def received(peer, last):
+    """What comes to a peer, up to this message."""
+    while last not in peer.held:
+        peer.more()
+    return peer.held
+
+
+def read_all(peer, count):
+    """Whether so many bytes come to a peer."""
+    while count > 0:
+        piece = peer.stream.recv(1 << 20)
+        if not piece:
+            return False
+        count -= len(piece)
+    return True
+
+
+def flood(peer, message, end, sent, place):
+    """Sends a message again and again."""
+    while time.monotonic() < end:
+        peer.send(message)
+        sent[place] += 1
+
+
+def main():
+    words = usage(__doc__, program="the program")
+    words.add_argument("--whole", action="store_true", help="at whole length")
+    words.add_argument("--only", help="the name of the look to make alone")
+    given = words.parse_args()
+    looks = Hostile(built(given.program, "cbrelay"), given.whole)
+    for look in (looks.sixty_four_at_once, looks.a_byte_a_second, looks.slow_readers, looks.a_full_outbox, looks.huge_messages,
+                 looks.unreadable_messages, looks.open_and_close, *[looks.all_slots_used_up] * given.whole):
+        if given.only in (None, look.__name__):
+            looks.make(look)
+    return looks.told()
+
+
+if __name__ == "__main__":
+    sys.exit(main())

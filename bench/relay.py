@@ -1,0 +1,193 @@
+#!/usr/bin/env python3
+"""Draws what a block of 1 MB costs from node to node, whole and in short ids: python3 bench/relay.py [PROGRAM] [--rate MBIT] [--tick MS]
+[--rounds N] [--out FILE]
+
+It needs the built program (crates/cbrelay/out/cbrelay, as ./build leaves it), python3, and on Linux root or user namespaces, with `unshare`,
+`nsenter`, `ip` and `tc` (Debian's util-linux and iproute2). It takes some three minutes. All stands in network namespaces that it makes by
+`unshare -n`, and that end with it.
+
+Five processes `cbrelay node`, each in a namespace, are linked in a line, and in a star around one of them. Each link passes on 10 Mbit a
+second each way (`tc`, a token bucket) and adds no delay. The operator of the line's first node, or of one of the star's outer ones, gives it a
+block of 3,900 transactions. How long that takes until all nodes have its tip, and how many bytes go out by all links meanwhile, all headers
+counted, is told of
+
+- whole blocks: no node learns that its peer knows compact blocks, since `sendcmpct` is kept back (bench/tools/without_compact.py);
+- compact blocks (BIP 152), where all mempools hold 100, 99, 90 or 0 % of the block's transactions. These were relayed before.
+
+Each row is the median of the rounds. The picture goes to docs/relay.svg, and names machine and date.
+"""
+
+import datetime
+import os
+import platform
+import statistics
+import subprocess
+import sys
+import time
+from contextlib import ExitStack
+from pathlib import Path
+
+if not __package__:  # called as a file
+    sys.path.insert(0, str(Path(__file__).resolve().parents[1]))
+
+from bench.tools.bars import picture
+from bench.tools.command_line import usage
+from bench.tools.full_blocks import FullChain
+from bench.tools.namespaces import Namespace, alone, linked
+from bench.tools.process_talk import NodeProcess, shown
+from bench.tools.programs import ROOT, built
+
+# Whom each node dials, and which one is given the block.
+SHAPES = {"a line of five nodes": ([(1, 0), (2, 1), (3, 2), (4, 3)], 0), "a star of five nodes": ([(1, 0), (2, 0), (3, 0), (4, 0)], 1)}
+COUNT, PORT, PROXY = 5, 18_444, 20_000
+FILTER = os.path.join(ROOT, "bench", "tools", "without_compact.py")
+# How many per cent of the transactions the mempools hold; None stands for whole blocks.
+WAYS = {"whole": None, "100 %": 100, "99 %": 99, "90 %": 90, "0 %": 0}
+# How long the links have to be still, and how long we wait for anything.
+QUIET, PATIENCE = 0.3, 120
+
+
+class Network:
+    """Linked nodes, each in a namespace."""
+
+    def __init__(self, stack, program, pairs, given, whole):
+        self.stack, self.program, self.given, self.whole = stack, program, given, whole
+        self.places = [stack.enter_context(Namespace(f"node{number}")) for number in range(COUNT)]
+        dials = [[] for _ in range(COUNT)]
+        for number, (dialler, other) in enumerate(pairs, 1):
+            address = linked(self.places[other], self.places[dialler], number, given.rate)
+            dials[dialler].append(self.filtered(dialler, number, address) if whole else f"{address}:{PORT}")
+        self.nodes = [self.start(place, dials[number]) for number, place in enumerate(self.places)]
+        for number, node in enumerate(self.nodes):
+            many = sum(number in pair for pair in pairs)
+            self.wait(node, "the links", lambda node=node, many=many: [peer.phase for peer in node.peers()] == ["ready"] * many)
+
+    def start(self, place, dials):
+        words = [word for address in dials for word in ("--connect", address)]
+        words += ["--tick", str(self.given.tick), "--log", "off"]
+        node = NodeProcess(self.program, *words, listen=f"0.0.0.0:{PORT}", seconds=PATIENCE, before=place.inside())
+        self.stack.enter_context(node).address()
+        return node
+
+    def filtered(self, place, number, address):
+        """The address of a process that hands on what is said, but for `sendcmpct`."""
+        command = [*self.places[place].inside(), sys.executable, FILTER, str(PROXY + number), f"{address}:{PORT}"]
+        process = subprocess.Popen(command, stdin=subprocess.PIPE, stdout=subprocess.PIPE)
+        self.stack.callback(process.wait)
+        self.stack.callback(process.stdin.close)
+        if process.stdout.readline() != b"listening\n":
+            raise OSError("the filter doesn't listen")
+        return f"127.0.0.1:{PROXY + number}"
+
+    @staticmethod
+    def wait(node, what, holds):
+        if not node.until(holds):
+            raise TimeoutError(f"{what} don't come; {node.logged[-5:]}")
+
+    def sent(self):
+        return sum(place.sent() for place in self.places)
+
+    def settle(self):
+        """Waits until the links are still. How many bytes went out comes back."""
+        before, since = self.sent(), time.monotonic()
+        while time.monotonic() < since + QUIET:
+            time.sleep(0.02)
+            now = self.sent()
+            if now != before:
+                before, since = now, time.monotonic()
+        return before
+
+    def give(self, first, block):
+        """Gives a node a block. Seconds to the last tip come back."""
+        name, began = shown(block.header.name), time.monotonic()
+        answer = self.nodes[first].say(f"submit-block {block.text.hex()}")
+        if answer != f"submitted {name}":
+            raise ValueError(answer)
+        began = time.monotonic()
+        for node in self.nodes:
+            while node.tip()[1] != name:
+                if time.monotonic() > began + PATIENCE:
+                    raise TimeoutError(f"the tip stays {node.tip()}")
+                time.sleep(0.002)
+        return time.monotonic() - began
+
+    def give_txs(self, first, txs):
+        """Gives a node transactions, which come to all mempools."""
+        told = self.nodes[first].say_all([f"tx {tx.text.hex()}" for tx in txs])
+        if told != [f"tx {shown(tx.name)}" for tx in txs]:
+            raise ValueError("a transaction isn't taken")
+        for node in self.nodes:
+            self.wait(node, "the transactions", lambda node=node: len(node.list("pool")) == len(txs))
+
+    def end(self):
+        for node in self.nodes:
+            if node.close("quit") != (0, ["audit yes"]):
+                raise ValueError("an audit doesn't say yes")
+
+
+def measured(program, given, chain, pairs, first, percent):
+    """Seconds and bytes of a block, the median of the rounds. Blocks have to come in this way alone."""
+    rows = []
+    blocks = COUNT * given.rounds - given.rounds
+    with ExitStack() as stack:
+        net = Network(stack, program, pairs, given, percent is None)
+        for fans, block in zip(chain.fans, chain.blocks):
+            net.give(first, fans)
+            net.settle()
+            txs = block.txs[1:]
+            net.give_txs(first, [tx for place, tx in enumerate(txs) if place * (percent or 0) // 100 != (place + 1) * (percent or 0) // 100])
+            before = net.settle()
+            took = net.give(first, block)
+            rows.append((took, net.settle() - before))
+        peers = [peer for node in net.nodes for peer in node.peers()]
+        ways = tuple(sum(getattr(peer, way) for peer in peers) for way in ("full", "compact", "completed", "fallback"))
+        net.end()
+    # The fans come in the same way, but all at once, since they have a coinbase alone.
+    if ways != {None: (2 * blocks, 0, 0, 0), 100: (0, 2 * blocks, 0, 0)}.get(percent, (0, blocks, blocks, 0)):
+        raise ValueError(f"blocks came otherwise: {ways}")
+    return [statistics.median(column) for column in zip(*rows)]
+
+
+def machine():
+    """This machine, in words."""
+    with open("/proc/cpuinfo", encoding="utf-8") as file:
+        model = next((line.partition(":")[2].strip() for line in file if line.startswith("model name")), platform.machine())
+    memory = os.sysconf("SC_PAGE_SIZE") * os.sysconf("SC_PHYS_PAGES") / 1e9
+    return f"{os.cpu_count()} cores of {model}, {memory:.0f} GB, Linux {platform.release().split('-')[0]}"
+
+
+def whose(path):
+    return "the program that ./build leaves" if path is None else "a program given by hand"
+
+
+def main():
+    words = usage(__doc__, program="the program")
+    words.add_argument("--rate", type=int, default=10, help="how many megabits a link passes on in a second")
+    words.add_argument("--tick", type=int, default=10, help="how many milliseconds pass from tick to tick of a node")
+    words.add_argument("--rounds", type=int, default=3, help="how many blocks each row has")
+    words.add_argument("--out", default=os.path.join(ROOT, "docs", "relay.svg"), help="where the picture goes")
+    given = words.parse_args()
+    program = built(given.program, "cbrelay")
+    alone()
+    chain = FullChain(given.rounds)
+    size = len(chain.blocks[0].text)
+    found = {}
+    print("| nodes | blocks | s to the last tip | MB on the wire |")
+    print("|---|---|---|---|")
+    for shape, (pairs, first) in SHAPES.items():
+        for way, percent in WAYS.items():
+            took, sent = measured(program, given, chain, pairs, first, percent)
+            found[shape, way] = took, sent / 1e6
+            print(f"| {shape} | {way} | {took:.2f} | {sent / 1e6:.3f} |", flush=True)
+    panels = [(name, [[found[shape, way][number] for shape in SHAPES] for way in WAYS])
+              for number, name in ((1, "MB on the wire, all four links"), (0, "seconds to the last tip"))]
+    caption = [f"A block of {size:,} bytes and 3,900 transactions comes to four nodes: whole, or as a compact block where the mempools hold",
+               f"so many of its transactions. Four links of {given.rate} Mbit/s each way, no delay added. Ticks of {given.tick} ms. "
+               f"The median of {given.rounds} blocks.",
+               f"{machine()}; {datetime.date.today().isoformat()}. bench/relay.py, with {whose(given.program)}."]
+    with open(given.out, "w", encoding="utf-8") as file:
+        file.write(picture("A block of 1 MB from node to node", list(WAYS), list(SHAPES), panels, caption))
+
+
+if __name__ == "__main__":
+    main()

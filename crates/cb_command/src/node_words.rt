@@ -1,0 +1,201 @@
+//! The command `node` of the command line.
+ghost use Rattle.std.specs.Prelude.{◌≡◌, ◌≤◌, codes, false, IfErr, IfOk};
+ghost use Rattle.clap.specs.Words.{rule_of};
+ghost use Rattle.cb_command.specs.NodeWords.{IsNodeOrders, numbered, repeated, valued};
+
+use cb_node_process::NodeOrders;
+use clap::{Arg, ArgAction, ArgMatches, value_parser};
+use log::LevelFilter;
+use std::alloc::Global;
+use std::net::{IpAddr, Ipv4Addr, SocketAddr};
+
+/// The port at which a node listens if nothing else is told: that of regtest.
+const PORT: u16 = 18_444;
+
+/// How many handler threads a node has if nothing else is told.
+const HANDLERS: u16 = 2;
+
+/// How many milliseconds pass from tick to tick if nothing else is told.
+const TICK: u64 = 100;
+
+/// The text that `node --help` prints below the options.
+pub const NODE_USE: &str = "\
+It prints 'listening ADDR:PORT' once it listens. A connection to a peer that ends is made again after
+1, 2, 4, .. 60 seconds. Each line of standard input is answered by a line, or by 'error ..':
+
+  tip               the height and the hash of the best chain's tip
+  block HASH        what the chain has of a block
+  tx HEX            gives the node a transaction
+  submit-block HEX  gives the node a block
+  mine [N]          mines a block, or N, at most 1,000
+  pool              how many transactions the mempool has, and then a line for each
+  peers             how many connections last, and then a line for each
+  kick SLOT         ends the connection in a slot
+  connect ADDR:PORT connects to a peer, and again whenever the connection ends
+  checkpoint        the node drops its log of calls
+  stats             what all connections moved
+  restart           ends the node and audits it, and starts another one over its chain and mempool
+  quit              ends the node and audits it, as the end of input does
+
+Connections, their ends and new tips are logged on standard error.
+
+Examples:
+  cbrelay node --listen 127.0.0.1:18444
+  cbrelay node --listen 127.0.0.1:18445 --connect 127.0.0.1:18444 --log debug
+  tail -f /dev/null | cbrelay node --listen 127.0.0.1:18444";
+
+/// Why the words of `node` can't be followed.
+#[derive(Clone, Copy)]
+pub enum BadWords {
+    /// A value of `--listen` or `--connect` isn't an IP address and a port, or that of `--log` is no
+    /// level.
+    Value,
+    /// Memory ran out.
+    Memory,
+}
+
+/// The option `--listen`.
+pub fn listen_arg<'a>(alloc: Global) -> Arg<'a>
+    ensures rule { rule_of result ≡ valued (codes "listen") }
+    ensures local { result.global ≡ false }
+{
+    Arg::new(alloc, "listen")
+        .long("listen")
+        .value_name("ADDR:PORT")
+        .help("Where it listens; 127.0.0.1:18444 if it isn't told. Port 0 is any that is free")
+}
+
+/// The option `--connect`.
+pub fn connect_arg<'a>(alloc: Global) -> Arg<'a>
+    ensures rule { rule_of result ≡ repeated (codes "connect") }
+    ensures local { result.global ≡ false }
+{
+    Arg::new(alloc, "connect")
+        .long("connect")
+        .value_name("ADDR:PORT")
+        .help("A peer to which it connects, and again whenever that ends. Any number of times")
+        .action(ArgAction::Append)
+}
+
+/// The option `--handlers`.
+pub fn threads_arg<'a>(alloc: Global) -> Arg<'a>
+    ensures rule { rule_of result ≡ numbered (codes "handlers") 16 }
+    ensures local { result.global ≡ false }
+{
+    Arg::new(alloc, "handlers")
+        .long("handlers")
+        .value_name("H")
+        .help("How many threads serve its peers, 1 to 16; 2 if it isn't told")
+        .value_parser(value_parser!(u16).range(1..=16))
+}
+
+/// The option `--tick`.
+pub fn tick_arg<'a>(alloc: Global) -> Arg<'a>
+    ensures rule { rule_of result ≡ numbered (codes "tick") 60000 }
+    ensures local { result.global ≡ false }
+{
+    Arg::new(alloc, "tick")
+        .long("tick")
+        .value_name("MS")
+        .help(
+            "How often peers are told what is new, in milliseconds, 1 to 60,000; 100 if it isn't told",
+        )
+        .value_parser(value_parser!(u16).range(1..=60_000))
+}
+
+/// The option `--log`.
+pub fn log_arg<'a>(alloc: Global) -> Arg<'a>
+    ensures rule { rule_of result ≡ valued (codes "log") }
+    ensures local { result.global ≡ false }
+{
+    Arg::new(alloc, "log").long("log").value_name("LEVEL").help(
+        "What is logged: off, error, warn, info, debug or trace; info if it isn't told",
+    )
+}
+
+/// What `node` is asked for; what it does if nothing is told, if it isn't the command.
+pub fn node_orders_of(alloc: Global, matches: &ArgMatches) -> Result<NodeOrders, BadWords>
+    ensures { IfOk result IsNodeOrders }
+{
+    match matches.subcommand_matches("node") {
+        Some(node) => orders_in(alloc, node),
+        None => Ok(usual(alloc)),
+    }
+}
+
+/// What `node` does if nothing is told.
+fn usual(alloc: Global) -> NodeOrders
+    ensures { IsNodeOrders result }
+{
+    NodeOrders {
+        listen: usual_address(),
+        connect: Vec::new(alloc),
+        handlers: HANDLERS,
+        tick: TICK,
+        level: LevelFilter::Info,
+    }
+}
+
+/// Where a node listens if nothing else is told.
+fn usual_address() -> SocketAddr {
+    SocketAddr::new(IpAddr::V4(Ipv4Addr::LOCALHOST), PORT)
+}
+
+/// What `node` is asked for.
+fn orders_in(alloc: Global, node: &ArgMatches) -> Result<NodeOrders, BadWords>
+    ensures { IfOk result IsNodeOrders }
+{
+    let listen = match node.get_str("listen") {
+        Some(text) => address_in(text)?,
+        None => usual_address(),
+    };
+    let level = match node.get_str("log") {
+        Some(text) => level_in(text)?,
+        None => LevelFilter::Info,
+    };
+    Ok(NodeOrders {
+        listen,
+        connect: addresses_in(alloc, node)?,
+        handlers: node
+            .get_one::<u16>("handlers")
+            .unwrap_or(HANDLERS)
+            .clamp(1, 16),
+        tick: node.get_one::<u64>("tick").unwrap_or(TICK).clamp(1, 60_000),
+        level,
+    })
+}
+
+/// The level that a value names.
+fn level_in(text: &str) -> Result<LevelFilter, BadWords>
+    ensures { IfErr result (λ bad. bad ≡ BadWords.Value) }
+{
+    let Ok(level) = text.parse::<LevelFilter>() else {
+        return Err(BadWords::Value);
+    };
+    Ok(level)
+}
+
+/// The addresses of `--connect`, in their order.
+fn addresses_in(alloc: Global, node: &ArgMatches) -> Result<Vec<SocketAddr>, BadWords> {
+    let mut all = Vec::new(alloc);
+    let Some(texts) = node.get_strs("connect") else {
+        return Ok(all);
+    };
+    for text in texts {
+        let address = address_in(text)?;
+        if all.push(address).is_err() {
+            return Err(BadWords::Memory);
+        }
+    }
+    Ok(all)
+}
+
+/// The address that a value writes.
+fn address_in(text: &str) -> Result<SocketAddr, BadWords>
+    ensures { IfErr result (λ bad. bad ≡ BadWords.Value) }
+{
+    match text.parse::<SocketAddr>() {
+        Ok(address) => Ok(address),
+        Err(_) => Err(BadWords::Value),
+    }
+}

@@ -1,0 +1,44 @@
+-- How a run ends.
+use Rattle.std.proofs.Common.{◌≡◌, ◌⊎◌, ◌↔◌, ℕ, Bool, true, List, Option, Result, Ok, Err, IfOk, IfErr, OnOk, inl, inr}
+use Rattle.cb_run.specs.declared.ending.Halt.{Halt}
+use Rattle.cb_run.specs.declared.ending.Halt.TheVariants.{Memory, ReadFailed, WriteFailed}
+use Rattle.cb_operator.specs.declared.refusal.Verdict.{Verdict}
+use Rattle.cb_operator.specs.declared.refusal.Verdict.TheVariants as verdicts
+use Rattle.cb_operator.specs.declared.reply.Reply.TheVariants as replies
+use Rattle.cb_node_process.specs.Telling.{TellsAll, TellsOne, TellsOpening}
+use Rattle.cb_node_process.proofs.Printing.{tells_all}
+
+-- the audit's answer is the last line
+pub told_all : {E : Type 0} (r : Result ℕ E) (a b c : Option (List ℕ)) (verdict : Verdict) (well : Bool) → TellsOpening a b → (well ≡ true → verdict ≡ verdicts.Yes)
+    → IfOk r (λ status. TellsOne b c (replies.Audit verdict)) → IfOk r (λ status. (status ≡ 0) ↔ (well ≡ true)) → IfOk r (λ status. (status ≡ 0) ⊎ (status ≡ 3)) → IfOk r (TellsAll a c)
+told_all (Ok status) a b c verdict well o says last full which = tells_all a b c verdict status o last (λ zero. says (full.0 zero)) which
+told_all (Err halt) a b c verdict well o says last full which = tt
+
+-- why it ends early: memory, a read, or a write that failed; it told standard error nothing
+pub run_ends : (P Q : Type 0) (r : Result ℕ Halt) → IfErr r (λ halt. (halt ≡ Memory) ⊎ ((halt ≡ ReadFailed) ⊎ ((halt ≡ WriteFailed) × P)))
+    → IfErr r (λ halt. (halt ≡ Memory) ⊎ ((halt ≡ ReadFailed) ⊎ ((halt ≡ WriteFailed) × (P ⊎ Q))))
+run_ends P Q (Ok status) h = tt
+run_ends P Q (Err halt) (inl e) = inl e
+run_ends P Q (Err halt) (inr (inl e)) = inr (inl e)
+run_ends P Q (Err halt) (inr (inr (e, p))) = inr (inr (e, inl p))
+
+-- the same where standard error could not be told why it can't listen
+pub deaf_ends : (P Q : Type 0) (r : Result ℕ Halt) → IfErr r (λ halt. (halt ≡ Memory) ⊎ ((halt ≡ WriteFailed) × Q))
+    → IfErr r (λ halt. (halt ≡ Memory) ⊎ ((halt ≡ ReadFailed) ⊎ ((halt ≡ WriteFailed) × (P ⊎ Q))))
+deaf_ends P Q (Ok status) h = tt
+deaf_ends P Q (Err halt) (inl e) = inl e
+deaf_ends P Q (Err halt) (inr (e, q)) = inr (inr (e, inr q))
+
+-- it ran, and standard error was told nothing
+pub ran_quietly : (Same : Type 0) (A B : ℕ → Type 0) (r : Result ℕ Halt) → Same → IfOk r A → IfOk r (λ status. (A status × Same) ⊎ B status)
+ran_quietly Same A B (Ok status) same a = inl (a, same)
+ran_quietly Same A B (Err halt) same a = tt
+
+-- it can't listen
+pub ran_deaf : (A : ℕ → Type 0) (B : Type 0) (r : Result ℕ Halt) → OnOk r B → IfOk r (λ status. status ≡ 3) → IfOk r (λ status. A status ⊎ (B × (status ≡ 3)))
+ran_deaf A B (Ok status) b three = inr (b, three)
+ran_deaf A B (Err halt) b three = tt
+
+pub three_is_one : (r : Result ℕ Halt) → IfOk r (λ status. status ≡ 3) → IfOk r (λ status. (status ≡ 0) ⊎ (status ≡ 3))
+three_is_one (Ok status) three = inr three
+three_is_one (Err halt) three = tt

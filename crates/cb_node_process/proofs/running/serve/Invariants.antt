@@ -1,0 +1,6 @@
+use Rattle.cb_node_process.specs.Telling.{TellsOpening}
+use Rattle.cb_node_process.proofs.running.serve.Given as goal
+
+-- where it listens was printed first
+abbrev pub invariant-loop : goal.invariant-loop
+invariant-loop g l = TellsOpening (g.W.Sink.contents l.fn.writer) (g.W.Sink.contents l.writer)

@@ -1,0 +1,17 @@
+-- What an operator is told of the audit of a node's hall and its desks.
+use Rattle.std.specs.Prelude.{List, Ok, Err}
+use Rattle.cb_journal.specs.Journal.{JournalState}
+use Rattle.cb_audit.specs.Audit.{Audits}
+use Rattle.cb_audit.specs.declared.auditing.Split.TheVariants.{Count, Differs}
+use Rattle.cb_audit.specs.Order.{AreInOrder, AuditedTrace}
+use Rattle.cb_operator.specs.declared.refusal.Verdict.{Verdict}
+use Rattle.cb_operator.specs.declared.refusal.Verdict.TheVariants as verdicts
+
+-- What each answer says of a journal and traces. Nothing is said of want of memory.
+abbrev pub TellsVerdict : JournalState → List AuditedTrace → Verdict → Type 0
+TellsVerdict hall audited verdicts.Yes = AreInOrder audited × Audits hall audited (Ok tt)
+TellsVerdict hall audited (verdicts.Count slot generation) = AreInOrder audited × Audits hall audited (Err (Count (record { peer = slot; generation = generation })))
+TellsVerdict hall audited (verdicts.Differs slot generation place) =
+    AreInOrder audited × Audits hall audited (Err (Differs (record { peer = slot; generation = generation }) place))
+TellsVerdict hall audited verdicts.OutOfOrder = AreInOrder audited → ⊥
+TellsVerdict hall audited verdicts.Memory = Unit {0}

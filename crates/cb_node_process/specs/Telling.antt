@@ -1,0 +1,70 @@
+-- What a process prints.
+use Rattle.std.specs.Prelude.{◌≡◌, ℕ, ◌⊎◌, List, [], ◌∷◌, ◌++◌, codes, length, map, Option}
+use Rattle.std.specs.Io.KnownBytes.{Appends}
+use Rattle.std.specs.List.{flat_map}
+use Rattle.std.specs.declared.net.socket_addr.SocketAddr.{SocketAddr}
+use Rattle.std.specs.Net.Text.{socket_text}
+use Rattle.cb_slots.specs.declared.fault.NodeFault.{NodeFault}
+use Rattle.cb_slots.specs.declared.fault.NodeFault.TheVariants as node
+use Rattle.cb_operator.specs.Answering.{CanAnswer}
+use Rattle.cb_base.specs.declared.hash.Hash256.{Hash256}
+use Rattle.cb_operator.specs.declared.line.Line.{Line}
+use Rattle.cb_operator.specs.declared.peer_line.PeerLine.{PeerLine}
+use Rattle.cb_operator.specs.declared.refusal.Refusal.{Refusal}
+use Rattle.cb_operator.specs.declared.refusal.Refusal.TheVariants as refusals
+use Rattle.cb_operator.specs.declared.refusal.Verdict.{Verdict}
+use Rattle.cb_operator.specs.declared.refusal.Verdict.TheVariants as verdicts
+use Rattle.cb_operator.specs.declared.reply.Reply.{Reply}
+use Rattle.cb_operator.specs.declared.reply.Reply.TheVariants as replies
+use Rattle.cb_operator.specs.Replies.{reply_text}
+
+-- the lines of a mempool, and of connections that last: how many there are, and then each
+abbrev pub txid_lines : List Hash256 → List Reply
+txid_lines txids = map (λ txid. replies.PoolTx txid) txids
+
+abbrev pub pool_lines : List Hash256 → List Reply
+pool_lines txids = replies.Pool (length txids) ∷ txid_lines txids
+
+abbrev pub peer_lines : List PeerLine → List Reply
+peer_lines peers = map (λ peer. replies.Peer peer) peers
+
+abbrev pub peers_lines : List PeerLine → List Reply
+peers_lines peers = replies.Peers (length peers) ∷ peer_lines peers
+
+-- these lines were printed
+abbrev pub Tells : Option (List ℕ) → Option (List ℕ) → List Reply → Type 0
+Tells held holds told = Appends held holds (flat_map reply_text told)
+
+-- this line, or `error memory` in its place
+abbrev pub IsOr : Reply → Reply → Type 0
+IsOr reply told = (told ≡ reply) ⊎ (told ≡ replies.Refused refusals.Memory)
+
+-- this line, or `error memory` in its place, can answer that one
+pub record CanBe (line : Line) (reply : Reply) : Type 0 where
+  pub can : (told : Reply) → IsOr reply told → CanAnswer line (told ∷ [])
+
+-- one such line was printed
+abbrev pub TellsOne : Option (List ℕ) → Option (List ℕ) → Reply → Type 0
+TellsOne held holds reply = (told : Reply) × IsOr reply told × Tells held holds (told ∷ [])
+
+-- where it listens was printed first
+abbrev pub TellsOpening : Option (List ℕ) → Option (List ℕ) → Type 0
+TellsOpening held holds = (address : SocketAddr) × (first : Reply) × (told : List Reply) × IsOr (replies.Listening address) first × Tells held holds (first ∷ told)
+
+-- Where it listens was printed first, and what the audit answers last, or `error memory` in the place
+-- of either. The status 0 tells that the audit says yes.
+abbrev pub TellsAll : Option (List ℕ) → Option (List ℕ) → ℕ → Type 0
+TellsAll held holds status =
+    (address : SocketAddr) × (verdict : Verdict) × (first last : Reply) × (told : List Reply) × IsOr (replies.Listening address) first × IsOr (replies.Audit verdict) last
+    × Tells held holds (first ∷ (told ++ last ∷ [])) × ((status ≡ 0 → verdict ≡ verdicts.Yes) × ((status ≡ 0) ⊎ (status ≡ 3)))
+
+-- why a line is refused, by why the node refuses a call
+abbrev pub refusal_of : NodeFault → Refusal
+refusal_of node.Io = refusals.Io
+refusal_of node.NoSlot = refusals.NoSlot
+refusal_of node.Memory = refusals.Memory
+refusal_of (node.Hall fault) = refusals.Fault fault
+
+-- what standard error is told if the node can't listen at this address
+abbrev pub deaf_text : SocketAddr → List ℕ
+deaf_text address = codes "error: can't listen at " ++ socket_text address ++ codes ": it is in use, not of this machine or not allowed, or no thread can be made\n"

@@ -1,0 +1,20 @@
+//! A node as a process: it listens, dials, relays, answers an operator's lines, logs, and ends with
+//! an audit.
+#![tactic(auto)]
+
+mod answering;
+mod auditing;
+mod dialling;
+mod host;
+mod orders;
+mod polling;
+mod process;
+mod reading;
+mod running;
+mod stopwatch;
+mod timed_log;
+mod watching;
+
+pub use host::ProcessHost;
+pub use orders::NodeOrders;
+pub use running::run_node;

@@ -1,0 +1,338 @@
+//! What a process does between two lines: it notes connections that ended, accepts and dials peers,
+//! and ticks. Each is logged. Nothing of it fails: what can't be done now is tried again later.
+ghost use Rattle.std.specs.Prelude.{◌≢◌, ◌<◌, length, IfErr, IfSome};
+ghost use Rattle.cb_operator.specs.declared.refusal.Refusal.TheVariants.{Unreadable};
+
+use crate::dialling::Target;
+use crate::host::ProcessHost;
+use crate::process::{Process, refusal_of};
+use crate::watching::Watched;
+use cb_base::Hash256;
+use cb_node::{CloseReason, NodeFault};
+use cb_operator::{Refusal, Reply};
+use log::{Log, debug, info, warn};
+use std::net::{SocketAddr, TcpStream};
+
+/// How many peers are accepted between two lines at most.
+const MOST_ADMITTED: u32 = 64;
+
+/// How many milliseconds pass at least between two lines of the log which tell that a peer wasn't
+/// accepted. Where descriptors have run out, each try fails.
+const COMPLAINT_MILLIS: u64 = 1_000;
+
+impl<R: ProcessHost> Process<R> {
+    /// Does what is due.
+    pub fn poll<L: Log>(&mut self, log: &L) {
+        let now = self.now();
+        self.note_ends(log, now);
+        self.admit(log, now);
+        self.dial(log, now);
+        self.note_dials(log, now);
+        if self.next_tick <= now {
+            self.next_tick = now.saturating_add(self.tick);
+            self.node.tick();
+            self.note_tip(log);
+        }
+    }
+
+    /// Logs the connections that ended, and lets their addresses be dialled again.
+    fn note_ends<L: Log>(&mut self, log: &L, now: u64) {
+        for place in (0..self.watched.len()).rev() {
+            if let Some(reason) = self.ended(place) {
+                let gone = self.watched.remove(place);
+                self.moved = self.moved.with(gone.moved());
+                note_end(log, &gone, reason.name());
+                self.put_off(log, &gone, now);
+            }
+        }
+    }
+
+    /// Logs the ends of all connections: the node is about to end those that last.
+    pub(crate) fn note_all_ends<L: Log>(&mut self, log: &L) {
+        let now = self.now();
+        self.note_ends(log, now);
+        for gone in self.watched.as_slice() {
+            note_end(log, gone, "NodeEnded");
+        }
+    }
+
+    /// Logs the addresses that were to be dialled from the start and were never reached.
+    pub(crate) fn note_unreached<L: Log>(&self, log: &L) {
+        for target in self.targets.as_slice() {
+            if target.keeps_trying && !target.reached {
+                let address = target.address;
+                warn!(log; "{address} was never reached");
+            }
+        }
+    }
+
+    /// Why the connection at this place of the list is over.
+    fn ended(&self, place: usize) -> Option<CloseReason>
+        ensures { IfSome result (λ reason. place < length self.now.watched.items) }
+    {
+        match self.watched.get(place) {
+            Some(watched) => watched.ended(),
+            None => None,
+        }
+    }
+
+    /// A connection has ended: if it was to an address that is dialled, that is put off. Another one
+    /// may have its slot already.
+    fn put_off<L: Log>(&mut self, log: &L, gone: &Watched, now: u64) {
+        for target in self.targets.as_mut_slice() {
+            if target.lasts_in(gone.slot, gone.since) {
+                let (address, seconds) = (target.address, target.put_off(now));
+                debug!(log; "{address} is dialled again in {seconds} s");
+            }
+        }
+    }
+
+    /// Serves the peers that wait to be accepted. If no slot can serve them, they are turned away.
+    fn admit<L: Log>(&mut self, log: &L, now: u64) {
+        for _ in 0..MOST_ADMITTED {
+            match self.node.try_admit() {
+                Ok(Some(admitted)) => self.watch(log, admitted.slot, true, admitted.address, now),
+                Ok(None) => return,
+                Err(NodeFault::NoSlot) => {
+                    if !self.turn_away(log) {
+                        return;
+                    }
+                }
+                Err(fault) => {
+                    self.complain(log, now, fault);
+                    return;
+                }
+            }
+        }
+    }
+
+    /// Logs that a peer wasn't accepted, unless that was logged a moment ago.
+    fn complain<L: Log>(&mut self, log: &L, now: u64, fault: NodeFault) {
+        if self.next_complaint <= now {
+            self.next_complaint = now.saturating_add(COMPLAINT_MILLIS);
+            warn!(log; "a peer wasn't accepted: {fault}");
+        }
+    }
+
+    /// Turns a peer away that waits to be accepted. Returns whether one waited.
+    fn turn_away<L: Log>(&self, log: &L) -> bool {
+        match self.node.turn_away() {
+            Ok(true) if self.node.is_spent(true) => {
+                warn!(log; "a peer was turned away: all slots are used up, which restart mends");
+                true
+            }
+            Ok(true) => {
+                warn!(log; "a peer was turned away: no slot is free");
+                true
+            }
+            Ok(false) | Err(_) => false,
+        }
+    }
+
+    /// Watches a connection that was made, and logs it.
+    fn watch<L: Log>(&mut self, log: &L, slot: u16, inbound: bool, address: SocketAddr, now: u64) {
+        self.connections = self.connections.saturating_add(1);
+        let way = if inbound { "from" } else { "to" };
+        info!(log; "connection {way} {address} in slot {slot}");
+        let link = match self.node.link(slot) {
+            Ok(link) => link,
+            Err(fault) => {
+                warn!(log; "slot {slot} isn't watched: {fault}");
+                return;
+            }
+        };
+        let watched = Watched {
+            slot,
+            inbound,
+            address,
+            link,
+            since: now,
+        };
+        if self.watched.push(watched).is_err() {
+            warn!(log; "slot {slot} isn't watched: memory ran out");
+        }
+    }
+
+    /// Starts a dial of each address that is due.
+    fn dial<L: Log>(&mut self, log: &L, now: u64) {
+        for place in (0..self.targets.len()).rev() {
+            if self.is_due(place, now) {
+                self.start_dial(log, place, now);
+            }
+        }
+    }
+
+    /// Whether the address at this place of the list is due to be dialled.
+    fn is_due(&self, place: usize, now: u64) -> bool {
+        match self.targets.get(place) {
+            Some(target) => target.is_due(now),
+            None => false,
+        }
+    }
+
+    /// Starts a dial of the address at this place of the list. Where no thread can be made for it,
+    /// the dial has failed.
+    fn start_dial<L: Log>(&mut self, log: &L, place: usize, now: u64) {
+        let Some(target) = self.targets.get_mut(place) else {
+            return;
+        };
+        let address = target.address;
+        if target.dial(&self.rt, self.alloc) {
+            debug!(log; "dialling {address}");
+        } else {
+            self.tell(address, Err(Refusal::Io));
+            self.miss(log, place, now, Refusal::Io);
+        }
+    }
+
+    /// Serves the streams that were connected, and puts the addresses off that weren't reached.
+    fn note_dials<L: Log>(&mut self, log: &L, now: u64) {
+        for place in (0..self.targets.len()).rev() {
+            if self.has_dialled(place) {
+                self.note_dial(log, place, now);
+            }
+        }
+    }
+
+    /// Whether a dial of the address at this place of the list has ended.
+    fn has_dialled(&self, place: usize) -> bool {
+        match self.targets.get(place) {
+            Some(target) => target.has_dialled(),
+            None => false,
+        }
+    }
+
+    /// Serves the stream that was connected to the address at this place of the list. If there is
+    /// none, or it can't be served, the address is put off.
+    fn note_dial<L: Log>(&mut self, log: &L, place: usize, now: u64) {
+        let Some(target) = self.targets.get_mut(place) else {
+            return;
+        };
+        let address = target.address;
+        let stream = target.take_stream(&self.rt, now);
+        let served = self.serve(log, stream, address, now);
+        self.tell(address, served);
+        match served {
+            Ok(slot) => self.reach(place, slot, now),
+            Err(refusal) => self.miss(log, place, now, refusal),
+        }
+    }
+
+    /// A connection to the address at this place of the list was made at this time, in this slot.
+    fn reach(&mut self, place: usize, slot: u16, now: u64) {
+        if let Some(target) = self.targets.get_mut(place) {
+            target.reach(slot, now);
+        }
+    }
+
+    /// No connection to the address at this place of the list was made. It is put off, or forgotten
+    /// if it was never reached and an operator waits for it.
+    fn miss<L: Log>(&mut self, log: &L, place: usize, now: u64, refusal: Refusal) {
+        let why = self.words_of(refusal);
+        let Some(target) = self.targets.get_mut(place) else {
+            return;
+        };
+        let (address, forgotten) = (target.address, !target.keeps_trying && !target.reached);
+        let seconds = target.put_off(now);
+        if forgotten {
+            warn!(log; "no connection to {address}: {why}");
+            forget(&mut self.targets, place);
+        } else {
+            warn!(log; "no connection to {address}: {why}; again in {seconds} s");
+        }
+    }
+
+    /// Serves a stream that was connected to this address by a slot, whose number is returned.
+    fn serve<L: Log>(
+        &mut self,
+        log: &L,
+        stream: Option<TcpStream>,
+        address: SocketAddr,
+        now: u64,
+    ) -> Result<u16, Refusal> {
+        let Some(stream) = stream else {
+            return Err(Refusal::Io);
+        };
+        match self.node.serve_stream(stream) {
+            Ok(slot) => {
+                self.watch(log, slot, false, address, now);
+                Ok(slot)
+            }
+            Err(fault) => Err(refusal_of(fault)),
+        }
+    }
+
+    /// Notes what the dial came to, if an operator waits for it.
+    fn tell(&mut self, address: SocketAddr, served: Result<u16, Refusal>) {
+        if self.awaited == Some(address) {
+            self.awaited = None;
+            self.outcome = Some(match served {
+                Ok(slot) => Reply::Connected(address, slot),
+                Err(refusal) => Reply::Refused(refusal),
+            });
+        }
+    }
+
+    /// Why no connection was made, in words.
+    fn words_of(&self, refusal: Refusal) -> &'static str {
+        match refusal {
+            Refusal::NoSlot if self.node.is_spent(false) => {
+                "all slots are used up, which restart mends"
+            }
+            Refusal::NoSlot => "no slot is free",
+            Refusal::Memory => "memory ran out",
+            Refusal::Fault(_) => "the hall refused",
+            _ => "it doesn't answer",
+        }
+    }
+
+    #[tactic(auto, using(crate::proofs::Printing::memory_is_known, crate::proofs::Printing::no_slot_is_known, crate::proofs::Printing::already_is_known))]
+    /// Lets an operator wait for the first dial of an address. Refused if it is dialled already, or
+    /// no outbound slot is free.
+    pub fn connect(&mut self, address: SocketAddr) -> Result<(), Refusal>
+        ensures { IfErr result (λ refusal. refusal ≢ Unreadable) }
+    {
+        if self.targets.iter().any(|target| target.address == address) {
+            return Err(Refusal::Already);
+        }
+        if !self.node.can_connect() {
+            return Err(Refusal::NoSlot);
+        }
+        if self.targets.push(Target::new(address, false)).is_err() {
+            return Err(Refusal::Memory);
+        }
+        self.awaited = Some(address);
+        Ok(())
+    }
+
+    /// Logs the tip if it is another one than before.
+    pub fn note_tip<L: Log>(&mut self, log: &L) {
+        let tip = self.tip();
+        if tip.hash != self.tip {
+            self.tip = tip.hash;
+            self.log_tip(log, tip.height, tip.hash);
+        }
+    }
+
+    /// Logs a tip.
+    fn log_tip<L: Log>(&self, log: &L, height: u32, hash: Hash256) {
+        match hash.show(self.alloc) {
+            Ok(text) => info!(log; "tip {height} {text}"),
+            Err(_) => info!(log; "tip {height}"),
+        }
+    }
+}
+
+/// Takes the address at this place out of a list.
+fn forget(targets: &mut Vec<Target>, place: usize) {
+    if place < targets.len() {
+        drop(targets.remove(place));
+    }
+}
+
+/// Logs why a connection ended.
+fn note_end<L: Log>(log: &L, gone: &Watched, reason: &str) {
+    let (slot, address) = (gone.slot, gone.address);
+    let way = if gone.inbound { "from" } else { "to" };
+    info!(log; "connection {way} {address} in slot {slot} closed: {reason}");
+}

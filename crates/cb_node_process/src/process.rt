@@ -1,0 +1,265 @@
+//! A node's process: its node, the connections that last, and the addresses that it dials.
+ghost use Rattle.std.specs.Prelude.{◌≡◌, ◌≤◌, true, IfOk};
+ghost use Rattle.cb_node_process.specs.Telling.{refusal_of};
+
+use crate::auditing::verdict_of;
+use crate::dialling::Target;
+use crate::host::ProcessHost;
+use crate::orders::NodeOrders;
+use crate::stopwatch::{Stopwatch, unix_time};
+use crate::watching::Watched;
+use cb_base::{Hash256, Seed};
+use cb_node::{Node, NodeEnd, NodeFault, NodeSettings};
+use cb_operator::{Moved, Refusal, Reply, Tip, Verdict};
+use log::{Log, error};
+use std::alloc::Global;
+use std::mem;
+use std::net::SocketAddr;
+use std::random::RandomSource;
+use std::rt::Clock;
+
+/// How many slots serve peers that connect to the node, and how many those to which it connects.
+const INBOUND: u16 = 48;
+
+const OUTBOUND: u16 = 16;
+
+/// A node's process.
+#[derive(Drop)]
+pub struct Process<R: ProcessHost> {
+    pub(crate) rt: R,
+    pub(crate) alloc: Global,
+    /// The seed of the node's tables.
+    pub(crate) seed: Seed,
+    pub(crate) settings: NodeSettings,
+    pub(crate) node: Node<R>,
+    /// Where it listens.
+    pub(crate) address: SocketAddr,
+    pub(crate) clock: Stopwatch,
+    /// How many milliseconds pass from tick to tick.
+    pub(crate) tick: u64,
+    /// When the next tick is due, in milliseconds since the process began.
+    pub(crate) next_tick: u64,
+    /// When it may be logged again that a peer wasn't accepted, in milliseconds since the process
+    /// began.
+    pub(crate) next_complaint: u64,
+    /// The tip that was logged last.
+    pub(crate) tip: Hash256,
+    /// The connections that last.
+    pub(crate) watched: Vec<Watched>,
+    /// The addresses that it dials.
+    pub(crate) targets: Vec<Target>,
+    /// The address whose first dial an operator waits for.
+    pub(crate) awaited: Option<SocketAddr>,
+    /// What that came to.
+    pub(crate) outcome: Option<Reply>,
+    /// How many connections there were.
+    pub(crate) connections: u64,
+    /// What the connections that ended moved.
+    pub(crate) moved: Moved,
+    /// Whether something failed that the exit status tells.
+    pub(crate) failed: bool,
+}
+
+impl<R: ProcessHost> Process<R> {
+    /// Starts a node, which listens. Its tables, and those of the nodes that follow it, have this
+    /// seed.
+    ///
+    /// Fails with `NodeFault::Io` if it can't listen there, no thread can be started, or there are no
+    /// random bytes, and with `NodeFault::Memory`. No thread runs then.
+    pub fn start(
+        rt: R,
+        alloc: Global,
+        seed: Seed,
+        orders: &NodeOrders,
+    ) -> Result<Process<R>, NodeFault>
+        requires handlers { (1 ≤ orders.now.handlers) × (orders.now.handlers ≤ 16) }
+    {
+        let settings = settings_of(&rt, orders.handlers)?;
+        let targets = targets_of(alloc, orders.connect.as_slice())?;
+        let mut node = Node::start_with_seed(rt, alloc, settings, seed)?;
+        match node.listen_at(orders.listen) {
+            Ok(address) => Ok(Process {
+                rt,
+                alloc,
+                seed,
+                settings,
+                tip: node.look().tip,
+                node,
+                address,
+                clock: Stopwatch::start(&rt),
+                tick: orders.tick,
+                next_tick: 0,
+                next_complaint: 0,
+                watched: Vec::new(alloc),
+                targets,
+                awaited: None,
+                outcome: None,
+                connections: 0,
+                moved: Moved::nothing(),
+                failed: false,
+            }),
+            Err(fault) => {
+                drop(node.finish());
+                drop(targets);
+                Err(fault)
+            }
+        }
+    }
+
+    /// The time in milliseconds since the process began.
+    pub fn now(&mut self) -> u64 {
+        self.clock.millis(&self.rt)
+    }
+
+    /// The best chain's tip.
+    pub fn tip(&self) -> Tip {
+        let look = self.node.look();
+        Tip {
+            height: look.height,
+            hash: look.tip,
+        }
+    }
+
+    /// Waits for the dials that are under way, at most a few seconds. What they connected is closed.
+    fn end_dials(&mut self) {
+        for target in self.targets.as_mut_slice() {
+            drop(target.take_stream(&self.rt, 0));
+        }
+    }
+
+    /// Whether each address that is dialled for ever was reached once.
+    fn has_reached_all(&self) -> bool {
+        self.targets
+            .iter()
+            .all(|target| target.reached || !target.keeps_trying)
+    }
+
+    /// Ends the node and all its threads. Returns what the audit answers, and whether all went well:
+    /// each audit says yes, and each address that was to be dialled from the start was reached once.
+    pub fn finish(self) -> (Verdict, bool)
+        ensures { result.1 ≡ true → result.0 ≡ Verdict.Yes }
+    {
+        let mut process = self;
+        process.end_dials();
+        let reached = process.has_reached_all();
+        let Process {
+            rt,
+            alloc,
+            node,
+            failed,
+            ..
+        } = process;
+        let end = node.finish();
+        let verdict = verdict_of(&rt, alloc, &end);
+        (verdict, is_well(verdict, reached, failed))
+    }
+
+    /// Ends the node, audits it, and starts another one over the same chain and mempool, which
+    /// listens at the same address. Addresses are dialled anew. Returns what the audit answers.
+    ///
+    /// Fails with `NodeFault::Io` and `NodeFault::Memory` if no other node can be started. Nothing
+    /// was done then.
+    pub fn restart<L: Log>(&mut self, log: &L) -> Result<Verdict, NodeFault> {
+        let settings = settings_of(&self.rt, self.settings.handlers)?;
+        let fresh = Node::start_with_seed(self.rt, self.alloc, settings, self.seed)?;
+        self.end_dials();
+        self.note_all_ends(log);
+        let end = mem::replace(&mut self.node, fresh).finish();
+        self.settings = settings;
+        self.forget_connections();
+        let verdict = verdict_of(&self.rt, self.alloc, &end);
+        let took = self.take_over(log, &end);
+        let listens = self.listen_again(log);
+        self.failed |= !verdict.is_yes() || !took || !listens;
+        Ok(verdict)
+    }
+
+    /// The connections have ended with their node. What they moved stays counted, and each address
+    /// is due to be dialled.
+    fn forget_connections(&mut self) {
+        for gone in self.watched.as_slice() {
+            self.moved = self.moved.with(gone.moved());
+        }
+        self.watched.clear();
+        for target in self.targets.as_mut_slice() {
+            target.renew();
+        }
+    }
+
+    /// Gives the node the chain and the mempool of one that has ended. Returns whether that was done.
+    fn take_over<L: Log>(&self, log: &L, end: &NodeEnd<R>) -> bool {
+        match self.node.take_over(&*end.hall.lock(&self.rt)) {
+            Ok(()) => true,
+            Err(fault) => {
+                error!(log; "the chain and the mempool weren't taken over: {fault}");
+                false
+            }
+        }
+    }
+
+    /// Listens where the node before did. Returns whether that was possible.
+    fn listen_again<L: Log>(&mut self, log: &L) -> bool {
+        let address = self.address;
+        match self.node.listen_at(address) {
+            Ok(_) => true,
+            Err(fault) => {
+                error!(log; "nothing listens at {address} any more: {fault}");
+                false
+            }
+        }
+    }
+}
+
+/// Whether all went well: the last audit says yes, each address that was to be dialled from the start
+/// was reached, and no audit before failed.
+fn is_well(verdict: Verdict, reached: bool, failed: bool) -> bool
+    ensures { result ≡ true → verdict ≡ Verdict.Yes }
+{
+    if !verdict.is_yes() {
+        return false;
+    }
+    reached && !failed
+}
+
+/// The addresses that are dialled from the start. Fails only with `NodeFault::Memory`.
+fn targets_of(alloc: Global, addresses: &[SocketAddr]) -> Result<Vec<Target>, NodeFault> {
+    let mut targets = Vec::with_capacity(alloc, addresses.len())?;
+    for address in addresses {
+        targets.push_reserved(Target::new(*address, true));
+    }
+    Ok(targets)
+}
+
+/// With what a node with so many handlers is started, at least 1 and at most 16. Its nonce and its
+/// salt are drawn; its time is the clock's.
+fn settings_of<R: RandomSource + Clock>(rt: &R, handlers: u16) -> Result<NodeSettings, NodeFault>
+    ensures slots { IfOk result (λ settings. (settings.inbound ≡ 48) × (settings.outbound ≡ 16)) }
+    ensures handlers { IfOk result (λ settings. (1 ≤ settings.handlers) × (settings.handlers ≤ 16)) }
+    ensures same { 1 ≤ handlers → handlers ≤ 16 →
+        IfOk result (λ settings. settings.handlers ≡ handlers) }
+{
+    let mut nonce = [0u8; 8];
+    let mut salt = [0u8; 8];
+    rt.fill_bytes(&mut nonce)?;
+    rt.fill_bytes(&mut salt)?;
+    Ok(NodeSettings {
+        nonce: u64::from_le_bytes(nonce),
+        time: unix_time(rt),
+        salt: u64::from_le_bytes(salt),
+        inbound: INBOUND,
+        outbound: OUTBOUND,
+        handlers: handlers.clamp(1, 16),
+    })
+}
+
+/// Why a call of the node was refused.
+pub fn refusal_of(fault: NodeFault) -> Refusal
+    ensures { result ≡ refusal_of fault }
+{
+    match fault {
+        NodeFault::Io => Refusal::Io,
+        NodeFault::NoSlot => Refusal::NoSlot,
+        NodeFault::Memory => Refusal::Memory,
+        NodeFault::Hall(fault) => Refusal::Fault(fault),
+    }
+}

@@ -1,0 +1,291 @@
+//! Running a node until its operator ends it.
+ghost use Rattle.std.specs.Prelude.{◌≡◌, ◌↔◌, ◌⊎◌, ◌≤◌, true, List, IfErr, IfOk, OnErr, OnOk, IsOkUnless};
+ghost use Rattle.std.specs.Io.KnownBytes.{Appends};
+ghost use Rattle.cb_run.specs.declared.ending.Halt.TheVariants.{Memory, ReadFailed, WriteFailed};
+ghost use Rattle.cb_operator.specs.declared.reply.Reply.{Reply};
+ghost use Rattle.cb_node_process.specs.Telling.{Tells, TellsAll, TellsOne, TellsOpening, deaf_text};
+
+use crate::answering::{After, print};
+use crate::host::ProcessHost;
+use crate::orders::NodeOrders;
+use crate::process::Process;
+use crate::reading::{Broken, Order, Orders, start_reading};
+use crate::timed_log::TimedLog;
+use cb_base::Seed;
+use cb_io::Sink;
+use cb_node::NodeFault;
+use cb_operator::{Line, Refusal, Reply, Verdict};
+use cb_run::{Halt, Status, write_all};
+use crossbeam_channel::RecvTimeoutError;
+use log::{Log, Logged, info};
+use std::alloc::Global;
+use std::net::SocketAddr;
+use std::thread;
+use std::time::Duration;
+
+/// How many milliseconds the process waits for a line before it looks at its sockets again.
+const PAUSE_MILLIS: u64 = 10;
+
+/// Why no more lines are answered.
+#[derive(Clone, Copy)]
+enum Stop {
+    /// By `quit`, or because the input ended.
+    Asked,
+    /// Standard input can't be read any more.
+    Broken(Broken),
+}
+
+/// Runs a node. It prints `listening ADDR:PORT` once it listens, and then an answer to each line of
+/// standard input. `quit` and the end of input end it: all its threads return, and the audit's
+/// answer is printed.
+///
+/// Returns the exit status: 0; 3 if it couldn't listen, an audit said no, or an address that it was
+/// to dial from the start was never reached. Why it couldn't listen goes to `errors`. Connections,
+/// their ends and new tips are logged on standard error. The node's tables have this seed, which
+/// changes no result.
+///
+/// Fails if memory runs out at the start, or a read or a write failed. The node has ended then.
+pub fn run_node<R: ProcessHost, W: Sink, E: Sink>(
+    rt: R,
+    alloc: Global,
+    seed: Seed,
+    orders: NodeOrders,
+    writer: &mut W,
+    errors: &mut E,
+) -> Result<u8, Halt>
+    requires handlers { (1 ≤ orders.handlers) × (orders.handlers ≤ 16) }
+    // For a writer and a standard error whose bytes are known: what is printed, or that it can't
+    // listen.
+    ensures told { IfOk result
+        (λ status. (TellsAll (W.contents writer.old) (W.contents writer.new) status
+        × (errors.new ≡ errors.old))
+        ⊎ (Appends (E.contents errors.old) (E.contents errors.new) (deaf_text orders.listen)
+        × (status ≡ 3))) }
+    ensures status { IfOk result (λ status. (status ≡ 0) ⊎ (status ≡ 3)) }
+    // For every writer and standard error: why it ends early.
+    ensures halts { IfErr result (λ halt. (halt ≡ Memory) ⊎ ((halt ≡ ReadFailed)
+        ⊎ ((halt ≡ WriteFailed)
+        × ((W.has_failed writer.new ≡ true) ⊎ (E.has_failed errors.new ≡ true))))) }
+    // Nothing else is told to `errors`.
+    ensures quiet { IfErr result
+        (λ halt. (errors.new ≡ errors.old) ⊎ (E.has_failed errors.new ≡ true)) }
+{
+    let logged = Logged::new(rt, orders.level, TimedLog(rt));
+    let log = logged.with_target("cbrelay");
+    match Process::start(rt, alloc, seed, &orders) {
+        Ok(process) => run(rt, alloc, process, &log, writer),
+        Err(NodeFault::Memory) => Err(Halt::Memory),
+        Err(_) => refuse(alloc, orders.listen, errors),
+    }
+}
+
+/// Tells that the node can't listen. Returns the exit status.
+fn refuse<E: Sink>(alloc: Global, address: SocketAddr, errors: &mut E) -> Result<u8, Halt>
+    ensures told { OnOk result
+        (Appends (E.contents errors.old) (E.contents errors.new) (deaf_text address)) }
+    ensures status { IfOk result (λ status. status ≡ 3) }
+    ensures err { IfErr result
+        (λ halt. (halt ≡ Memory) ⊎ ((halt ≡ WriteFailed) × (E.has_failed errors.new ≡ true))) }
+    ensures quiet { IfErr result
+        (λ halt. (errors.new ≡ errors.old) ⊎ (E.has_failed errors.new ≡ true)) }
+{
+    let text = format!(in alloc;
+        "error: can't listen at {address}: it is in use, not of this machine or not allowed, or no thread can be made\n"
+    )?;
+    write_all(errors, text.as_bytes())?;
+    Ok(Status::BadInput.code())
+}
+
+/// Answers lines until the process is to end, and ends it.
+fn run<R: ProcessHost, L: Log, W: Sink>(
+    rt: R,
+    alloc: Global,
+    process: Process<R>,
+    log: &L,
+    writer: &mut W,
+) -> Result<u8, Halt>
+    ensures told { IfOk result (TellsAll (W.contents writer.old) (W.contents writer.new)) }
+    ensures status { IfOk result (λ status. (status ≡ 0) ⊎ (status ≡ 3)) }
+    ensures halts { IfErr result (λ halt. (halt ≡ Memory) ⊎ ((halt ≡ ReadFailed)
+        ⊎ ((halt ≡ WriteFailed) × (W.has_failed writer.new ≡ true)))) }
+{
+    let mut process = process;
+    let orders = match start_reading(&rt, alloc) {
+        Ok(orders) => orders,
+        Err(halt) => {
+            drop(process.finish());
+            return Err(halt);
+        }
+    };
+    let stopped = serve(&rt, alloc, &mut process, &orders, log, writer);
+    info!(log; "ending");
+    process.note_all_ends(log);
+    process.note_unreached(log);
+    let (verdict, well) = process.finish();
+    match stopped {
+        Ok(stop) => {
+            orders.join(&rt);
+            tell_end(alloc, verdict, well, stop, writer)
+        }
+        // The thread that reads may still wait for a line, so nobody waits for it.
+        Err(halt) => Err(halt),
+    }
+}
+
+/// Prints what the audit answers. Returns the exit status: 0 exactly if all went well.
+fn tell_end<W: Sink>(
+    alloc: Global,
+    verdict: Verdict,
+    well: bool,
+    stop: Stop,
+    writer: &mut W,
+) -> Result<u8, Halt>
+    ensures told { IfOk result (λ status.
+        TellsOne (W.contents writer.old) (W.contents writer.new) (Reply.Audit verdict)) }
+    ensures fully { IfOk result (λ status. (status ≡ 0) ↔ (well ≡ true)) }
+    ensures status { IfOk result (λ status. (status ≡ 0) ⊎ (status ≡ 3)) }
+    ensures halts { IfErr result (λ halt. (halt ≡ Memory) ⊎ ((halt ≡ ReadFailed)
+        ⊎ ((halt ≡ WriteFailed) × (W.has_failed writer.new ≡ true)))) }
+{
+    print(alloc, &Reply::Audit(verdict), writer)?;
+    match stop {
+        Stop::Broken(broken) => Err(broken.halt()),
+        Stop::Asked if well => Ok(Status::Success.code()),
+        Stop::Asked => Ok(Status::BadInput.code()),
+    }
+}
+
+/// Answers lines until the process is to end. Fails only with `Halt::WriteFailed`.
+fn serve<R: ProcessHost, L: Log, W: Sink>(
+    rt: &R,
+    alloc: Global,
+    process: &mut Process<R>,
+    orders: &Orders,
+    log: &L,
+    writer: &mut W,
+) -> Result<Stop, Halt>
+    ensures told { OnOk result
+        (TellsOpening (W.contents writer.old) (W.contents writer.new)) }
+    ensures failed { IsOkUnless result WriteFailed }
+    ensures marked { OnErr result (W.has_failed writer.new ≡ true) }
+{
+    let address = process.address;
+    info!(log; "listening at {address}");
+    print(alloc, &Reply::Listening(address), writer)?;
+    let mut dials = false;
+    for _ in rt.forever() {
+        process.poll(log);
+        match advance(rt, alloc, process, orders, dials, log, writer)? {
+            Next::Line(After::Next) => dials = false,
+            Next::Line(After::Dial) => dials = true,
+            Next::Line(After::End) => return Ok(Stop::Asked),
+            Next::Broken(broken) => return Ok(Stop::Broken(broken)),
+        }
+    }
+    unreachable!()
+}
+
+/// What comes next.
+#[derive(Clone, Copy)]
+enum Next {
+    /// A line was answered, or none came.
+    Line(After),
+    /// Standard input can't be read any more.
+    Broken(Broken),
+}
+
+/// Waits a moment for a line and answers it, or for the dial that an operator waits for. Fails only
+/// with `Halt::WriteFailed`.
+fn advance<R: ProcessHost, L: Log, W: Sink>(
+    rt: &R,
+    alloc: Global,
+    process: &mut Process<R>,
+    orders: &Orders,
+    dials: bool,
+    log: &L,
+    writer: &mut W,
+) -> Result<Next, Halt>
+    ensures told { OnOk result ((told : List Reply)
+        × Tells (W.contents writer.old) (W.contents writer.new) told) }
+    ensures failed { IsOkUnless result WriteFailed }
+    ensures marked { OnErr result (W.has_failed writer.new ≡ true) }
+{
+    if dials {
+        answer_dial(rt, alloc, process, writer)
+    } else {
+        answer_next(rt, alloc, process, orders, log, writer)
+    }
+}
+
+/// Tells what the dial came to for which an operator waits, or waits a moment. Fails only with
+/// `Halt::WriteFailed`.
+fn answer_dial<R: ProcessHost, W: Sink>(
+    rt: &R,
+    alloc: Global,
+    process: &mut Process<R>,
+    writer: &mut W,
+) -> Result<Next, Halt>
+    ensures told { OnOk result ((told : List Reply)
+        × Tells (W.contents writer.old) (W.contents writer.new) told) }
+    ensures failed { IsOkUnless result WriteFailed }
+    ensures marked { OnErr result (W.has_failed writer.new ≡ true) }
+{
+    match process.outcome.take() {
+        Some(reply) => tell(alloc, reply, writer),
+        None => {
+            thread::sleep(rt, Duration::from_millis(PAUSE_MILLIS));
+            Ok(Next::Line(After::Dial))
+        }
+    }
+}
+
+/// Waits a moment for a line, and answers it. Fails only with `Halt::WriteFailed`.
+fn answer_next<R: ProcessHost, L: Log, W: Sink>(
+    rt: &R,
+    alloc: Global,
+    process: &mut Process<R>,
+    orders: &Orders,
+    log: &L,
+    writer: &mut W,
+) -> Result<Next, Halt>
+    ensures told { OnOk result ((told : List Reply)
+        × Tells (W.contents writer.old) (W.contents writer.new) told) }
+    ensures failed { IsOkUnless result WriteFailed }
+    ensures marked { OnErr result (W.has_failed writer.new ≡ true) }
+{
+    let pause = Duration::from_millis(PAUSE_MILLIS);
+    match orders.coming.recv_timeout(rt, pause) {
+        Ok(Order::Line(line)) => obey(process, line, log, writer),
+        Ok(Order::Unreadable) => tell(alloc, Reply::Refused(Refusal::Unreadable), writer),
+        Ok(Order::NoMemory) => tell(alloc, Reply::Refused(Refusal::Memory), writer),
+        Ok(Order::Broken(broken)) => Ok(Next::Broken(broken)),
+        Err(RecvTimeoutError::Timeout) => Ok(Next::Line(After::Next)),
+        Ok(Order::End) | Err(RecvTimeoutError::Disconnected) => Ok(Next::Line(After::End)),
+    }
+}
+
+/// Answers a line. Fails only with `Halt::WriteFailed`.
+fn obey<R: ProcessHost, L: Log, W: Sink>(
+    process: &mut Process<R>,
+    line: Line,
+    log: &L,
+    writer: &mut W,
+) -> Result<Next, Halt>
+    ensures told { OnOk result ((told : List Reply)
+        × Tells (W.contents writer.old) (W.contents writer.new) told) }
+    ensures failed { IsOkUnless result WriteFailed }
+    ensures marked { OnErr result (W.has_failed writer.new ≡ true) }
+{
+    Ok(Next::Line(process.answer(line, log, writer)?))
+}
+
+/// Prints a line. Fails only with `Halt::WriteFailed`.
+fn tell<W: Sink>(alloc: Global, reply: Reply, writer: &mut W) -> Result<Next, Halt>
+    ensures told { OnOk result ((told : List Reply)
+        × Tells (W.contents writer.old) (W.contents writer.new) told) }
+    ensures failed { IsOkUnless result WriteFailed }
+    ensures marked { OnErr result (W.has_failed writer.new ≡ true) }
+{
+    print(alloc, &reply, writer)?;
+    Ok(Next::Line(After::Next))
+}
