@@ -1,7 +1,7 @@
 """Runs the gate `rt ci` and passes on what it prints; before its last line, says when each of its parts was through and what
 each crate's proofs took.
 
-Usage: scripts/gate.py [ATTACKED], where ATTACKED is the last line of ./attack, told once more before the last line of `rt ci`.
+Usage: scripts/gate.py [TEXT ..], where each TEXT of what went before is told once more before the last line of `rt ci`.
 The status is that of `rt ci`.
 """
 
@@ -36,8 +36,8 @@ def main():
         print(f"test: gate: {name} through after {seconds:.0f} s")
     print(*table(meter.stop(), spent() - before), sep="\n")
     print(f"test: the gate: {time.monotonic() - began:.0f} s")
-    for attacked in sys.argv[1:]:
-        print(f"./attack: {attacked}")
+    for text in sys.argv[1:]:
+        print(text)
     print(last, end="", flush=True)
     return status
 

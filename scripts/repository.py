@@ -44,14 +44,13 @@ class Repository:
             name: Crate(name, self.root / "crates" / name, line, tuple(it for it in line.partition(":")[2].split() if it in listed))
             for name, line in listed.items()
         }
+        self.found_below = {}
 
     def below(self, crate):
         """Returns the libraries that a crate stands on, each after those that it stands on itself."""
-        found = []
-        for name in crate.uses:
-            library = self.crates[name]
-            found += [it for it in [*self.below(library), library] if it not in found]
-        return found
+        if crate.name not in self.found_below:
+            self.found_below[crate.name] = self.with_below([self.crates[name] for name in crate.uses])
+        return self.found_below[crate.name]
 
     def with_below(self, crates):
         """Returns these crates and all that they stand on, lowest first."""
