@@ -209,8 +209,8 @@ fn reader_of<'a, R: Wait + Copy + Drop>(
     })
 }
 
-/// Appends what a run came to. Returns whether no trace replays otherwise. Fails if memory ran out, in the
-/// run or here.
+/// Appends what a run came to. Returns whether no trace replays otherwise. Fails if memory ran out,
+/// in the run or here.
 fn tell<R: Wait + Drop>(
     rt: &R,
     alloc: Global,
