@@ -1,3 +1,4 @@
 pub mod Endings
 pub mod Printing
+pub mod Runs
 pub mod Told

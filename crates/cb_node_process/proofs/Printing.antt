@@ -24,7 +24,7 @@ use Rattle.cb_operator.specs.declared.reply.Reply.TheVariants as replies
 use Rattle.cb_operator.specs.declared.reply.Tip.{Tip}
 use Rattle.cb_operator.specs.Answering.{Alone, CanAnswer, IsRefused}
 use Rattle.cb_operator.specs.Replies.{reply_text}
-use Rattle.cb_node_process.specs.Telling.{CanBe, IsOr, Tells, TellsAll, TellsOne, TellsOpening, peers_lines, pool_lines, refusal_of}
+use Rattle.cb_node_process.specs.Telling.{CanBe, IsOr, Tells, TellsAnswer, TellsOne, peers_lines, pool_lines, refusal_of}
 
 -- these refusals tell that the line could be read
 pub memory_is_known : refusals.Memory ≢ refusals.Unreadable
@@ -123,25 +123,15 @@ tells_text a b text reply told is e p = (told, is, subst (Appends a b) (e ∙ sy
 pub answered : (line : Line) (held holds : Option (List ℕ)) (reply : Reply) → CanBe line reply → TellsOne held holds reply → (told : List Reply) × CanAnswer line told × Tells held holds told
 answered line held holds reply c one = (one.0 ∷ [], c.can one.0 one.1, one.2)
 
--- one line is a list of lines
-pub tells_line : (a b : Option (List ℕ)) (reply : Reply) → TellsOne a b reply → (told : List Reply) × Tells a b told
-tells_line a b reply one = (one.0 ∷ [], one.2)
-
 -- two lines answer `restart`
-pub restarted : (a b c : Option (List ℕ)) (verdict : Verdict) (tip : Tip) → TellsOne a b (replies.Audit verdict) → TellsOne b c (replies.Restarted tip) → (told : List Reply) × CanAnswer lines.Restart told × Tells a c told
-restarted a b c verdict tip x y =
-    ((x.0 ∷ []) ++ (y.0 ∷ []), inl (verdict, tip, x.0 ∷ [], y.0 ∷ [], alone (replies.Audit verdict) x.0 x.1, alone (replies.Restarted tip) y.0 y.1, refl), tells_more a b c (x.0 ∷ []) (y.0 ∷ []) x.2 y.2)
-
--- ---- a whole run
-
-pub opened : (a b : Option (List ℕ)) (address : SocketAddr) → TellsOne a b (replies.Listening address) → TellsOpening a b
-opened a b address one = (address, one.0, [], one.1, one.2)
-
-pub opened_more : (a b c : Option (List ℕ)) → TellsOpening a b → (told : List Reply) × Tells b c told → TellsOpening a c
-opened_more a b c o m = (o.0, o.1, o.2 ++ m.0, o.3, tells_more a b c (o.1 ∷ o.2) m.0 o.4 m.1)
-
-pub tells_all : (a b c : Option (List ℕ)) (verdict : Verdict) (status : ℕ) → TellsOpening a b → TellsOne b c (replies.Audit verdict) → (status ≡ 0 → verdict ≡ verdicts.Yes) → (status ≡ 0) ⊎ (status ≡ 3) → TellsAll a c status
-tells_all a b c verdict status o l well which = (o.0, verdict, o.1, l.0, o.2, o.3, l.1, tells_more a b c (o.1 ∷ o.2) (l.0 ∷ []) o.4 l.2, (well, which))
+pub restarted : (Well : Type 0) (a b c : Option (List ℕ)) (verdict : Verdict) (tip : Tip) → (Well → verdict ≡ verdicts.Yes) → TellsOne a b (replies.Audit verdict) → TellsOne b c (replies.Restarted tip) → TellsAnswer Well lines.Restart a c
+restarted Well a b c verdict tip says x y =
+    let first : Alone (replies.Audit verdict) (x.0 ∷ []) = alone (replies.Audit verdict) x.0 x.1 in
+    let second : Alone (replies.Restarted tip) (y.0 ∷ []) = alone (replies.Restarted tip) y.0 y.1 in (
+      (x.0 ∷ []) ++ (y.0 ∷ []),
+      (inl (verdict, tip, x.0 ∷ [], y.0 ∷ [], first, second, refl), λ well is. inl (tip, x.0 ∷ [], y.0 ∷ [], subst (λ (v : Verdict). Alone (replies.Audit v) (x.0 ∷ [])) (says well) first, second, refl)),
+      tells_more a b c (x.0 ∷ []) (y.0 ∷ []) x.2 y.2,
+    )
 
 -- ---- under a result
 
@@ -157,8 +147,3 @@ pool_told a b text txids e p = (pool_lines txids, inl (txids, refl), subst (Appe
 
 pub peers_told : (a b : Option (List ℕ)) (text : List ℕ) (peers : List PeerLine) → text ≡ flat_map reply_text (peers_lines peers) → Appends a b text → (told : List Reply) × CanAnswer lines.Peers told × Tells a b told
 peers_told a b text peers e p = (peers_lines peers, inl (peers, refl), subst (Appends a b) e p)
-
--- the line that was printed answers this one
-pub told_by : {T E : Type 0} (line other : Line) (r : Result T E) (held holds : Option (List ℕ)) (reply : Reply) → line ≡ other → CanBe other reply → OnOk r (TellsOne held holds reply)
-    → OnOk r ((told : List Reply) × CanAnswer line told × Tells held holds told)
-told_by line other r held holds reply is c p = on_ok r (answered line held holds reply (subst (λ (l : Line). CanBe l reply) (sym is) c)) p

@@ -1,14 +1,15 @@
 -- What a process prints.
 use Rattle.std.specs.Prelude.{◌≡◌, ℕ, ◌⊎◌, List, [], ◌∷◌, ◌++◌, codes, length, map, Option}
 use Rattle.std.specs.Io.KnownBytes.{Appends}
-use Rattle.std.specs.List.{flat_map}
+use Rattle.std.specs.List.{All, flat_map}
 use Rattle.std.specs.declared.net.socket_addr.SocketAddr.{SocketAddr}
 use Rattle.std.specs.Net.Text.{socket_text}
 use Rattle.cb_slots.specs.declared.fault.NodeFault.{NodeFault}
 use Rattle.cb_slots.specs.declared.fault.NodeFault.TheVariants as node
-use Rattle.cb_operator.specs.Answering.{CanAnswer}
+use Rattle.cb_operator.specs.Answering.{Alone, CanAnswer, IsRefused}
 use Rattle.cb_base.specs.declared.hash.Hash256.{Hash256}
 use Rattle.cb_operator.specs.declared.line.Line.{Line}
+use Rattle.cb_operator.specs.declared.line.Line.TheVariants as lines
 use Rattle.cb_operator.specs.declared.peer_line.PeerLine.{PeerLine}
 use Rattle.cb_operator.specs.declared.refusal.Refusal.{Refusal}
 use Rattle.cb_operator.specs.declared.refusal.Refusal.TheVariants as refusals
@@ -16,6 +17,7 @@ use Rattle.cb_operator.specs.declared.refusal.Verdict.{Verdict}
 use Rattle.cb_operator.specs.declared.refusal.Verdict.TheVariants as verdicts
 use Rattle.cb_operator.specs.declared.reply.Reply.{Reply}
 use Rattle.cb_operator.specs.declared.reply.Reply.TheVariants as replies
+use Rattle.cb_operator.specs.declared.reply.Tip.{Tip}
 use Rattle.cb_operator.specs.Replies.{reply_text}
 
 -- the lines of a mempool, and of connections that last: how many there are, and then each
@@ -47,16 +49,57 @@ pub record CanBe (line : Line) (reply : Reply) : Type 0 where
 abbrev pub TellsOne : Option (List ℕ) → Option (List ℕ) → Reply → Type 0
 TellsOne held holds reply = (told : Reply) × IsOr reply told × Tells held holds (told ∷ [])
 
--- where it listens was printed first
-abbrev pub TellsOpening : Option (List ℕ) → Option (List ℕ) → Type 0
-TellsOpening held holds = (address : SocketAddr) × (first : Reply) × (told : List Reply) × IsOr (replies.Listening address) first × Tells held holds (first ∷ told)
+-- ---- answers
 
--- Where it listens was printed first, and what the audit answers last, or `error memory` in the place
--- of either. The status 0 tells that the audit says yes.
+-- `restart` was refused, or its audit says yes
+abbrev pub RestartsWell : List Reply → Type 0
+RestartsWell told =
+    ((tip : Tip) × (first second : List Reply) × Alone (replies.Audit verdicts.Yes) first × Alone (replies.Restarted tip) second × (told ≡ first ++ second)) ⊎ IsRefused told
+
+-- a line is answered so; if all is well, its audit says yes
+abbrev pub Obeys : Type 0 → Line → List Reply → Type 0
+Obeys Well line told = CanAnswer line told × (Well → line ≡ lines.Restart → RestartsWell told)
+
+-- what the dial of a `connect` came to
+abbrev pub IsDialReply : Reply → Type 0
+IsDialReply reply = ((address : SocketAddr) × (slot : ℕ) × (reply ≡ replies.Connected address slot)) ⊎ ((refusal : Refusal) × (reply ≡ replies.Refused refusal))
+
+-- its line, or `error memory` in its place
+abbrev pub TellsDial : List Reply → Type 0
+TellsDial told = (reply : Reply) × IsDialReply reply × Alone reply told
+
+-- the answer to a line, what a dial came to, or that a line can't be read or that memory lacks for it
+abbrev pub IsAnswer : Type 0 → List Reply → Type 0
+IsAnswer Well told = ((line : Line) × Obeys Well line told) ⊎ (TellsDial told ⊎ Alone (replies.Refused refusals.Unreadable) told)
+
+-- the answer to this line was printed
+abbrev pub TellsAnswer : Type 0 → Line → Option (List ℕ) → Option (List ℕ) → Type 0
+TellsAnswer Well line held holds = (told : List Reply) × Obeys Well line told × Tells held holds told
+
+-- the lines of answers
+abbrev pub answers_text : List (List Reply) → List ℕ
+answers_text answers = flat_map (flat_map reply_text) answers
+
+-- answers were printed, one behind the other
+abbrev pub TellsAnswers : Type 0 → Option (List ℕ) → Option (List ℕ) → Type 0
+TellsAnswers Well held holds = (answers : List (List Reply)) × All (IsAnswer Well) answers × Appends held holds (answers_text answers)
+
+-- ---- a whole run
+
+-- where it listens was printed first, and then answers
+abbrev pub TellsOpening : Type 0 → Option (List ℕ) → Option (List ℕ) → Type 0
+TellsOpening Well held holds =
+    (address : SocketAddr) × (first : Reply) × (answers : List (List Reply)) × IsOr (replies.Listening address) first × All (IsAnswer Well) answers
+    × Appends held holds (reply_text first ++ answers_text answers)
+
+-- Where it listens was printed first, then answers, and what the audit answers last, or `error memory`
+-- in the place of a line. The status 0 tells that each audit that was printed says yes, that of a
+-- `restart` too.
 abbrev pub TellsAll : Option (List ℕ) → Option (List ℕ) → ℕ → Type 0
 TellsAll held holds status =
-    (address : SocketAddr) × (verdict : Verdict) × (first last : Reply) × (told : List Reply) × IsOr (replies.Listening address) first × IsOr (replies.Audit verdict) last
-    × Tells held holds (first ∷ (told ++ last ∷ [])) × ((status ≡ 0 → verdict ≡ verdicts.Yes) × ((status ≡ 0) ⊎ (status ≡ 3)))
+    (address : SocketAddr) × (verdict : Verdict) × (first last : Reply) × (answers : List (List Reply)) × IsOr (replies.Listening address) first × IsOr (replies.Audit verdict) last
+    × All (IsAnswer (status ≡ 0)) answers × Appends held holds ((reply_text first ++ answers_text answers) ++ reply_text last)
+    × ((status ≡ 0 → verdict ≡ verdicts.Yes) × ((status ≡ 0) ⊎ (status ≡ 3)))
 
 -- why a line is refused, by why the node refuses a call
 abbrev pub refusal_of : NodeFault → Refusal

@@ -10,7 +10,7 @@ ghost use Rattle.cb_operator.specs.declared.peer_line.PeerLine.{PeerLine};
 ghost use Rattle.cb_operator.specs.declared.reply.Reply.{Reply};
 ghost use Rattle.cb_operator.specs.Answering.{CanAnswer};
 ghost use Rattle.cb_operator.specs.Replies.{reply_text};
-ghost use Rattle.cb_node_process.specs.Telling.{CanBe, Tells, TellsOne, peer_lines, peers_lines, pool_lines, txid_lines};
+ghost use Rattle.cb_node_process.specs.Telling.{CanBe, Tells, TellsAnswer, TellsOne, peer_lines, peers_lines, pool_lines, txid_lines};
 
 use crate::host::ProcessHost;
 use crate::process::{Process, refusal_of};
@@ -31,6 +31,9 @@ use std::net::SocketAddr;
 pub enum After {
     /// The next line is read.
     Next,
+    /// The next line is read. An audit said no, or a node that was started anew lacks the chain, the
+    /// mempool or the address of the one before, which the exit status tells.
+    Failed,
     /// No line is answered until the dial has ended that the line asked for.
     Dial,
     /// The process ends.
@@ -82,8 +85,8 @@ impl<R: ProcessHost> Process<R> {
         log: &L,
         writer: &mut W,
     ) -> Result<After, Halt>
-        ensures told { OnOk result ((told : List Reply) × CanAnswer line told
-            × Tells (W.contents writer.old) (W.contents writer.new) told) }
+        ensures told { IfOk result (λ after. TellsAnswer (after ≢ After.Failed) line
+            (W.contents writer.old) (W.contents writer.new)) }
         ensures failed { IsOkUnless result WriteFailed }
         ensures marked { OnErr result (W.has_failed writer.new ≡ true) }
     {
@@ -341,19 +344,27 @@ impl<R: ProcessHost> Process<R> {
 
     /// `restart`: ends the node, audits it, and starts another one.
     fn renew<W: Sink, L: Log>(&mut self, log: &L, writer: &mut W) -> Result<After, Halt>
-        ensures told { OnOk result ((told : List Reply) × CanAnswer Line.Restart told
-            × Tells (W.contents writer.old) (W.contents writer.new) told) }
+        ensures told { IfOk result (λ after. TellsAnswer (after ≢ After.Failed) Line.Restart
+            (W.contents writer.old) (W.contents writer.new)) }
         ensures failed { IsOkUnless result WriteFailed }
         ensures marked { OnErr result (W.has_failed writer.new ≡ true) }
     {
         match self.restart(log) {
-            Ok(verdict) => {
-                print(self.alloc, &Reply::Audit(verdict), writer)?;
-                say(self.alloc, Reply::Restarted(self.tip()), writer)
+            Ok(restarted) => {
+                print(self.alloc, &Reply::Audit(restarted.verdict), writer)?;
+                print(self.alloc, &Reply::Restarted(self.tip()), writer)?;
+                Ok(after_restart(restarted.well))
             }
             Err(fault) => say(self.alloc, Reply::Refused(refusal_of(fault)), writer),
         }
     }
+}
+
+/// What comes after `restart`, if all went well or not.
+fn after_restart(well: bool) -> After
+    ensures { result ≢ After.Failed → well ≡ true }
+{
+    if well { After::Next } else { After::Failed }
 }
 
 /// Appends the lines of a mempool with these txids. Fails only with `Fault::Memory`.

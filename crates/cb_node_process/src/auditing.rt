@@ -1,4 +1,5 @@
 //! The audit of a node that has ended.
+ghost use Rattle.std.specs.Prelude.{◌≡◌, true};
 ghost use Rattle.cb_desks.specs.Desks.{traces_of};
 ghost use Rattle.cb_journal.specs.Journal.{JournalState};
 ghost use Rattle.cb_node_process.specs.Auditing.{TellsVerdict};
@@ -46,4 +47,15 @@ fn audit_all(alloc: Global, hall: &Hall, audited: &[Audited]) -> Verdict
             Verdict::Differs(connection.peer, connection.generation, place)
         }
     }
+}
+
+/// Whether all went well: an audit says yes, and both of these hold.
+pub fn is_well(verdict: Verdict, first: bool, second: bool) -> bool
+    ensures { result ≡ true
+        → (verdict ≡ Verdict.Yes) × ((first ≡ true) × (second ≡ true)) }
+{
+    if !verdict.is_yes() {
+        return false;
+    }
+    first && second
 }

@@ -1,7 +1,7 @@
 //! Dialling peers. Each dial has a thread of its own, so an address that doesn't answer holds up
 //! nobody.
-ghost use Rattle.std.specs.Prelude.{◌≡◌, ◌≤◌, ◌⊎◌, true, false};
-ghost use Rattle.cb_node_process.specs.Dialling.{longer};
+ghost use Rattle.std.specs.Prelude.{◌≡◌, ◌↔◌, true, false, IsTrue, None};
+ghost use Rattle.cb_node_process.specs.Dialling.{IsDialled, IsDue, LastsWell, later, longer};
 
 use crate::host::ProcessHost;
 use cb_base::Shared;
@@ -16,7 +16,7 @@ use std::{mem, thread};
 const DIAL_SECONDS: u64 = 5;
 
 /// How many seconds pass at most before an address is dialled again.
-const LONGEST_DELAY: u64 = 60;
+const LONGEST_DELAY: u16 = 60;
 
 /// A connection that lasted for this many milliseconds was a good one: the next delay is the
 /// shortest.
@@ -52,14 +52,15 @@ pub struct Target {
     pub reached: bool,
     stage: Stage,
     /// How many seconds pass before it is dialled again.
-    delay: u64,
+    delay: u16,
 }
 
 impl Target {
     /// An address that is due to be dialled.
     pub fn new(address: SocketAddr, keeps_trying: bool) -> Target
         ensures { (result.address ≡ address) × (result.keeps_trying ≡ keeps_trying)
-            × (result.reached ≡ false) × (result.delay ≡ 1) }
+            × (result.reached ≡ false) × (result.delay ≡ 1)
+            × (result.stage ≡ Stage.Waits 0) }
     {
         Target {
             address,
@@ -72,13 +73,20 @@ impl Target {
 
     /// The connection to it has ended with the node. It is due to be dialled, and the delays begin
     /// anew.
-    pub fn renew(&mut self) {
+    pub fn renew(&mut self)
+        ensures due { (self.new.stage ≡ Stage.Waits 0) × (self.new.delay ≡ 1) }
+        ensures same { (self.new.reached ≡ self.old.reached)
+            × (self.new.address ≡ self.old.address)
+            × (self.new.keeps_trying ≡ self.old.keeps_trying) }
+    {
         self.stage = Stage::Waits(0);
         self.delay = 1;
     }
 
     /// Whether it is due to be dialled at this time.
-    pub fn is_due(&self, now: u64) -> bool {
+    pub fn is_due(&self, now: u64) -> bool
+        ensures { IsTrue result ↔ IsDue self.now.stage now }
+    {
         match &self.stage {
             Stage::Waits(due) => *due <= now,
             Stage::Dials(_) | Stage::Lasts(_, _) => false,
@@ -86,7 +94,14 @@ impl Target {
     }
 
     /// Starts the thread that dials it. Returns whether that was possible.
-    pub fn dial<R: ProcessHost>(&mut self, rt: &R, alloc: Global) -> bool {
+    pub fn dial<R: ProcessHost>(&mut self, rt: &R, alloc: Global) -> bool
+        ensures dials { result ≡ true → IsDialled self.new.stage }
+        ensures refused { result ≡ false → self.new ≡ self.old }
+        ensures same { (self.new.reached ≡ self.old.reached)
+            × (self.new.address ≡ self.old.address)
+            × (self.new.keeps_trying ≡ self.old.keeps_trying)
+            × (self.new.delay ≡ self.old.delay) }
+    {
         match start_dial(rt, alloc, self.address) {
             Some(dial) => {
                 self.stage = Stage::Dials(dial);
@@ -97,7 +112,9 @@ impl Target {
     }
 
     /// Whether a dial of it has ended.
-    pub fn has_dialled(&self) -> bool {
+    pub fn has_dialled(&self) -> bool
+        ensures { IsTrue result → IsDialled self.now.stage }
+    {
         match &self.stage {
             Stage::Dials(dial) => dial.done.load(Ordering::SeqCst),
             Stage::Waits(_) | Stage::Lasts(_, _) => false,
@@ -105,8 +122,16 @@ impl Target {
     }
 
     /// Waits for the end of a dial of it, if one is under way, and returns the stream if one was
-    /// connected. It is due to be dialled at this time.
-    pub fn take_stream<R: ProcessHost>(&mut self, rt: &R, now: u64) -> Option<TcpStream> {
+    /// connected. It is due to be dialled at this time then.
+    pub fn take_stream<R: ProcessHost>(&mut self, rt: &R, now: u64) -> Option<TcpStream>
+        ensures due { IsDialled self.old.stage → self.new.stage ≡ Stage.Waits now }
+        ensures none { (IsDialled self.old.stage → ⊥)
+            → (result ≡ None) × (self.new.stage ≡ self.old.stage) }
+        ensures same { (self.new.reached ≡ self.old.reached)
+            × (self.new.address ≡ self.old.address)
+            × (self.new.keeps_trying ≡ self.old.keeps_trying)
+            × (self.new.delay ≡ self.old.delay) }
+    {
         match mem::replace(&mut self.stage, Stage::Waits(now)) {
             Stage::Dials(dial) => {
                 let Dial { thread, done } = dial;
@@ -123,14 +148,17 @@ impl Target {
     /// A connection to it was made at this time, in this slot.
     pub fn reach(&mut self, slot: u16, now: u64)
         ensures { (self.new.reached ≡ true) × (self.new.address ≡ self.old.address)
-            × (self.new.keeps_trying ≡ self.old.keeps_trying) × (self.new.delay ≡ self.old.delay) }
+            × (self.new.keeps_trying ≡ self.old.keeps_trying) × (self.new.delay ≡ self.old.delay)
+            × (self.new.stage ≡ Stage.Lasts slot now) }
     {
         self.reached = true;
         self.stage = Stage::Lasts(slot, now);
     }
 
     /// Whether the connection that was made at this time in this slot is to it.
-    pub fn lasts_in(&self, slot: u16, since: u64) -> bool {
+    pub fn lasts_in(&self, slot: u16, since: u64) -> bool
+        ensures { IsTrue result ↔ (self.now.stage ≡ Stage.Lasts slot since) }
+    {
         match &self.stage {
             Stage::Lasts(its, made) => *its == slot && *made == since,
             Stage::Waits(_) | Stage::Dials(_) => false,
@@ -139,9 +167,11 @@ impl Target {
 
     /// The connection to it has ended, or couldn't be made. Returns how many seconds later it is
     /// dialled again. A connection that lasted for a minute lets the delays begin anew.
-    pub fn put_off(&mut self, now: u64) -> u64
-        ensures delay { (result ≡ self.old.delay) ⊎ (result ≡ 1) }
+    pub fn put_off(&mut self, now: u64) -> u16
+        ensures short { LastsWell self.old.stage now → result ≡ 1 }
+        ensures delay { (LastsWell self.old.stage now → ⊥) → result ≡ self.old.delay }
         ensures next { self.new.delay ≡ longer result }
+        ensures due { self.new.stage ≡ Stage.Waits (later now result) }
         ensures same { (self.new.reached ≡ self.old.reached)
             × (self.new.address ≡ self.old.address)
             × (self.new.keeps_trying ≡ self.old.keeps_trying) }
@@ -153,7 +183,7 @@ impl Target {
         }
         let delay = self.delay;
         self.delay = delay.saturating_mul(2).min(LONGEST_DELAY);
-        self.stage = Stage::Waits(now.saturating_add(delay.saturating_mul(1_000)));
+        self.stage = Stage::Waits(now.saturating_add(u64::from(delay) * 1_000));
         delay
     }
 }

@@ -9,7 +9,7 @@ use crate::process::{Process, refusal_of};
 use crate::watching::Watched;
 use cb_base::Hash256;
 use cb_node::{CloseReason, NodeFault};
-use cb_operator::{Refusal, Reply};
+use cb_operator::Refusal;
 use log::{Log, debug, info, warn};
 use std::net::{SocketAddr, TcpStream};
 
@@ -266,10 +266,7 @@ impl<R: ProcessHost> Process<R> {
     fn tell(&mut self, address: SocketAddr, served: Result<u16, Refusal>) {
         if self.awaited == Some(address) {
             self.awaited = None;
-            self.outcome = Some(match served {
-                Ok(slot) => Reply::Connected(address, slot),
-                Err(refusal) => Reply::Refused(refusal),
-            });
+            self.outcome = Some((address, served));
         }
     }
 

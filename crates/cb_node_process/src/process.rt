@@ -2,7 +2,7 @@
 ghost use Rattle.std.specs.Prelude.{◌≡◌, ◌≤◌, true, IfOk};
 ghost use Rattle.cb_node_process.specs.Telling.{refusal_of};
 
-use crate::auditing::verdict_of;
+use crate::auditing::{is_well, verdict_of};
 use crate::dialling::Target;
 use crate::host::ProcessHost;
 use crate::orders::NodeOrders;
@@ -10,7 +10,7 @@ use crate::stopwatch::{Stopwatch, unix_time};
 use crate::watching::Watched;
 use cb_base::{Hash256, Seed};
 use cb_node::{Node, NodeEnd, NodeFault, NodeSettings};
-use cb_operator::{Moved, Refusal, Reply, Tip, Verdict};
+use cb_operator::{Moved, Refusal, Tip, Verdict};
 use log::{Log, error};
 use std::alloc::Global;
 use std::mem;
@@ -50,14 +50,21 @@ pub struct Process<R: ProcessHost> {
     pub(crate) targets: Vec<Target>,
     /// The address whose first dial an operator waits for.
     pub(crate) awaited: Option<SocketAddr>,
-    /// What that came to.
-    pub(crate) outcome: Option<Reply>,
+    /// What that came to: the address, and the slot that serves the connection.
+    pub(crate) outcome: Option<(SocketAddr, Result<u16, Refusal>)>,
     /// How many connections there were.
     pub(crate) connections: u64,
     /// What the connections that ended moved.
     pub(crate) moved: Moved,
-    /// Whether something failed that the exit status tells.
-    pub(crate) failed: bool,
+}
+
+/// What came of a node that was ended, and of another one that was started.
+#[derive(Clone, Copy)]
+pub struct Restarted {
+    /// What the audit of the one that has ended answers.
+    pub verdict: Verdict,
+    /// Whether it says yes, and the other one has its chain, its mempool and its address.
+    pub well: bool,
 }
 
 impl<R: ProcessHost> Process<R> {
@@ -96,7 +103,6 @@ impl<R: ProcessHost> Process<R> {
                 outcome: None,
                 connections: 0,
                 moved: Moved::nothing(),
-                failed: false,
             }),
             Err(fault) => {
                 drop(node.finish());
@@ -134,11 +140,9 @@ impl<R: ProcessHost> Process<R> {
             .all(|target| target.reached || !target.keeps_trying)
     }
 
-    /// Ends the node and all its threads. Returns what the audit answers, and whether all went well:
-    /// each audit says yes, and each address that was to be dialled from the start was reached once.
-    pub fn finish(self) -> (Verdict, bool)
-        ensures { result.1 ≡ true → result.0 ≡ Verdict.Yes }
-    {
+    /// Ends the node and all its threads. Returns what the audit answers, and whether each address
+    /// that was to be dialled from the start was reached once.
+    pub fn finish(self) -> (Verdict, bool) {
         let mut process = self;
         process.end_dials();
         let reached = process.has_reached_all();
@@ -146,20 +150,21 @@ impl<R: ProcessHost> Process<R> {
             rt,
             alloc,
             node,
-            failed,
             ..
         } = process;
         let end = node.finish();
-        let verdict = verdict_of(&rt, alloc, &end);
-        (verdict, is_well(verdict, reached, failed))
+        (verdict_of(&rt, alloc, &end), reached)
     }
 
     /// Ends the node, audits it, and starts another one over the same chain and mempool, which
-    /// listens at the same address. Addresses are dialled anew. Returns what the audit answers.
+    /// listens at the same address. Addresses are dialled anew.
     ///
     /// Fails with `NodeFault::Io` and `NodeFault::Memory` if no other node can be started. Nothing
     /// was done then.
-    pub fn restart<L: Log>(&mut self, log: &L) -> Result<Verdict, NodeFault> {
+    pub fn restart<L: Log>(&mut self, log: &L) -> Result<Restarted, NodeFault>
+        ensures well { IfOk result
+            (λ restarted. restarted.well ≡ true → restarted.verdict ≡ Verdict.Yes) }
+    {
         let settings = settings_of(&self.rt, self.settings.handlers)?;
         let fresh = Node::start_with_seed(self.rt, self.alloc, settings, self.seed)?;
         self.end_dials();
@@ -170,8 +175,8 @@ impl<R: ProcessHost> Process<R> {
         let verdict = verdict_of(&self.rt, self.alloc, &end);
         let took = self.take_over(log, &end);
         let listens = self.listen_again(log);
-        self.failed |= !verdict.is_yes() || !took || !listens;
-        Ok(verdict)
+        let well = is_well(verdict, took, listens);
+        Ok(Restarted { verdict, well })
     }
 
     /// The connections have ended with their node. What they moved stays counted, and each address
@@ -208,17 +213,6 @@ impl<R: ProcessHost> Process<R> {
             }
         }
     }
-}
-
-/// Whether all went well: the last audit says yes, each address that was to be dialled from the start
-/// was reached, and no audit before failed.
-fn is_well(verdict: Verdict, reached: bool, failed: bool) -> bool
-    ensures { result ≡ true → verdict ≡ Verdict.Yes }
-{
-    if !verdict.is_yes() {
-        return false;
-    }
-    reached && !failed
 }
 
 /// The addresses that are dialled from the start. Fails only with `NodeFault::Memory`.

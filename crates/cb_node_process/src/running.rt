@@ -1,11 +1,11 @@
 //! Running a node until its operator ends it.
-ghost use Rattle.std.specs.Prelude.{◌≡◌, ◌↔◌, ◌⊎◌, ◌≤◌, true, List, IfErr, IfOk, OnErr, OnOk, IsOkUnless};
+ghost use Rattle.std.specs.Prelude.{◌≡◌, ◌≢◌, ◌↔◌, ◌⊎◌, ◌≤◌, true, IfErr, IfOk, OnErr, OnOk, IsOkUnless};
 ghost use Rattle.std.specs.Io.KnownBytes.{Appends};
 ghost use Rattle.cb_run.specs.declared.ending.Halt.TheVariants.{Memory, ReadFailed, WriteFailed};
-ghost use Rattle.cb_operator.specs.declared.reply.Reply.{Reply};
-ghost use Rattle.cb_node_process.specs.Telling.{Tells, TellsAll, TellsOne, TellsOpening, deaf_text};
+ghost use Rattle.cb_node_process.specs.Telling.{IsDialReply, TellsAll, TellsAnswers, TellsOne, TellsOpening, deaf_text};
 
 use crate::answering::{After, print};
+use crate::auditing::is_well;
 use crate::host::ProcessHost;
 use crate::orders::NodeOrders;
 use crate::process::Process;
@@ -33,6 +33,14 @@ enum Stop {
     Asked,
     /// Standard input can't be read any more.
     Broken(Broken),
+}
+
+/// How lines were answered until the process was to end.
+#[derive(Clone, Copy)]
+struct Served {
+    stop: Stop,
+    /// Whether each `restart` went well.
+    well: bool,
 }
 
 /// Runs a node. It prints `listening ADDR:PORT` once it listens, and then an answer to each line of
@@ -117,15 +125,16 @@ fn run<R: ProcessHost, L: Log, W: Sink>(
             return Err(halt);
         }
     };
-    let stopped = serve(&rt, alloc, &mut process, &orders, log, writer);
+    let ended = serve(&rt, alloc, &mut process, &orders, log, writer);
     info!(log; "ending");
     process.note_all_ends(log);
     process.note_unreached(log);
-    let (verdict, well) = process.finish();
-    match stopped {
-        Ok(stop) => {
+    let (verdict, reached) = process.finish();
+    match ended {
+        Ok(served) => {
             orders.join(&rt);
-            tell_end(alloc, verdict, well, stop, writer)
+            let well = is_well(verdict, reached, served.well);
+            tell_end(alloc, verdict, well, served.stop, writer)
         }
         // The thread that reads may still wait for a line, so nobody waits for it.
         Err(halt) => Err(halt),
@@ -163,23 +172,34 @@ fn serve<R: ProcessHost, L: Log, W: Sink>(
     orders: &Orders,
     log: &L,
     writer: &mut W,
-) -> Result<Stop, Halt>
-    ensures told { OnOk result
-        (TellsOpening (W.contents writer.old) (W.contents writer.new)) }
+) -> Result<Served, Halt>
+    ensures told { IfOk result (λ served. TellsOpening (served.well ≡ true)
+        (W.contents writer.old) (W.contents writer.new)) }
     ensures failed { IsOkUnless result WriteFailed }
     ensures marked { OnErr result (W.has_failed writer.new ≡ true) }
 {
     let address = process.address;
     info!(log; "listening at {address}");
     print(alloc, &Reply::Listening(address), writer)?;
-    let mut dials = false;
+    let (mut dials, mut well) = (false, true);
     for _ in rt.forever() {
         process.poll(log);
         match advance(rt, alloc, process, orders, dials, log, writer)? {
             Next::Line(After::Next) => dials = false,
+            Next::Line(After::Failed) => (dials, well) = (false, false),
             Next::Line(After::Dial) => dials = true,
-            Next::Line(After::End) => return Ok(Stop::Asked),
-            Next::Broken(broken) => return Ok(Stop::Broken(broken)),
+            Next::Line(After::End) => {
+                return Ok(Served {
+                    stop: Stop::Asked,
+                    well,
+                });
+            }
+            Next::Broken(broken) => {
+                return Ok(Served {
+                    stop: Stop::Broken(broken),
+                    well,
+                });
+            }
         }
     }
     unreachable!()
@@ -205,8 +225,8 @@ fn advance<R: ProcessHost, L: Log, W: Sink>(
     log: &L,
     writer: &mut W,
 ) -> Result<Next, Halt>
-    ensures told { OnOk result ((told : List Reply)
-        × Tells (W.contents writer.old) (W.contents writer.new) told) }
+    ensures told { IfOk result (λ next. TellsAnswers (next ≢ Next.Line After.Failed)
+        (W.contents writer.old) (W.contents writer.new)) }
     ensures failed { IsOkUnless result WriteFailed }
     ensures marked { OnErr result (W.has_failed writer.new ≡ true) }
 {
@@ -225,17 +245,27 @@ fn answer_dial<R: ProcessHost, W: Sink>(
     process: &mut Process<R>,
     writer: &mut W,
 ) -> Result<Next, Halt>
-    ensures told { OnOk result ((told : List Reply)
-        × Tells (W.contents writer.old) (W.contents writer.new) told) }
+    ensures told { IfOk result (λ next. TellsAnswers (next ≢ Next.Line After.Failed)
+        (W.contents writer.old) (W.contents writer.new)) }
     ensures failed { IsOkUnless result WriteFailed }
     ensures marked { OnErr result (W.has_failed writer.new ≡ true) }
 {
     match process.outcome.take() {
-        Some(reply) => tell(alloc, reply, writer),
+        Some((address, served)) => tell(alloc, dial_reply(address, served), writer),
         None => {
             thread::sleep(rt, Duration::from_millis(PAUSE_MILLIS));
             Ok(Next::Line(After::Dial))
         }
+    }
+}
+
+/// What answers `connect` once its dial has ended.
+fn dial_reply(address: SocketAddr, served: Result<u16, Refusal>) -> Reply
+    ensures { IsDialReply result }
+{
+    match served {
+        Ok(slot) => Reply::Connected(address, slot),
+        Err(refusal) => Reply::Refused(refusal),
     }
 }
 
@@ -248,8 +278,8 @@ fn answer_next<R: ProcessHost, L: Log, W: Sink>(
     log: &L,
     writer: &mut W,
 ) -> Result<Next, Halt>
-    ensures told { OnOk result ((told : List Reply)
-        × Tells (W.contents writer.old) (W.contents writer.new) told) }
+    ensures told { IfOk result (λ next. TellsAnswers (next ≢ Next.Line After.Failed)
+        (W.contents writer.old) (W.contents writer.new)) }
     ensures failed { IsOkUnless result WriteFailed }
     ensures marked { OnErr result (W.has_failed writer.new ≡ true) }
 {
@@ -271,8 +301,8 @@ fn obey<R: ProcessHost, L: Log, W: Sink>(
     log: &L,
     writer: &mut W,
 ) -> Result<Next, Halt>
-    ensures told { OnOk result ((told : List Reply)
-        × Tells (W.contents writer.old) (W.contents writer.new) told) }
+    ensures told { IfOk result (λ next. TellsAnswers (next ≢ Next.Line After.Failed)
+        (W.contents writer.old) (W.contents writer.new)) }
     ensures failed { IsOkUnless result WriteFailed }
     ensures marked { OnErr result (W.has_failed writer.new ≡ true) }
 {
@@ -281,8 +311,8 @@ fn obey<R: ProcessHost, L: Log, W: Sink>(
 
 /// Prints a line. Fails only with `Halt::WriteFailed`.
 fn tell<W: Sink>(alloc: Global, reply: Reply, writer: &mut W) -> Result<Next, Halt>
-    ensures told { OnOk result ((told : List Reply)
-        × Tells (W.contents writer.old) (W.contents writer.new) told) }
+    ensures told { OnOk result
+        (TellsOne (W.contents writer.old) (W.contents writer.new) reply) }
     ensures failed { IsOkUnless result WriteFailed }
     ensures marked { OnErr result (W.has_failed writer.new ≡ true) }
 {
