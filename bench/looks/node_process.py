@@ -156,6 +156,7 @@ class Processes(ProcessLooks):
             address = one.address()
             with NodeProcess(self.program, "--connect", address) as other:
                 other.address()
+                self.comes("it is connected", one, lambda: [peer.slot for peer in one.peers()] == [0])
                 self.look("submit-block", one.say(f"submit-block {block.text.hex()}"), f"submitted {shown(block.header.name)}")
                 self.look("tx", one.say(f"tx {tx.text.hex()}"), f"tx {shown(tx.name)}")
                 self.look("restart", one.say("restart"), "audit yes")
