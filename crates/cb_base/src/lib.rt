@@ -19,6 +19,3 @@ pub use hash::{Hash256, dsha, sha};
 pub use seed::{Keys, Seed};
 pub use shared::Shared;
 pub use sip_hash::sip24;
-
-#[cfg(test)]
-mod tests;

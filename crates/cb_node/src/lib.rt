@@ -10,8 +10,6 @@ mod peering;
 mod serving;
 mod settings;
 mod starting;
-#[cfg(test)]
-mod tests;
 
 pub use cb_hall::{Hall, Look};
 pub use cb_journal::{Answer, Local};

@@ -9,8 +9,6 @@ mod inbox_seat;
 mod peer_reader;
 mod reading;
 mod stopping;
-#[cfg(test)]
-mod tests;
 
 pub use backlogs::{Backlogs, CountTaken};
 pub use cb_service::Beginning;

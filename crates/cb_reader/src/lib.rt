@@ -7,8 +7,6 @@ mod putting;
 mod reading;
 mod seat;
 mod stop;
-#[cfg(test)]
-mod tests;
 
 pub use cb_io::{ReadEnd, Source};
 pub use input::Input;

@@ -9,8 +9,6 @@ mod flags;
 mod outlet;
 mod peer_work;
 mod shared_hall;
-#[cfg(test)]
-mod tests;
 mod traffic;
 
 pub use cb_crew::{Given, Work};
