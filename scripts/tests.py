@@ -1,0 +1,135 @@
+#!/usr/bin/env python3
+"""Runs the tests of tests/: scripts/tests.py [NAME ..]
+
+They are built beside the crates in a copy, by `rt try --test`: that proves nothing, and each test runs in a process of its own, in a
+build that stops at a bad access and an overflow. With names, as `row_4` or `messages::row_4`, only these tests run.
+
+Each test has a line, `passed NAME` or `failed NAME`, behind it what the run said of it; the last line is `N passed, M failed`. The
+tests are those that the sources have, and each row of ROWS is among them: what is missing, didn't run or ended otherwise has failed.
+The status is 0 only if all passed and the run itself ended well.
+"""
+
+import re
+import signal
+import subprocess
+import sys
+from pathlib import Path
+
+from apart import laid_out
+from cost import spent
+from repository import Repository
+
+ROOT = Path(__file__).resolve().parent.parent
+FOLDER = ROOT / "tests"
+# A test that runs longer has failed. The pings behind checkpoints take five minutes of a slow core in this build.
+SECONDS = 1_800
+# The worked rows, by the file that has them. Row 17 is `two_handlers_meet`.
+ROWS = {
+    "announcing": "row_14_three_peers_announce_by_compact_blocks row_a_blocks_are_told_by_compact_blocks_where_wanted"
+    " row_b_another_version_of_compact_blocks_is_none",
+    "audit": "row_18_in_an_inbox",
+    "basics": "row_4 row_5",
+    "blocks": "row_6 row_7 row_7_equal_neighbours row_8_in_a_block",
+    "chain": "row_13 row_15 row_15_had_it_been_good",
+    "compact_blocks": "row_9 row_10 row_11 row_12 row_c_three_pairs_of_one_id_are_missing",
+    "crew": "row_b_nothing_served_before",
+    "desk": "row_b_the_next_connection row_c_a_work_that_closes",
+    "inbox": "row_23",
+    "ledger": "row_15 rows_a_and_b",
+    "messages": "row_1 row_2 row_3 row_4 row_8_as_a_message row_a_counts_that_lie row_a_of_large_pieces row_c_the_first_block",
+    "pool": "row_8 row_a",
+    "program": "row_16 row_19 row_20 row_21 row_22 row_24 row_a_a_ping_without_its_nonce row_a_a_transaction_of_64_bytes"
+    " row_a_compact_blocks_of_nothing row_a_connection_after_connection row_a_too_many_peers row_c_a_checkpoint_before_a_block"
+    " row_c_decode_tells_the_first_block",
+    "service": "two_handlers_meet",
+    "session_events": "row_b_blocks_are_told_by_headers_where_asked_for",
+    "sessions": "row_a_a_trace_goes_on_behind_its_checkpoints row_b_all_but_the_ping_is_passed_over",
+    "transactions": "row_6 row_8_has_64_bytes row_a_counts_that_lie row_a_no_inputs row_b_sum row_b_values",
+    "works": "row_18_a_kick_after_the_first_ping row_18_a_kick_before_the_first_ping_is_given",
+}
+ENDING = ".rt.in"
+TEST = re.compile(r"#\[test\]\s*fn (\w+)")
+# a line of the run: a test and how it ended, and how many it had in all
+ENDED = re.compile(r"test (\S+) \.\.\. (ok|FAILED)$")
+SUMMARY = re.compile(r"test result: (?:ok|FAILED)\. (\d+) passed; (\d+) failed; (\d+) ignored; (\d+) filtered out$")
+
+
+def tests_there():
+    """Returns the names of all tests that the sources have, as MODULE::FUNCTION."""
+    return [
+        f"{path.name.removesuffix(ENDING)}::{name}"
+        for path in sorted((FOLDER / "src").glob(f"*{ENDING}"))
+        for name in TEST.findall(path.read_text(encoding="utf-8"))
+    ]
+
+
+def leave_only(chosen, sources):
+    """Takes the mark of a test off all others in a copy of the sources."""
+    for path in sources.glob("*.rt"):
+        def mark(found, module=path.stem):
+            return found[0] if f"{module}::{found[1]}" in chosen else found[0].removeprefix("#[test]").lstrip()
+
+        path.write_text(TEST.sub(mark, path.read_text(encoding="utf-8")), encoding="utf-8")
+
+
+def run(folder):
+    """Runs the tests of a crate laid out in a folder. Returns how each ended, by its name, the summary's numbers, and the status."""
+    ended, summary = {}, None
+    words = ["rt", "try", "--test", "--seconds", str(SECONDS)]
+    how = {"stdin": subprocess.DEVNULL, "stdout": subprocess.PIPE, "stderr": subprocess.STDOUT, "text": True, "errors": "replace"}
+    with subprocess.Popen(words, cwd=folder, **how) as process:
+        try:
+            for line in process.stdout:
+                found, total = ENDED.match(line), SUMMARY.match(line)
+                if found:
+                    name, is_ok = found[1], found[2] == "ok"
+                    # one that comes twice has to pass twice
+                    ended[name] = ended.get(name, True) and is_ok
+                    print(f"{'passed' if is_ok else 'failed'} {name}", flush=True)
+                else:
+                    print(line, end="", flush=True)
+                summary = tuple(map(int, total.groups())) if total else summary
+        except BaseException:
+            process.terminate()
+            raise
+    return ended, summary, process.returncode
+
+
+def judged(chosen, ended, summary, status):
+    """Returns what is wrong with a run of these tests besides those that ended with FAILED."""
+    faults = [f"{name}: it did not run" for name in chosen if name not in ended]
+    faults += [f"{name}: it is no test of the sources" for name in ended if name not in chosen]
+    passed = sum(ended.values())
+    if not faults and summary != (passed, len(ended) - passed, 0, 0):
+        faults.append("the run: its own count is another")
+    if not faults and status and passed == len(chosen):
+        faults.append(f"the run: it ended with status {status}")
+    return faults
+
+
+def main():
+    signal.signal(signal.SIGTERM, lambda number, _: sys.exit(128 + number))
+    before, there, words = spent(), tests_there(), sys.argv[1:]
+    unknown = [word for word in words if not any(word in (name, name.partition("::")[2]) for name in there)]
+    if unknown:
+        sys.exit(f"no test has the name {unknown[0]}")
+    chosen = [name for name in there if not words or any(word in (name, name.partition("::")[2]) for word in words)]
+    rows = [f"{module}::{name}" for module, names in ROWS.items() for name in names.split()]
+    with laid_out(Repository(ROOT), FOLDER) as top:
+        crate = top / "crates" / FOLDER.name
+        if words:
+            leave_only(set(chosen), crate / "src")
+        ended, summary, status = run(crate)
+    faults = judged(chosen, ended, summary, status)
+    faults += [f"{row}: the sources lack this row" for row in rows if row not in there]
+    for fault in faults:
+        print(f"failed {fault}")
+    passed = sum(name in chosen and is_ok for name, is_ok in ended.items())
+    failed = len(faults) + sum(not is_ok for is_ok in ended.values())
+    print(f"the tests took {spent() - before:.0f} processor seconds")
+    print(f"{passed} passed, {failed} failed")
+    return int(failed > 0 or not passed)
+
+
+if __name__ == "__main__":
+    sys.exit(main())
