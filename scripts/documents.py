@@ -4,8 +4,8 @@
 README.md, CONTRIBUTING.md and docs/*.md are read. Looked up are
 
     links             their file and their heading
-    paths             from the top, from crates/, from a crate's folder, or from the document; NAME.antt, NAME.rt and NAME.py anywhere
-    crates            cb_NAME, bench_NAME and test_NAME
+    paths             from the top, from crates/, from a crate's folder, or from the document; NAME.antt, NAME.rt and NAME.py anywhere, with .in behind them too
+    crates            cb_NAME and bench_NAME
     `Type::name`      a function of an impl or a trait, or a variant of the type
     `some_name()`     words with an underscore, a capital letter inside or brackets: in a source, a definition, a proof or a script
     definitions       in GUARANTEES.md, `NAME`: FILE.antt, whose file of specs/ must define or import it
@@ -33,14 +33,19 @@ LINK = re.compile(r"\[[^\]]*\]\(([^)\s]+)\)")
 CODE = re.compile(r"`([^`]+)`")
 FENCED = re.compile(r"^    .*$")
 # a path of one name or more with an ending, or of one folder or more
-ENDING = r"\.(?:rt|antt|py|md|run|bin|hex|edit|txt|so)(?![\w/])"
+ENDING = r"\.(?:(?:rt|antt)(?:\.in)?|py|md|run|bin|hex|edit|txt|so)(?![\w/])"
 PATH = re.compile(rf"(?<![\w/.*-])(?:(?:\.{{1,2}}/)*(?:[\w*.-]+/)*[\w*.-]*\w{ENDING}|(?:\.{{1,2}}/)?(?:[\w*.-]+/)+[\w.*-]*)")
-CRATE = re.compile(r"(?<![\w/.-])((?:cb|bench|test)_[a-z0-9_]+)(?![\w*])")
+CRATE = re.compile(r"(?<![\w/.-])((?:cb|bench)_[a-z0-9_]+)(?![\w*])")
 MEMBER = re.compile(r"^([A-Z]\w*)(?:<[^>]*>)?::(\w+)")
 WORD = re.compile(r"^[A-Za-z_]\w*$")
 OWNER = re.compile(r"^\s*(?:pub )?(?:unsafe )?(?:impl\b(?:<.*?>)?\s+(?:(?P<of>[\w:]+)(?:<.*>)?\s+for\s+)?(?P<type>[&\w:]+)|(?:trait|enum|struct)\s+(?P<named>\w+))")
 FUNCTION = re.compile(r"\b(?:fn|ghost|law) (\w+)")
 ITEM = re.compile(r"^\s*(?:pub(?:\([^)]*\))? )?(?:const )?fn (\w+)|^\s*(?:ghost )?(\w+)\s*(?:[({,:=]|$)")
+
+
+def kind_of(file):
+    """The ending of a file, without the `.in` of one that no crate of the gate has."""
+    return Path(file.name.removesuffix(".in")).suffix
 
 
 class Tree:
@@ -50,26 +55,26 @@ class Tree:
         self.root = root
         crates = root / "crates"
         self.crates = {it.name for it in crates.iterdir() if it.is_dir()}
-        folders = ("crates", "bench", "scripts", "docs", "runs", "examples")
+        folders = ("crates", "tests", "bench", "scripts", "docs", "runs", "examples")
         self.files = [it for folder in folders for it in (root / folder).rglob("*") if "out" not in it.relative_to(root).parts]
         self.by_name = {}
         for file in self.files:
             self.by_name.setdefault(file.name, []).append(file)
         self.words, self.members, self.of_file = set(), {}, {}
         for file in self.files:
-            if file.suffix in (".rt", ".antt", ".py") and "/attacks/" not in str(file) and file.name != Path(__file__).name:
+            if kind_of(file) in (".rt", ".antt", ".py") and "/attacks/" not in str(file) and file.name != Path(__file__).name:
                 text = file.read_text(encoding="utf-8")
                 words = set(re.findall(r"[A-Za-z_]\w*", text))
                 self.words |= words
                 self.of_file[file] = words
-                if file.suffix == ".rt":
+                if kind_of(file) == ".rt":
                     self.read_members(text)
         for name in ("test", "build", "attack", "crates.txt"):
             self.words |= set(re.findall(r"[A-Za-z_]\w*", (root / name).read_text(encoding="utf-8")))
         self.folders = {part for file in self.files for part in file.relative_to(root).parent.parts}
-        self.functions = {name for file in self.of_file if file.suffix == ".rt" for name in FUNCTION.findall(file.read_text(encoding="utf-8"))}
+        self.functions = {name for file in self.of_file if kind_of(file) == ".rt" for name in FUNCTION.findall(file.read_text(encoding="utf-8"))}
         self.functions |= {name for file, words in self.of_file.items() if "/specs/" in str(file) for name in words}
-        self.names = {it.stem for it in self.files if it.suffix in (".run", ".hex", ".bin", ".py", ".rt", ".antt")}
+        self.names = {it.name.split(".")[0] for it in self.files if kind_of(it) in (".run", ".hex", ".bin", ".py", ".rt", ".antt")}
 
     def read_members(self, text):
         """Notes what each impl, trait, enum and struct of a source has."""
