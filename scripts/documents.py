@@ -33,7 +33,7 @@ LINK = re.compile(r"\[[^\]]*\]\(([^)\s]+)\)")
 CODE = re.compile(r"`([^`]+)`")
 FENCED = re.compile(r"^    .*$")
 # a path of one name or more with an ending, or of one folder or more
-ENDING = r"\.(?:rt|antt|py|md|run|bin|hex|edit|txt|so)(?![\w/])"
+ENDING = r"\.(?:rt(?:\.in)?|antt(?:\.in)?|py|md|run|bin|hex|edit|txt|so)(?![\w/])"
 PATH = re.compile(rf"(?<![\w/.*-])(?:(?:\.{{1,2}}/)*(?:[\w*.-]+/)*[\w*.-]*\w{ENDING}|(?:\.{{1,2}}/)?(?:[\w*.-]+/)+[\w.*-]*)")
 CRATE = re.compile(r"(?<![\w/.-])((?:cb|bench|test)_[a-z0-9_]+)(?![\w*])")
 MEMBER = re.compile(r"^([A-Z]\w*)(?:<[^>]*>)?::(\w+)")
@@ -48,8 +48,9 @@ class Tree:
 
     def __init__(self, root):
         self.root = root
-        crates = root / "crates"
-        self.crates = {it.name for it in crates.iterdir() if it.is_dir()}
+        # crates that stand apart have .in behind the names of their sources
+        self.homes = [root / "crates", root / "bench" / "programs"]
+        self.crates = {it.name for home in self.homes for it in home.iterdir() if it.is_dir()}
         folders = ("crates", "bench", "scripts", "docs", "runs", "examples")
         self.files = [it for folder in folders for it in (root / folder).rglob("*") if "out" not in it.relative_to(root).parts]
         self.by_name = {}
@@ -57,17 +58,17 @@ class Tree:
             self.by_name.setdefault(file.name, []).append(file)
         self.words, self.members, self.of_file = set(), {}, {}
         for file in self.files:
-            if file.suffix in (".rt", ".antt", ".py") and "/attacks/" not in str(file) and file.name != Path(__file__).name:
+            if source_kind(file) in (".rt", ".antt", ".py") and "/attacks/" not in str(file) and file.name != Path(__file__).name:
                 text = file.read_text(encoding="utf-8")
                 words = set(re.findall(r"[A-Za-z_]\w*", text))
                 self.words |= words
                 self.of_file[file] = words
-                if file.suffix == ".rt":
+                if source_kind(file) == ".rt":
                     self.read_members(text)
         for name in ("test", "build", "attack", "crates.txt"):
             self.words |= set(re.findall(r"[A-Za-z_]\w*", (root / name).read_text(encoding="utf-8")))
         self.folders = {part for file in self.files for part in file.relative_to(root).parent.parts}
-        self.functions = {name for file in self.of_file if file.suffix == ".rt" for name in FUNCTION.findall(file.read_text(encoding="utf-8"))}
+        self.functions = {name for file in self.of_file if source_kind(file) == ".rt" for name in FUNCTION.findall(file.read_text(encoding="utf-8"))}
         self.functions |= {name for file, words in self.of_file.items() if "/specs/" in str(file) for name in words}
         self.names = {it.stem for it in self.files if it.suffix in (".run", ".hex", ".bin", ".py", ".rt", ".antt")}
 
@@ -91,7 +92,7 @@ class Tree:
         bare = re.sub(r"^(\.{1,2}/)+", "", path).rstrip(".")
         if BUILT in path or not bare.strip("./*"):
             return True
-        bases = [self.root, self.root / "crates", document.parent, self.root / "bench", self.root / "runs", self.root / "runs" / "cbrelay"]
+        bases = [self.root, *self.homes, document.parent, self.root / "bench", self.root / "runs", self.root / "runs" / "cbrelay"]
         if "*" in bare:
             return any(next(base.glob(bare.rstrip("/")), None) for base in bases)
         if any((base / bare).exists() for base in bases):
@@ -106,7 +107,7 @@ class Tree:
             return True
         if (self.root / "runs" / f"{bare}.run").exists():
             return True
-        return next((self.root / "crates").glob("*/" + "/".join(parts)), None) is not None
+        return any(next(home.glob("*/" + "/".join(parts)), None) for home in self.homes)
 
     def has_word(self, word):
         """Whether a name is one of the tree's, or foreign."""
@@ -115,6 +116,11 @@ class Tree:
     def has_member(self, owner, name):
         """Whether a type or a trait has a function or a variant."""
         return name in self.members.get(owner, ()) or f"{owner}::{name}" in FOREIGN
+
+
+def source_kind(file):
+    """The ending of a source's name, without that of a crate that stands apart."""
+    return Path(file.name.removesuffix(".in")).suffix
 
 
 def is_placeholder(path):

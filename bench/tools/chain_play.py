@@ -2,7 +2,6 @@
 
 import random
 import struct
-import subprocess
 from collections import Counter
 
 from bench.models.plain_block import Header
@@ -90,12 +89,11 @@ class ChainPlay:
             self.ask_name(name)
         self.ask_values(points if sweep else points[-4:])
 
-    def differences(self, program):
-        """The first line of the proved chain that isn't what is wanted."""
-        ran = subprocess.run([program], input=b"".join(self.records), capture_output=True, timeout=100)
-        told = ran.stdout.decode("ascii", "replace").split("\n")
-        if ran.returncode != 0 or ran.stderr:
-            return [f"status {ran.returncode}, {told[:3]}, {ran.stderr!r}"]
+    def differences(self, ended):
+        """The first line of the program's chain that isn't what is wanted."""
+        told = ended.printed.decode("ascii", "replace").split("\n")
+        if ended.failure:
+            return [ended.failure]
         for place, wanted in enumerate(self.wanted):
             if place >= len(told) or told[place] != wanted:
                 asked = self.records[place + 1]
