@@ -2,7 +2,7 @@
 """Plays generated headers and blocks into a chain, and compares what it answers with a plain chain in Python:
 python3 bench/looks/chain_calls.py [COUNT] [SEED]
 
-Without words 2,000 calls from seed 1, in a checked build of bench_chain, which also plays its stored runs. The plain chain
+Without words 1,050 calls from seed 1, in a checked build of bench_chain, which also plays its stored runs. The plain chain
 (bench/models/plain_chain.py) was written apart from the program, from the rules in docs/PROTOCOL.md: it keeps what came, and finds the
 best chain and what is unspent anew after each call. Then the tip, the locator and what is drawn are compared, now and then all that
 came. Half of the calls belong to a story: faults low down on branches that are met late, faulty blocks on the ends of side branches, and
@@ -23,7 +23,9 @@ from bench.tools.command_line import usage
 from bench.tools.programs import Case, run_checked, stored_cases
 
 # So many calls go to one chain.
-CALLS = 400
+CALLS = 350
+# What a full run has.
+COUNT = 3 * CALLS
 # The greatest ratio of copies, and the processor seconds below which nothing can be told from noise.
 LIMIT, LEAST = 5, 0.2
 # What a full run has to meet: each fault that a chain can tell, but want of memory and 1,000,000,000 blocks; a block that can't be
@@ -60,7 +62,7 @@ def dear_copies(cases, ran):
 
 def main():
     words = usage(__doc__, count="how many calls", seed="the first one's seed").parse_args()
-    count, first = int(words.count or 2_000), int(words.seed or 1)
+    count, first = int(words.count or COUNT), int(words.seed or 1)
     seeds = range(first, first + -(-count // CALLS))
     plays = {f"seed-{seed}": played(seed, min(CALLS, count - (seed - first) * CALLS)) for seed in seeds}
     stored = stored_cases("bench_chain")
@@ -72,7 +74,7 @@ def main():
         print(difference)
     met = sum((play.ended for play in plays.values()), Counter())
     print(", ".join(f"{name} {times}" for name, times in sorted(met.items())))
-    unmet = sorted(name for name in FAULTS if not met[name]) if count >= 2_000 else []
+    unmet = sorted(name for name in FAULTS if not met[name]) if count >= COUNT else []
     if unmet:
         print("never met:", ", ".join(unmet))
     deepest, answers = max(play.deepest for play in plays.values()), sum(len(play.wanted) for play in plays.values())

@@ -2,10 +2,10 @@
 """Plays generated calls into a hall, and compares what it answers with a plain hall in Python:
 python3 bench/looks/hall_calls.py [COUNT] [SEED], or --store
 
-Without words 2,000 calls from seed 1, in a checked build of bench_hall, which also plays its stored runs. The plain hall
+Without words 1,200 calls from seed 1, in a checked build of bench_hall, which also plays its stored runs. The plain hall
 (bench/models/plain_hall.py) was written apart from the program, from the rules in docs/PROTOCOL.md. Worked rows come first, and then
 calls of all kinds: headers and blocks of branches that overtake each other, faulty ones, transactions, what peers ask, kicks and
-openings. The same build tells what calls cost that may cost much, as ratios (bench/tools/hall_costs.py): none may be above 5. With
+openings; only those of the first 400 have large blocks. The same build tells what calls cost that may cost much, as ratios (bench/tools/hall_costs.py): none may be above 5. With
 `--store` nothing is played: the examples and a few hundred calls are written to bench/programs/bench_hall/stdin, and
 what the plain hall answers to bench/programs/bench_hall/stdout.
 """
@@ -31,6 +31,8 @@ from bench.tools.records import record
 
 # So many calls go to one hall. So many are stored, from this seed.
 CALLS, STORED, STORED_SEED = 400, 300, 69
+# What a full run has.
+COUNT = 3 * CALLS
 # The first block's hash, as it is shown.
 FIRST = "0f9188f13cb7b2c71f2a335e3a4fc328bf5beb436012afca590b1a11466e2206"
 # Fewer processor seconds than these can't be told from noise.
@@ -318,12 +320,12 @@ def main():
     words = reader.parse_args()
     if words.store:
         store()
-    count, first = int(words.count or 2_000), int(words.seed or 1)
+    count, first = int(words.count or COUNT), int(words.seed or 1)
     examples = HallPlay()
     worked_examples(examples)
     plays = {"examples": examples, "around-one-without-work": headers_around_one_without_work(), "served": served_of_50_000_entries()}
     for seed in range(first, first + -(-count // CALLS)):
-        plays[f"seed-{seed}"] = generated(seed, min(CALLS, count - (seed - first) * CALLS), False)
+        plays[f"seed-{seed}"] = generated(seed, min(CALLS, count - (seed - first) * CALLS), seed > first)
     of_costs, of_headers = cost_cases()
     cases = [*stored_cases("bench_hall"), row_b_leaves_of_one_badge(), *(play.case(name) for name, play in plays.items())]
     ran = run_checked("bench_hall", [*cases, *of_costs.values(), *of_headers])
@@ -332,7 +334,7 @@ def main():
     for failure in failures:
         print(failure)
     print(", ".join(f"{name} {times}" for name, times in sorted(met.items())))
-    missed = unmet(met, MET_IN_FULL) if count >= 2_000 else 0
+    missed = unmet(met, MET_IN_FULL) if count >= COUNT else 0
     print(f"{count} calls, {sum(len(play.lines()) for play in plays.values())} lines")
     dear = costs_too_much(of_costs, of_headers, ran)
     print(f"{len(ran) - len(failures) - dear} passed, {len(failures) + missed + dear} failed")

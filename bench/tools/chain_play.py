@@ -10,8 +10,8 @@ from bench.tools.chain_drawing import DEEP, Drawing
 from bench.tools.records import record
 from bench.tools.texts import line
 
-# After so many calls all that came is compared.
-SWEEP = 50
+# After so many calls all that came is compared, and after so many what follows a locator and the way to a block.
+SWEEP, WAYS = 50, 8
 
 
 class ChainPlay:
@@ -83,7 +83,8 @@ class ChainPlay:
         self.call()
         self.ask_tip()
         names, points = self.drawing.names() + [NOBODY], self.drawing.points
-        self.ask_ways(names)
+        if number % WAYS == WAYS - 1:
+            self.ask_ways(names)
         sweep = number % SWEEP == SWEEP - 1
         for name in names if sweep else names[-4:]:
             self.ask_name(name)
