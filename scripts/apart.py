@@ -13,6 +13,8 @@ from pathlib import Path
 from repository import PARTS, Crate, link_tree
 
 LINE, ENDING = "crate.txt", ".in"
+# where the programs of bench/ stand
+PROGRAMS = Path("bench") / "programs"
 
 
 def apart(repository, folder):
@@ -20,6 +22,22 @@ def apart(repository, folder):
     line = (Path(folder) / LINE).read_text(encoding="utf-8").strip()
     name, _, uses = line.partition(":")
     return Crate(name.strip(), Path(folder).resolve(), line, tuple(it for it in uses.split() if it in repository.crates))
+
+
+def programs(repository):
+    """Returns the folders of the crates of bench/programs, by name."""
+    return {it.parent.name: it.parent for it in sorted((repository.root / PROGRAMS).glob(f"*/{LINE}"))}
+
+
+def with_apart_below(repository, names):
+    """Returns the folders of these crates of bench/programs and of those that they stand on."""
+    folders, found, left = programs(repository), {}, list(names)
+    while left:
+        name = left.pop()
+        if name in folders and name not in found:
+            found[name] = folders[name]
+            left += apart(repository, folders[name]).line.partition(":")[2].split()
+    return list(found.values())
 
 
 def copy_apart(crate, to):
@@ -38,7 +56,7 @@ def copy_apart(crate, to):
 def laid_out(repository, *folders, with_work=False):
     """Lends a folder with crates/, crates.txt and HANDLES: the crates of these folders, and those of the repository that they stand on.
 
-    With `with_work` each of the repository's crates has the work that earlier checks kept.
+    With `with_work` each has the work that earlier checks kept.
     """
     crates = [apart(repository, it) for it in folders]
     names = {it.name: it for it in crates}
@@ -53,4 +71,6 @@ def laid_out(repository, *folders, with_work=False):
                     link_tree(it.folder / part, top / "crates" / it.name / part)
         for it in crates:
             copy_apart(it, top / "crates" / it.name)
+            if with_work and (it.folder / "out").is_dir():
+                link_tree(it.folder / "out", top / "crates" / it.name / "out")
         yield top

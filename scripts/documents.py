@@ -53,8 +53,9 @@ class Tree:
 
     def __init__(self, root):
         self.root = root
-        crates = root / "crates"
-        self.crates = {it.name for it in crates.iterdir() if it.is_dir()}
+        # crates that stand apart have .in behind the names of their sources
+        self.homes = [root / "crates", root / "bench" / "programs"]
+        self.crates = {it.name for home in self.homes for it in home.iterdir() if it.is_dir()}
         folders = ("crates", "tests", "bench", "scripts", "docs", "runs", "examples")
         self.files = [it for folder in folders for it in (root / folder).rglob("*") if "out" not in it.relative_to(root).parts]
         self.by_name = {}
@@ -96,7 +97,7 @@ class Tree:
         bare = re.sub(r"^(\.{1,2}/)+", "", path).rstrip(".")
         if BUILT in path or not bare.strip("./*"):
             return True
-        bases = [self.root, self.root / "crates", document.parent, self.root / "bench", self.root / "runs", self.root / "runs" / "cbrelay"]
+        bases = [self.root, *self.homes, document.parent, self.root / "bench", self.root / "runs", self.root / "runs" / "cbrelay"]
         if "*" in bare:
             return any(next(base.glob(bare.rstrip("/")), None) for base in bases)
         if any((base / bare).exists() for base in bases):
@@ -111,7 +112,7 @@ class Tree:
             return True
         if (self.root / "runs" / f"{bare}.run").exists():
             return True
-        return next((self.root / "crates").glob("*/" + "/".join(parts)), None) is not None
+        return any(next(home.glob("*/" + "/".join(parts)), None) for home in self.homes)
 
     def has_word(self, word):
         """Whether a name is one of the tree's, or foreign."""

@@ -1,7 +1,8 @@
 #!/usr/bin/env python3
 """Runs the built programs on stored inputs and compares what they print: scripts/stored_runs.py [WORD ..]
 
-runs/PROGRAM/NAME.run is a run of crates/PROGRAM/out/PROGRAM. Its lines are
+runs/PROGRAM/NAME.run is a run of crates/PROGRAM/out/PROGRAM, or of a program of bench/programs, which looks run
+(bench/looks/stored_programs.py and those that compare it with a model). Its lines are
 
     # TEXT          a remark; an empty line is one too
     args WORD ..    the program's words
@@ -136,7 +137,7 @@ def main(words):
         print(__doc__.strip())
         return 0
     try:
-        runs = [read_run(path) for path in sorted((ROOT / "runs").glob("*/*.run"))]
+        runs = [read_run(path) for path in sorted((ROOT / "runs").glob("*/*.run")) if (ROOT / "crates" / path.parent.name).is_dir()]
     except BadRun as error:
         print(error)
         return 1

@@ -2,7 +2,7 @@
 """Measures the chain: headers and blocks accepted per second at two heights, questions, reorganisations, and memory:
 python3 bench/figures/chain.py [PROGRAM] [--before PROGRAM]
 
-It needs the built program crates/bench_chain/out/bench_chain (as ./build bench_chain leaves it there) and python3, and takes
+It needs the built program bench/programs/bench_chain/out/bench_chain (as ./build bench_chain leaves it there) and python3, and takes
 some two minutes. With `--before` it tells what faults, side branches and blocks at the tip cost beside a program of before.
 Times are of the processor. What a play takes is the least time of some runs with it, less that of as many without it; plays and
 programs whose times are compared take turns.
@@ -279,7 +279,7 @@ def memory(runs):
 
 
 def main():
-    reader = usage(__doc__, program="the program, if not crates/bench_chain/out/bench_chain")
+    reader = usage(__doc__, program="the program, if not bench/programs/bench_chain/out/bench_chain")
     reader.add_argument("--before", metavar="PROGRAM", help="a bench_chain to compare with")
     words = reader.parse_args()
     program = built(words.program, "bench_chain")

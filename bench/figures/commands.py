@@ -3,7 +3,7 @@
 python3 bench/figures/commands.py [PROGRAM] [SOUND] [--before FOLDER]
 
 It needs the program (crates/cbrelay/out/cbrelay, as ./build leaves it), the program that tells whether a block is sound
-(crates/bench_sound/out/bench_sound, likewise), openssl, python3 and Linux, and takes some five minutes. First it prints a table of
+(bench/programs/bench_sound/out/bench_sound, likewise), openssl, python3 and Linux, and takes some five minutes. First it prints a table of
 time and memory, with `--before` for both sets of programs and how they compare; then what a block takes in memory, and then how
 the time grows and compares with openssl's.
 
@@ -223,7 +223,7 @@ def message_growths(bench):
 
 def main():
     reader = usage(__doc__, program="the program, if not crates/cbrelay/out/cbrelay", sound="bench_sound, if not the one in its crate")
-    reader.add_argument("--before", metavar="FOLDER", help="programs to compare with: its crates/NAME/out/NAME of cbrelay and bench_sound")
+    reader.add_argument("--before", metavar="FOLDER", help="programs to compare with: its cbrelay and bench_sound, as ./build leaves them")
     words = reader.parse_args()
     programs = built(words.program, "cbrelay"), built(words.sound, "bench_sound")
     before = words.before and [built(None, crate, words.before) for crate in ("cbrelay", "bench_sound")]

@@ -2,7 +2,7 @@
 """Measures compact blocks: short ids, finding transactions among few and many pairs, blocks that are rebuilt, and growths of memory:
 python3 bench/figures/compact.py [PROGRAM]
 
-It needs the built program crates/bench_compact/out/bench_compact (as ./build bench_compact leaves it), openssl, a C compiler as `cc`, and
+It needs the built program bench/programs/bench_compact/out/bench_compact (as ./build bench_compact leaves it), openssl, a C compiler as `cc`, and
 python3, and takes some three minutes. Times are of the processor. What an order takes is the least time of some runs with it, less that of
 as many that only copy its pairs, or that do without it; orders whose times are compared take turns. Ids are drawn at random. Beside them
 stand ids that whoever sends a block would pick: a search found them, such that in a table that hashes with std's fixed seed they would all
@@ -209,7 +209,7 @@ def compared_growths(program, library):
 
 
 def main():
-    words = usage(__doc__, program="the program, if not crates/bench_compact/out/bench_compact").parse_args()
+    words = usage(__doc__, program="the program, if not bench/programs/bench_compact/out/bench_compact").parse_args()
     program = built(words.program, "bench_compact")
     adopt()
     with tempfile.TemporaryDirectory() as folder:

@@ -2,7 +2,7 @@
 """Measures the hall: questions at a short journal and at a long one, and the memory of long journals:
 python3 bench/figures/hall.py [PROGRAM]
 
-It needs the built program crates/bench_hall/out/bench_hall (as ./build bench_hall leaves it) and python3, and takes some eight minutes.
+It needs the built program bench/programs/bench_hall/out/bench_hall (as ./build bench_hall leaves it) and python3, and takes some eight minutes.
 Times are of the processor. What a call takes is the least time of some runs with it, less that of as many that only read it; calls whose
 times are compared take turns. How much `openssl dgst -sha256` hashes in that time tells what the machine does. Memory is what a run has
 at its greatest, less that of a run of no input.
@@ -153,7 +153,7 @@ def memory(runs, pools):
 
 
 def main():
-    words = usage(__doc__, program="the program, if not crates/bench_hall/out/bench_hall").parse_args()
+    words = usage(__doc__, program="the program, if not bench/programs/bench_hall/out/bench_hall").parse_args()
     program = built(words.program, "bench_hall")
     adopt()
     pools = Pools()

@@ -1,7 +1,7 @@
 #!/usr/bin/env python3
 """Measures nodes over loopback: python3 bench/figures/nodes.py [PROGRAM [LINE]]
 
-It needs the built programs (crates/cbrelay/out/cbrelay and crates/bench_line/out/bench_line, as ./build leaves them), python3 and Linux, and takes a few minutes. Eight nodes stand in
+It needs the built programs (crates/cbrelay/out/cbrelay and bench/programs/bench_line/out/bench_line, as ./build leaves them), python3 and Linux, and takes a few minutes. Eight nodes stand in
 a line, so that what node 0 knows comes to node 7 by six others. Each row is a way in which blocks of nearly 1 MB come from node to node:
 
 - compact: the mempools have all transactions of the block;

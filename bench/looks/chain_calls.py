@@ -1,12 +1,13 @@
 #!/usr/bin/env python3
-"""Plays generated headers and blocks into the proved chain, and compares what it answers with a plain chain in Python:
-python3 bench/looks/chain_calls.py [COUNT] [SEED] [PROGRAM]
+"""Plays generated headers and blocks into a chain, and compares what it answers with a plain chain in Python:
+python3 bench/looks/chain_calls.py [COUNT] [SEED]
 
-Without words 2,000 calls from seed 1, in some seconds. It needs the built program crates/bench_chain/out/bench_chain (as
-./build bench_chain leaves it) and python3. The plain chain (bench/models/plain_chain.py) was written apart from the program, from
-the rules in docs/PROTOCOL.md: it keeps what came, and finds the best chain and what is unspent anew after each call. Then the tip,
-the locator and what is drawn are compared, now and then all that came. Half of the calls belong to a story: faults low down on
-branches that are met late, faulty blocks on the ends of side branches, and branches that overtake each other.
+Without words 1,050 calls from seed 1, in a checked build of bench_chain, which also plays its stored runs. The plain chain
+(bench/models/plain_chain.py) was written apart from the program, from the rules in docs/PROTOCOL.md: it keeps what came, and finds the
+best chain and what is unspent anew after each call. Then the tip, the locator and what is drawn are compared, now and then all that
+came. Half of the calls belong to a story: faults low down on branches that are met late, faulty blocks on the ends of side branches, and
+branches that overtake each other. The same build copies chains, blocks and messages: with large transactions that may take at most 5
+times as long as with small ones, since a copy shares them.
 """
 
 import sys
@@ -16,39 +17,71 @@ from pathlib import Path
 if not __package__:  # called as a file
     sys.path.insert(0, str(Path(__file__).resolve().parents[2]))
 
+from bench.tools.chain_copies import CHECKED, LARGE, ORIGINALS, SMALL, copied
 from bench.tools.chain_play import ChainPlay
 from bench.tools.command_line import usage
-from bench.tools.programs import built
+from bench.tools.programs import Case, run_checked, stored_cases
 
 # So many calls go to one chain.
-CALLS = 400
+CALLS = 350
+# What a full run has.
+COUNT = 3 * CALLS
+# The greatest ratio of copies, and the processor seconds below which nothing can be told from noise.
+LIMIT, LEAST = 5, 0.2
 # What a full run has to meet: each fault that a chain can tell, but want of memory and 1,000,000,000 blocks; a block that can't be
 # connected beside the tip, and one below the block that is tried; and a reorganisation of many blocks.
 FAULTS = {"F5 BadTx 4", "F5 BadTx 6", "F10 BadCoinbase", "F11 BadWork", "F13 Oversize", "F18 Known", "F19 NoInput",
           "F21 Overspent", "F22 Remade", "F23 NoParent", "F24 BadParent", "a fault beside the tip", "a fault below", "a deep reorganisation"}
 
 
+def played(seed, calls):
+    """A chain to which so many calls were made."""
+    play = ChainPlay(seed)
+    for number in range(calls):
+        play.turn(number)
+    return play
+
+
+def copy_cases():
+    """Copies of each original, by its place, the bytes of its transactions, and whether the copies are made."""
+    plays = {(original, size): copied(CHECKED, original, size) for original in range(len(ORIGINALS)) for size in (LARGE, SMALL)}
+    return {(*key, is_made): Case(f"copy-{key[0]}-{key[1]}-{is_made}", play.whole if is_made else play.ground)
+            for key, play in plays.items() for is_made in (True, False)}
+
+
+def dear_copies(cases, ran):
+    """Tells what copies take, and returns how many of them cost more with large transactions."""
+    dear = 0
+    for original, name in enumerate(ORIGINALS):
+        large, small = (ran[cases[original, size, True].name].seconds - ran[cases[original, size, False].name].seconds for size in (LARGE, SMALL))
+        ratio = max(large, LEAST) / max(small, LEAST)
+        dear += ratio > LIMIT
+        print(f"{CHECKED.copies:,} copies of {name} of transactions of {LARGE:,} bytes: {large:.2f} s for {small:.2f} at {SMALL} bytes, {ratio:.1f} times")
+    return dear
+
+
 def main():
-    words = usage(__doc__, count="how many calls", seed="the first one's seed", program="the program, if not crates/bench_chain/out/bench_chain").parse_args()
-    count, first = int(words.count or 2_000), int(words.seed or 1)
-    program = built(words.program, "bench_chain")
-    ended, deepest, answers, differences = Counter(), 0, 0, []
-    for seed in range(first, first + -(-count // CALLS)):
-        play = ChainPlay(seed)
-        for number in range(min(CALLS, count - (seed - first) * CALLS)):
-            play.turn(number)
-        differences += [f"seed {seed}: {difference}" for difference in play.differences(program)]
-        ended += play.ended
-        deepest = max(deepest, play.deepest)
-        answers += len(play.wanted)
+    words = usage(__doc__, count="how many calls", seed="the first one's seed").parse_args()
+    count, first = int(words.count or COUNT), int(words.seed or 1)
+    seeds = range(first, first + -(-count // CALLS))
+    plays = {f"seed-{seed}": played(seed, min(CALLS, count - (seed - first) * CALLS)) for seed in seeds}
+    stored = stored_cases("bench_chain")
+    of_copies = copy_cases()
+    ran = run_checked("bench_chain", [*stored, *(Case(name, b"".join(play.records)) for name, play in plays.items()), *of_copies.values()])
+    differences = [f"{it.name}: {ran[it.name].failure}" for it in [*stored, *of_copies.values()] if ran[it.name].failure]
+    differences += [f"{name}: {it}" for name, play in plays.items() for it in play.differences(ran[name])]
     for difference in differences:
         print(difference)
-    print(", ".join(f"{name} {times}" for name, times in sorted(ended.items())))
-    unmet = sorted(name for name in FAULTS if not ended[name]) if count >= 2_000 else []
+    met = sum((play.ended for play in plays.values()), Counter())
+    print(", ".join(f"{name} {times}" for name, times in sorted(met.items())))
+    unmet = sorted(name for name in FAULTS if not met[name]) if count >= COUNT else []
     if unmet:
         print("never met:", ", ".join(unmet))
-    print(f"{count} calls, {answers} answers, {deepest} blocks off in the deepest reorganisation, {len(differences)} chains that differ")
-    sys.exit(1 if differences or unmet else 0)
+    deepest, answers = max(play.deepest for play in plays.values()), sum(len(play.wanted) for play in plays.values())
+    print(f"{count} calls, {answers} answers, {deepest} blocks off in the deepest reorganisation, {len(stored)} stored runs")
+    dear = dear_copies(of_copies, ran)
+    print(f"{len(ran) - len(differences) - dear} passed, {len(differences) + len(unmet) + dear} failed")
+    sys.exit(1 if differences or unmet or dear else 0)
 
 
 if __name__ == "__main__":

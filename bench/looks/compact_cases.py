@@ -1,13 +1,13 @@
 #!/usr/bin/env python3
-"""Rebuilds generated compact blocks by the proved program, and compares what it tells with a plain reader in Python:
-python3 bench/looks/compact_cases.py [COUNT] [SEED] [PROGRAM], or --store
+"""Rebuilds generated compact blocks, and compares what comes of them with a plain reader in Python:
+python3 bench/looks/compact_cases.py [COUNT] [SEED], or --store
 
-Without words 2,000 compact blocks from seed 1, in some seconds. It needs the built program crates/bench_compact/out/bench_compact (as
-./build bench_compact leaves it) and python3. The plain reader (bench/models/plain_compact.py) was written apart from the program, from BIP 152
-and the paper on SipHash; it looks through all pairs for each id. Worked cases come first, and then compact blocks of a few transactions
-with pairs in any order, doubled, tripled, of other ids and of other transactions, repeated ids, and transactions handed in for what is
-missing. With `--store` nothing is rebuilt: the worked cases and some compact blocks are written to crates/bench_compact/stdin, and what
-the plain reader tells of them to crates/bench_compact/stdout.
+Without words 2,000 compact blocks from seed 1, in a checked build of bench_compact, which also plays its stored run. The plain reader
+(bench/models/plain_compact.py) was written apart from the program, from BIP 152 and the paper on SipHash; it looks through all pairs
+for each id. Worked cases come first, and then compact blocks of a few transactions with pairs in any order, doubled, tripled, of other
+ids and of other transactions, repeated ids, and transactions handed in for what is missing. With `--store` nothing is rebuilt: the
+worked cases and some compact blocks are written to bench/programs/bench_compact/stdin, and what the plain reader tells of them to
+bench/programs/bench_compact/stdout.
 """
 
 import random
@@ -22,7 +22,7 @@ from bench.models.plain_compact import WORD, judged, missing
 from bench.tools.blocks import some_name, transaction
 from bench.tools.command_line import usage
 from bench.tools.compact_play import FIRST_BLOCK, CompactPlay, numbers_line, some_block
-from bench.tools.programs import built, write_stored_run
+from bench.tools.programs import run_checked, stored_cases, write_stored_run
 
 # How many compact blocks are stored, from which seed, and how many places a block has at the most.
 STORED, STORED_SEED, MOST_PLACES = 60, 3, 16_666
@@ -238,22 +238,25 @@ def store():
 
 
 def main():
-    reader = usage(__doc__, count="how many compact blocks", seed="their seed", program="the program, if not crates/bench_compact/out/bench_compact")
+    reader = usage(__doc__, count="how many compact blocks", seed="their seed")
     reader.add_argument("--store", action="store_true", help="write the stored run")
     words = reader.parse_args()
     if words.store:
         store()
     count, seed = int(words.count or 2_000), int(words.seed or 1)
-    program = built(words.program, "bench_compact")
-    play = CompactPlay()
-    worked_cases(play)
-    generated(seed, count, play)
-    told = play.differences(program)
-    for difference in told:
-        print(difference)
-    print(", ".join(f"{name} {times}" for name, times in sorted(play.met.items())))
-    print(f"{count} compact blocks, {len(play.wanted)} lines, {len(told)} that differ")
-    sys.exit(1 if told or (count >= 2_000 and unmet(play.met)) else 0)
+    worked, drawn = CompactPlay(), CompactPlay()
+    worked_cases(worked)
+    generated(seed, count, drawn)
+    cases = [*stored_cases("bench_compact"), worked.case("worked"), drawn.case("drawn")]
+    failures = [f"{name}: {ended.failure}" for name, ended in run_checked("bench_compact", cases).items() if ended.failure]
+    for failure in failures:
+        print(failure)
+    met = worked.met + drawn.met
+    print(", ".join(f"{name} {times}" for name, times in sorted(met.items())))
+    missed = unmet(met) if count >= 2_000 else 0
+    print(f"{count} compact blocks, {len(worked.wanted) + len(drawn.wanted)} lines")
+    print(f"{len(cases) - len(failures)} passed, {len(failures) + missed} failed")
+    sys.exit(1 if failures or missed else 0)
 
 
 if __name__ == "__main__":

@@ -1,16 +1,16 @@
 #!/usr/bin/env python3
-"""Plays generated calls into the proved hall, and compares what it answers with a plain hall in Python:
-python3 bench/looks/hall_calls.py [COUNT] [SEED] [PROGRAM], or --store
+"""Plays generated calls into a hall, and compares what it answers with a plain hall in Python:
+python3 bench/looks/hall_calls.py [COUNT] [SEED], or --store
 
-Without words 2,000 calls from seed 1, in some seconds. It needs the built program crates/bench_hall/out/bench_hall (as
-./build bench_hall leaves it) and python3. The plain hall (bench/models/plain_hall.py) was written apart from the program, from the rules in
-docs/PROTOCOL.md. Worked rows come first, and then calls of all kinds: headers and blocks of branches that overtake each other,
-faulty ones, transactions, what peers ask, kicks and openings. With `--store` nothing is played: the examples and a few hundred calls
-are written to crates/bench_hall/stdin, and what the plain hall answers to crates/bench_hall/stdout.
+Without words 1,200 calls from seed 1, in a checked build of bench_hall, which also plays its stored runs. The plain hall
+(bench/models/plain_hall.py) was written apart from the program, from the rules in docs/PROTOCOL.md. Worked rows come first, and then
+calls of all kinds: headers and blocks of branches that overtake each other, faulty ones, transactions, what peers ask, kicks and
+openings; only those of the first 400 have large blocks. The same build tells what calls cost that may cost much, as ratios (bench/tools/hall_costs.py): none may be above 5. With
+`--store` nothing is played: the examples and a few hundred calls are written to bench/programs/bench_hall/stdin, and
+what the plain hall answers to bench/programs/bench_hall/stdout.
 """
 
 import struct
-import subprocess
 import sys
 from collections import Counter
 from pathlib import Path
@@ -22,16 +22,21 @@ from bench.models.plain_block import Block, Header, Tx, paying
 from bench.models.plain_compact import key_of, short_id
 from bench.tools.blocks import NOBODY
 from bench.tools.command_line import usage
+from bench.tools.hall_costs import CHECKED, LIMIT, all_rows, header_plays, told, told_memory
 from bench.tools.hall_drawing import Generated, tx_of_64_bytes
 from bench.tools.hall_play import HallPlay, question_text, repeated
 from bench.tools.network import GENESIS, header_text
-from bench.tools.programs import built, write_stored_run
+from bench.tools.programs import Case, run_checked, stored_cases, write_stored_run
 from bench.tools.records import record
 
 # So many calls go to one hall. So many are stored, from this seed.
 CALLS, STORED, STORED_SEED = 400, 300, 69
+# What a full run has.
+COUNT = 3 * CALLS
 # The first block's hash, as it is shown.
 FIRST = "0f9188f13cb7b2c71f2a335e3a4fc328bf5beb436012afca590b1a11466e2206"
+# Fewer processor seconds than these can't be told from noise.
+LEAST = 0.2
 # With this entry more a journal begins anew.
 MOST_ENTRIES = 1_000_000
 REFUSED_TXS = ["F5 BadTx 1", "F5 BadTx 2", "F5 BadTx 4", "F5 BadTx 5", "F5 BadTx 6", "F5 BadTx 7", "F5 BadTx 8", "F8 Size64",
@@ -227,15 +232,13 @@ def worked_examples(play):
         example(play)
 
 
-def row_b_leaves_of_one_badge(program):
+def row_b_leaves_of_one_badge():
     """A leave more than a journal holds: it begins anew with it, and all is the same if it is computed again."""
     count, (kind, text) = MOST_ENTRIES, question_text(("admit",))
     leave = struct.pack("<HQ", 0, 1) + text
     records = [repeated(count, kind, leave), record(kind, leave), record(b"j"), record(b"g")]
-    ran = subprocess.run([program], input=b"".join(records), capture_output=True, timeout=100)
     wanted = f"go\njournal 1 0.1 {count} {count + 1} {count + 1} false\nagain journal 1 answers 1 same true\nsum {count}\n"
-    told = ran.stdout.decode("ascii", "replace")
-    return [] if told == wanted else [f"behind {count + 1:,} leaves: {told!r} for {wanted!r}"]
+    return Case("leaves-of-one-badge", b"".join(records), wanted.encode("ascii"))
 
 
 def headers_around_one_without_work():
@@ -253,10 +256,11 @@ def headers_around_one_without_work():
 
 
 def served_of_50_000_entries():
-    """The first block for each of as many entries as a message may list."""
+    """The first block for each of as many entries as a message may list, of which the sum of the sizes is told, and for 10,000."""
     play = HallPlay()
-    told = play.ask((0, 1), "items", [(2, GENESIS)] * 50_000)
-    expect(told, "served" + f" whole {FIRST} 285" * 50_000)
+    play.ask_often(1, (0, 1), "items", [(2, GENESIS)] * 50_000)
+    told = play.ask((0, 1), "items", [(2, GENESIS)] * 10_000)
+    expect(told, "served" + f" whole {FIRST} 285" * 10_000)
     return play
 
 
@@ -271,6 +275,27 @@ def generated(seed, count, is_short, play=None):
     play.again()
     expect(play.hall.folded(len(play.hall.calls)).look(), play.hall.now.look())
     return play
+
+
+# ---- what calls cost
+
+
+def cost_cases():
+    """The runs of each play by its bytes, since some rows share plays; then those of headers, and of no call."""
+    plays = dict.fromkeys(data for row in all_rows(CHECKED) for play in (row.hostile, row.plain) for data in (play.whole, play.ground))
+    cases = {data: Case(f"cost-{number}", data, None) for number, data in enumerate(plays)}
+    return cases, [Case(f"headers-{name}", data, None) for name, data in zip(("none", "alone", "checkpoint"), (b"", *header_plays(CHECKED)))]
+
+
+def costs_too_much(cases, of_headers, ran):
+    """Tells what each call costs, and returns how many cost too much."""
+    def taken(play):
+        return ran[cases[play.whole].name].seconds - ran[cases[play.ground].name].seconds
+
+    within = [told(row, taken(row.hostile), taken(row.plain), LIMIT, LEAST) for row in all_rows(CHECKED)]
+    none, *both = (ran[it.name].memory for it in of_headers)
+    within.append(told_memory(CHECKED.headers, *(it - none for it in both)))
+    return within.count(False)
 
 
 def unmet(met, wanted):
@@ -290,27 +315,30 @@ def store():
 
 
 def main():
-    reader = usage(__doc__, count="how many calls", seed="the first one's seed", program="the program, if not crates/bench_hall/out/bench_hall")
+    reader = usage(__doc__, count="how many calls", seed="the first one's seed")
     reader.add_argument("--store", action="store_true", help="write the stored run")
     words = reader.parse_args()
     if words.store:
         store()
-    count, first = int(words.count or 2_000), int(words.seed or 1)
-    program = built(words.program, "bench_hall")
+    count, first = int(words.count or COUNT), int(words.seed or 1)
     examples = HallPlay()
     worked_examples(examples)
-    plays = [(0, examples), (0, headers_around_one_without_work()), (0, served_of_50_000_entries())] + [(seed, generated(seed, min(CALLS, count - (seed - first) * CALLS), False))
-                               for seed in range(first, first + -(-count // CALLS))]
-    differences = [f"seed {seed}: {difference}" for seed, play in plays for difference in play.differences(program)]
-    differences += row_b_leaves_of_one_badge(program)
-    met = sum((play.met for _, play in plays), Counter())
-    for difference in differences:
-        print(difference)
+    plays = {"examples": examples, "around-one-without-work": headers_around_one_without_work(), "served": served_of_50_000_entries()}
+    for seed in range(first, first + -(-count // CALLS)):
+        plays[f"seed-{seed}"] = generated(seed, min(CALLS, count - (seed - first) * CALLS), seed > first)
+    of_costs, of_headers = cost_cases()
+    cases = [*stored_cases("bench_hall"), row_b_leaves_of_one_badge(), *(play.case(name) for name, play in plays.items())]
+    ran = run_checked("bench_hall", [*cases, *of_costs.values(), *of_headers])
+    failures = [f"{name}: {ended.failure}" for name, ended in ran.items() if ended.failure]
+    met = sum((play.met for play in plays.values()), Counter())
+    for failure in failures:
+        print(failure)
     print(", ".join(f"{name} {times}" for name, times in sorted(met.items())))
-    missed = unmet(met, MET_IN_FULL) if count >= 2_000 else 0
-    lines = sum(len(play.lines()) for _, play in plays)
-    print(f"{count} calls, {lines} lines, {len(differences)} halls that differ")
-    sys.exit(1 if differences or missed else 0)
+    missed = unmet(met, MET_IN_FULL) if count >= COUNT else 0
+    print(f"{count} calls, {sum(len(play.lines()) for play in plays.values())} lines")
+    dear = costs_too_much(of_costs, of_headers, ran)
+    print(f"{len(ran) - len(failures) - dear} passed, {len(failures) + missed + dear} failed")
+    sys.exit(1 if failures or missed or dear else 0)
 
 
 if __name__ == "__main__":

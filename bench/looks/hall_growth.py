@@ -2,7 +2,7 @@
 """Counts the growths of memory that a hall meets at a small block and at a large one, and refuses each growth in turn:
 python3 bench/looks/hall_growth.py [PROGRAM]
 
-It needs the built program crates/bench_hall/out/bench_hall (as ./build bench_hall leaves it), a C compiler as `cc`, and python3, and
+It needs the built program bench/programs/bench_hall/out/bench_hall (as ./build bench_hall leaves it), a C compiler as `cc`, and python3, and
 takes some seconds. A block of 200 bytes and one of 900,000, with as many transactions, are given, served and told as news: a call has
 to meet as many growths of as many bytes for the one as for the other, so that the block is shared and never copied. So has a match
 with a pool of one transaction and with one of a thousand, once the pool was matched with. Then each growth is refused in turn while
@@ -137,7 +137,7 @@ def behind_a_checkpoint():
 
 
 def main():
-    words = usage(__doc__, program="the program, if not crates/bench_hall/out/bench_hall").parse_args()
+    words = usage(__doc__, program="the program, if not bench/programs/bench_hall/out/bench_hall").parse_args()
     program = built(words.program, "bench_hall")
     plays = {"three blocks for two under a pool of ten": reorganisation(), "a block put off behind a checkpoint": behind_a_checkpoint()}
     differences = [difference for play in plays.values() for difference in play.differences(program)]

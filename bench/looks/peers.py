@@ -1,9 +1,8 @@
 #!/usr/bin/env python3
 """Plays generated conversations of many peers at once through bench_peers, and looks at what it makes of them:
-python3 bench/looks/peers.py [RUNS] [SEED] [PROGRAM]
+python3 bench/looks/peers.py [RUNS] [SEED]
 
-It needs the built program (crates/bench_peers/out/bench_peers, as ./build --all leaves it) and python3, and
-takes some ten seconds. The conversations are those of bench/looks/conversations.py.
+It runs a checked build of bench_peers, which also plays its stored run. The conversations are those of bench/looks/conversations.py.
 
 Without words 20 runs from seed 1: 32 peers of 5 connections each, whose readers kick other peers and make ticks due, and 4 handlers.
 The inboxes hold one mark in half of the runs and 256 in the others. A new session that is given a trace's events again has to come to
@@ -16,7 +15,6 @@ the crew writes what `cbrelay serve` writes where no other peer is there.
 
 import os
 import random
-import subprocess
 import sys
 from concurrent.futures import ThreadPoolExecutor
 from pathlib import Path
@@ -27,7 +25,7 @@ if not __package__:  # called as a file
 from bench.tools.command_line import usage
 from bench.tools.conversation_drawing import Conversation, Relay
 from bench.tools.peers_play import connections_of, peer_line, summary_of
-from bench.tools.programs import built
+from bench.tools.programs import Case, run_checked, stored_cases
 
 RUNS, PEERS, CONNECTIONS, HANDLERS, CAPACITIES = 20, 32, 5, 4, (1, 256)
 # How many conversations are drawn for all runs, and how many are played by one peer alone.
@@ -38,10 +36,6 @@ KICKS, TICKS = 0.15, 0.3
 
 def drawn(seed):
     return (Relay if seed % 2 else Conversation)(seed)
-
-
-def run(program, text, timeout=300):
-    return subprocess.run([program], input=text.encode("ascii"), capture_output=True, timeout=timeout)
 
 
 # ---- many peers
@@ -66,56 +60,58 @@ def are_alike(told):
     return told.get("connections") == PEERS * CONNECTIONS == alike + rest and told.get("unlike") == 0 and rest <= alike
 
 
-def play_many(program, seed, spoken):
-    """Plays a run of many peers. What is wrong with it, if something is, and its numbers."""
-    capacity = CAPACITIES[seed % len(CAPACITIES)]
-    ran = run(program, script_of(random.Random(seed), spoken) + f"run {HANDLERS} {capacity}\n")
-    told = summary_of(ran.stdout)
-    is_right = ran.returncode == 0 and are_alike(told)
-    return None if is_right else f"seed {seed}, capacity {capacity}: status {ran.returncode}, {ran.stdout!r}, {ran.stderr!r}", told
+def many(seed, spoken):
+    """A run of many peers."""
+    text = script_of(random.Random(seed), spoken) + f"run {HANDLERS} {CAPACITIES[seed % len(CAPACITIES)]}\n"
+    return Case(f"many-{seed}", text.encode("ascii"))
 
 
-def look_at_many(program, runs, seed, spoken):
+def look_at_many(ran):
+    """What is wrong with the runs of many peers."""
     failures, totals = [], {}
-    for number in range(seed, seed + runs):
-        failure, told = play_many(program, number, spoken)
-        failures += [failure] if failure else []
-        for name in ("connections", "entries", "written", "alike", "checkpointed"):
-            totals[name] = totals.get(name, 0) + told.get(name, 0)
-    told = ", ".join(f"{number} {name}" for name, number in totals.items())
-    print(f"peers: {runs} runs of {PEERS} peers: {told}; {len(failures)} failures")
+    for name, ended in ran.items():
+        told = summary_of(ended.printed)
+        if ended.failure or not are_alike(told):
+            failures.append(f"{name}: {ended.failure}, {ended.printed!r}")
+        for word in ("connections", "entries", "written", "alike", "checkpointed"):
+            totals[word] = totals.get(word, 0) + told.get(word, 0)
+    told = ", ".join(f"{number} {word}" for word, number in totals.items())
+    print(f"peers: {len(ran)} runs of {PEERS} peers: {told}; {len(failures)} failures")
     return failures
 
 
 # ---- one peer
 
 
-def play_alone(program, spoken):
-    """How the crew answers a conversation otherwise than the plain session, if it does."""
-    ran = run(program, peer_line(0, spoken.stream) + f"run {HANDLERS} 256 verbose\n")
-    told = connections_of(ran.stdout)
-    if ran.returncode != 0 or [(one.why, one.written) for one in told] != [(spoken.why, spoken.answered)]:
-        return f"alone: status {ran.returncode}, {[one.why for one in told]} for {spoken.why}, {ran.stderr!r}"
-    return None
+def alone(number, spoken):
+    """A conversation of one peer."""
+    return Case(f"alone-{number}", f"{peer_line(0, spoken.stream)}run {HANDLERS} 256 verbose\n".encode("ascii"))
 
 
-def look_at_one(program, spoken):
-    with ThreadPoolExecutor(os.cpu_count()) as lanes:
-        failures = [failure for failure in lanes.map(lambda one: play_alone(program, one), spoken) if failure]
+def look_at_one(ran, spoken):
+    """What is wrong with the conversations of one peer: how the crew answers them otherwise than the plain session."""
+    failures = []
+    for (name, ended), one in zip(ran.items(), spoken):
+        told = connections_of(ended.printed)
+        if ended.failure or [(it.why, it.written) for it in told] != [(one.why, one.answered)]:
+            failures.append(f"{name}: {ended.failure}, {[it.why for it in told]} for {one.why}")
     print(f"peers: {len(spoken)} conversations of one peer: {len(spoken) - len(failures)} answered as by the plain session, {len(failures)} not")
     return failures
 
 
 def main():
-    reader = usage(__doc__, runs="how many runs of many peers", seed="the seed of the first", program="the program, if not crates/bench_peers/out/bench_peers")
-    words = reader.parse_args()
-    program = built(words.program, "bench_peers")
+    words = usage(__doc__, runs="how many runs of many peers", seed="the seed of the first").parse_args()
+    runs, seed = int(words.runs or RUNS), int(words.seed or 1)
     with ThreadPoolExecutor(os.cpu_count()) as lanes:
         spoken = list(lanes.map(drawn, range(1, 1 + DRAWN)))
-    failures = look_at_many(program, int(words.runs or RUNS), int(words.seed or 1), spoken)
-    failures += look_at_one(program, spoken[:ALONE])
+    kinds = [stored_cases("bench_peers"), [many(it, spoken) for it in range(seed, seed + runs)], [alone(*it) for it in enumerate(spoken[:ALONE])]]
+    ran = run_checked("bench_peers", [case for cases in kinds for case in cases])
+    stored, of_many, of_one = ({case.name: ran[case.name] for case in cases} for cases in kinds)
+    failures = [f"{name}: {ended.failure}" for name, ended in stored.items() if ended.failure]
+    failures += look_at_many(of_many) + look_at_one(of_one, spoken[:ALONE])
     for failure in failures[:10]:
         print(f"peers: {failure}")
+    print(f"{len(ran) - len(failures)} passed, {len(failures)} failed")
     return 1 if failures else 0
 
 

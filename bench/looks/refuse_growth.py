@@ -1,10 +1,12 @@
 #!/usr/bin/env python3
-"""Refuses each growth of memory in turn, and looks at how the built programs end: python3 bench/looks/refuse_growth.py
+"""Refuses each growth of memory in turn, and looks at how the built program ends: python3 bench/looks/refuse_growth.py [--programs]
 
-It needs the programs (crates/NAME/out/NAME of cbrelay, bench_sound, bench_chain and bench_compact, as ./build --all leaves them), a C
-compiler as `cc`, and python3, and takes a few seconds. A small library that is loaded before the C library counts growths and makes the Nth
-fail; N goes up until a run makes fewer. Each run has to end with status 4 after a beginning of what it prints with ample memory,
-or wholly as with ample memory, where it could do without that growth.
+It needs the program (crates/cbrelay/out/cbrelay), a C compiler as `cc`, and python3, and takes a few seconds. A small library that is
+loaded before the C library counts growths and makes the Nth fail; N goes up until a run makes fewer. Each run has to end with status 4
+after a beginning of what it prints with ample memory, or wholly as with ample memory, where it could do without that growth.
+
+With `--programs` the same is done to bench_sound, bench_chain and bench_compact, as ./build leaves them. Calls of a chain are made beside a
+copy there: one that lacked memory has to leave the chain as it was, and is made again.
 """
 
 import os
@@ -20,6 +22,7 @@ from bench.tools.branches import Made, Marks, branch, faulty_on
 from bench.tools.chain_play import ChainPlay
 from bench.tools.command_line import usage
 from bench.tools.compact_play import CompactPlay, some_block
+from bench.tools.growth_rows import ROWS
 from bench.tools.growths import build, in_turn
 from bench.tools.messages import pings, unknown
 from bench.tools.network import GENESIS, header_text
@@ -93,7 +96,7 @@ def rebuilding_play():
     return b"".join(play.records)
 
 
-# What is run: a name, the crate of the program, its words, and its standard input.
+# What is run: a name, the program, its words, and its standard input.
 RUNS = [
     ("decode first.hex", "cbrelay", ["decode"], example("first.hex")),
     ("decode not-hex.hex", "cbrelay", ["decode"], example("not-hex.hex")),
@@ -108,6 +111,9 @@ RUNS = [
     ("serve, a checkpoint between three large messages and a ping", "cbrelay", ["serve"], unknown(3) + pings(1)),
     ("sim crew.txt", "cbrelay", ["sim"], example("crew.txt")),
     ("sim connections.txt", "cbrelay", ["sim"], example("connections.txt")),
+    *((f"serve, {row.name}", "cbrelay", ["serve"], row.said()) for row in (row() for row in ROWS)),
+]
+RUNS_OF_PROGRAMS = [
     ("sound, a block of 5 transactions", "bench_sound", [], block(5, 10)),
     ("chain, a block at the tip and three blocks for two", "bench_chain", [], careful_play()),
     ("chain, faults on a side branch, and turns to it and back", "bench_chain", [], careful_turns()),
@@ -118,12 +124,14 @@ RUNS = [
 
 
 def main():
-    usage(__doc__).parse_args()
-    for crate in sorted({crate for _, crate, _, _ in RUNS}):
+    reader = usage(__doc__)
+    reader.add_argument("--programs", action="store_true", help="refuse growths of the programs of bench/ instead")
+    runs = RUNS_OF_PROGRAMS if reader.parse_args().programs else RUNS
+    for crate in sorted({crate for _, crate, _, _ in runs}):
         built(None, crate)
     with tempfile.TemporaryDirectory() as folder:
         library = build(folder)
-        failures = sum(in_turn(*what, library) for what in RUNS)
+        failures = sum(in_turn(*what, library) for what in runs)
     sys.exit(1 if failures else 0)
 
 

@@ -1,7 +1,7 @@
 #!/usr/bin/env python3
 """Refuses each growth of memory of a peer's reader and its sessions in turn: python3 bench/looks/turn_growth.py [PROGRAM]
 
-It needs the built program (crates/bench_peers/out/bench_peers, as ./build --all leaves it), a C compiler as `cc`, and python3, and takes
+It needs the built program (bench/programs/bench_peers/out/bench_peers, as ./build bench_peers leaves it), a C compiler as `cc`, and python3, and takes
 half a minute. The program serves one peer on one thread. The Nth growth fails, and N goes up until a run makes fewer.
 
 Each run has to end as with ample memory, or with status 4. The first crew that can't be made gives its works back, and the program makes
@@ -64,7 +64,7 @@ def refuse_all(name, program, script, library):
 
 
 def main():
-    program = built(usage(__doc__, program="the program, if not crates/bench_peers/out/bench_peers").parse_args().program, "bench_peers")
+    program = built(usage(__doc__, program="the program, if not bench/programs/bench_peers/out/bench_peers").parse_args().program, "bench_peers")
     with tempfile.TemporaryDirectory() as folder:
         library = build(folder)
         failures = sum(refuse_all(name, program, script, library) for name, script in runs())

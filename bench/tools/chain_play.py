@@ -2,7 +2,6 @@
 
 import random
 import struct
-import subprocess
 from collections import Counter
 
 from bench.models.plain_block import Header
@@ -11,8 +10,8 @@ from bench.tools.chain_drawing import DEEP, Drawing
 from bench.tools.records import record
 from bench.tools.texts import line
 
-# After so many calls all that came is compared.
-SWEEP = 50
+# After so many calls all that came is compared, and after so many what follows a locator and the way to a block.
+SWEEP, WAYS = 50, 8
 
 
 class ChainPlay:
@@ -84,18 +83,18 @@ class ChainPlay:
         self.call()
         self.ask_tip()
         names, points = self.drawing.names() + [NOBODY], self.drawing.points
-        self.ask_ways(names)
+        if number % WAYS == WAYS - 1:
+            self.ask_ways(names)
         sweep = number % SWEEP == SWEEP - 1
         for name in names if sweep else names[-4:]:
             self.ask_name(name)
         self.ask_values(points if sweep else points[-4:])
 
-    def differences(self, program):
-        """The first line of the proved chain that isn't what is wanted."""
-        ran = subprocess.run([program], input=b"".join(self.records), capture_output=True, timeout=100)
-        told = ran.stdout.decode("ascii", "replace").split("\n")
-        if ran.returncode != 0 or ran.stderr:
-            return [f"status {ran.returncode}, {told[:3]}, {ran.stderr!r}"]
+    def differences(self, ended):
+        """The first line of the program's chain that isn't what is wanted."""
+        told = ended.printed.decode("ascii", "replace").split("\n")
+        if ended.failure:
+            return [ended.failure]
         for place, wanted in enumerate(self.wanted):
             if place >= len(told) or told[place] != wanted:
                 asked = self.records[place + 1]

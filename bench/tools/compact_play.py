@@ -2,17 +2,16 @@
 
 import os
 import struct
-import subprocess
 from collections import Counter
 
 from bench.models.plain_compact import WORD, differences, indexes, judged, key_of, missing, short_id, slots
 from bench.tools.blocks import block_of, some_name, transaction
-from bench.tools.programs import ROOT
+from bench.tools.programs import Case, folder_of
 from bench.tools.records import record
 from bench.tools.texts import hash_twice
 
 # The network's first block, which has one transaction.
-with open(os.path.join(ROOT, "crates", "bench_sound", "stdin"), "rb") as FILE:
+with open(os.path.join(folder_of("bench_sound"), "stdin"), "rb") as FILE:
     FIRST_BLOCK = FILE.read()
 # So many numbers are told one by one.
 FEW = 16
@@ -141,15 +140,9 @@ class CompactPlay:
         self.found = None
         return self.order(b"l", b"".join(struct.pack("<QI", 0, number) for number in numbers), line)
 
-    def differences(self, program):
-        """Where the program tells something else."""
-        ran = subprocess.run([program], input=b"".join(self.records), capture_output=True, timeout=600)
-        told = ran.stdout.decode("ascii").splitlines()
-        if ran.returncode != 0:
-            return [f"the program ended with status {ran.returncode} and told {told[-1:]}"]
-        if len(told) != len(self.wanted):
-            return [f"{len(told)} lines in place of {len(self.wanted)}"]
-        return [f"line {place}: {line}, wanted {wanted}" for place, (line, wanted) in enumerate(zip(told, self.wanted)) if line != wanted]
+    def case(self, name):
+        """A run that plays these records."""
+        return Case(name, b"".join(self.records), "".join(f"{line}\n" for line in self.wanted).encode("ascii"))
 
 
 def some_block(play, count, nonce, places):

@@ -1,10 +1,10 @@
 """Calls of a hall as records of bench_hall, and the lines that a plain hall wants of them."""
 
 import struct
-import subprocess
 from collections import Counter
 
 from bench.models.plain_hall import PlainHall
+from bench.tools.programs import Case
 from bench.tools.records import record
 
 
@@ -118,13 +118,6 @@ class HallPlay:
     def lines(self):
         return self.wanted + ([f"sum {self.sum}"] if self.sum is not None else [])
 
-    def differences(self, program):
-        """The first line of the proved hall that isn't what is wanted."""
-        ran = subprocess.run([program], input=b"".join(self.records), capture_output=True, timeout=100)
-        told, wanted = ran.stdout.decode("ascii", "replace").split("\n"), self.lines() + [""]
-        if ran.returncode != 0 or ran.stderr:
-            return [f"status {ran.returncode}, {told[-3:]}, {ran.stderr!r}"]
-        if told == wanted:
-            return []
-        place = next((place for place, (one, other) in enumerate(zip(told, wanted)) if one != other), min(len(told), len(wanted)))
-        return [f"line {place + 1}: {told[place:place + 1]} for {wanted[place:place + 1]}, behind {wanted[max(place - 2, 0):place]}"]
+    def case(self, name):
+        """A run that plays these records."""
+        return Case(name, b"".join(self.records), "".join(f"{line}\n" for line in self.lines()).encode("ascii"))

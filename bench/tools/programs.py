@@ -1,15 +1,25 @@
-"""Where built programs are, and what the gate runs them on."""
+"""Where built programs are, their stored runs, and runs of them in checked builds."""
 
 import os
 import sys
 from pathlib import Path
 
 ROOT = str(Path(__file__).resolve().parents[2])
+sys.path.insert(0, os.path.join(ROOT, "scripts"))
+
+from checked import Case, run_checked
+from stored_runs import read_run
+
+
+def folder_of(crate, top=ROOT):
+    """Where a program stands below this folder: in bench/programs, or among the crates."""
+    apart = os.path.join(top, "bench/programs", crate)
+    return apart if os.path.isdir(apart) else os.path.join(top, "crates", crate)
 
 
 def path_of(crate, top=ROOT):
     """Where ./build leaves a program below this folder."""
-    return os.path.join(top, f"crates/{crate}/out/{crate}")
+    return os.path.join(folder_of(crate, top), "out", crate)
 
 
 def built(path, crate, top=ROOT):
@@ -28,9 +38,19 @@ def written(path, *parts):
     return path
 
 
+def stored_cases(program):
+    """The stored runs of a program of bench/programs: that beside its sources, and those of runs/."""
+    folder = Path(folder_of(program))
+    cases = [Case("stored", (folder / "stdin").read_bytes(), (folder / "stdout").read_bytes())]
+    for path in sorted(Path(ROOT, "runs", program).glob("*.run")):
+        run = read_run(path)
+        cases.append(Case(path.stem, run.given, run.printed, run.status))
+    return cases
+
+
 def write_stored_run(crate, records, lines):
-    """Writes what a program is run on by the gate, and what it has to print then."""
-    folder = os.path.join(ROOT, "crates", crate)
+    """Writes a program's stored run: its input, and what it has to print."""
+    folder = folder_of(crate)
     with open(os.path.join(folder, "stdin"), "wb") as file:
         file.write(b"".join(records))
     with open(os.path.join(folder, "stdout"), "w", encoding="ascii") as file:
