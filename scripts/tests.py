@@ -21,7 +21,7 @@ from repository import Repository
 
 ROOT = Path(__file__).resolve().parent.parent
 FOLDER = ROOT / "tests"
-# A test that runs longer has failed. The pings behind checkpoints take five minutes of a slow core in this build.
+# A test that runs longer has failed. The pings behind checkpoints take some 100 processor seconds in this build.
 SECONDS = 1_800
 # The worked rows, by the file that has them. Row 17 is `two_handlers_meet`.
 ROWS = {
@@ -49,6 +49,8 @@ ROWS = {
 }
 ENDING = ".rt.in"
 TEST = re.compile(r"#\[test\]\s*fn (\w+)")
+# a test with what is said of it, up to the bracket that ends it
+WHOLE_TEST = re.compile(r"^(?:///.*\n)*#\[test\]\nfn (\w+)(?:.*\n)*?\}\n", re.MULTILINE)
 # a line of the run: a test and how it ended, and how many it had in all
 ENDED = re.compile(r"test (\S+) \.\.\. (ok|FAILED)$")
 SUMMARY = re.compile(r"test result: (?:ok|FAILED)\. (\d+) passed; (\d+) failed; (\d+) ignored; (\d+) filtered out$")
@@ -64,12 +66,12 @@ def tests_there():
 
 
 def leave_only(chosen, sources):
-    """Takes the mark of a test off all others in a copy of the sources."""
+    """Takes all other tests out of a copy of the sources."""
     for path in sources.glob("*.rt"):
-        def mark(found, module=path.stem):
-            return found[0] if f"{module}::{found[1]}" in chosen else found[0].removeprefix("#[test]").lstrip()
+        def kept(found, module=path.stem):
+            return found[0] if f"{module}::{found[1]}" in chosen else ""
 
-        path.write_text(TEST.sub(mark, path.read_text(encoding="utf-8")), encoding="utf-8")
+        path.write_text(WHOLE_TEST.sub(kept, path.read_text(encoding="utf-8")), encoding="utf-8")
 
 
 def run(folder):
