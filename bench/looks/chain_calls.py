@@ -6,8 +6,8 @@ Without words 1,050 calls from seed 1, in a checked build of bench_chain, which 
 (bench/models/plain_chain.py) was written apart from the program, from the rules in docs/PROTOCOL.md: it keeps what came, and finds the
 best chain and what is unspent anew after each call. Then the tip, the locator and what is drawn are compared, now and then all that
 came. Half of the calls belong to a story: faults low down on branches that are met late, faulty blocks on the ends of side branches, and
-branches that overtake each other. The same build copies chains, blocks and messages: with large transactions that may take at most 5
-times as long as with small ones, since a copy shares them.
+branches that overtake each other. The same build copies chains, blocks and messages: with large transactions that may take at most 50 MB
+more than with small ones, since a copy shares them.
 """
 
 import sys
@@ -26,8 +26,8 @@ from bench.tools.programs import Case, run_checked, stored_cases
 CALLS = 350
 # What a full run has.
 COUNT = 3 * CALLS
-# The greatest ratio of copies, and the processor seconds below which nothing can be told from noise.
-LIMIT, LEAST = 5, 0.2
+# The bytes of memory that copies with large transactions may take beyond those with small ones: copies of these take 200 MB and more.
+MORE = 50_000_000
 # What a full run has to meet: each fault that a chain can tell, but want of memory and 1,000,000,000 blocks; a block that can't be
 # connected beside the tip, and one below the block that is tried; and a reorganisation of many blocks.
 FAULTS = {"F5 BadTx 4", "F5 BadTx 6", "F10 BadCoinbase", "F11 BadWork", "F13 Oversize", "F18 Known", "F19 NoInput",
@@ -43,20 +43,20 @@ def played(seed, calls):
 
 
 def copy_cases():
-    """Copies of each original, by its place, the bytes of its transactions, and whether the copies are made."""
-    plays = {(original, size): copied(CHECKED, original, size) for original in range(len(ORIGINALS)) for size in (LARGE, SMALL)}
-    return {(*key, is_made): Case(f"copy-{key[0]}-{key[1]}-{is_made}", play.whole if is_made else play.ground)
-            for key, play in plays.items() for is_made in (True, False)}
+    """Copies of each original, by its place and the bytes of its transactions."""
+    return {(original, size): Case(f"copy-{original}-{size}", copied(CHECKED, original, size).whole)
+            for original in range(len(ORIGINALS)) for size in (LARGE, SMALL)}
 
 
 def dear_copies(cases, ran):
-    """Tells what copies take, and returns how many of them cost more with large transactions."""
+    """Tells what copies take, and returns how many of them take more memory with large transactions."""
     dear = 0
     for original, name in enumerate(ORIGINALS):
-        large, small = (ran[cases[original, size, True].name].seconds - ran[cases[original, size, False].name].seconds for size in (LARGE, SMALL))
-        ratio = max(large, LEAST) / max(small, LEAST)
-        dear += ratio > LIMIT
-        print(f"{CHECKED.copies:,} copies of {name} of transactions of {LARGE:,} bytes: {large:.2f} s for {small:.2f} at {SMALL} bytes, {ratio:.1f} times")
+        large, small = (ran[cases[original, size].name].memory for size in (LARGE, SMALL))
+        is_dear = large - small > MORE
+        dear += is_dear
+        words = f": ABOVE {MORE / 1e6:,.0f} MB more" if is_dear else ""
+        print(f"{CHECKED.copies:,} copies of {name}: {large / 1e6:,.1f} MB with transactions of {LARGE:,} bytes, {small / 1e6:,.1f} with some of {SMALL}{words}")
     return dear
 
 

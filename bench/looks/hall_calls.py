@@ -22,7 +22,7 @@ from bench.models.plain_block import Block, Header, Tx, paying
 from bench.models.plain_compact import key_of, short_id
 from bench.tools.blocks import NOBODY
 from bench.tools.command_line import usage
-from bench.tools.hall_costs import CHECKED, LIMIT, all_rows, header_plays, told, told_memory
+from bench.tools.hall_costs import CHECKED, LIMIT, SMALL, all_rows, header_plays, shared, told, told_memory
 from bench.tools.hall_drawing import Generated, tx_of_64_bytes
 from bench.tools.hall_play import HallPlay, question_text, repeated
 from bench.tools.network import GENESIS, header_text
@@ -35,8 +35,10 @@ CALLS, STORED, STORED_SEED = 400, 300, 69
 COUNT = 3 * CALLS
 # The first block's hash, as it is shown.
 FIRST = "0f9188f13cb7b2c71f2a335e3a4fc328bf5beb436012afca590b1a11466e2206"
-# Fewer processor seconds than these can't be told from noise.
-LEAST = 0.2
+# Fewer processor seconds than these, or than this part of what comes before a call, can't be told from noise.
+LEAST, PART = 0.2, 0.5
+# The bytes of memory that a block which is asked for again and again may take beyond a small one: copies take 200 MB and more.
+MORE = 50_000_000
 # With this entry more a journal begins anew.
 MOST_ENTRIES = 1_000_000
 REFUSED_TXS = ["F5 BadTx 1", "F5 BadTx 2", "F5 BadTx 4", "F5 BadTx 5", "F5 BadTx 6", "F5 BadTx 7", "F5 BadTx 8", "F8 Size64",
@@ -242,25 +244,25 @@ def row_b_leaves_of_one_badge():
 
 
 def headers_around_one_without_work():
-    """Of 2,000 headers the one at place 1,000 has no work: those before it are accepted, and none behind it."""
+    """Of 500 headers the one at place 250 has no work: those before it are accepted, and none behind it."""
     play, headers = HallPlay(), []
-    for place in range(2_000):
-        headers.append(Header(header_text(headers[-1].name if headers else GENESIS, bytes([place % 256]) * 32, place != 1_000)))
+    for place in range(500):
+        headers.append(Header(header_text(headers[-1].name if headers else GENESIS, bytes([place % 256]) * 32, place != 250)))
     told = play.ask((0, 1), "headers", headers).split()
     expect(told[:4] + told[-1:], ["heads", "F11", "BadWork", "lack", "locator"])
-    expect(told[4:-1], [header.name[::-1].hex() for header in headers[:1_000]])
-    expect(play.ask((0, 1), "headers", [headers[1_001]])[:17], "heads F23 NoParen")
-    expect(play.ask((0, 1), "headers", headers[999:1_000]), f"heads - lack {told[1_003]} locator")
+    expect(told[4:-1], [header.name[::-1].hex() for header in headers[:250]])
+    expect(play.ask((0, 1), "headers", [headers[251]])[:17], "heads F23 NoParen")
+    expect(play.ask((0, 1), "headers", headers[249:250]), f"heads - lack {told[253]} locator")
     play.look()
     return play
 
 
 def served_of_50_000_entries():
-    """The first block for each of as many entries as a message may list, of which the sum of the sizes is told, and for 10,000."""
+    """The first block for each of as many entries as a message may list, of which the sum of the sizes is told, and for 1,000."""
     play = HallPlay()
     play.ask_often(1, (0, 1), "items", [(2, GENESIS)] * 50_000)
-    told = play.ask((0, 1), "items", [(2, GENESIS)] * 10_000)
-    expect(told, "served" + f" whole {FIRST} 285" * 10_000)
+    told = play.ask((0, 1), "items", [(2, GENESIS)] * 1_000)
+    expect(told, "served" + f" whole {FIRST} 285" * 1_000)
     return play
 
 
@@ -284,17 +286,27 @@ def cost_cases():
     """The runs of each play by its bytes, since some rows share plays; then those of headers, and of no call."""
     plays = dict.fromkeys(data for row in all_rows(CHECKED) for play in (row.hostile, row.plain) for data in (play.whole, play.ground))
     cases = {data: Case(f"cost-{number}", data, None) for number, data in enumerate(plays)}
-    return cases, [Case(f"headers-{name}", data, None) for name, data in zip(("none", "alone", "checkpoint"), (b"", *header_plays(CHECKED)))]
+    of_memory = [Case(f"headers-{name}", data, None) for name, data in zip(("none", "alone", "checkpoint"), (b"", *header_plays(CHECKED)))]
+    for name, *both in shared(CHECKED):
+        of_memory += [Case(f"{name.replace(' ', '-')}-{size}", data, None) for size, data in zip(("large", "small"), both)]
+    return cases, of_memory
 
 
-def costs_too_much(cases, of_headers, ran):
+def costs_too_much(cases, ran):
     """Tells what each call costs, and returns how many cost too much."""
-    def taken(play):
-        return ran[cases[play.whole].name].seconds - ran[cases[play.ground].name].seconds
+    def seconds(data):
+        return ran[cases[data].name].seconds
 
-    within = [told(row, taken(row.hostile), taken(row.plain), LIMIT, LEAST) for row in all_rows(CHECKED)]
-    none, *both = (ran[it.name].memory for it in of_headers)
-    within.append(told_memory(CHECKED.headers, *(it - none for it in both)))
+    within = []
+    for row in all_rows(CHECKED):
+        least = max(LEAST, *(PART * seconds(play.ground) for play in (row.hostile, row.plain)))
+        within.append(told(row, *(seconds(play.whole) - seconds(play.ground) for play in (row.hostile, row.plain)), LIMIT, least))
+    within.append(told_memory(CHECKED.headers, *(ran[f"headers-{it}"].memory - ran["headers-none"].memory for it in ("alone", "checkpoint"))))
+    for name, *_ in shared(CHECKED):
+        large, small = (ran[f"{name.replace(' ', '-')}-{it}"].memory for it in ("large", "small"))
+        within.append(large - small <= MORE)
+        words = "" if within[-1] else f": ABOVE {MORE / 1e6:,.0f} MB more"
+        print(f"a block that is {name} {CHECKED.asked:,} times: {large / 1e6:,.1f} MB for {CHECKED.large:,} bytes, {small / 1e6:,.1f} for {SMALL}{words}")
     return within.count(False)
 
 
@@ -326,9 +338,9 @@ def main():
     plays = {"examples": examples, "around-one-without-work": headers_around_one_without_work(), "served": served_of_50_000_entries()}
     for seed in range(first, first + -(-count // CALLS)):
         plays[f"seed-{seed}"] = generated(seed, min(CALLS, count - (seed - first) * CALLS), seed > first)
-    of_costs, of_headers = cost_cases()
+    of_costs, of_memory = cost_cases()
     cases = [*stored_cases("bench_hall"), row_b_leaves_of_one_badge(), *(play.case(name) for name, play in plays.items())]
-    ran = run_checked("bench_hall", [*cases, *of_costs.values(), *of_headers])
+    ran = run_checked("bench_hall", [*cases, *of_costs.values(), *of_memory])
     failures = [f"{name}: {ended.failure}" for name, ended in ran.items() if ended.failure]
     met = sum((play.met for play in plays.values()), Counter())
     for failure in failures:
@@ -336,7 +348,7 @@ def main():
     print(", ".join(f"{name} {times}" for name, times in sorted(met.items())))
     missed = unmet(met, MET_IN_FULL) if count >= COUNT else 0
     print(f"{count} calls, {sum(len(play.lines()) for play in plays.values())} lines")
-    dear = costs_too_much(of_costs, of_headers, ran)
+    dear = costs_too_much(of_costs, ran)
     print(f"{len(ran) - len(failures) - dear} passed, {len(failures) + missed + dear} failed")
     sys.exit(1 if failures or missed or dear else 0)
 

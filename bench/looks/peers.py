@@ -4,7 +4,7 @@ python3 bench/looks/peers.py [RUNS] [SEED]
 
 It runs a checked build of bench_peers, which also plays its stored run. The conversations are those of bench/looks/conversations.py.
 
-Without words 20 runs from seed 1: 32 peers of 5 connections each, whose readers kick other peers and make ticks due, and 4 handlers.
+Without words 6 runs from seed 1: 32 peers of 5 connections each, whose readers kick other peers and make ticks due, and 4 handlers.
 The inboxes hold one mark in half of the runs and 256 in the others. A new session that is given a trace's events again has to come to
 the same state, to ask the same, and to send what was written: the program tells so of each trace. The oldest of a peer's past
 connections are a checkpoint alone where they take above 1,000,000 bytes, and aren't replayed; they may be half of all at most.
@@ -27,9 +27,9 @@ from bench.tools.conversation_drawing import Conversation, Relay
 from bench.tools.peers_play import connections_of, peer_line, summary_of
 from bench.tools.programs import Case, run_checked, stored_cases
 
-RUNS, PEERS, CONNECTIONS, HANDLERS, CAPACITIES = 20, 32, 5, 4, (1, 256)
+RUNS, PEERS, CONNECTIONS, HANDLERS, CAPACITIES = 6, 32, 5, 4, (1, 256)
 # How many conversations are drawn for all runs, and how many are played by one peer alone.
-DRAWN, ALONE = 240, 60
+DRAWN, ALONE = 300, 300
 # How often a reader kicks a peer, or makes a tick of each peer due, before a connection.
 KICKS, TICKS = 0.15, 0.3
 

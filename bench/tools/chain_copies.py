@@ -1,6 +1,7 @@
 """Copies of a chain, of a block and of a message that holds a block: each of large transactions beside one of small ones.
 
-A copy shares the transactions, so that both cost the same.
+A copy shares the transactions, so that both cost the same. A checked build keeps memory for a while that was given back, so that copies
+of transactions show.
 """
 
 from typing import NamedTuple
@@ -23,7 +24,7 @@ class Sizes(NamedTuple):
     copies: int
 
 
-COUNTED, CHECKED = Sizes(100, 10, 10), Sizes(10, 10, 3_000)
+COUNTED, CHECKED = Sizes(100, 10, 10), Sizes(5, 5, 1_000)
 ORIGINALS = ("a chain", "a block", "a message that holds a block")
 
 
