@@ -11,10 +11,7 @@ import sys
 import time
 from pathlib import Path
 
-from repository import run_in_lanes
-
-# what a library is made of
-MADE_OF = ("src", "specs", "proofs")
+from repository import MADE_OF, run_in_lanes
 
 
 def keep_work(room, crate):
@@ -98,5 +95,5 @@ def in_order(repository, crates):
 def prove_all(workshop, crates):
     """Proves and builds these crates and all that they stand on, lowest first. Returns whether all are proved."""
     order = in_order(workshop.repository, crates)
-    given = run_in_lanes(order, workshop.repository.below, lambda crate, jobs: prove(workshop, crate, jobs))
+    given = run_in_lanes(order, workshop.repository.below, lambda crate, jobs: prove(workshop, crate, jobs), workshop.repository.memory)
     return all(given.values())

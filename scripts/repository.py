@@ -14,9 +14,12 @@ from pathlib import Path
 
 from cost import TICKS, spent
 
-# What one check of a crate may take, in bytes: most take 1 to 2 GB, each further job of a check another half.
-MEMORY_OF_A_CHECK = 3_000_000_000
-PARTS = ("src", "specs", "proofs", "stdin", "stdout", "args", "status", "data")
+# What one check may take, in bytes: for itself, for each line of the crate's sources and of its proofs, and for each line of a source
+# below. Checks of whole crates were measured; the largest took 12 GB. Each further job of a check takes half as much again.
+MEMORY_OF_A_CHECK, OF_A_LINE, OF_A_LINE_OF_PROOFS, OF_A_LINE_BELOW = 1_200_000_000, 1_500_000, 300_000, 240_000
+# what a library is made of, and what else a crate has
+MADE_OF = ("src", "specs", "proofs")
+PARTS = (*MADE_OF, "stdin", "stdout", "args", "status", "data")
 
 
 @dataclass(frozen=True)
@@ -31,6 +34,13 @@ class Crate:
     @property
     def is_program(self):
         return (self.folder / "src" / "main.rt").is_file()
+
+    def files(self, ending):
+        """Returns the crate's files of sources, definitions and proofs with this ending."""
+        return [it for part in MADE_OF for it in sorted((self.folder / part).rglob(f"*{ending}"))]
+
+    def count_lines(self, ending):
+        return sum(it.read_bytes().count(b"\n") for it in self.files(ending))
 
 
 class Repository:
@@ -51,6 +61,12 @@ class Repository:
         if crate.name not in self.found_below:
             self.found_below[crate.name] = self.with_below([self.crates[name] for name in crate.uses])
         return self.found_below[crate.name]
+
+    def memory(self, crate):
+        """Returns about how much memory in bytes a check of the whole crate takes."""
+        below = sum(it.count_lines(".rt") for it in self.below(crate))
+        own = OF_A_LINE * crate.count_lines(".rt") + OF_A_LINE_OF_PROOFS * crate.count_lines(".antt")
+        return MEMORY_OF_A_CHECK + own + OF_A_LINE_BELOW * below
 
     def with_below(self, crates):
         """Returns these crates and all that they stand on, lowest first."""
@@ -166,23 +182,20 @@ def free_memory():
     return min(found)
 
 
-def lanes():
-    """Returns how many checks may run side by side: one for each processor, as far as memory goes, and at least one."""
-    return max(1, min(cores(), free_memory() // MEMORY_OF_A_CHECK))
-
-
-def run_in_lanes(tasks, waits_for, call, filling=()):
+def run_in_lanes(tasks, waits_for, call, memory):
     """Calls `call(task, jobs)` for each task, in their order and side by side, each once those it waits for have ended.
 
-    The tasks of `filling` leave one lane to the others until all of these have begun. Idle lanes go to what is running as further
-    jobs. Returns what each call gave, by task; a task behind one that gave None gives None.
+    There are as many lanes as processors, as far as memory goes: `memory(task)` is what one takes. Idle lanes go to what begins as
+    further jobs. Returns what each call gave, by task; a task behind one that gave None gives None.
     """
-    most, given, running, left = lanes(), {}, {}, list(tasks)
+    most, space, given, running, left = cores(), free_memory(), {}, {}, list(tasks)
 
-    def idle_for(task):
-        taken = sum(jobs for it, jobs in running.values() if it in filling)
-        is_kept = task in filling and taken >= most - 1 and any(it not in filling for it in left)
-        return 0 if is_kept else most - sum(jobs for _, jobs in running.values())
+    def jobs_for(task, ready):
+        """Returns the jobs with which a task can begin now, 0 where it can't."""
+        idle = most - sum(jobs for _, jobs in running.values())
+        free = space - sum(memory(it) * (1 + jobs) / 2 for it, jobs in running.values())
+        fitting = int(2 * free / memory(task)) - 1
+        return min(max(1, idle // ready), fitting if running else max(1, fitting)) if idle > 0 else 0
 
     with ThreadPoolExecutor(most) as pool:
         while left or running:
@@ -191,9 +204,8 @@ def run_in_lanes(tasks, waits_for, call, filling=()):
                 left.remove(task)
             ready = [it for it in left if all(below in given for below in waits_for(it))]
             for place, task in enumerate(ready):
-                idle = idle_for(task)
-                if idle > 0:
-                    jobs = max(1, idle // (len(ready) - place))
+                jobs = jobs_for(task, len(ready) - place)
+                if jobs > 0:
                     running[pool.submit(call, task, jobs)] = task, jobs
                     left.remove(task)
             for ended in wait(running, return_when=FIRST_COMPLETED).done if running else ():

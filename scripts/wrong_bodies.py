@@ -136,9 +136,6 @@ class Hunk:
     end: int
     lines: tuple
 
-    def meets(self, other):
-        return self.file == other.file and self.first <= other.end and other.first <= self.end
-
 
 class BadEdit(Exception):
     """Why an edit can't be applied."""
@@ -158,14 +155,17 @@ class Edit:
     is_within_functions: bool = True
     # the functions that it stands in where it is tried: its own, or a twin
     standing: set = field(default_factory=set)
-    # what the checks told so far: the functions' paths, how often no verdict came, and answers that don't apply to it, by files
-    paths: set = field(default_factory=set)
-    tries: int = 0
+    # its function's answers that don't apply to it, by files
     left_out: dict = field(default_factory=dict)
 
     @property
     def name(self):
         return self.path.name
+
+    @property
+    def asked(self):
+        """The functions that it stands in, as a check is asked for them."""
+        return {f"{owner}::{name}" if owner else "::".join((*module, name)) for module, owner, name in self.standing}
 
     @functools.cached_property
     def twinned(self):
@@ -263,10 +263,6 @@ def names_own(text, path):
     return bool(re.search(rf"\b(?:proofs|specs\.contracts)(?:\.{re.escape(path)}(?!\w)|(?:{above})(?:\.\{{| as\b))", text))
 
 
-def twin_name(function, number):
-    return f"{function.name}_twin_{number}"
-
-
 def with_twins(edits, folder):
     """Returns the texts of the files in which each of these edits stands in a twin beside its function, and the folders of answers to be copied for it, with the change of their text."""
     texts, answers, beside = {}, [], {}
@@ -276,7 +272,7 @@ def with_twins(edits, folder):
         for hunk in sorted(edit.hunks, key=lambda it: -it.first):
             lines[hunk.first : hunk.end] = hunk.lines
         grown = sum(len(it.lines) - (it.end - it.first) for it in edit.hunks)
-        name = twin_name(function, number)
+        name = f"{function.name}_twin_{number}"
         twin = re.sub(rf"\bfn {function.name}\b", f"fn {name}", "\n".join(lines[function.first : function.end + grown]), count=1)
         beside.setdefault(file, []).append((function.end, ["", *twin.split("\n")]))
         edit.standing = {(function.module, function.owner, name)}
@@ -289,18 +285,6 @@ def with_twins(edits, folder):
             lines[end:end] = twin
         texts[file] = "\n".join(lines)
     return texts, answers
-
-
-def untouched(edits, folder):
-    """Returns for each function that these edits have a twin of one edit that changes nothing: its twin has to be proved."""
-    found = {}
-    for edit in edits:
-        function, file = edit.twinned, edit.hunks[0].file
-        if function and function.key not in found:
-            line = (folder / file).read_text(encoding="utf-8").split("\n")[function.first]
-            hunk = Hunk(file, function.first, function.first + 1, (line,))
-            found[function.key] = Edit(Path("::".join((*function.module, function.owner, function.name))), folder, [hunk], {function.key})
-    return [*found.values()]
 
 
 def answers_of(text):
@@ -374,14 +358,10 @@ class Outcome:
         lines = said.split("\n")
         self.functions = dict(re.findall(r"^fn \w+::(\S+): (.*)$", said, re.M))
         self.placed = [found.groupdict() for found in map(PLACED.match, lines) if found]
-        self.is_proved = bool(re.search(r"^logic=proved ", said, re.M))
-        self.has_verdict = bool(re.search(r"^logic=", said, re.M))
+        only = re.search(r"^only=(\d+) proved=(\d+)", said, re.M)
+        self.is_proved = only[1] == only[2] if only else bool(re.search(r"^logic=proved ", said, re.M))
+        self.has_verdict = bool(only or re.search(r"^logic=", said, re.M))
         self.last = next((it for it in reversed(lines) if it.strip()), "nothing was said")
-
-    def calls(self):
-        """Returns, of each function that waits, the functions that it waits for."""
-        waits = {path: WAITS.search(said) for path, said in self.functions.items()}
-        return {path: set(re.findall(r"`\w+::([^`]+)`", found[1])) for path, found in waits.items() if found}
 
     def unread(self):
         """Returns the places in the source that the prover could not read."""
@@ -391,6 +371,12 @@ class Outcome:
             if said and it["file"].startswith("src/") and (not said[1] or UNREAD.search(re.sub(r"`[^`]*`", "", said[2]))):
                 found.append((it["file"], int(it["line"]) - 1, f"{it['file']}:{it['line']}: {it['said']}"))
         return found
+
+    def unread_edits(self, edits):
+        """Returns the edits in whose functions such a place lies; none where it lies in all or in no one's."""
+        places = [(file, line) for file, line, _ in self.unread()]
+        found = [it for it in edits if any(file == name and span.first <= line < span.end for file, line in places for name, span in self.spans(it))]
+        return found if len(found) < len(edits) else []
 
     def spans(self, edit):
         """Returns the edit's functions with their files, where they stand in the texts that were checked."""
@@ -452,9 +438,6 @@ class Outcome:
         if not edit.functions and not self.is_proved:
             return Verdict.REFUSED, "it lies in no function"
         if self.is_proved or (said and all(text.startswith("proved") for text in said)):
-            return Verdict.PROVED, f"once these answers are left out: {told_answers(edit.left_out)}" if edit.left_out else ""
+            told = ", ".join(f"{file} {' '.join(sorted(names))}" for file, names in sorted(edit.left_out.items()))
+            return Verdict.PROVED, f"once these answers are left out: {told}" if told else ""
         return Verdict.SILENT, said[0] if said else "the check doesn't name it"
-
-
-def told_answers(left_out):
-    return ", ".join(f"{file} {' '.join(sorted(names))}" for file, names in sorted(left_out.items()))
