@@ -3,11 +3,10 @@
 python3 bench/looks/compact_cases.py [COUNT] [SEED], or --store
 
 Without words 2,000 compact blocks from seed 1, in a checked build of bench_compact, and its stored run, which begins with worked cases.
-The plain reader
-(bench/models/plain_compact.py) was written apart from the program, from BIP 152 and the paper on SipHash; it looks through all pairs
-for each id. The compact blocks have a few transactions, with pairs in any order, doubled, tripled, of other ids and of other
-transactions, repeated ids, and transactions handed in for what is missing. With `--store` nothing is rebuilt: the
-worked cases and some compact blocks are written to bench/programs/bench_compact/stdin, and what the plain reader tells of them to
+The plain reader (bench/models/plain_compact.py) was written apart from the program, from BIP 152 and the paper on SipHash; it looks
+through all pairs for each id. The compact blocks have a few transactions, with pairs in any order, doubled, tripled, of other ids and of
+other transactions, repeated ids, and transactions handed in for what is missing. With `--store` nothing is rebuilt: the worked cases and
+some compact blocks are written to bench/programs/bench_compact/stdin, and what the plain reader tells of them to
 bench/programs/bench_compact/stdout.
 """
 
