@@ -2,11 +2,11 @@
 """Rebuilds generated compact blocks, and compares what comes of them with a plain reader in Python:
 python3 bench/looks/compact_cases.py [COUNT] [SEED], or --store
 
-Without words 2,000 compact blocks from seed 1, in a checked build of bench_compact, which also plays its stored run. The plain reader
-(bench/models/plain_compact.py) was written apart from the program, from BIP 152 and the paper on SipHash; it looks through all pairs
-for each id. Worked cases come first, and then compact blocks of a few transactions with pairs in any order, doubled, tripled, of other
-ids and of other transactions, repeated ids, and transactions handed in for what is missing. With `--store` nothing is rebuilt: the
-worked cases and some compact blocks are written to bench/programs/bench_compact/stdin, and what the plain reader tells of them to
+Without words 2,000 compact blocks from seed 1, in a checked build of bench_compact, and its stored run, which begins with worked cases.
+The plain reader (bench/models/plain_compact.py) was written apart from the program, from BIP 152 and the paper on SipHash; it looks
+through all pairs for each id. The compact blocks have a few transactions, with pairs in any order, doubled, tripled, of other ids and of
+other transactions, repeated ids, and transactions handed in for what is missing. With `--store` nothing is rebuilt: the worked cases and
+some compact blocks are written to bench/programs/bench_compact/stdin, and what the plain reader tells of them to
 bench/programs/bench_compact/stdout.
 """
 
@@ -228,11 +228,16 @@ def unmet(met):
     return len(names)
 
 
-def store():
-    """Writes the stored run of bench_compact, as the plain reader tells it."""
+def to_store():
+    """The worked cases and some compact blocks."""
     play = CompactPlay()
     worked_cases(play)
-    generated(STORED_SEED, STORED, play)
+    return generated(STORED_SEED, STORED, play)
+
+
+def store():
+    """Writes the stored run of bench_compact, as the plain reader tells it."""
+    play = to_store()
     write_stored_run("bench_compact", play.records, play.wanted)
     sys.exit(1 if unmet(play.met) else 0)
 
@@ -244,18 +249,19 @@ def main():
     if words.store:
         store()
     count, seed = int(words.count or 2_000), int(words.seed or 1)
-    worked, drawn = CompactPlay(), CompactPlay()
-    worked_cases(worked)
-    generated(seed, count, drawn)
-    cases = [*stored_cases("bench_compact"), worked.case("worked"), drawn.case("drawn")]
+    worked, drawn = to_store(), generated(seed, count)
+    stored = stored_cases("bench_compact")
+    cases = [*stored, drawn.case("drawn")]
     failures = [f"{name}: {ended.failure}" for name, ended in run_checked("bench_compact", cases).items() if ended.failure]
+    if worked.case(stored[0].name) != stored[0]:
+        failures.append("what is stored isn't what the plain reader tells: --store")
     for failure in failures:
         print(failure)
     met = worked.met + drawn.met
     print(", ".join(f"{name} {times}" for name, times in sorted(met.items())))
     missed = unmet(met) if count >= 2_000 else 0
     print(f"{count} compact blocks, {len(worked.wanted) + len(drawn.wanted)} lines")
-    print(f"{len(cases) - len(failures)} passed, {len(failures) + missed} failed")
+    print(f"{len(cases) + 1 - len(failures)} passed, {len(failures) + missed} failed")
     sys.exit(1 if failures or missed else 0)
 
 

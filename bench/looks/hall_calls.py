@@ -244,15 +244,15 @@ def row_b_leaves_of_one_badge():
 
 
 def headers_around_one_without_work():
-    """Of 500 headers the one at place 250 has no work: those before it are accepted, and none behind it."""
+    """Of 2,000 headers the one at place 1,000 has no work: those before it are accepted, and none behind it."""
     play, headers = HallPlay(), []
-    for place in range(500):
-        headers.append(Header(header_text(headers[-1].name if headers else GENESIS, bytes([place % 256]) * 32, place != 250)))
+    for place in range(2_000):
+        headers.append(Header(header_text(headers[-1].name if headers else GENESIS, bytes([place % 256]) * 32, place != 1_000)))
     told = play.ask((0, 1), "headers", headers).split()
     expect(told[:4] + told[-1:], ["heads", "F11", "BadWork", "lack", "locator"])
-    expect(told[4:-1], [header.name[::-1].hex() for header in headers[:250]])
-    expect(play.ask((0, 1), "headers", [headers[251]])[:17], "heads F23 NoParen")
-    expect(play.ask((0, 1), "headers", headers[249:250]), f"heads - lack {told[253]} locator")
+    expect(told[4:-1], [header.name[::-1].hex() for header in headers[:1_000]])
+    expect(play.ask((0, 1), "headers", [headers[1_001]])[:17], "heads F23 NoParen")
+    expect(play.ask((0, 1), "headers", headers[999:1_000]), f"heads - lack {told[1_003]} locator")
     play.look()
     return play
 
