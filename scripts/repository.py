@@ -20,6 +20,8 @@ MEMORY_OF_A_CHECK, OF_A_LINE, OF_A_LINE_OF_PROOFS, OF_A_LINE_BELOW = 1_200_000_0
 # what a library is made of, and what else a crate has
 MADE_OF = ("src", "specs", "proofs")
 PARTS = (*MADE_OF, "stdin", "stdout", "args", "status", "data")
+# what stops a script
+SIGNALS = (signal.SIGINT, signal.SIGTERM, signal.SIGHUP)
 
 
 @dataclass(frozen=True)
@@ -100,7 +102,7 @@ class Workshop:
 
     def __enter__(self):
         self.folder = Path(tempfile.mkdtemp(prefix="cbrelay-"))
-        for number in (signal.SIGINT, signal.SIGTERM, signal.SIGHUP):
+        for number in SIGNALS:
             signal.signal(number, self.stop)
         return self
 
@@ -109,6 +111,8 @@ class Workshop:
         shutil.rmtree(self.folder, ignore_errors=True)
 
     def stop(self, number, _):
+        for it in SIGNALS:
+            signal.signal(it, signal.SIG_IGN)
         self.close()
         sys.exit(128 + number)
 
