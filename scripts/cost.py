@@ -1,8 +1,7 @@
 #!/usr/bin/env python3
 """Tells what proofs cost, in seconds of a processor: scripts/cost.py run COMMAND ..  or  scripts/cost.py rank [CRATE ..]
 
-`run` runs a command, as `rt ci`, and then prints for each crate what its proof, the proof of its tests and its must-fail edits took,
-and what the command took in all. The seconds are those of the provers that it started, read twice a second; so a prover that ends
+`run` runs a command, as `rt ci`, and then prints for each crate what its proof and its must-fail edits took, and what the command took in all. The seconds are those of the provers that it started, read twice a second; so a prover that ends
 between two looks loses up to half a second.
 
 `rank` lists the functions of crates that took longest in the check or build whose work lies in crates/NAME/out/incremental: the
@@ -21,7 +20,7 @@ ROOT = Path(__file__).resolve().parent.parent
 # how often the provers are looked at, in seconds
 INTERVAL = 0.5
 TICKS = os.sysconf("SC_CLK_TCK")
-KINDS = ("proof", "tests", "edits")
+KINDS = ("proof", "edits")
 # what the folder is named in which the gate tries a must-fail edit
 EDITED = "/rt-edit-"
 # how many functions `rank` lists
@@ -76,8 +75,7 @@ def purpose(words, folder):
     """Returns the crate that a prover is at work on and what it does, or None where the words are those of another program."""
     if len(words) < 4 or os.path.basename(words[0]) != "rattle" or "--crate-name" not in words:
         return None
-    kind = "edits" if EDITED in folder else "tests" if "--test" in words else "proof"
-    return words[words.index("--crate-name") + 1], kind
+    return words[words.index("--crate-name") + 1], "edits" if EDITED in folder else "proof"
 
 
 def table(found, whole):
