@@ -1,8 +1,9 @@
 #!/usr/bin/env python3
 """Tells what proofs cost, in seconds of a processor: scripts/cost.py run COMMAND ..  or  scripts/cost.py rank [CRATE ..]
 
-`run` runs a command, as `rt ci`, and then prints for each crate what its proof and its must-fail edits took, and what the command took in all. The seconds are those of the provers that it started, read twice a second; so a prover that ends
-between two looks loses up to half a second.
+`run` runs a command, as `rt ci`, and then prints for each crate what its proof and its must-fail edits took, and what the command
+took in all. The seconds are those of the provers that it started, read twice a second; so a prover that ends between two looks loses
+up to half a second.
 
 `rank` lists the functions of crates that took longest in the check or build whose work lies in crates/NAME/out/incremental: the
 states of its code (typing), the search for proofs and what else there is. It goes by the times at which the prover wrote its files,
