@@ -1,8 +1,10 @@
 //! The program's rows: each calls `command` with a reader and writers in memory.
 
+use cb_base::Shared;
 use cb_command::command;
 use cb_io::{In, Out};
 use cb_node_process::ProcessHost;
+use cb_pipes::Pipes;
 use std::alloc::{AllocError, Global};
 use std::io::StdinLock;
 use std::net::{TcpListener, TcpStream};
@@ -43,7 +45,10 @@ fn status_of<N: ProcessHost>(
     writer: &mut Out<Vec<u8>>,
     errors: &mut Out<Vec<u8>>,
 ) -> u8 {
-    command(rt, alloc, words, reader, writer, errors)
+    let Ok(pipes) = Shared::new(alloc, Pipes::new()) else {
+        return 4;
+    };
+    command(rt, alloc, words, &pipes, reader, writer, errors)
 }
 
 /// Whether the program comes to what the run says, with these words.
