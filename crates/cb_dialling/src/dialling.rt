@@ -1,14 +1,15 @@
 //! Dialling peers. Each dial has a thread of its own, so an address that doesn't answer holds up
 //! nobody.
 ghost use Rattle.std.specs.Prelude.{◌≡◌, ◌↔◌, true, false, IsTrue, None};
-ghost use Rattle.cb_node_process.specs.Dialling.{IsDialled, IsDue, LastsWell, later, longer};
+ghost use Rattle.std.specs.List.{Contains};
+ghost use Rattle.cb_dialling.specs.Dialling.{IsDialled, IsDue, LastsWell, addresses_of, later, longer};
 
-use crate::host::ProcessHost;
 use cb_base::Shared;
 use std::alloc::{AllocError, Global};
-use std::net::{SocketAddr, TcpStream};
+use std::marker::{Copy, Send};
+use std::net::{Net, SocketAddr, TcpListener, TcpStream};
 use std::sync::atomic::{AtomicBool, Ordering};
-use std::thread::JoinHandle;
+use std::thread::{JoinHandle, Threads};
 use std::time::Duration;
 use std::{mem, thread};
 
@@ -21,6 +22,19 @@ const LONGEST_DELAY: u16 = 60;
 /// A connection that lasted for this many milliseconds was a good one: the next delay is the
 /// shortest.
 const GOOD_MILLIS: u64 = 60_000;
+
+/// What dialling needs: sockets and threads.
+pub trait Dialler: Net<Listener = TcpListener, Stream = TcpStream>
+    + Threads
+    + Copy
+    + Send
+    + Drop
+    + 'static {}
+
+impl<R> Dialler for R
+where
+    R: Net<Listener = TcpListener, Stream = TcpStream> + Threads + Copy + Send + Drop + 'static,
+{}
 
 /// A dial that is under way.
 #[derive(Drop)]
@@ -94,7 +108,7 @@ impl Target {
     }
 
     /// Starts the thread that dials it. Returns whether that was possible.
-    pub fn dial<R: ProcessHost>(&mut self, rt: &R, alloc: Global) -> bool
+    pub fn dial<R: Dialler>(&mut self, rt: &R, alloc: Global) -> bool
         ensures dials { result ≡ true → IsDialled self.new.stage }
         ensures refused { result ≡ false → self.new ≡ self.old }
         ensures same { (self.new.reached ≡ self.old.reached)
@@ -123,7 +137,7 @@ impl Target {
 
     /// Waits for the end of a dial of it, if one is under way, and returns the stream if one was
     /// connected. It is due to be dialled at this time then.
-    pub fn take_stream<R: ProcessHost>(&mut self, rt: &R, now: u64) -> Option<TcpStream>
+    pub fn take_stream<R: Dialler>(&mut self, rt: &R, now: u64) -> Option<TcpStream>
         ensures due { IsDialled self.old.stage → self.new.stage ≡ Stage.Waits now }
         ensures none { (IsDialled self.old.stage → ⊥)
             → (result ≡ None) × (self.new.stage ≡ self.old.stage) }
@@ -188,8 +202,20 @@ impl Target {
     }
 }
 
+/// Whether one of these has this address.
+pub fn is_target(targets: &[Target], address: SocketAddr) -> bool
+    ensures { IsTrue result ↔ Contains (addresses_of targets.now) address }
+{
+    for target in targets {
+        if target.address == address {
+            return true;
+        }
+    }
+    false
+}
+
 /// Starts a thread that dials this address. `None` if memory ran out, or no thread can be made.
-fn start_dial<R: ProcessHost>(rt: &R, alloc: Global, address: SocketAddr) -> Option<Dial> {
+fn start_dial<R: Dialler>(rt: &R, alloc: Global, address: SocketAddr) -> Option<Dial> {
     let (done, flag) = new_flag(alloc).ok()?;
     let rt_of_thread = *rt;
     let started = thread::spawn(rt, move || {
