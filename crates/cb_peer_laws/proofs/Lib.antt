@@ -1,5 +1,6 @@
 pub mod Again
 pub mod Apt
+pub mod Behind
 pub mod CompactHeld
 pub mod CompactHonest
 pub mod CompactLaws

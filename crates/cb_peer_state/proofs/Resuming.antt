@@ -1,5 +1,5 @@
 -- The end of an item: headers are requested from the remembered one, or nothing more is done.
-use Rattle.std.proofs.Common.{◌≡◌, ◌≢◌, Bool, true, false, cond, List, [], ◌∷◌, ◌++◌, Option, Some, None, refl, sym, ap, subst, ◌∙◌}
+use Rattle.std.proofs.Common.{◌≡◌, ◌≢◌, Bool, true, false, cond, List, [], ◌∷◌, ◌++◌, Option, Some, None, refl, sym, ap, ◌∙◌}
 use Rattle.std.specs.Prelude.{option_map}
 use Rattle.cb_base.specs.declared.hash.Hash256.{Hash256}
 use Rattle.cb_fetch.specs.Fetching.{wants_none}
@@ -14,7 +14,6 @@ use Rattle.cb_peer_state.specs.Outcomes.{IsLightOutcome, Makes, asked_by}
 use Rattle.cb_peer_state.specs.Questions.{question_of}
 use Rattle.cb_peer_state.specs.Receiving.{Outcome}
 use Rattle.cb_peer_state.specs.Replying.{asks_news, resumed, resumes, resuming}
-use Rattle.cb_peer_state.specs.State.{with_resume_from}
 use Rattle.cb_peer_state.proofs.Cases.{by_test}
 
 -- ---- the cases
@@ -62,27 +61,6 @@ next_asks : (outcome : Outcome) (item : Option Item) (next : Option NextQuestion
 next_asks outcome item next is =
     ap (λ (n : Option NextQuestion). asks_news (option_map (λ (asked : NextQuestion). asked.stage) n)) is ∙ ap asks_news (same_stage outcome.session item outcome.next)
 
-either_same : (test : Bool) (outcome : Outcome) → cond test outcome outcome ≡ outcome
-either_same true outcome = refl
-either_same false outcome = refl
-
-unasked : (outcome : Outcome) → asks_news outcome.next ≡ false → resuming outcome ≡ outcome
-unfolding resuming
-unasked outcome none = ap (λ (news : Bool). cond news (resumes outcome.session.resume_from outcome) outcome) none
-
-forgotten : (outcome : Outcome) → outcome.session.resume_from ≡ None → resuming outcome ≡ outcome
-unfolding resuming
-forgotten outcome none = ap (λ (rest : Option Hash256). cond (asks_news outcome.next) (resumes rest outcome) outcome) none ∙ either_same (asks_news outcome.next) outcome
-
-still_wanting : (outcome : Outcome) (rest : Option Hash256) → wants_none outcome.session.fetch ≡ false → resumes rest outcome ≡ outcome
-still_wanting outcome None some = refl
-still_wanting outcome (Some hash) some = ap (λ (none : Bool). cond none (resumed hash outcome) outcome) some
-
-waiting : (outcome : Outcome) → wants_none outcome.session.fetch ≡ false → resuming outcome ≡ outcome
-unfolding resuming
-waiting outcome some =
-    ap (λ (o : Outcome). cond (asks_news outcome.next) o outcome) (still_wanting outcome outcome.session.resume_from some) ∙ either_same (asks_news outcome.next) outcome
-
 going : (outcome : Outcome) (hash : Hash256) → asks_news outcome.next ≡ true → outcome.session.resume_from ≡ Some hash → wants_none outcome.session.fetch ≡ true → resuming outcome ≡ resumed hash outcome
 unfolding resuming
 going outcome hash news at none =
@@ -90,44 +68,12 @@ going outcome hash news at none =
     ∙ ap (λ (rest : Option Hash256). resumes rest outcome) at
     ∙ ap (λ (b : Bool). cond b (resumed hash outcome) outcome) none
 
-kept_by : (outcome : Outcome) (item : Option Item) (s : SessionState) (sent : List Message) (next : Option NextQuestion) → resuming outcome ≡ outcome → Makes outcome item s sent next → Makes (resuming outcome) item s sent next
-kept_by outcome item s sent next same made = subst (λ (o : Outcome). Makes o item s sent next) (sym same) made
-
-pub kept_unasked : (outcome : Outcome) (item : Option Item) (s : SessionState) (sent : List Message) (next : Option NextQuestion) → asks_news (option_map (λ (asked : NextQuestion). asked.stage) next) ≡ false → Makes outcome item s sent next
-    → Makes (resuming outcome) item s sent next
-kept_unasked outcome item s sent next none made = kept_by outcome item s sent next (unasked outcome (sym (next_asks outcome item next made.next_is) ∙ none)) made
-
-pub kept_forgotten : (outcome : Outcome) (item : Option Item) (s : SessionState) (sent : List Message) (next : Option NextQuestion) → s.resume_from ≡ None → Makes outcome item s sent next → Makes (resuming outcome) item s sent next
-kept_forgotten outcome item s sent next none made =
-    kept_by outcome item s sent next (forgotten outcome (ap (λ (t : SessionState). t.resume_from) (sym made.after) ∙ none)) made
-
-pub kept_waiting : (outcome : Outcome) (item : Option Item) (s : SessionState) (sent : List Message) (next : Option NextQuestion) → wants_none s.fetch ≡ false → Makes outcome item s sent next → Makes (resuming outcome) item s sent next
-kept_waiting outcome item s sent next some made =
-    kept_by outcome item s sent next (waiting outcome (ap (λ (t : SessionState). wants_none t.fetch) (sym made.after) ∙ some)) made
-
 going_of : (outcome : Outcome) (item : Option Item) (s : SessionState) (hash : Hash256) (sent : List Message) (next : Option NextQuestion) → asks_news (option_map (λ (asked : NextQuestion). asked.stage) next) ≡ true → s.resume_from ≡ Some hash → wants_none s.fetch ≡ true
     → Makes outcome item s sent next → resuming outcome ≡ resumed hash outcome
 going_of outcome item s hash sent next news at none made =
     going outcome hash (sym (next_asks outcome item next made.next_is) ∙ news) (ap (λ (t : SessionState). t.resume_from) (sym made.after) ∙ at) (ap (λ (t : SessionState). wants_none t.fetch) (sym made.after) ∙ none)
 
-asked_alike : (s : SessionState) (item : Option Item) (next : Option Stage) → asks_news next ≡ true
-    → option_map (λ (stage : Stage). record { stage = stage; question = question_of s item stage }) next ≡ option_map (λ (stage : Stage). record { stage = stage; question = question_of (with_resume_from None s) item stage }) next
-asked_alike s item (Some Fresh) news = refl
-asked_alike s item other news = absurd cc
-
-pub goes_on : (outcome : Outcome) (item : Option Item) (s : SessionState) (hash : Hash256) (sent : List Message) (next : Option NextQuestion) → asks_news (option_map (λ (asked : NextQuestion). asked.stage) next) ≡ true → s.resume_from ≡ Some hash → wants_none s.fetch ≡ true
-    → Makes outcome item s sent next → Makes (resuming outcome) item (with_resume_from None s) (sent ++ asking_headers (hash ∷ []) ∷ []) next
-goes_on outcome item s hash sent next news at none made =
-    let is = going_of outcome item s hash sent next news at none made in
-    let asks : asks_news outcome.next ≡ true = sym (next_asks outcome item next made.next_is) ∙ news in
-    subst (λ (o : Outcome). Makes o item (with_resume_from None s) (sent ++ asking_headers (hash ∷ []) ∷ []) next) (sym is)
-    (record {
-      after = ap (with_resume_from None) made.after;
-      messages = ap (λ (list : List Message). list ++ asking_headers (hash ∷ []) ∷ []) made.messages;
-      next_is = made.next_is ∙ asked_alike outcome.session item outcome.next asks;
-    })
-
--- so something is sent then
+-- Where headers are requested something is sent.
 pub not_silent : {P : Type 0} (outcome : Outcome) (item : Option Item) (s : SessionState) (hash : Hash256) (sent : List Message) (next : Option NextQuestion) → asks_news (option_map (λ (asked : NextQuestion). asked.stage) next) ≡ true → s.resume_from ≡ Some hash → wants_none s.fetch ≡ true
     → Makes outcome item s sent next → (resuming outcome).messages ≡ [] → P
 not_silent outcome item s hash sent next news at none made silent =
