@@ -300,7 +300,7 @@ no_asking_lacking : (entries : List Inventory) → None_of asks_for_headers (not
 no_asking_lacking [] = refl
 no_asking_lacking (first ∷ others) = refl
 
-no_asking_served : (nonce : ℕ) (pieces : List Piece) → None_of asks_for_headers (served nonce pieces)
+pub no_asking_served : (nonce : ℕ) (pieces : List Piece) → None_of asks_for_headers (served nonce pieces)
 no_asking_served nonce pieces =
     none_of_both asks_for_headers (sent nonce pieces) (not_found (filter_map lacking_in pieces)) (no_asking_sent nonce pieces) (no_asking_lacking (filter_map lacking_in pieces))
 

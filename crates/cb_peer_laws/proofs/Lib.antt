@@ -8,5 +8,6 @@ pub mod CompactSteps
 pub mod CompactTable
 pub mod CompactTold
 pub mod LawLemmas
+pub mod Remembered
 pub mod Sending
 pub mod Steps
