@@ -525,25 +525,25 @@ told_wanted s answer hash e =
       | inr why ↦ why
     ])
 
+arrives_wanted : (hash : Hash256) (s : SessionState) (pending : Option Pending) (item : Option Item) → has (arrives pending s item).session.fetch.wanted hash ≡ true → has s.fetch.wanted hash ≡ true
+arrives_wanted hash s None item there = there
+arrives_wanted hash s (Some pending) item there = there
+
+opens_wanted : (hash : Hash256) (s : SessionState) (event : Event) → ((answer : Answer) → event ≡ events.Told answer → ⊥) → has (open_step s event).session.fetch.wanted hash ≡ true → has s.fetch.wanted hash ≡ true
+unfolding open_step
+opens_wanted hash s (events.Said item) other there = arrives_wanted hash s s.pending (Some item) there
+opens_wanted hash s events.Tick other there = arrives_wanted hash s s.pending None there
+opens_wanted hash s (events.Told answer) other there = absurd (other answer refl)
+opens_wanted hash s (events.Broken fault) other there = absurd (let clash : false ≡ true = there in cc)
+opens_wanted hash s events.ReaderEnd other there = absurd (let clash : false ≡ true = there in cc)
+opens_wanted hash s events.NoMemory other there = absurd (let clash : false ≡ true = there in cc)
+opens_wanted hash s events.HallFull other there = absurd (let clash : false ≡ true = there in cc)
+opens_wanted hash s events.WriteFault other there = absurd (let clash : false ≡ true = there in cc)
+
 other_wanted : (s : SessionState) (event : Event) (hash : Hash256) → ((answer : Answer) → event ≡ events.Told answer → ⊥) → has (step_of s event).session.fetch.wanted hash ≡ true → has s.fetch.wanted hash ≡ true
 unfolding step_of
 other_wanted s event hash other =
-    by_test (λ (step : Stepped). has step.session.fetch.wanted hash ≡ true → has s.fetch.wanted hash ≡ true) (is_closed s.state) (stays s) (open_step s event) (λ _ there. there) (λ _. opens_wanted event other)
-  where
-    arrives_wanted : (pending : Option Pending) (item : Option Item) → has (arrives pending s item).session.fetch.wanted hash ≡ true → has s.fetch.wanted hash ≡ true
-    arrives_wanted None item there = there
-    arrives_wanted (Some waits) item there = there
-
-    opens_wanted : (event : Event) → ((answer : Answer) → event ≡ events.Told answer → ⊥) → has (open_step s event).session.fetch.wanted hash ≡ true → has s.fetch.wanted hash ≡ true
-    unfolding open_step
-    opens_wanted (events.Said item) other there = arrives_wanted s.pending (Some item) there
-    opens_wanted events.Tick other there = arrives_wanted s.pending None there
-    opens_wanted (events.Told answer) other there = absurd (other answer refl)
-    opens_wanted (events.Broken fault) other there = absurd (let clash : false ≡ true = there in cc)
-    opens_wanted events.ReaderEnd other there = absurd (let clash : false ≡ true = there in cc)
-    opens_wanted events.NoMemory other there = absurd (let clash : false ≡ true = there in cc)
-    opens_wanted events.HallFull other there = absurd (let clash : false ≡ true = there in cc)
-    opens_wanted events.WriteFault other there = absurd (let clash : false ≡ true = there in cc)
+    by_test (λ (step : Stepped). has step.session.fetch.wanted hash ≡ true → has s.fetch.wanted hash ≡ true) (is_closed s.state) (stays s) (open_step s event) (λ _ there. there) (λ _. opens_wanted hash s event other)
 
 pub wanted_by : (s : SessionState) (event : Event) (hash : Hash256) → remembers s ≡ true → has (step_of s event).session.fetch.wanted hash ≡ true → IsWantedBy hash s event
 wanted_by s (events.Told answer) hash e there = told_wanted s answer hash e there
