@@ -1,10 +1,11 @@
 use cb_base::Fault;
 use cb_hall::{Badge, Hall};
 use cb_io::Out;
+use cb_outgoing::Outgoing;
 use cb_peer::{Event, Settings, State};
 use cb_session::Conversation;
 use cb_trace::Trace;
-use cb_wire::{Assembler, BoundedMessage, Item};
+use cb_wire::{Assembler, Item};
 use std::alloc::Global;
 use std::mem;
 
@@ -16,7 +17,7 @@ pub struct End {
     badge: Badge,
     trace: Trace,
     /// The messages that open the session, until the first tick.
-    unsent: Vec<BoundedMessage>,
+    unsent: Vec<Outgoing>,
     assembler: Assembler,
     /// What the session sent and the neighbour didn't hear yet.
     sink: Out<Vec<u8>>,

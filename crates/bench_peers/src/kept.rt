@@ -2,6 +2,7 @@ ghost use Rattle.std.specs.Prelude.{◌≡◌, ◌≤◌, [], None, Some, length
 ghost use Rattle.cb_io.specs.Bytes.{SinkTakes, refusal};
 
 use cb_io::{Sink, SinkFailure};
+use cb_outgoing::{MessageSink, Outgoing, WriteEnd, spell_to};
 use std::alloc::Global;
 
 /// A sink that keeps what is written. A write fails only if memory runs out.
@@ -57,6 +58,12 @@ impl Sink for Kept {
 
     fn failed(&self) -> bool {
         self.failure.is_some()
+    }
+}
+
+impl MessageSink for Kept {
+    fn put(&mut self, alloc: Global, message: Outgoing) -> Result<u64, WriteEnd> {
+        spell_to(alloc, self, &message)
     }
 }
 

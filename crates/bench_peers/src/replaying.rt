@@ -1,11 +1,10 @@
 use crate::kept::Kept;
 use crate::works::SETTINGS;
 use cb_base::Fault;
-use cb_io::write_out;
 use cb_journal::Question;
+use cb_outgoing::{Outgoing, write_out};
 use cb_peer::{CloseReason, Session, State};
 use cb_trace::{Trace, TraceEntry};
-use cb_wire::BoundedMessage;
 use std::alloc::Global;
 
 /// What a session sent and asked that is given a trace's events again.
@@ -31,7 +30,7 @@ impl Replay {
     }
 
     /// Keeps what the session sends. Fails only with `Fault::Memory`.
-    fn send(&mut self, messages: &[BoundedMessage]) -> Result<(), Fault> {
+    fn send(&mut self, messages: Vec<Outgoing>) -> Result<(), Fault> {
         match write_out(self.alloc, &mut self.sent, messages) {
             Ok(_) => Ok(()),
             Err(_) => Err(Fault::Memory),
@@ -56,8 +55,7 @@ impl Replay {
                 if let Some(question) = &question {
                     self.pending = Some(sketch_of(question));
                 }
-                let sent = self.send(messages.as_slice());
-                drop(messages);
+                let sent = self.send(messages);
                 drop(question);
                 sent
             }
@@ -100,7 +98,7 @@ fn step_again(
     alloc: Global,
     session: &mut Session,
     entry: &TraceEntry,
-) -> Result<(Vec<BoundedMessage>, Option<Question>), Fault> {
+) -> Result<(Vec<Outgoing>, Option<Question>), Fault> {
     if entry.starved {
         Ok(session.close(alloc, CloseReason::Memory))
     } else {
@@ -129,9 +127,8 @@ pub fn verdict_of(alloc: Global, trace: &Trace, written: &[u8]) -> Result<Verdic
     match Session::new(alloc, SETTINGS) {
         Ok((session, opening)) => {
             let mut session = session;
-            let alike = is_alike(alloc, &mut session, opening.as_slice(), trace, written);
+            let alike = is_alike(alloc, &mut session, opening, trace, written);
             drop(session);
-            drop(opening);
             match alike {
                 Ok(true) => Ok(Verdict::Alike),
                 Ok(false) => Ok(Verdict::Unlike),
@@ -147,7 +144,7 @@ pub fn verdict_of(alloc: Global, trace: &Trace, written: &[u8]) -> Result<Verdic
 fn is_alike(
     alloc: Global,
     session: &mut Session,
-    opening: &[BoundedMessage],
+    opening: Vec<Outgoing>,
     trace: &Trace,
     written: &[u8],
 ) -> Result<bool, Fault> {

@@ -27,6 +27,7 @@ use cb_base::Seed;
 use cb_decode::decode;
 use cb_io::{Sink, Source};
 use cb_node_process::{NodeOrders, ProcessHost, run_node};
+use cb_outgoing::MessageSink;
 use cb_run::{Halt, Status, write_all};
 use cb_run_nodes::{RunOrders, Sizes, run_nodes};
 use cb_sim::simulate;
@@ -98,7 +99,7 @@ Example:
 /// prints there why its session ended, and `node` why it can't listen. `node` reads standard input
 /// and logs on standard error by `rt`. The tables of the halls of `serve`, `run` and `node` have the
 /// fixed seed, so that a run takes the same steps each time.
-pub fn command<N: ProcessHost, R: Source, W: Sink, E: Sink>(
+pub fn command<N: ProcessHost, R: Source, W: MessageSink, E: Sink>(
     rt: N,
     alloc: Global,
     words: Vec<String>,
@@ -167,7 +168,7 @@ pub fn command<N: ProcessHost, R: Source, W: Sink, E: Sink>(
 
 /// As `command`. The tables of the halls of `serve`, `run` and `node` have this seed, which changes
 /// no result. Peers choose the keys of these tables, so a seed that no peer knows keeps a lookup short.
-pub fn seeded_command<N: ProcessHost, R: Source, W: Sink, E: Sink>(
+pub fn seeded_command<N: ProcessHost, R: Source, W: MessageSink, E: Sink>(
     rt: N,
     alloc: Global,
     seed: Seed,
@@ -291,7 +292,7 @@ fn refuse_words<E: Sink>(bad: BadWords, errors: &mut E) -> Result<u8, Halt>
 }
 
 /// Serves a peer, reports on `errors` what failed, and returns the exit status.
-fn answer_peer<R: Source, W: Sink, E: Sink>(
+fn answer_peer<R: Source, W: MessageSink, E: Sink>(
     alloc: Global,
     seed: Seed,
     reader: &mut R,

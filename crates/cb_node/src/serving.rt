@@ -252,7 +252,7 @@ impl<R: Threads + Wait + Copy + Send + Drop + 'static> Service<R> {
 
     /// The link of a slot's connection. Fails only with `Fault::Memory`.
     fn new_link(&self, number: u16, generation: u64) -> Result<Shared<Link>, Fault> {
-        let link = Link::new(self.alloc, generation)?;
+        let link = self.links.link(self.alloc, generation)?;
         self.links.add(&self.rt, number, link.clone()?)?;
         Ok(link)
     }

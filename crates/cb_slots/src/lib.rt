@@ -11,12 +11,11 @@ mod outbox;
 mod slot;
 mod socket;
 mod threads;
-mod write_queue;
 
 pub use choosing::{has_left, lowest_unused};
 pub use crewing::{Crewed, crew_slots, shared, sides_of, start_handlers};
 pub use fault::NodeFault;
-pub use link::{CloseEnded, Link, Links, SocketWriter};
+pub use link::{CloseEnded, Link, Links, OutboxSink};
 pub use listening::Listening;
 pub use outbox::{Outbox, WriterEnd};
 pub use slot::{Common, Next, Report, Slot};

@@ -1,18 +1,26 @@
-ghost use Rattle.std.specs.Prelude.{◌≡◌, IfOk, IsOkUnless};
+ghost use Rattle.std.specs.Prelude.{◌≡◌, None, IfOk, IsOkUnless};
 ghost use Rattle.cb_base.specs.declared.fault.Fault.TheVariants.{Memory};
 
 use crate::outbox::{Outbox, WriterEnd};
 use crate::socket::Socket;
 use cb_base::{Fault, Shared};
 use cb_crew::Turn;
+use cb_io::{Sink, SinkFailure};
+use cb_outgoing::{MessageSink, Outgoing, QueueFault, Room, WriteEnd, WriteFault};
 use cb_peers::Backlogs;
 use cb_service::AfterTurn;
 use cb_work::ConnectionStatus;
 use std::alloc::Global;
-use std::io::{self, Write};
 use std::net::TcpStream;
 use std::sync::atomic::{AtomicBool, Ordering};
 use std::sync::{Mutex, Wait};
+use std::time::Duration;
+
+/// At a node's end, for how many times we wait at most until what waits went out, and for how many
+/// milliseconds each time.
+const LAST_WAITS: u32 = 100;
+
+const LAST_MILLIS: u64 = 300;
 
 /// What the threads of a connection share with the node.
 #[derive(Drop)]
@@ -23,15 +31,20 @@ pub struct Link {
     pub status: Shared<ConnectionStatus>,
     /// The connection's socket.
     pub socket: Socket,
-    /// What its session wrote and the socket hasn't taken yet.
+    /// What its session sent and the socket hasn't taken yet.
     pub outbox: Outbox,
     /// Whether the connection's reader has said that it returns.
     left: AtomicBool,
 }
 
 impl Link {
-    /// The link of a connection that isn't made yet. Fails only with `Fault::Memory`.
-    pub fn new(alloc: Global, generation: u64) -> Result<Shared<Link>, Fault>
+    /// The link of a connection that isn't made yet. Its outbox shares the node's room. Fails only with
+    /// `Fault::Memory`.
+    fn new(
+        alloc: Global,
+        generation: u64,
+        room: &Shared<Mutex<Room>>,
+    ) -> Result<Shared<Link>, Fault>
         ensures made { IfOk result (λ link. link.generation ≡ generation) }
         ensures memory { IsOkUnless result Memory }
     {
@@ -40,7 +53,7 @@ impl Link {
             generation,
             status,
             socket: Socket::new(),
-            outbox: Outbox::new(alloc),
+            outbox: Outbox::new(alloc, room.clone()?),
             left: AtomicBool::new(false),
         };
         Ok(Shared::new(alloc, link)?)
@@ -56,7 +69,7 @@ impl Link {
         self.left.load(Ordering::SeqCst)
     }
 
-    /// Closes the connection if its session is over: it is read no more, and what its session wrote
+    /// Closes the connection if its session is over: it is read no more, and what its session sent
     /// still goes out. Returns whether nothing of it is left to be done.
     pub fn close_if_over<R: Wait>(&self, rt: &R) -> bool {
         if !self.status.is_stopped() {
@@ -71,41 +84,108 @@ impl Link {
     /// what waits went out, or the socket takes nothing more. Then it shuts the socket, which ends the
     /// session. The thread has to return then.
     pub fn write_out<R: Wait>(&self, rt: &R, stream: &TcpStream) {
-        let end = self.outbox.write_to(rt, stream, &mut &*stream);
-        if end == WriterEnd::Still {
-            self.status.set_still();
+        let end = self
+            .outbox
+            .write_to(rt, stream, &mut &*stream, &self.status);
+        match end {
+            WriterEnd::Still => self.status.set_still(),
+            WriterEnd::Memory => self.status.set_starved(),
+            WriterEnd::Closed | WriterEnd::Failed => {}
         }
         self.socket.close(rt);
         self.outbox.finish(rt);
     }
 }
 
-/// What a connection's session writes to: the connection's outbox, once its socket is there. A write
-/// takes all or fails. It fails before the socket is there, after the connection was closed, after the
-/// socket took nothing for too long, if the outbox is full, and ever after such a failure.
+/// Where a connection's session sends its messages: the connection's outbox, once its socket is there.
+/// A message is taken or refused as a whole. It is refused before the socket is there, after the
+/// connection was closed, after the socket took nothing for too long, if the outbox or those of the
+/// node are full, and ever after such a failure.
 #[derive(Drop)]
-pub struct SocketWriter<R: Drop> {
+pub struct OutboxSink<R: Drop> {
     /// By which it waits for the outbox's lock.
-    pub rt: R,
+    rt: R,
     /// The connection.
-    pub link: Shared<Link>,
+    link: Shared<Link>,
+    failure: Option<SinkFailure>,
 }
 
-impl<R: Wait + Drop> Write for SocketWriter<R> {
-    fn write(&mut self, piece: &[u8]) -> io::Result<usize> {
-        self.link.outbox.push(&self.rt, piece)?;
-        Ok(piece.len())
-    }
-
-    fn flush(&mut self) -> io::Result<()> {
-        Ok(())
+impl<R: Drop> OutboxSink<R> {
+    /// The sink of a connection. It hasn't failed.
+    pub fn new(rt: R, link: Shared<Link>) -> OutboxSink<R>
+        ensures { result.failure ≡ None }
+    {
+        OutboxSink {
+            rt,
+            link,
+            failure: None,
+        }
     }
 }
 
-/// The connections of each slot that aren't over.
+impl<R: Drop> Sink for OutboxSink<R> {
+    ghost use Rattle.std.specs.Prelude.{◌≡◌, true, is_some, None, refl};
+    ghost use Rattle.std.proofs.Common.{ap, ◌∙◌};
+
+    // What goes out is known to nobody.
+    ghost contents = { λ sink. None };
+
+    ghost has_failed = { λ sink. is_some sink.failure };
+
+    ghost failure = { λ sink. sink.failure };
+
+    // After a failure, the sink stays as it is.
+    ghost heeds_failure = { λ old new. is_some old.failure ≡ true → new ≡ old };
+
+    ghost agrees = { λ sink. refl };
+
+    ghost heeds_none = { λ sink h. refl };
+
+    ghost heeds_then = { λ a b c h k failed. k (ap (λ sink. is_some sink.failure) (h failed) ∙ failed) ∙ h failed };
+
+    // It takes messages alone.
+    fn write(&mut self, _piece: &[u8]) -> Option<usize> {
+        if self.failure.is_none() {
+            self.failure = Some(SinkFailure::Io);
+        }
+        None
+    }
+
+    fn failed(&self) -> bool {
+        self.failure.is_some()
+    }
+}
+
+impl<R: Wait + Drop> MessageSink for OutboxSink<R> {
+    fn put(&mut self, _alloc: Global, message: Outgoing) -> Result<u64, WriteEnd> {
+        if self.failure.is_some() {
+            return Err(WriteEnd {
+                written: 0,
+                fault: WriteFault::Io,
+            });
+        }
+        match self.link.outbox.push(&self.rt, message) {
+            Ok(()) => Ok(0),
+            Err(QueueFault::Memory) => Err(WriteEnd {
+                written: 0,
+                fault: WriteFault::Memory,
+            }),
+            Err(QueueFault::Closed | QueueFault::Full) => {
+                self.failure = Some(SinkFailure::Io);
+                Err(WriteEnd {
+                    written: 0,
+                    fault: WriteFault::Io,
+                })
+            }
+        }
+    }
+}
+
+/// The connections of each slot that aren't over, and the room of all outboxes.
 #[derive(Drop)]
 pub struct Links {
     slots: Vec<Mutex<Vec<Shared<Link>>>>,
+    room: Shared<Mutex<Room>>,
 }
 
 impl Links {
@@ -117,7 +197,19 @@ impl Links {
         for _ in 0..slots {
             all.push(Mutex::new(Vec::new(alloc)))?;
         }
-        Ok(Links { slots: all })
+        Ok(Links {
+            slots: all,
+            room: Shared::new(alloc, Mutex::new(Room::new()))?,
+        })
+    }
+
+    /// The link of a connection that isn't made yet, in no slot's list. Fails only with
+    /// `Fault::Memory`.
+    pub fn link(&self, alloc: Global, generation: u64) -> Result<Shared<Link>, Fault>
+        ensures made { IfOk result (λ link. link.generation ≡ generation) }
+        ensures memory { IsOkUnless result Memory }
+    {
+        Link::new(alloc, generation, &self.room)
     }
 
     /// Adds a connection of this slot. Fails only with `Fault::Memory`.
@@ -132,7 +224,7 @@ impl Links {
     }
 
     /// Closes each connection of this slot whose session is over, and no other: it is read no more,
-    /// and what its session wrote still goes out.
+    /// and what its session sent still goes out.
     pub fn close_ended<R: Wait>(&self, rt: &R, slot: u16) {
         let Some(links) = self.slots.get(usize::from(slot)) else {
             return;
@@ -148,11 +240,15 @@ impl Links {
         }
     }
 
-    /// Closes all connections, and waits until what their sessions wrote went out, at most for half a
-    /// minute.
+    /// Closes all connections, and waits until what their sessions sent went out, at most for half a
+    /// minute for all of them.
     pub fn close_all<R: Wait>(&self, rt: &R) {
         for links in self.slots.as_slice() {
             close_all(rt, links.lock(rt).as_slice());
+        }
+        let mut times = LAST_WAITS;
+        for links in self.slots.as_slice() {
+            times = wait_for_all(rt, links.lock(rt).as_slice(), times);
         }
     }
 }
@@ -164,15 +260,25 @@ fn stop_reading_all<R: Wait>(rt: &R, links: &[Shared<Link>]) {
     }
 }
 
-/// Closes these connections, and waits until what their sessions wrote went out.
+/// Closes the outboxes of these connections.
 fn close_all<R: Wait>(rt: &R, links: &[Shared<Link>]) {
     for link in links {
         link.outbox.close(rt);
     }
+}
+
+/// Waits until what the sessions of these connections sent went out, for so many times at most, and
+/// closes their sockets. Returns how many times are left.
+fn wait_for_all<R: Wait>(rt: &R, links: &[Shared<Link>], times: u32) -> u32 {
+    let mut left = times;
     for link in links {
-        link.outbox.wait(rt);
+        left = link
+            .outbox
+            .wait_for(rt, left, Duration::from_millis(LAST_MILLIS));
         link.socket.close(rt);
+        link.outbox.wait(rt);
     }
+    left
 }
 
 /// After each turn of a handler: counts what it took, and closes the slot's connections whose sessions

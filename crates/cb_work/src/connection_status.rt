@@ -31,6 +31,8 @@ pub struct ConnectionStatus {
     state: AtomicU64,
     /// Whether the connection's socket took nothing for too long.
     still: AtomicBool,
+    /// Whether memory ran out for a message that was to be spelled.
+    starved: AtomicBool,
 }
 
 impl ConnectionStatus {
@@ -52,6 +54,7 @@ impl ConnectionStatus {
             given: AtomicU64::new(0),
             state: AtomicU64::new(0),
             still: AtomicBool::new(false),
+            starved: AtomicBool::new(false),
         }
     }
 
@@ -111,13 +114,27 @@ impl ConnectionStatus {
         self.still.store(true, Ordering::SeqCst);
     }
 
+    /// Memory ran out for a message that was to be spelled: the socket is about to be shut.
+    pub fn set_starved(&self) {
+        self.starved.store(true, Ordering::SeqCst);
+    }
+
+    /// Counts bytes that the socket took.
+    pub fn add_written(&self, bytes: u64) {
+        self.written.fetch_add(bytes, Ordering::SeqCst);
+    }
+
     /// How far the session is, as its work told last. It tells why a session is over before it
     /// sets the stop flag.
     ///
-    /// A socket that was shut since it took nothing is to the session as one that the peer closed.
-    /// Here such an end is a failed write.
+    /// A socket that was shut since it took nothing, or since memory ran out for what was to be
+    /// written to it, is to the session as one that the peer closed. Here such an end is a failed
+    /// write, or want of memory.
     pub fn state(&self) -> State {
         match state_of(self.state.load(Ordering::SeqCst)) {
+            State::Closed(CloseReason::Bye) if self.starved.load(Ordering::SeqCst) => {
+                State::Closed(CloseReason::Memory)
+            }
             State::Closed(CloseReason::Bye) if self.still.load(Ordering::SeqCst) => {
                 State::Closed(CloseReason::WriteFault)
             }

@@ -17,13 +17,12 @@ use crate::traffic::Traffic;
 use cb_base::Fault;
 use cb_crew::{Given, Work};
 use cb_hall::Badge;
-use cb_io::Sink;
+use cb_outgoing::{MessageSink, Outgoing};
 use cb_peer::{Event, Settings};
 use cb_reader::Input;
 use cb_session::{begin_by, lose_by};
 use cb_state::Connection;
 use cb_trace::{Oracle, Trace};
-use cb_wire::BoundedMessage;
 use std::alloc::Global;
 use std::marker::Model;
 use std::mem;
@@ -36,7 +35,7 @@ use std::sync::Wait;
 /// A work is made before its connection is. The messages that its session opens with are held back
 /// until the first tick that is due or the first item, and go out before its first question.
 #[derive(Drop)]
-pub struct PeerWork<S: Sink + Drop, H: Oracle + Drop, F: Flags> {
+pub struct PeerWork<S: MessageSink + Drop, H: Oracle + Drop, F: Flags> {
     alloc: Global,
     trace: Trace,
     badge: Badge,
@@ -44,13 +43,13 @@ pub struct PeerWork<S: Sink + Drop, H: Oracle + Drop, F: Flags> {
     hall: H,
     flags: F,
     written: u64,
-    unsent: Vec<BoundedMessage>,
+    unsent: Vec<Outgoing>,
     /// How many messages were written that the flags weren't told of yet.
     untold: u64,
     rebuilding: Rebuilding,
 }
 
-impl<S: Sink + Drop, H: Oracle + Drop, F: Flags> Model for PeerWork<S, H, F> {
+impl<S: MessageSink + Drop, H: Oracle + Drop, F: Flags> Model for PeerWork<S, H, F> {
     ghost use Rattle.cb_work.specs.PeerWork.{IsPeerWork, WorkState, work_state};
 
     ghost Value = { WorkState S H F };
@@ -75,7 +74,7 @@ pub struct NotStarted<S: Drop, H: Drop, F: Drop> {
     pub cause: Fault,
 }
 
-impl<S: Sink + Drop, H: Oracle + Drop, F: Flags> PeerWork<S, H, F> {
+impl<S: MessageSink + Drop, H: Oracle + Drop, F: Flags> PeerWork<S, H, F> {
     /// The work of a connection that isn't made yet. Nothing was asked under its badge. The sink is
     /// its peer's slot's, and holds nothing.
     ///
@@ -171,7 +170,7 @@ impl<S: Sink + Drop, H: Oracle + Drop, F: Flags> PeerWork<S, H, F> {
         &self.flags
     }
 
-    /// The number of bytes written; `u64::MAX` if that is more.
+    /// The number of bytes written, as far as the sink tells; `u64::MAX` if that is more.
     pub fn written(&self) -> u64
         ensures { result ≡ self.now.written }
     {
@@ -297,7 +296,7 @@ impl<S: Sink + Drop, H: Oracle + Drop, F: Flags> PeerWork<S, H, F> {
     }
 }
 
-impl<S: Sink + Drop, H: Oracle + Drop, F: Flags> Work for PeerWork<S, H, F> {
+impl<S: MessageSink + Drop, H: Oracle + Drop, F: Flags> Work for PeerWork<S, H, F> {
     type Item = Input;
 
     ghost given = { λ work items. WasGiven H.told H.refused S.contents S.has_failed work items };

@@ -2,6 +2,7 @@
 use crate::shared::{HEADER, NAME};
 use cb_base::{Fault, Shared};
 use cb_journal::Answer;
+use cb_outgoing::Outgoing;
 use cb_payload::{Inventory, Listed};
 use cb_peer::{Event, Session, Settings};
 use cb_state::News;
@@ -91,11 +92,19 @@ fn letter(message: &Message) -> u8 {
     }
 }
 
+/// The letter of a message that is sent. A compact block isn't made yet.
+fn sent_letter(message: &Outgoing) -> u8 {
+    match message.made() {
+        Some(message) => letter(message),
+        None => b'?',
+    }
+}
+
 /// The letter of the first message that the step of an event sends; `-` where it sends none, `!` where it lacks memory.
 fn sent(alloc: Global, session: &mut Session, event: &Event) -> u8 {
     match session.step(alloc, event) {
         Ok((messages, _)) => match messages.first() {
-            Some(message) => letter(message.message()),
+            Some(message) => sent_letter(message),
             None => b'-',
         },
         Err(_) => b'!',

@@ -6,6 +6,7 @@ use crate::session::new_hall;
 use cb_base::{Fault, Shared};
 use cb_block::{Block, SoundBlock};
 use cb_journal::{Answer, Local, Question};
+use cb_outgoing::Outgoing;
 use cb_payload::{CompactRelay, HeaderList, Inventory};
 use cb_session::{Badge, Event, Hall, Session, Settings};
 use cb_talk::our_version;
@@ -87,12 +88,20 @@ fn spelled(letters: &[u8]) -> u64 {
 }
 
 /// The letters of messages behind others.
-fn letters(messages: &[BoundedMessage], before: u64) -> u64 {
+fn letters(messages: &[Outgoing], before: u64) -> u64 {
     let mut said = before;
     for message in messages {
-        said = behind(said, letter(message.message()));
+        said = behind(said, sent_letter(message));
     }
     said
+}
+
+/// The letter of a message that is sent. A compact block isn't made yet.
+fn sent_letter(message: &Outgoing) -> u8 {
+    match message.made() {
+        Some(message) => letter(message),
+        None => b'c',
+    }
 }
 
 /// A block mined on the tip.
@@ -129,7 +138,10 @@ fn relay(alloc: Global, high_bandwidth: bool, version: u64) -> Result<Event, Fau
 }
 
 fn version(alloc: Global) -> Result<Event, Fault> {
-    said(alloc, our_version(alloc, 9, 0, 0)?.into_message())
+    said(
+        alloc,
+        our_version(alloc, 9, 0, 0)?.make(alloc)?.into_message(),
+    )
 }
 
 fn block(alloc: Global, block: Shared<Block>) -> Result<Event, Fault> {

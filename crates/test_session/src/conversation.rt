@@ -23,14 +23,14 @@ struct Talk {
 }
 
 /// Gives the session a `ping`, unless it is over.
-fn give_ping<W: Sink>(alloc: Global, conversation: &mut Conversation<'_, W, Hall>) {
+fn give_ping<W: MessageSink>(alloc: Global, conversation: &mut Conversation<'_, W, Hall>) {
     if !conversation.state().is_closed() {
         conversation.give_item(alloc, Item::Good(BoundedMessage::new(Message::Ping(0))));
     }
 }
 
 /// Reads a stream, ten bytes at a time.
-fn hear<R: Source, W: Sink>(
+fn hear<R: Source, W: MessageSink>(
     alloc: Global,
     reader: &mut R,
     conversation: &mut Conversation<'_, W, Hall>,
@@ -42,19 +42,19 @@ fn hear<R: Source, W: Sink>(
 }
 
 /// Ends the session for want of memory, unless it is over.
-fn lose<W: Sink>(conversation: &mut Conversation<'_, W, Hall>) {
+fn lose<W: MessageSink>(conversation: &mut Conversation<'_, W, Hall>) {
     if !conversation.state().is_closed() {
         conversation.lose(Event::NoMemory);
     }
 }
 
 /// A trace, and what it opens with.
-fn new_trace(alloc: Global) -> Result<(Trace, Vec<BoundedMessage>), Fault> {
+fn new_trace(alloc: Global) -> Result<(Trace, Vec<Outgoing>), Fault> {
     Trace::new(alloc, SETTINGS)
 }
 
 /// A conversation in which 1,000 bytes were written before.
-fn converse<W: Sink>(
+fn converse<W: MessageSink>(
     alloc: Global,
     trace: &mut Trace,
     writer: &mut W,
@@ -80,7 +80,7 @@ fn converse<W: Sink>(
 }
 
 /// The same with a trace of its own.
-fn converse_with<W: Sink>(
+fn converse_with<W: MessageSink>(
     alloc: Global,
     writer: &mut W,
     hall: &mut Hall,
@@ -94,7 +94,7 @@ fn converse_with<W: Sink>(
 }
 
 /// The same with a hall of its own.
-fn converse_once<W: Sink>(alloc: Global, writer: &mut W) -> Option<Talk> {
+fn converse_once<W: MessageSink>(alloc: Global, writer: &mut W) -> Option<Talk> {
     match new_hall(alloc, 1) {
         Ok((mut hall, mut badges)) => {
             converse_with(alloc, writer, &mut hall, badges.as_mut_slice())

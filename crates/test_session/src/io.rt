@@ -1,9 +1,10 @@
 //! Writing and reading, with trouble on the way.
 ghost use Rattle.std.specs.Prelude.{◌≡◌, IfOk};
 
-use cb_io::{In, Out, Sink, Source, WriteEnd, WriteFault, write_out};
-use cb_wire::{BoundedMessage, Message};
-use std::alloc::Global;
+use cb_io::{In, Out, Sink, Source};
+use cb_outgoing::{Outgoing, WriteEnd, WriteFault, write_out};
+use cb_wire::Message;
+use std::alloc::{AllocError, Global};
 use std::io::{Error, ErrorKind, Read, Result as IoResult, Write};
 use std::test::*;
 
@@ -77,17 +78,22 @@ const WHOLE: Row = Row {
     trouble: Trouble::Fails,
     result: Ok(64),
     taken: 64,
-    writes: 1,
+    writes: 2,
 };
 
-/// What writing these messages comes to. It says nothing of the sink, so that its caller's states stay small.
-fn write_to(
-    alloc: Global,
-    sink: &mut Out<Paper>,
-    messages: &[BoundedMessage],
-) -> Result<u64, WriteEnd> {
-    write_out(alloc, sink, messages)
+/// What writing a ping and a pong comes to. It says nothing of the sink, so that its caller's states stay small.
+fn write_to(alloc: Global, sink: &mut Out<Paper>) -> Result<u64, WriteEnd> {
+    match ping_and_pong(alloc) {
+        Ok(messages) => write_out(alloc, sink, messages),
+        Err(_) => NO_MEMORY,
+    }
 }
+
+/// How writing ends for which there is no memory.
+const NO_MEMORY: Result<u64, WriteEnd> = Err(WriteEnd {
+    written: 0,
+    fault: WriteFault::Memory,
+});
 
 /// How a first write that fails ends writing.
 const NOTHING_WRITTEN: Result<u64, WriteEnd> = Err(WriteEnd {
@@ -106,10 +112,10 @@ fn sink_of(alloc: Global, row: Row) -> Out<Paper> {
     })
 }
 
-/// Whether writing these messages comes to what the row says.
-fn written_so(alloc: Global, messages: &[BoundedMessage], row: Row) -> bool {
+/// Whether writing a ping and a pong comes to what the row says.
+fn written_so(alloc: Global, row: Row) -> bool {
     let mut sink = sink_of(alloc, row);
-    let result = write_to(alloc, &mut sink, messages);
+    let result = write_to(alloc, &mut sink);
     let failed = sink.failed();
     let paper = sink.into_inner();
     result == row.result
@@ -121,15 +127,15 @@ fn written_so(alloc: Global, messages: &[BoundedMessage], row: Row) -> bool {
 
 /// Whether they are written at the second try, where the first write fails, and the sink tells
 /// both times that it has failed.
-fn written_again(alloc: Global, messages: &[BoundedMessage]) -> bool {
+fn written_again(alloc: Global) -> bool {
     let row = Row {
         trouble_at: 1,
         ..WHOLE
     };
     let mut sink = sink_of(alloc, row);
-    let first = write_to(alloc, &mut sink, messages);
+    let first = write_to(alloc, &mut sink);
     let failed = sink.failed();
-    let second = write_to(alloc, &mut sink, messages);
+    let second = write_to(alloc, &mut sink);
     let still = sink.failed();
     first == NOTHING_WRITTEN
         && failed
@@ -139,15 +145,15 @@ fn written_again(alloc: Global, messages: &[BoundedMessage]) -> bool {
 }
 
 /// A ping and a pong.
-fn ping_and_pong() -> [BoundedMessage; 2] {
-    [
-        BoundedMessage::new(Message::Ping(0)),
-        BoundedMessage::new(Message::Pong(0)),
-    ]
+fn ping_and_pong(alloc: Global) -> Result<Vec<Outgoing>, AllocError> {
+    let mut messages = Vec::with_capacity(alloc, 2)?;
+    messages.push_reserved(Outgoing::new(Message::Ping(0)));
+    messages.push_reserved(Outgoing::new(Message::Pong(0)));
+    Ok(messages)
 }
 
 /// Writers with trouble, and without.
-const ROWS: [Row; 7] = [
+const ROWS: [Row; 8] = [
     WHOLE,
     Row {
         name: "a byte a write",
@@ -160,19 +166,29 @@ const ROWS: [Row; 7] = [
         most: 31,
         trouble_at: 2,
         trouble: Trouble::Interrupts,
-        writes: 4,
+        writes: 5,
         ..WHOLE
     },
     Row {
         name: "the second write fails",
-        most: 40,
         trouble_at: 2,
         result: Err(WriteEnd {
-            written: 40,
+            written: 32,
             fault: WriteFault::Io,
         }),
-        taken: 40,
-        writes: 2,
+        taken: 32,
+        ..WHOLE
+    },
+    Row {
+        name: "the fourth write fails",
+        most: 20,
+        trouble_at: 4,
+        result: Err(WriteEnd {
+            written: 52,
+            fault: WriteFault::Io,
+        }),
+        taken: 52,
+        writes: 4,
         ..WHOLE
     },
     Row {
@@ -196,6 +212,7 @@ const ROWS: [Row; 7] = [
             fault: WriteFault::Io,
         }),
         taken: 0,
+        writes: 1,
         ..WHOLE
     },
     Row {
@@ -207,28 +224,23 @@ const ROWS: [Row; 7] = [
             fault: WriteFault::Zero,
         }),
         taken: 0,
+        writes: 1,
         ..WHOLE
     },
 ];
 
-/// Both messages go out in one write, if it takes them; what was interrupted is made again; and no
+/// Each message goes out in one write, if it takes it; what was interrupted is made again; and no
 /// write comes after one that failed or took nothing.
 #[test]
 fn two_messages_are_written(rt: HostRuntime) {
-    let messages = ping_and_pong();
     for row in ROWS {
-        assert!(rt;
-            written_so(rt.alloc(), messages.as_slice(), row),
-            "{}",
-            row.name
-        );
+        assert!(rt; written_so(rt.alloc(), row), "{}", row.name);
     }
 }
 
 #[test]
 fn a_sink_that_failed_once_tells_so_ever_after(rt: HostRuntime) {
-    let messages = ping_and_pong();
-    assert!(rt; written_again(rt.alloc(), messages.as_slice()));
+    assert!(rt; written_again(rt.alloc()));
 }
 
 /// Meets with trouble at its first read, and then gives these bytes, at most three a read.

@@ -4,8 +4,8 @@ ghost use Rattle.cb_peer_state.specs.Event.{begins, kind_of};
 
 use crate::session::new_hall;
 use crate::shared::SETTINGS;
+use cb_outgoing::{MessageSink, Outgoing};
 use cb_session::{Badge, Event, Hall, Out, Settings, Sink, Trace, begin_by};
-use cb_wire::BoundedMessage;
 use std::alloc::Global;
 use std::io::{Result as IoResult, Write};
 use std::test::*;
@@ -37,13 +37,13 @@ impl Write for Scrap {
 }
 
 /// Gives the session the event, if its trace has room.
-fn begin<W: Sink>(
+fn begin<W: MessageSink>(
     alloc: Global,
     trace: &mut Trace,
     writer: &mut W,
     hall: &mut Hall,
     badge: &mut Badge,
-    held_back: Vec<BoundedMessage>,
+    held_back: Vec<Outgoing>,
     event: Event,
 ) -> Option<Outcome>
     requires { begins (kind_of event) ≡ true }
@@ -70,7 +70,7 @@ fn begin<W: Sink>(
 }
 
 /// The same for a new session that connects to its peer.
-fn begin_with<W: Sink>(
+fn begin_with<W: MessageSink>(
     alloc: Global,
     writer: &mut W,
     hall: &mut Hall,
@@ -91,7 +91,7 @@ fn begin_with<W: Sink>(
 }
 
 /// The same with a hall of its own.
-fn begin_once<W: Sink>(alloc: Global, writer: &mut W, event: Event) -> Option<Outcome>
+fn begin_once<W: MessageSink>(alloc: Global, writer: &mut W, event: Event) -> Option<Outcome>
     requires { begins (kind_of event) ≡ true }
 {
     match new_hall(alloc, 1) {

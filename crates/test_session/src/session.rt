@@ -77,7 +77,7 @@ pub fn new_hall(alloc: Global, peers: u16) -> Result<(Hall, Vec<Badge>), Fault>
 }
 
 /// What serving a connection with this hall comes to.
-fn serve_by_hall<R: Source, W: Sink>(
+fn serve_by_hall<R: Source, W: MessageSink>(
     alloc: Global,
     settings: Settings,
     reader: &mut R,
@@ -101,7 +101,7 @@ fn outcome_of(served: &Served, calls: usize) -> Outcome {
 }
 
 /// Serves a connection with this hall.
-fn serve_with<R: Source, W: Sink>(
+fn serve_with<R: Source, W: MessageSink>(
     alloc: Global,
     settings: Settings,
     reader: &mut R,
@@ -116,7 +116,7 @@ fn serve_with<R: Source, W: Sink>(
 }
 
 /// Serves the connection of the first of these badges.
-fn serve_first<R: Source, W: Sink>(
+fn serve_first<R: Source, W: MessageSink>(
     alloc: Global,
     settings: Settings,
     reader: &mut R,
@@ -131,7 +131,7 @@ fn serve_first<R: Source, W: Sink>(
 }
 
 /// Serves a connection with a hall of its own.
-fn serve_once<R: Source, W: Sink>(
+fn serve_once<R: Source, W: MessageSink>(
     alloc: Global,
     settings: Settings,
     reader: &mut R,

@@ -2,6 +2,7 @@
 use crate::shared::SETTINGS;
 use cb_base::{Fault, Shared};
 use cb_journal::{Answer, Question};
+use cb_outgoing::Outgoing;
 use cb_peer::{CloseReason, Event, State};
 use cb_trace::{Counts, Trace};
 use cb_wire::{BoundedMessage, Item, Message, decode};
@@ -79,10 +80,10 @@ fn is_leave(question: &Option<Question>) -> bool {
 }
 
 /// What one message and a question are.
-fn kind_of(messages: &[BoundedMessage], question: &Option<Question>) -> Given {
+fn kind_of(messages: &[Outgoing], question: &Option<Question>) -> Given {
     match messages.first() {
-        Some(message) => match message.message() {
-            Message::Pong(nonce) => Given::Pong(*nonce),
+        Some(message) => match message.made() {
+            Some(Message::Pong(nonce)) => Given::Pong(*nonce),
             _ => Given::Nothing,
         },
         None if is_leave(question) => Given::Asks,

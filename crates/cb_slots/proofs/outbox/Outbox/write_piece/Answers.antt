@@ -3,11 +3,6 @@ use Rattle.std.proofs.KnownBytes.{Appends-kept, Appends-trans}
 use Rattle.cb_slots.proofs.Writing.{gone_more, gone_part, on_err}
 use Rattle.cb_slots.proofs.outbox.Outbox.write_piece.Goals as goal
 
-pub returns-in_err-begin-clause-part : goal.returns-in_err-begin-clause-part
-returns-in_err-begin-clause-part g c =
-    let (done, split, appended) = c.loop.invariant in
-    on_err _ _ (gone_part _ _ _ done c.loop.rest.now split appended)
-
 pub returns-in_err-taken-clause-part : goal.returns-in_err-taken-clause-part
 returns-in_err-taken-clause-part g c =
     let (done, split, appended) = c.loop.invariant in
