@@ -122,6 +122,7 @@ impl MessageQueue {
 
     /// Puts a message behind those that wait. A message that has no room is dropped, and no further
     /// ones are taken. If memory runs out, it is dropped, and nothing changes.
+    #[tactic(auto, using(crate::proofs::Queues::own_more))]
     pub fn put(&mut self, one: Waiting) -> Result<(), QueueFault>
         ensures ok { OnOk result (self.new ≡ with_message self.old one) }
         ensures full { (result ≡ Err Full)

@@ -38,8 +38,8 @@ pub struct Link {
 }
 
 impl Link {
-    /// The link of a connection that isn't made yet. Its outbox shares the node's room. Fails only with
-    /// `Fault::Memory`.
+    /// The link of a connection that isn't made yet. Its outbox shares the node's room. Fails only
+    /// with `Fault::Memory`.
     fn new(
         alloc: Global,
         generation: u64,
@@ -80,9 +80,9 @@ impl Link {
         self.outbox.is_done()
     }
 
-    /// Writes to the connection's socket what comes into the outbox, until the connection is over and
-    /// what waits went out, or the socket takes nothing more. Then it shuts the socket, which ends the
-    /// session. The thread has to return then.
+    /// Writes to the connection's socket what comes into the outbox, until the connection is over
+    /// and what waits went out, or the socket takes nothing more. Then it shuts the socket, which
+    /// ends the session. The thread has to return then.
     pub fn write_out<R: Wait>(&self, rt: &R, stream: &TcpStream) {
         let end = self
             .outbox
@@ -97,10 +97,10 @@ impl Link {
     }
 }
 
-/// Where a connection's session sends its messages: the connection's outbox, once its socket is there.
-/// A message is taken or refused as a whole. It is refused before the socket is there, after the
-/// connection was closed, after the socket took nothing for too long, if the outbox or those of the
-/// node are full, and ever after such a failure.
+/// Where a connection's session sends its messages: the connection's outbox, once its socket is
+/// there. A message is taken or refused as a whole. It is refused before the socket is there, after
+/// the connection was closed, after the socket took nothing for too long, if the outbox or those of
+/// the node are full, and ever after such a failure.
 #[derive(Drop)]
 pub struct OutboxSink<R: Drop> {
     /// By which it waits for the outbox's lock.
@@ -240,8 +240,8 @@ impl Links {
         }
     }
 
-    /// Closes all connections, and waits until what their sessions sent went out, at most for half a
-    /// minute for all of them.
+    /// Closes all connections, and waits until what their sessions sent went out, at most for half
+    /// a minute for all of them.
     pub fn close_all<R: Wait>(&self, rt: &R) {
         for links in self.slots.as_slice() {
             close_all(rt, links.lock(rt).as_slice());
@@ -281,8 +281,8 @@ fn wait_for_all<R: Wait>(rt: &R, links: &[Shared<Link>], times: u32) -> u32 {
     left
 }
 
-/// After each turn of a handler: counts what it took, and closes the slot's connections whose sessions
-/// are over. So a reader that waits for bytes of such a connection wakes.
+/// After each turn of a handler: counts what it took, and closes the slot's connections whose
+/// sessions are over. So a reader that waits for bytes of such a connection wakes.
 #[derive(Drop)]
 pub struct CloseEnded {
     /// Where it is counted what was taken.

@@ -1,6 +1,6 @@
-//! The outbox of a connection: the messages that its session sent and its socket hasn't taken yet, and
-//! how a thread spells and writes them. So a peer that reads slowly, or not at all, holds no handler
-//! up, and no more than one message is spelled for it at a time.
+//! The outbox of a connection: the messages that its session sent and its socket hasn't taken yet,
+//! and how a thread spells and writes them. So a peer that reads slowly, or not at all, holds no
+//! handler up, and no more than one message is spelled for it at a time.
 ghost use Rattle.std.specs.Prelude.{◌≡◌, ◌↔◌, ◌+◌, ◌∷◌, ◌++◌, ◌<◌, ◌≤◌, ℕ, List, length, take, IfOk, IsErr, IsOk, OnErr, OnOk};
 ghost use Rattle.std.specs.Io.KnownBytes.{Appends, WriteAppends};
 ghost use Rattle.cb_wire.specs.Envelope.{text};
@@ -49,8 +49,8 @@ pub enum WriterEnd {
 
 /// What waits to be written to a connection's socket. One thread writes it.
 ///
-/// Nothing is taken before the outbox is opened, nor after it was closed, after a message that had no
-/// room, and after a failed write.
+/// Nothing is taken before the outbox is opened, nor after it was closed, after a message that had
+/// no room, and after a failed write.
 #[derive(Drop)]
 pub struct Outbox {
     alloc: Global,
@@ -89,8 +89,8 @@ impl Outbox {
         }
     }
 
-    /// Takes messages from now on. A thread has to be started that writes them, and no other one may
-    /// be writing.
+    /// Takes messages from now on. A thread has to be started that writes them, and no other one
+    /// may be writing.
     pub fn open<R: Wait>(&self, rt: &R) {
         self.done.store(0, Ordering::SeqCst);
         self.started.store(true, Ordering::SeqCst);
@@ -162,8 +162,8 @@ impl Outbox {
         put
     }
 
-    /// Takes room for so many bytes more in an outbox that holds so many. Returns whether there is so
-    /// much.
+    /// Takes room for so many bytes more in an outbox that holds so many. Returns whether there is
+    /// so much.
     fn take_room<R: Wait>(&self, rt: &R, held: u64, more: u64) -> bool
         requires { held ≤ 28000000 }
     {
@@ -178,9 +178,9 @@ impl Outbox {
         self.room.lock(rt).give(held);
     }
 
-    /// Writes what comes to a stream by its writer, until the outbox was closed and nothing waits, or
-    /// the stream takes nothing more. The stream's write timeout is how long it may be still. What is
-    /// written is counted. Afterwards the outbox is closed.
+    /// Writes what comes to a stream by its writer, until the outbox was closed and nothing waits,
+    /// or the stream takes nothing more. The stream's write timeout is how long it may be still.
+    /// What is written is counted. Afterwards the outbox is closed.
     pub fn write_to<R: Wait, S: OpenStream, W: Write>(
         &self,
         rt: &R,
@@ -271,7 +271,8 @@ impl Outbox {
         self.take(rt, &mut queue)
     }
 
-    /// Writes all of a piece, in as many writes as it needs. Otherwise a beginning of it was written.
+    /// Writes all of a piece, in as many writes as it needs. Otherwise a beginning of it was
+    /// written.
     fn write_piece<R: Wait, W: Write>(
         &self,
         rt: &R,
@@ -341,8 +342,8 @@ impl Pace {
     }
 }
 
-/// Writes from the start of a piece that isn't empty. Returns how many bytes were taken: none if the
-/// writer waited in vain. Fails if a write fails.
+/// Writes from the start of a piece that isn't empty. Returns how many bytes were taken: none if
+/// the writer waited in vain. Fails if a write fails.
 fn write_once<W: Write>(writer: &mut W, piece: &[u8]) -> Result<usize, WriterEnd>
     ensures most { IfOk result (λ taken. taken ≤ length piece.now) }
     ensures bytes { WriteAppends (W.contents writer.old) (W.contents writer.new) result piece.now }
