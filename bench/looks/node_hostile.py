@@ -46,8 +46,9 @@ from bench.tools.programs import built
 INBOUND, OUTBOUND, CONNECTIONS = 48, 16, 256
 # In how many seconds a block comes to a peer beside bad ones.
 SOON = 5
-# A block of this size is asked for so often that a socket can't take it, and in so many messages of 50,000 entries that an outbox can't.
-LARGE, MANY, TOO_MANY = 900_000, 20, 3
+# A block of this size is asked for so often that a socket can't take it, and one of this size in so many messages of 50,000 entries that an
+# outbox can't.
+LARGE, MANY, SMALL, TOO_MANY = 900_000, 20, 250, 3
 # A block of this size is asked for so often in one message, as often as one may ask, and so often that all is read.
 FULL, ENTRIES, ALL = 1_000_000, 50_000, 500
 # In how many seconds a peer beside that has each answer, for how many seconds it asks, and how much memory the node may take then.
@@ -72,8 +73,9 @@ class Hostile(ProcessLooks):
         self.whole = whole
 
     @contextmanager
-    def pair(self, *words):
-        """Two linked nodes: the port of the first comes with them. What the first one took is told at the end, and both end well."""
+    def pair(self, *words, ends=True):
+        """Two linked nodes: the port of the first comes with them. What the first one took is told at the end, and both end well. Without
+        `ends` the first is killed: its audit would compare each block that was asked for, byte by byte."""
         with NodeProcess(self.program, *words, seconds=PATIENCE) as node:
             port = node.port()
             with NodeProcess(self.program, "--connect", f"127.0.0.1:{port}", seconds=PATIENCE) as other:
@@ -85,7 +87,8 @@ class Hostile(ProcessLooks):
                 print(f"{self.name}: {took:.1f} s, {spent:.0f} ms of the processor, memory {before / 1e6:.0f} MB before, "
                       f"{node.memory('VmHWM') / 1e6:.0f} MB at the most, {node.memory() / 1e6:.0f} MB at last")
                 self.ends(other)
-            self.ends(node)
+            if ends:
+                self.ends(node)
 
     def block_in_time(self, node, other):
         """A block that the node mines comes to the other in time."""
@@ -185,7 +188,7 @@ class Hostile(ProcessLooks):
     def a_full_outbox(self):
         """A peer that asks for more than may wait for it."""
         with self.pair("--handlers", "1") as (node, other, port), small(port, 4_096) as peer:
-            peer.send(HELLO, *[self.large_block(node, other, ENTRIES)] * TOO_MANY)
+            peer.send(HELLO, *[self.large_block(node, other, ENTRIES, SMALL)] * TOO_MANY)
             watch = Stopwatch(node, other)
             self.look("its end", self.ended(node, 1), "WriteFault")
             self.look("whether it ends before a still socket does", watch.seconds() < STILL, True)
@@ -216,7 +219,7 @@ class Hostile(ProcessLooks):
 
     def asked_and_unread(self, count, *words, kind=BLOCK):
         """So many peers ask for a block as often as they may in a message, and don't read. One beside them has its answers meanwhile."""
-        with self.pair(*words) as (node, other, port), ExitStack() as stack:
+        with self.pair(*words, ends=False) as (node, other, port), ExitStack() as stack:
             request = self.large_block(node, other, ENTRIES, FULL, kind)
             honest = stack.enter_context(dialled(port))
             honest.shake_hands()

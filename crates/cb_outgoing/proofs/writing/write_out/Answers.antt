@@ -20,7 +20,7 @@ loop-message-preserved g c =
 pub returns-in-Err-clause-err : goal.returns-in-Err-clause-err
 returns-in-Err-clause-err g c =
     written_until _ _ _ _ _ (into_iter_items c.next.new.self) c.in-Some.message c.loop-message.written c.in-Err.end.written _ c.in-Err.end.fault c.loop-message.invariant.out c.in-Some.ensures.steps.0 c.in-Err.ensures.err
-    (λ lacks. wrote_nothing _ _ _ _ (c.in-Err.ensures.starved lacks).0 (ap g.W.Sink.contents (c.in-Err.ensures.starved lacks).1)) c.saturating_add-written-in-Err.ensures
+    (λ lacks. wrote_nothing _ _ _ _ (c.in-Err.ensures.starved lacks).0 (ap g.W.Sink.contents (c.in-Err.ensures.starved lacks).1)) c.saturating_add.ensures
 
 pub returns-in-Err-clause-heeds : goal.returns-in-Err-clause-heeds
 returns-in-Err-clause-heeds g c = heeds_more g.W.Sink.heeds_failure g.met.W.Sink.heeds_then _ _ _ _ _ c.loop-message.invariant.heeds c.loop-message.invariant.unmarked c.put.ensures.heeds
