@@ -171,7 +171,7 @@ class Peers(Looks):
                 stream.sendall(HELLO + much)
                 began = time.monotonic()
                 height = 2
-                while time.monotonic() < began + TIMEOUT + 2:
+                while time.monotonic() < began + TIMEOUT + 6:
                     for node in (0, 1, 2):
                         self.look("a block beside it", nodes.say(f"mine {node}"), None)
                         self.look("a wait beside it", nodes.say("wait"), None)
