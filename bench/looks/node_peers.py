@@ -178,7 +178,9 @@ class Peers(Looks):
                         height += 1
                     time.sleep(1)
                 rows = self.ends("a peer that never reads", nodes, height, 3)
-            self.look("the peer's end", [row[7] for row in rows if row[1:4] == ["1", "slot", "2"]], ["WriteFault"])
+            # Where its socket is still, its session sees either a failed write or the stream's end.
+            ended = [row[7] for row in rows if row[1:4] == ["1", "slot", "2"]]
+            self.look("whether the peer ends by itself", ended in (["WriteFault"], ["Bye"]), True)
 
 
 def rests(nodes, threads):
