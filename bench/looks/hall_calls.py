@@ -5,9 +5,9 @@ python3 bench/looks/hall_calls.py [COUNT] [SEED], or --store
 Without words 1,200 calls from seed 1, in a checked build of bench_hall, which also plays its stored runs. The plain hall
 (bench/models/plain_hall.py) was written apart from the program, from the rules in docs/PROTOCOL.md. Worked rows come first, and then
 calls of all kinds: headers and blocks of branches that overtake each other, faulty ones, transactions, what peers ask, kicks and
-openings; only those of the first 400 have large blocks. The same build tells what calls cost that may cost much, as ratios (bench/tools/hall_costs.py): none may be above 5. With
-`--store` nothing is played: the examples and a few hundred calls are written to bench/programs/bench_hall/stdin, and
-what the plain hall answers to bench/programs/bench_hall/stdout.
+openings; only those of the first 400 have large blocks. The same build tells what calls cost that may cost much, as ratios
+(bench/tools/hall_costs.py): none may be above 5. With `--store` nothing is played: the examples and a few hundred calls are written
+to bench/programs/bench_hall/stdin, and what the plain hall answers to bench/programs/bench_hall/stdout.
 """
 
 import struct
