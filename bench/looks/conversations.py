@@ -34,7 +34,7 @@ CONVERSATIONS = 2_000
 SENT = {"Bye", "BadStream", "BadMessage", "BadBlock", "BadRequest", "OldPeer", "SelfPeer", "version", "verack", "pong", "sendheaders",
         "sendcmpct", "getheaders", "getdata", "inv", "headers", "block", "tx", "notfound", "cmpctblock", "getblocktxn", "blocktxn",
         "16 asked for"}
-# And the rules of compact blocks that have to come up.
+# And the rules of compact blocks, and of blocks without room, that have to come up.
 CASES = {
     "cmpctblock: no place", "cmpctblock: no work", "cmpctblock: known", "cmpctblock: F23 NoParent", "cmpctblock: F24 BadParent",
     "cmpctblock: repeated ids", "cmpctblock: places missing", "cmpctblock: places missing, in flight",
@@ -46,7 +46,8 @@ CASES = {
     "asked of us: compact", "asked of us: compact at 5", "asked of us: compact, sent whole", "asked of us: compact, whole at 6",
     "a compact block that isn't there", "getblocktxn: no block", "getblocktxn: no place", "getblocktxn: part", "getblocktxn: part at 10",
     "getblocktxn: several", "getblocktxn: whole", "getblocktxn: whole at 11", "told: compact", "told: headers",
-    "told: headers, of several", "told: headers, of eight", "told: hash", "told: hash, of many",
+    "told: headers, of several", "told: headers, of eight", "told: hash", "told: hash, of many", "no room", "fallback: no room",
+    "lacking, and not wanted meanwhile", "headers are not asked for meanwhile", "asked again",
     "the peer is asked for compact blocks: unasked", "six questions"}
 
 

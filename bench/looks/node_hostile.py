@@ -116,6 +116,8 @@ class Hostile(ProcessLooks):
                 peer.send(HELLO)
             self.comes("64 handshakes", node, lambda: [one.phase for one in node.peers()] == ["ready"] * (INBOUND + OUTBOUND))
             self.look("a dial more", node.say(f"connect {hosts[OUTBOUND]}"), "error no slot")
+            # The log has a line of it if it had few about connections within a second.
+            time.sleep(1.5)
             with socket.create_connection(("127.0.0.1", port), PATIENCE) as more:
                 self.look("a peer more", more.recv(1), b"")
             self.logs(node, "a peer was turned away: no slot is free")

@@ -13,6 +13,7 @@ It needs the built program (crates/cbrelay/out/cbrelay, as ./build leaves it), p
 The status is 0 where all came out so.
 """
 
+import re
 import socket
 import struct
 import sys
@@ -30,7 +31,7 @@ from bench.tools.looks import Looks
 from bench.tools.messages import envelope
 from bench.tools.network import GENESIS
 from bench.tools.node_scripts import GIVEN, OUTBOUND, mined
-from bench.tools.node_talk import NodeTalk, peer
+from bench.tools.node_talk import MOVED, NodeTalk, peer
 from bench.tools.programs import built
 
 SLOTS, CONNECTIONS = 32, 256
@@ -58,7 +59,9 @@ class Peers(Looks):
         self.look(f"{name}: heights", {row[3] for row in rows}, {str(height)})
         self.look(f"{name}: tips", len({row[5] for row in rows}), 1)
         self.look(f"{name}: audits", {row[9] for row in rows}, {"yes"})
-        return [line.split() for line in lines if " slot " in line and " closed " in line]
+        moved = [line for line in lines if " slot " in line and " closed " in line]
+        self.look(f"{name}: what connections moved", [line for line in moved if not re.search(rf" {MOVED}$", line)], [])
+        return [line.split() for line in moved]
 
     # ---- connection after connection
 

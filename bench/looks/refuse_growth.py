@@ -1,9 +1,10 @@
 #!/usr/bin/env python3
 """Refuses each growth of memory in turn, and looks at how the built program ends: python3 bench/looks/refuse_growth.py [--programs]
 
-It needs the program (crates/cbrelay/out/cbrelay), a C compiler as `cc`, and python3, and takes a few seconds. A small library that is
+It needs the program (crates/cbrelay/out/cbrelay), a C compiler as `cc`, and python3, and takes some two minutes. A small library that is
 loaded before the C library counts growths and makes the Nth fail; N goes up until a run makes fewer. Each run has to end with status 4
-after a beginning of what it prints with ample memory, or wholly as with ample memory, where it could do without that growth.
+after a beginning of what it prints with ample memory, which standard error tells, or wholly as with ample memory, where it could do without
+that growth.
 
 With `--programs` the same is done to bench_sound, bench_chain and bench_compact, as ./build leaves them. Calls of a chain are made beside a
 copy there: one that lacked memory has to leave the chain as it was, and is made again.

@@ -74,6 +74,8 @@ class PlainSession:
     next: int = 0
     flight: list = field(default_factory=list)
     wanted: list = field(default_factory=list)
+    # The header behind which blocks had no room.
+    resume_from: bytes = None
     # The compact block that lacks transactions, how many compact blocks were made, and whether the peer was asked to send its own unasked.
     partial: Partial = None
     made: int = 0
@@ -129,8 +131,12 @@ class PlainSession:
         self.questions += 1
         self.ask_headers()
 
-    def ask_headers(self):
-        self.out.append(wire.getheaders(self.shared.chain.locator()))
+    def ask_headers(self, locator=None):
+        """Asks for headers, unless the session remembers a header from which it will ask."""
+        if self.resume_from is not None:
+            self.met["headers are not asked for meanwhile"] += 1
+            return
+        self.out.append(wire.getheaders(locator or self.shared.chain.locator()))
 
     # ---- what the peer tells
 
@@ -139,10 +145,11 @@ class PlainSession:
             return
         self.heard = headers[-1].name
         lack, refused = self.give_headers(headers)
-        for name in lack:
-            self.want(name)
+        self.want_all(lack, headers[0].prev)
+        if refused == "F23 NoParent":
+            self.ask_headers()
         if refused is None and len(headers) == wire.MOST_HEADERS:
-            self.out.append(wire.getheaders([headers[-1].name]))
+            self.ask_headers([headers[-1].name])
 
     def give_headers(self, headers):
         """The names of those whose blocks are lacking, and the refusal that ended it."""
@@ -156,13 +163,24 @@ class PlainSession:
             lack += [header.name] if self.shared.lacks(header.name) else []
         if refused == "F11 BadWork":
             raise Closed("BadBlock")
-        if refused == "F23 NoParent":
-            self.ask_headers()
         return lack, refused
 
-    def want(self, name):
-        if name not in self.wanted and name not in self.flight and len(self.wanted) < MOST_WANTED:
+    def want_all(self, names, before):
+        """Keeps lacking blocks in mind. Where some have no room, the header before them is remembered; while one is, none joins."""
+        if self.resume_from is not None:
+            self.met["lacking, and not wanted meanwhile"] += bool(names)
+            return
+        for name in names:
+            self.want(name, before)
+
+    def want(self, name, before):
+        if name in self.wanted or name in self.flight:
+            return
+        if len(self.wanted) < MOST_WANTED:
             self.wanted.append(name)
+        elif self.resume_from is None:
+            self.met["no room"] += 1
+            self.resume_from = before
 
     def told_inv(self, entries):
         entries = [entry for entry in entries if entry[0] in (TX, BLOCK)]
@@ -290,6 +308,8 @@ class PlainSession:
         self.heard = short.header.name
         self.met["cmpctblock: no work"] += not short.header.works
         lack, refused = self.give_headers([short.header])
+        if refused == "F23 NoParent":
+            self.ask_headers()
         if not lack:
             self.met[f"cmpctblock: {refused or 'known'}"] += 1
             self.land(self.heard)
@@ -301,7 +321,7 @@ class PlainSession:
         self.questions += 1
         if len(set(short.ids)) < len(short.ids):
             self.met["cmpctblock: repeated ids"] += 1
-            self.fall_back(short.header.name)
+            self.fall_back(short.header)
             return
         key = key_of(short.header.text, short.nonce)
         found = slots(short.ids, prefilled, [(short_id(key, tx.name), tx) for tx, _ in self.shared.pool])
@@ -336,18 +356,20 @@ class PlainSession:
         """Gives the block of all these transactions to the hall, or asks for the right one."""
         if not is_sound(header, txs):
             self.met["a wrong list"] += 1
-            self.fall_back(header.name)
+            self.fall_back(header)
             return
         self.land(header.name)
         refused = self.give_block(whole(header, txs))
         self.met["rebuilt: taken" if refused == "-" else f"rebuilt: {refused}"] += 1
 
-    def fall_back(self, name):
+    def fall_back(self, header):
         """Asks for a block whole, or keeps it in mind where too many others are in flight."""
+        name = header.name
         if name not in self.flight and len(self.flight) == MOST_FLIGHT:
             self.met["fallback: later"] += 1
             self.met["fallback: later, wanted already"] += name in self.wanted
-            self.want(name)
+            self.met["fallback: no room"] += name not in self.wanted and len(self.wanted) == MOST_WANTED
+            self.want(name, header.prev)
             return
         self.met["fallback: in flight" if name in self.flight else "fallback: wanted" if name in self.wanted else "fallback"] += 1
         self.flight += [name] * (name not in self.flight)
@@ -365,7 +387,15 @@ class PlainSession:
                 self.met["asked for: whole, near"] += kind == BLOCK and self.is_near(need)
                 self.met["asked for: whole of a capable peer"] += kind == BLOCK and self.capable
                 self.out.append(wire.entries(b"getdata", [(kind, name) for name in self.flight]))
+        self.resume()
         self.news()
+
+    def resume(self):
+        """Asks for the headers behind the one that is remembered, once nothing is wanted."""
+        if self.resume_from is not None and not self.wanted:
+            self.met["asked again"] += 1
+            self.out.append(wire.getheaders([self.resume_from]))
+            self.resume_from = None
 
     def is_near(self, need):
         """Whether one block alone is needed, whose header stands on the tip."""

@@ -11,11 +11,11 @@ from bench.models import plain_wire as wire
 from bench.models.plain_block import Block, Tx, paying
 from bench.models.plain_compact import WORD, differences, key_of, missing, short_id
 from bench.models.plain_hall import Shared
-from bench.models.plain_session import Closed, Line, PlainSession, Settings
+from bench.models.plain_session import MOST_FLIGHT, MOST_WANTED, Closed, Line, PlainSession, Settings
 from bench.tools.hall_drawing import tx_of_64_bytes
 from bench.tools.messages import envelope
 from bench.tools.network import GENESIS, header_text
-from bench.tools.texts import random_bytes
+from bench.tools.texts import hash_twice, random_bytes
 
 LONGEST, BLOCKS = 40, 24
 NOBODY, NO_TX = bytes(32), bytes([1]) * 32
@@ -202,6 +202,24 @@ class Relay(Conversation):
         self.coins_given()
         if self.rng.random() < 0.4:
             self.rng.choice([self.many_headers, self.headers_twice, self.overtaken, self.marked])()
+        if self.rng.random() < 0.02:
+            self.crowded()
+
+    def crowded(self):
+        """Headers of more blocks than there is room for, one that falls back beside them, and then no block of all these."""
+        names, texts = [self.tip()], []
+        for _ in range(MOST_FLIGHT + MOST_WANTED + 2):
+            texts.append(header_text(names[-1], bytes(random_bytes(self.rng, 32))))
+            names.append(hash_twice(texts[-1]))
+        some = MOST_FLIGHT + MOST_WANTED + self.rng.choice([0, 1, 2])
+        self.say(wire.headers(texts[: wire.MOST_HEADERS]))
+        self.say(wire.headers(texts[wire.MOST_HEADERS : some]))
+        self.say(wire.headers(texts[some - 1 :]))
+        self.say(wire.cmpctblock(texts[-1], 0, [1, 1], []))
+        self.say(wire.entries(b"inv", [(2, NOBODY)]))
+        while self.session.flight and not self.closed:
+            self.say(wire.entries(b"notfound", [(2, name) for name in self.session.flight]))
+        self.say(wire.headers(texts[wire.MOST_HEADERS :]))
 
     # ---- what the session knows
 

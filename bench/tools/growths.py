@@ -8,6 +8,9 @@ from typing import NamedTuple
 
 from bench.tools.programs import path_of
 
+# What the program says last on standard error where memory ran out: `serve` tells why its session ended.
+STARVED = (b"memory ran out\n", b"closed Memory\n")
+
 COUNTER = r"""
 #include <stddef.h>
 #include <stdlib.h>
@@ -95,6 +98,11 @@ def is_refusal(ran, ample):
     return ran.returncode == 4 and ample.stdout.startswith(ran.stdout)
 
 
+def is_told(ran, ample):
+    """The same, and standard error says so."""
+    return is_refusal(ran, ample) and ran.stderr.endswith(STARVED)
+
+
 def is_same(ran, ample):
     """Whether a run ended as with ample memory."""
     return (ran.returncode, ran.stdout, ran.stderr) == (ample.returncode, ample.stdout, ample.stderr)
@@ -102,7 +110,7 @@ def is_same(ran, ample):
 
 def in_turn(told, crate, words, data, library):
     """Refuses each growth of a run of a crate's program in turn, and returns how many runs ended otherwise than they should."""
-    return refuse_each(told, [path_of(crate)] + words, data, library, is_refusal)
+    return refuse_each(told, [path_of(crate)] + words, data, library, is_told if crate == "cbrelay" else is_refusal)
 
 
 def refuse_each(told, command, data, library, is_cut):

@@ -9,6 +9,9 @@ import time
 # No node has this slot, so a kick of it is told at once, behind all that was told before.
 NOWHERE = 64
 LISTENS = "0A"
+# What a connection moved, as `run --stats` and `peers` of `node` tell it.
+MOVED = (r"in \d+ messages \d+ payload bytes out \d+ messages \d+ bytes "
+         r"blocks full \d+ compact \d+ completed \d+ fallback \d+ saved \d+ bytes")
 
 
 def command(program, nodes, handlers, *words):

@@ -9,9 +9,10 @@ import threading
 import time
 
 from bench.tools.looks import Looks
+from bench.tools.node_talk import MOVED
 
-# How a line of `peers` is told: a slot and a generation, a direction and an address, a phase, and then words with a number each.
-PEER = re.compile(r"slot (\d+) connection (\d+) (from|to) (\S+) (start|greeted|ready|over) (.*)")
+# How a line of `peers` is told: a slot and a generation, a direction and an address, a phase, and what the connection moved.
+PEER = re.compile(rf"slot (\d+) connection (\d+) (from|to) (\S+) (start|greeted|ready|over) ({MOVED})")
 
 # How a process ends well: its status, and what it prints at last.
 WELL = (0, ["audit yes"])
@@ -53,16 +54,17 @@ def after(words, word, count):
 
 
 class NodeProcess:
-    """A process that runs a node. What it prints and what it logs is read as it comes."""
+    """A process that runs a node. What it prints and what it logs is read as it comes; the log only from `read_errors` on, if that is wanted."""
 
-    def __init__(self, program, *words, listen="127.0.0.1:0", seconds=60, stdout=subprocess.PIPE, before=()):
+    def __init__(self, program, *words, listen="127.0.0.1:0", seconds=60, stdout=subprocess.PIPE, before=(), reads_errors=True):
         self.seconds, self.logged, self.told = seconds, [], queue.Queue()
         command = [*before, program, "node", "--listen", listen, *words]
         self.process = subprocess.Popen(command, stdin=subprocess.PIPE, stdout=stdout, stderr=subprocess.PIPE, text=True, bufsize=1)
         if stdout == subprocess.PIPE:
             threading.Thread(target=self.hear, args=(self.process.stdout, self.told.put), daemon=True).start()
         self.logging = threading.Thread(target=self.hear, args=(self.process.stderr, self.logged.append), daemon=True)
-        self.logging.start()
+        if reads_errors:
+            self.read_errors()
 
     def __enter__(self):
         return self
@@ -70,6 +72,10 @@ class NodeProcess:
     def __exit__(self, *_):
         self.process.kill()
         self.process.wait()
+
+    def read_errors(self):
+        """Reads the log from now on."""
+        self.logging.start()
 
     @staticmethod
     def hear(pipe, take):

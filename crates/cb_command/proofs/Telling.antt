@@ -8,21 +8,21 @@ use Rattle.cb_run.specs.declared.ending.Status.{Status}
 use Rattle.cb_run.specs.declared.ending.Status.TheVariants.{BadInput}
 use Rattle.cb_run.specs.declared.ending.Halt.{Halt}
 use Rattle.cb_run.specs.declared.ending.Halt.TheVariants.{ReadFailed, WriteFailed}
-use Rattle.cb_run.specs.Ending.{status_code, halt_line}
-use Rattle.cb_command.specs.Command.{EndsEarly, TellsPeer, code_of}
+use Rattle.cb_run.specs.Ending.{status_code}
+use Rattle.cb_command.specs.Command.{EndsEarly, TellsPeer, code_of, end_line}
 use Rattle.cb_command.specs.Peer.{PeerEnds, closed_text, peer_end}
 
 -- how `settle` ends a run: nothing more was told, or why it ended early
 abbrev pub Settles : Type 0 → Option (List ℕ) → Option (List ℕ) → Bool → ℕ → Result ℕ Halt → Type 0
 Settles Same mid tells failed code ended = MatchResult ended (λ c. (code ≡ c) × Same) (EndsEarly mid tells failed code)
 
--- a halt's line, behind the reason's
+-- an early end's line, behind the reason's
 told_early : (told mid tells : Option (List ℕ)) (failed : Bool) (reason : CloseReason) (halt : Halt) (code : ℕ)
     → Appends told mid (closed_text reason) → EndsEarly mid tells failed code halt → code ≡ status_code BadInput
-    → (Appends told tells (closed_text reason ++ halt_line halt) × (code ≡ status_code BadInput)) ⊎ ((failed ≡ true) × (code ≡ status_code BadInput))
+    → (Appends told tells (closed_text reason ++ end_line halt) × (code ≡ status_code BadInput)) ⊎ ((failed ≡ true) × (code ≡ status_code BadInput))
 told_early told mid tells failed reason halt code a ends c =
     elim ends.0 [
-      | inl line ↦ inl (Appends-then told mid tells (closed_text reason) (halt_line halt) a line, c)
+      | inl line ↦ inl (Appends-then told mid tells (closed_text reason) (end_line halt) a line, c)
       | inr marked ↦ inr (marked, c)
     ]
 

@@ -9,8 +9,10 @@ use Rattle.cb_run.specs.declared.ending.Halt.TheVariants.{Memory, TooManyLines, 
 use Rattle.cb_run.specs.Ending.{HasCause, status_code, halt_status, halt_line}
 use Rattle.cb_decode.specs.Report.{ReportsKnown}
 use Rattle.cb_command.specs.declared.node_words.BadWords.{BadWords}
+use Rattle.cb_command.specs.NodeWords.{bad_words_text}
 use Rattle.cb_command.specs.Peer.{closed_text, reason_status}
 use Rattle.cb_node_process.specs.declared.orders.NodeOrders.{NodeOrders}
+use Rattle.cb_node_process.specs.declared.start_fault.StartFault.{StartFault}
 use Rattle.cb_node_process.specs.Telling.{TellsAll, deaf_text}
 
 -- The exit status as a number.
@@ -18,10 +20,17 @@ abbrev pub code_of : Result Status Halt → Result ℕ Halt
 code_of (Ok status) = Ok (status_code status)
 code_of (Err halt) = Err halt
 
+-- the line on standard error about an early end
+abbrev pub end_line : Halt → List ℕ
+end_line Memory = codes "memory ran out\n"
+end_line TooManyLines = halt_line TooManyLines
+end_line ReadFailed = halt_line ReadFailed
+end_line WriteFailed = halt_line WriteFailed
+
 -- The run ended early. Standard error was told why, or failed itself. The status is the halt's.
 abbrev pub EndsEarly : Option (List ℕ) → Option (List ℕ) → Bool → ℕ → Halt → Type 0
 EndsEarly told tells errors_failed code halt =
-    (Appends told tells (halt_line halt) ⊎ (errors_failed ≡ true)) × (code ≡ status_code (halt_status halt))
+    (Appends told tells (end_line halt) ⊎ (errors_failed ≡ true)) × (code ≡ status_code (halt_status halt))
 
 -- The same for some halt that has a cause: in the input as it was, or in a failed read or write.
 abbrev pub Halts : Option (List ℕ) → Bool → Bool → Option (List ℕ) → Option (List ℕ) → Bool → ℕ → Type 0
@@ -67,13 +76,9 @@ HasNodeCause write_failed errors_failed WriteFailed = (write_failed ≡ true) �
 abbrev pub EndsNode : Bool → Option (List ℕ) → Option (List ℕ) → Bool → ℕ → Type 0
 EndsNode write_failed told tells errors_failed code = (halt : Halt) × HasNodeCause write_failed errors_failed halt × EndsEarly told tells errors_failed code halt
 
--- what standard error is told of words of `node` that can't be followed
-abbrev pub bad_words_text : List ℕ
-bad_words_text = codes "error: --listen and --connect take ADDR:PORT, as 127.0.0.1:18444, and --log off, error, warn, info, debug or trace\n"
-
 -- `node` printed all that a run prints, and told standard error nothing (`Same`); or it told why it
 -- didn't begin, with status 3; or it ended early.
 abbrev pub RunsNode : Type 0 → Option (List ℕ) → Option (List ℕ) → Bool → Option (List ℕ) → Option (List ℕ) → Bool → Result NodeOrders BadWords → ℕ → Type 0
 RunsNode Same held holds write_failed told tells errors_failed (Ok orders) code =
-    (TellsAll held holds code × Same) ⊎ ((Appends told tells (deaf_text orders.listen) × (code ≡ 3)) ⊎ EndsNode write_failed told tells errors_failed code)
-RunsNode Same held holds write_failed told tells errors_failed (Err bad) code = (Appends told tells bad_words_text × (code ≡ 3)) ⊎ EndsNode write_failed told tells errors_failed code
+    (TellsAll held holds code × Same) ⊎ (((fault : StartFault) × Appends told tells (deaf_text orders.listen fault) × (code ≡ 3)) ⊎ EndsNode write_failed told tells errors_failed code)
+RunsNode Same held holds write_failed told tells errors_failed (Err bad) code = (Appends told tells (bad_words_text bad) × (code ≡ 3)) ⊎ EndsNode write_failed told tells errors_failed code

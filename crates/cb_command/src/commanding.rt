@@ -6,14 +6,14 @@ ghost use Rattle.cb_peer_state.specs.declared.state.CloseReason.{CloseReason};
 ghost use Rattle.cb_peer_state.specs.declared.state.CloseReason.TheVariants as reasons;
 ghost use Rattle.cb_run.specs.declared.ending.Halt.TheVariants.{Memory, ReadFailed, WriteFailed};
 ghost use Rattle.cb_run.specs.declared.ending.Status.TheVariants.{Usage};
-ghost use Rattle.cb_command.specs.Command.{PrintsReport, EndsEarly, Halts, Refuses, RunsNode, TellsPeer, bad_words_text, code_of};
-ghost use Rattle.cb_run.specs.Ending.{halt_status, halt_line};
+ghost use Rattle.cb_command.specs.Command.{PrintsReport, EndsEarly, Halts, Refuses, RunsNode, TellsPeer, code_of, end_line};
+ghost use Rattle.cb_run.specs.Ending.{halt_status};
 ghost use Rattle.cb_command.specs.Peer.{WasServed};
 ghost use Rattle.cb_sim.specs.SimInput.{SimulatesKnown};
 ghost use Rattle.cb_command.specs.Words.{AreRefused, AreWithin, ByTask, IsWithin, flag, plain_program, program, scripted_program, sized, task_in, task_named};
 ghost use Rattle.cb_run_nodes.specs.Summary.{RunsKnown};
 ghost use Rattle.cb_node_process.specs.declared.orders.NodeOrders.{NodeOrders};
-ghost use Rattle.cb_command.specs.NodeWords.{IsNodeOrders};
+ghost use Rattle.cb_command.specs.NodeWords.{IsNodeOrders, bad_words_text};
 ghost use Rattle.cb_command.specs.declared.node_words.BadWords.{BadWords};
 ghost use Rattle.cb_run_nodes.specs.declared.running.RunOrders.{RunOrders};
 ghost use Rattle.clap.specs.Words.{FailsBy, app_of, fault_of, kind_of, rule_of, takes};
@@ -23,10 +23,11 @@ use crate::node_words::{
     BadWords, NODE_USE, connect_arg, listen_arg, log_arg, node_orders_of, threads_arg, tick_arg,
 };
 use crate::serve::serve_peer;
-use cb_base::Seed;
+use cb_base::{Seed, Shared};
 use cb_decode::decode;
 use cb_io::{Sink, Source};
 use cb_node_process::{NodeOrders, ProcessHost, run_node};
+use cb_pipes::Pipes;
 use cb_run::{Halt, Status, write_all};
 use cb_run_nodes::{RunOrders, Sizes, run_nodes};
 use cb_sim::simulate;
@@ -94,14 +95,16 @@ Example:
 /// Runs the command that the words name, and returns the exit status, the code of a `Status`.
 ///
 /// The first word is the program's name. All input is read from `reader`. Output goes to `writer`.
-/// Messages about the command line, and about a failed read or write, go to `errors`; `serve` also
-/// prints there why its session ended, and `node` why it can't listen. `node` reads standard input
-/// and logs on standard error by `rt`. The tables of the halls of `serve`, `run` and `node` have the
+/// Messages about the command line, about want of memory, and about a failed read or write, go to
+/// `errors`; `serve` also prints there why its session ended, and `node` why it can't listen. `node`
+/// reads standard input and logs on standard error by `rt`, and looks at `pipes`, which it tells when its end is
+/// asked for. The tables of the halls of `serve`, `run` and `node` have the
 /// fixed seed, so that a run takes the same steps each time.
 pub fn command<N: ProcessHost, R: Source, W: Sink, E: Sink>(
     rt: N,
     alloc: Global,
     words: Vec<String>,
+    pipes: &Shared<Pipes>,
     reader: &mut R,
     writer: &mut W,
     errors: &mut E,
@@ -162,7 +165,16 @@ pub fn command<N: ProcessHost, R: Source, W: Sink, E: Sink>(
         × (takes program (name ∷ codes "run" ∷ codes "--nodes" ∷ codes "8" ∷ codes "--handlers"
         ∷ codes "16" ∷ []) ≡ true) × (takes program (name ∷ codes "node" ∷ []) ≡ true) }
 {
-    seeded_command(rt, alloc, Seed::fixed(), words, reader, writer, errors)
+    seeded_command(
+        rt,
+        alloc,
+        Seed::fixed(),
+        words,
+        pipes,
+        reader,
+        writer,
+        errors,
+    )
 }
 
 /// As `command`. The tables of the halls of `serve`, `run` and `node` have this seed, which changes
@@ -172,6 +184,7 @@ pub fn seeded_command<N: ProcessHost, R: Source, W: Sink, E: Sink>(
     alloc: Global,
     seed: Seed,
     words: Vec<String>,
+    pipes: &Shared<Pipes>,
     reader: &mut R,
     writer: &mut W,
     errors: &mut E,
@@ -221,7 +234,7 @@ pub fn seeded_command<N: ProcessHost, R: Source, W: Sink, E: Sink>(
         Ok(Task::Serve) => answer_peer(alloc, seed, reader, writer, errors),
         Ok(Task::Sim) => settle(simulate(alloc, reader, writer), errors),
         Ok(Task::Run(orders)) => settle(run_nodes(rt, alloc, seed, orders, reader, writer), errors),
-        Ok(Task::Node(node)) => start_node(rt, alloc, seed, node, writer, errors),
+        Ok(Task::Node(node)) => start_node(rt, alloc, seed, node, pipes, writer, errors),
         Err(error) => settle_refusal(alloc, &error, errors),
     }
 }
@@ -233,6 +246,22 @@ pub fn refuse_unseeded<E: Sink>(errors: &mut E) -> u8
         (E.has_failed errors.new) result ReadFailed }
 {
     settle(Err(Halt::ReadFailed), errors)
+}
+
+/// Tells on `errors` that memory ran out before the words were read, and returns the exit status 4.
+pub fn refuse_for_memory<E: Sink>(errors: &mut E) -> u8
+    ensures { EndsEarly (E.contents errors.old) (E.contents errors.new)
+        (E.has_failed errors.new) result Memory }
+{
+    settle(Err(Halt::Memory), errors)
+}
+
+/// Whether these words, the first of which is the program's name, begin with the command `node`.
+pub fn names_node(words: &[String]) -> bool {
+    match words.get(1) {
+        Some(word) => word.as_str() == "node",
+        None => false,
+    }
 }
 
 /// Refuses a command line with a word that isn't UTF-8: reports it on `errors`, and returns the
@@ -255,6 +284,7 @@ fn start_node<N: ProcessHost, W: Sink, E: Sink>(
     alloc: Global,
     seed: Seed,
     node: Result<NodeOrders, BadWords>,
+    pipes: &Shared<Pipes>,
     writer: &mut W,
     errors: &mut E,
 ) -> u8
@@ -264,7 +294,10 @@ fn start_node<N: ProcessHost, W: Sink, E: Sink>(
         (E.contents errors.new) (E.has_failed errors.new) node result }
 {
     match node {
-        Ok(orders) => settle(run_node(rt, alloc, seed, orders, writer, errors), errors),
+        Ok(orders) => settle(
+            run_node(rt, alloc, seed, orders, pipes, writer, errors),
+            errors,
+        ),
         Err(bad) => settle(refuse_words(bad, errors), errors),
     }
 }
@@ -272,22 +305,17 @@ fn start_node<N: ProcessHost, W: Sink, E: Sink>(
 /// Tells why the words of `node` can't be followed. Returns the exit status.
 fn refuse_words<E: Sink>(bad: BadWords, errors: &mut E) -> Result<u8, Halt>
     ensures told { IfOk result (λ status. (status ≡ 3)
-        × Appends (E.contents errors.old) (E.contents errors.new) bad_words_text) }
+        × Appends (E.contents errors.old) (E.contents errors.new) (bad_words_text bad)) }
     ensures err { IfErr result
         (λ halt. (halt ≡ Memory) ⊎ ((halt ≡ WriteFailed) × (E.has_failed errors.new ≡ true))) }
     ensures quiet { IfErr result
         (λ halt. (errors.new ≡ errors.old) ⊎ (E.has_failed errors.new ≡ true)) }
 {
-    match bad {
-        BadWords::Memory => Err(Halt::Memory),
-        BadWords::Value => {
-            write_all(
-                errors,
-                b"error: --listen and --connect take ADDR:PORT, as 127.0.0.1:18444, and --log off, error, warn, info, debug or trace\n",
-            )?;
-            Ok(Status::BadInput.code())
-        }
+    if let BadWords::Memory = bad {
+        return Err(Halt::Memory);
     }
+    write_all(errors, bad.message().as_bytes())?;
+    Ok(Status::BadInput.code())
 }
 
 /// Serves a peer, reports on `errors` what failed, and returns the exit status.
@@ -517,12 +545,24 @@ fn refuse<E: Sink>(alloc: Global, error: &clap::Error, errors: &mut E) -> Result
 
 /// Reports on standard error why the run ended early, and returns the status.
 fn tell<E: Sink>(halt: Halt, errors: &mut E) -> Status
-    ensures told { Appends (E.contents errors.old) (E.contents errors.new) (halt_line halt)
+    ensures told { Appends (E.contents errors.old) (E.contents errors.new) (end_line halt)
         ⊎ (E.has_failed errors.new ≡ true) }
     ensures status { result ≡ halt_status halt }
     ensures stays { E.has_failed errors.old ≡ true → E.has_failed errors.new ≡ true }
 {
     // If this can't be written either, only the status shows it.
-    let _ = write_all(errors, halt.line().as_bytes());
+    let _ = write_all(errors, end_line(halt).as_bytes());
     halt.status()
+}
+
+/// The line on standard error about an early end.
+fn end_line(halt: Halt) -> &'static str
+    ensures { result.now ≡ end_line halt }
+{
+    match halt {
+        Halt::Memory => "memory ran out\n",
+        Halt::TooManyLines => Halt::TooManyLines.line(),
+        Halt::ReadFailed => Halt::ReadFailed.line(),
+        Halt::WriteFailed => Halt::WriteFailed.line(),
+    }
 }

@@ -5,5 +5,7 @@ mod commanding;
 mod node_words;
 mod serve;
 
-pub use commanding::{Task, command, refuse_foreign, refuse_unseeded, seeded_command};
+pub use commanding::{
+    Task, command, names_node, refuse_for_memory, refuse_foreign, refuse_unseeded, seeded_command,
+};
 pub use node_words::BadWords;

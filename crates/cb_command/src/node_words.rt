@@ -1,7 +1,8 @@
 //! The command `node` of the command line.
 ghost use Rattle.std.specs.Prelude.{◌≡◌, ◌≤◌, codes, false, IfErr, IfOk};
 ghost use Rattle.clap.specs.Words.{rule_of};
-ghost use Rattle.cb_command.specs.NodeWords.{IsNodeOrders, numbered, repeated, valued};
+ghost use Rattle.std.specs.Net.Grammar.{IsSocketText};
+ghost use Rattle.cb_command.specs.NodeWords.{IsNodeOrders, bad_words_text, numbered, repeated, valued};
 
 use cb_node_process::NodeOrders;
 use clap::{Arg, ArgAction, ArgMatches, value_parser};
@@ -47,11 +48,32 @@ Examples:
 /// Why the words of `node` can't be followed.
 #[derive(Clone, Copy)]
 pub enum BadWords {
-    /// A value of `--listen` or `--connect` isn't an IP address and a port, or that of `--log` is no
-    /// level.
-    Value,
+    /// The value of `--listen` isn't an IP address and a port.
+    Listen,
+    /// A value of `--connect` isn't an IP address and a port.
+    Connect,
+    /// The value of `--log` is no level.
+    Log,
     /// Memory ran out.
     Memory,
+}
+
+impl BadWords {
+    /// The message, which names the word; empty for want of memory.
+    pub fn message(self) -> &'static str
+        ensures { result.now ≡ bad_words_text self }
+    {
+        match self {
+            BadWords::Listen => {
+                "error: --listen takes ADDR:PORT in numbers alone, as 127.0.0.1:18444 or [::1]:18444; names of hosts aren't looked up\n"
+            }
+            BadWords::Connect => {
+                "error: --connect takes ADDR:PORT in numbers alone, as 127.0.0.1:18444 or [::1]:18444; names of hosts aren't looked up\n"
+            }
+            BadWords::Log => "error: --log takes off, error, warn, info, debug or trace\n",
+            BadWords::Memory => "",
+        }
+    }
 }
 
 /// The option `--listen`.
@@ -146,7 +168,7 @@ fn orders_in(alloc: Global, node: &ArgMatches) -> Result<NodeOrders, BadWords>
     ensures { IfOk result IsNodeOrders }
 {
     let listen = match node.get_str("listen") {
-        Some(text) => address_in(text)?,
+        Some(text) => address_in(text, BadWords::Listen)?,
         None => usual_address(),
     };
     let level = match node.get_str("log") {
@@ -167,10 +189,10 @@ fn orders_in(alloc: Global, node: &ArgMatches) -> Result<NodeOrders, BadWords>
 
 /// The level that a value names.
 fn level_in(text: &str) -> Result<LevelFilter, BadWords>
-    ensures { IfErr result (λ bad. bad ≡ BadWords.Value) }
+    ensures { IfErr result (λ bad. bad ≡ BadWords.Log) }
 {
     let Ok(level) = text.parse::<LevelFilter>() else {
-        return Err(BadWords::Value);
+        return Err(BadWords::Log);
     };
     Ok(level)
 }
@@ -182,7 +204,7 @@ fn addresses_in(alloc: Global, node: &ArgMatches) -> Result<Vec<SocketAddr>, Bad
         return Ok(all);
     };
     for text in texts {
-        let address = address_in(text)?;
+        let address = address_in(text, BadWords::Connect)?;
         if all.push(address).is_err() {
             return Err(BadWords::Memory);
         }
@@ -190,12 +212,13 @@ fn addresses_in(alloc: Global, node: &ArgMatches) -> Result<Vec<SocketAddr>, Bad
     Ok(all)
 }
 
-/// The address that a value writes.
-fn address_in(text: &str) -> Result<SocketAddr, BadWords>
-    ensures { IfErr result (λ bad. bad ≡ BadWords.Value) }
+/// The address that a value writes. If it writes none, the words are bad as the caller says.
+fn address_in(text: &str, bad: BadWords) -> Result<SocketAddr, BadWords>
+    ensures bad { IfErr result (λ told. told ≡ bad) }
+    ensures read { IfOk result (λ address. IsSocketText text.now address) }
 {
     match text.parse::<SocketAddr>() {
         Ok(address) => Ok(address),
-        Err(_) => Err(BadWords::Value),
+        Err(_) => Err(bad),
     }
 }

@@ -22,14 +22,14 @@ wanted_differs fetch hash room e = longer fetch.wanted hash (ap (λ (f : FetchSt
 
 -- ---- what stands in a list stands in the longer one
 
-last_there : (xs : List Hash256) (hash : Hash256) → has (xs ++ hash ∷ []) hash ≡ true
+pub last_there : (xs : List Hash256) (hash : Hash256) → has (xs ++ hash ∷ []) hash ≡ true
 last_there xs hash = list_any-append (same hash) xs (hash ∷ []) ∙ either (has xs hash) (same hash hash) (same-refl hash)
   where
     either : (a b : Bool) → b ≡ true → (a || (b || false)) ≡ true
     either true b e = refl
     either false b e = ap (λ c. c || false) e
 
-still_there : (xs : List Hash256) (hash other : Hash256) → has xs other ≡ true → has (xs ++ hash ∷ []) other ≡ true
+pub still_there : (xs : List Hash256) (hash other : Hash256) → has xs other ≡ true → has (xs ++ hash ∷ []) other ≡ true
 still_there xs hash other there = list_any-append (same other) xs (hash ∷ []) ∙ ap (λ c. c || has (hash ∷ []) other) there
 
 -- ---- by the cases of what it does

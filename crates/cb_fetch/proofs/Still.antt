@@ -28,7 +28,7 @@ one_no_fewer fetch hash =
       | inr more ↦ omega (arith, more)
     ]
 
-no_fewer : (fetch : FetchState) (hashes : List Hash256) → length fetch.wanted ≤ length (wanting_all fetch hashes).wanted
+pub no_fewer : (fetch : FetchState) (hashes : List Hash256) → length fetch.wanted ≤ length (wanting_all fetch hashes).wanted
 no_fewer fetch [] = omega arith
 no_fewer fetch (hash ∷ hashes) = omega (arith, one_no_fewer fetch hash, no_fewer (wanting fetch hash) hashes)
 

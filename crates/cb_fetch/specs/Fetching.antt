@@ -26,6 +26,13 @@ has hashes hash = list_any (same hash) hashes
 abbrev pub is_fetched : FetchState → Hash256 → Bool
 is_fetched fetch hash = has fetch.flight hash || has fetch.wanted hash
 
+-- some of the blocks are neither in flight nor wanted
+abbrev pub leaves_out : FetchState → List Hash256 → Bool
+leaves_out fetch hashes = list_any (λ hash. not (is_fetched fetch hash)) hashes
+
+abbrev pub wants_none : FetchState → Bool
+wants_none fetch = length fetch.wanted == 0
+
 -- it is time to request more: nothing is in flight, and something is wanted
 abbrev pub is_due : FetchState → Bool
 is_due fetch = (length fetch.flight == 0) && nat_lt 0 (length fetch.wanted)

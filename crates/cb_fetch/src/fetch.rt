@@ -1,6 +1,6 @@
 ghost use Rattle.std.specs.Prelude.{◌≡◌, ◌≤◌, ◌<◌, [], false, fold, length, nat_lt, take, IfOk, IsOk, IsOkUnless, OnErr, OnOk};
 ghost use Rattle.cb_base.specs.declared.fault.Fault.TheVariants.{Memory};
-ghost use Rattle.cb_fetch.specs.Fetching.{as_blocks, asks_now, block_in, blocks_in, fallen_back, has, idle, is_due, is_fetched, landed, request_of, requests_of, taken_on, taking_on, wanting, wanting_all, with_flight, with_wanted};
+ghost use Rattle.cb_fetch.specs.Fetching.{as_blocks, asks_now, block_in, blocks_in, fallen_back, has, idle, is_due, is_fetched, landed, leaves_out, request_of, requests_of, taken_on, taking_on, wanting, wanting_all, wants_none, with_flight, with_wanted};
 
 use cb_base::{Fault, Hash256, Seed};
 use cb_payload::{Entries, Inventory};
@@ -70,6 +70,13 @@ impl Fetch {
         self.flight.is_empty() && !self.wanted.is_empty()
     }
 
+    /// Whether nothing is wanted.
+    pub fn wants_none(&self) -> bool
+        ensures { result ≡ wants_none self.now }
+    {
+        self.wanted.is_empty()
+    }
+
     /// The hashes of the blocks in flight, in the order in which they are requested, at most 16.
     pub fn flight(&self) -> &[Hash256]
         ensures same { result.now ≡ self.now.flight }
@@ -87,10 +94,22 @@ impl Fetch {
     }
 
     /// Whether the block is in flight or wanted.
-    fn is_fetched(&self, hash: &Hash256) -> bool
+    pub fn is_fetched(&self, hash: &Hash256) -> bool
         ensures { result ≡ is_fetched self.now hash.now }
     {
         self.is_in_flight(hash) || self.wanted.contains(hash)
+    }
+
+    /// Whether some of the blocks are neither in flight nor wanted.
+    pub fn leaves_out(&self, hashes: &[Hash256]) -> bool
+        ensures { result ≡ leaves_out self.now hashes.now }
+    {
+        for missing in hashes {
+            if !self.is_fetched(missing) {
+                return true;
+            }
+        }
+        false
     }
 
     /// Whether the block is in flight.

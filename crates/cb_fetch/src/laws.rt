@@ -2,9 +2,9 @@
 //! use.
 //!
 //! Each law is the contract of a function that does nothing.
-ghost use Rattle.std.specs.Prelude.{◌≡◌, ◌≤◌, List, [], true, drop, length, take};
+ghost use Rattle.std.specs.Prelude.{◌≡◌, ◌≤◌, List, [], true, false, drop, length, take};
 ghost use Rattle.cb_base.specs.declared.hash.Hash256.{Hash256};
-ghost use Rattle.cb_fetch.specs.Fetching.{AreDifferent, FetchState, IsFetch, IsReached, asks_now, fallen_back, has, is_due, once, taken_on, wanting, wanting_all};
+ghost use Rattle.cb_fetch.specs.Fetching.{AreDifferent, FetchState, IsFetch, IsReached, asks_now, fallen_back, has, is_due, is_fetched, leaves_out, once, taken_on, wanting, wanting_all};
 
 use crate::fetch::Fetch;
 
@@ -49,6 +49,18 @@ pub fn what_falls_back_is_asked_for()
         has (fallen_back hash fetch).flight other ≡ true }
     ensures wanted { (fetch : FetchState) (hash other : Hash256) → has fetch.wanted other ≡ true →
         has (fallen_back hash fetch).wanted other ≡ true }
+{}
+
+/// A missing block is left out only where 2,000 blocks are wanted. All others are in flight or wanted,
+/// and what was so before stays so.
+pub fn what_is_left_out_has_no_room()
+    ensures full { (fetch : FetchState) (hashes : List Hash256) → length fetch.wanted ≤ 2000 →
+        leaves_out (wanting_all fetch hashes) hashes ≡ true →
+        length (wanting_all fetch hashes).wanted ≡ 2000 }
+    ensures others { (fetch : FetchState) (hashes : List Hash256) (hash : Hash256) →
+        leaves_out fetch hashes ≡ false → has hashes hash ≡ true → is_fetched fetch hash ≡ true }
+    ensures stays { (fetch : FetchState) (hashes : List Hash256) (hash : Hash256) →
+        is_fetched fetch hash ≡ true → is_fetched (wanting_all fetch hashes) hash ≡ true }
 {}
 
 /// What is requested is what is needed: the first 16 different blocks are in flight, the next 2,000

@@ -6,6 +6,7 @@ use Rattle.cb_operator.specs.declared.refusal.Verdict.{Verdict}
 use Rattle.cb_operator.specs.declared.refusal.Verdict.TheVariants as verdicts
 use Rattle.cb_operator.specs.declared.reply.Reply.TheVariants as replies
 use Rattle.cb_node_process.specs.Telling.{TellsAll, TellsOne, TellsOpening}
+use Rattle.cb_node_process.specs.declared.start_fault.StartFault.{StartFault}
 use Rattle.cb_node_process.proofs.Runs.{tells_all}
 
 -- the audit's answer is the last line
@@ -37,9 +38,9 @@ ran_quietly Same A B (Ok status) same a = inl (a, same)
 ran_quietly Same A B (Err halt) same a = tt
 
 -- it can't listen
-pub ran_deaf : (A : ℕ → Type 0) (B : Type 0) (r : Result ℕ Halt) → OnOk r B → IfOk r (λ status. status ≡ 3) → IfOk r (λ status. A status ⊎ (B × (status ≡ 3)))
-ran_deaf A B (Ok status) b three = inr (b, three)
-ran_deaf A B (Err halt) b three = tt
+pub ran_deaf : (A : ℕ → Type 0) (B : StartFault → Type 0) (fault : StartFault) (r : Result ℕ Halt) → OnOk r (B fault) → IfOk r (λ status. status ≡ 3) → IfOk r (λ status. A status ⊎ ((f : StartFault) × B f × (status ≡ 3)))
+ran_deaf A B fault (Ok status) b three = inr (fault, b, three)
+ran_deaf A B fault (Err halt) b three = tt
 
 pub three_is_one : (r : Result ℕ Halt) → IfOk r (λ status. status ≡ 3) → IfOk r (λ status. (status ≡ 0) ⊎ (status ≡ 3))
 three_is_one (Ok status) three = inr three

@@ -39,6 +39,9 @@ unknown_is_known e = absurd cc
 pub already_is_known : refusals.Already ≢ refusals.Unreadable
 already_is_known e = absurd cc
 
+pub own_is_known : refusals.Own ≢ refusals.Unreadable
+own_is_known e = absurd cc
+
 -- a line, or the want of memory for it
 pub alone : (reply told : Reply) → IsOr reply told → Alone reply (told ∷ [])
 alone reply told (inl e) = inl (ap (λ (r : Reply). r ∷ []) e)

@@ -1,7 +1,8 @@
 -- How answers follow each other.
-use Rattle.std.proofs.Common.{◌≡◌, ◌≢◌, ◌⊎◌, ℕ, List, [], ◌∷◌, ◌++◌, Option, Result, Ok, Err, IfOk, OnOk, inl, inr, sym, ap, subst, ◌∙◌, append-nil, append_assoc}
+use Rattle.std.proofs.Common.{◌≡◌, ◌≢◌, ◌⊎◌, ℕ, List, [], ◌∷◌, ◌++◌, length, take, arith, Option, Result, Ok, Err, IfOk, OnOk, inl, inr, refl, sym, ap, subst, ◌∙◌, append-nil, append_assoc}
 use Rattle.std.proofs.KnownBytes.{Appends-nil, Appends-trans}
 use Rattle.std.proofs.lemmas.Grind.{flat_map-append}
+use Rattle.std.proofs.lemmas.List.{take_all}
 use Rattle.std.proofs.lemmas.List.Elements.{All-append, All-cons, All-nil, All-weaker}
 use Rattle.std.specs.Io.KnownBytes.{Appends}
 use Rattle.std.specs.List.{flat_map}
@@ -66,6 +67,13 @@ next_broken n broken is e = absurd cc
 -- no line came
 pub no_answers : (Well : Type 0) (held : Option (List ℕ)) → TellsAnswers Well held held
 no_answers Well held = ([], All-nil (IsAnswer Well), Appends-nil held)
+
+-- nothing was written of an empty piece
+pub none_taken : (Well : Type 0) (old new : Option (List ℕ)) (n : ℕ) (piece : List ℕ) → piece ≡ [] → Appends old new (take n piece) → TellsAnswers Well old new
+none_taken Well old new n piece is p =
+    let none : length piece ≡ 0 = ap length is in
+    let whole : take n piece ≡ piece = take_all n piece (omega arith) in
+    ([], All-nil (IsAnswer Well), subst (Appends old new) (whole ∙ is) p)
 
 -- one answer
 pub one_answer : (Well : Type 0) (a b : Option (List ℕ)) (told : List Reply) → IsAnswer Well told → Tells a b told → TellsAnswers Well a b

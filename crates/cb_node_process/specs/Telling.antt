@@ -19,6 +19,8 @@ use Rattle.cb_operator.specs.declared.reply.Reply.{Reply}
 use Rattle.cb_operator.specs.declared.reply.Reply.TheVariants as replies
 use Rattle.cb_operator.specs.declared.reply.Tip.{Tip}
 use Rattle.cb_operator.specs.Replies.{reply_text}
+use Rattle.cb_node_process.specs.declared.start_fault.StartFault.{StartFault}
+use Rattle.cb_node_process.specs.declared.start_fault.StartFault.TheVariants as start
 
 -- the lines of a mempool, and of connections that last: how many there are, and then each
 abbrev pub txid_lines : List Hash256 → List Reply
@@ -108,6 +110,14 @@ refusal_of node.NoSlot = refusals.NoSlot
 refusal_of node.Memory = refusals.Memory
 refusal_of (node.Hall fault) = refusals.Fault fault
 
+-- why a node can't be started, in words
+abbrev pub cause_text : StartFault → List ℕ
+cause_text start.Memory = codes "memory ran out"
+cause_text start.PortInUse = codes "the port is in use"
+cause_text start.NotOurs = codes "the address isn't this machine's"
+cause_text start.NotAllowed = codes "it isn't allowed"
+cause_text start.NoMeans = codes "no socket or no thread can be made"
+
 -- what standard error is told if the node can't listen at this address
-abbrev pub deaf_text : SocketAddr → List ℕ
-deaf_text address = codes "error: can't listen at " ++ socket_text address ++ codes ": it is in use, not of this machine or not allowed, or no thread can be made\n"
+abbrev pub deaf_text : SocketAddr → StartFault → List ℕ
+deaf_text address fault = codes "error: can't listen at " ++ (socket_text address ++ (codes ": " ++ (cause_text fault ++ codes "\n")))

@@ -4,17 +4,17 @@
 
 mod answering;
 mod auditing;
-mod dialling;
 mod host;
 mod orders;
 mod polling;
 mod process;
 mod reading;
 mod running;
+mod start_fault;
 mod stopwatch;
-mod timed_log;
 mod watching;
 
 pub use host::ProcessHost;
 pub use orders::NodeOrders;
 pub use running::run_node;
+pub use start_fault::StartFault;

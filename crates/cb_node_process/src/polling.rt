@@ -3,14 +3,15 @@
 ghost use Rattle.std.specs.Prelude.{◌≢◌, ◌<◌, length, IfErr, IfSome};
 ghost use Rattle.cb_operator.specs.declared.refusal.Refusal.TheVariants.{Unreadable};
 
-use crate::dialling::Target;
 use crate::host::ProcessHost;
 use crate::process::{Process, refusal_of};
 use crate::watching::Watched;
 use cb_base::Hash256;
+use cb_dialling::{Target, is_own, is_target};
 use cb_node::{CloseReason, NodeFault};
 use cb_operator::Refusal;
-use log::{Log, debug, info, warn};
+use cb_pipes::{Pace, unix_time};
+use log::{Level, Log, debug, info, log_enabled, warn};
 use std::net::{SocketAddr, TcpStream};
 
 /// How many peers are accepted between two lines at most.
@@ -24,10 +25,12 @@ impl<R: ProcessHost> Process<R> {
     /// Does what is due.
     pub fn poll<L: Log>(&mut self, log: &L) {
         let now = self.now();
+        self.node.set_time(unix_time(&self.rt));
         self.note_ends(log, now);
         self.admit(log, now);
         self.dial(log, now);
         self.note_dials(log, now);
+        tell_others(log, self.pace.take_due(now));
         if self.next_tick <= now {
             self.next_tick = now.saturating_add(self.tick);
             self.node.tick();
@@ -41,7 +44,9 @@ impl<R: ProcessHost> Process<R> {
             if let Some(reason) = self.ended(place) {
                 let gone = self.watched.remove(place);
                 self.moved = self.moved.with(gone.moved());
-                note_end(log, &gone, reason.name());
+                if may_tell(&mut self.pace, log, Level::Info, now) {
+                    note_end(log, &gone, reason.name());
+                }
                 self.put_off(log, &gone, now);
             }
         }
@@ -52,8 +57,11 @@ impl<R: ProcessHost> Process<R> {
         let now = self.now();
         self.note_ends(log, now);
         for gone in self.watched.as_slice() {
-            note_end(log, gone, "NodeEnded");
+            if may_tell(&mut self.pace, log, Level::Info, now) {
+                note_end(log, gone, "NodeEnded");
+            }
         }
+        tell_others(log, self.pace.take_rest());
     }
 
     /// Logs the addresses that were to be dialled from the start and were never reached.
@@ -82,7 +90,9 @@ impl<R: ProcessHost> Process<R> {
         for target in self.targets.as_mut_slice() {
             if target.lasts_in(gone.slot, gone.since) {
                 let (address, seconds) = (target.address, target.put_off(now));
-                debug!(log; "{address} is dialled again in {seconds} s");
+                if may_tell(&mut self.pace, log, Level::Debug, now) {
+                    debug!(log; "{address} is dialled again in {seconds} s");
+                }
             }
         }
     }
@@ -94,7 +104,7 @@ impl<R: ProcessHost> Process<R> {
                 Ok(Some(admitted)) => self.watch(log, admitted.slot, true, admitted.address, now),
                 Ok(None) => return,
                 Err(NodeFault::NoSlot) => {
-                    if !self.turn_away(log) {
+                    if !self.turn_away(log, now) {
                         return;
                     }
                 }
@@ -110,19 +120,19 @@ impl<R: ProcessHost> Process<R> {
     fn complain<L: Log>(&mut self, log: &L, now: u64, fault: NodeFault) {
         if self.next_complaint <= now {
             self.next_complaint = now.saturating_add(COMPLAINT_MILLIS);
-            warn!(log; "a peer wasn't accepted: {fault}");
+            if may_tell(&mut self.pace, log, Level::Warn, now) {
+                warn!(log; "a peer wasn't accepted: {fault}");
+            }
         }
     }
 
     /// Turns a peer away that waits to be accepted. Returns whether one waited.
-    fn turn_away<L: Log>(&self, log: &L) -> bool {
+    fn turn_away<L: Log>(&mut self, log: &L, now: u64) -> bool {
         match self.node.turn_away() {
-            Ok(true) if self.node.is_spent(true) => {
-                warn!(log; "a peer was turned away: all slots are used up, which restart mends");
-                true
-            }
             Ok(true) => {
-                warn!(log; "a peer was turned away: no slot is free");
+                if may_tell(&mut self.pace, log, Level::Warn, now) {
+                    note_turned_away(log, self.node.is_spent(true));
+                }
                 true
             }
             Ok(false) | Err(_) => false,
@@ -132,8 +142,10 @@ impl<R: ProcessHost> Process<R> {
     /// Watches a connection that was made, and logs it.
     fn watch<L: Log>(&mut self, log: &L, slot: u16, inbound: bool, address: SocketAddr, now: u64) {
         self.connections = self.connections.saturating_add(1);
-        let way = if inbound { "from" } else { "to" };
-        info!(log; "connection {way} {address} in slot {slot}");
+        if may_tell(&mut self.pace, log, Level::Info, now) {
+            let way = if inbound { "from" } else { "to" };
+            info!(log; "connection {way} {address} in slot {slot}");
+        }
         let link = match self.node.link(slot) {
             Ok(link) => link,
             Err(fault) => {
@@ -178,7 +190,9 @@ impl<R: ProcessHost> Process<R> {
         };
         let address = target.address;
         if target.dial(&self.rt, self.alloc) {
-            debug!(log; "dialling {address}");
+            if may_tell(&mut self.pace, log, Level::Debug, now) {
+                debug!(log; "dialling {address}");
+            }
         } else {
             self.tell(address, Err(Refusal::Io));
             self.miss(log, place, now, Refusal::Io);
@@ -234,11 +248,16 @@ impl<R: ProcessHost> Process<R> {
         };
         let (address, forgotten) = (target.address, !target.keeps_trying && !target.reached);
         let seconds = target.put_off(now);
+        if may_tell(&mut self.pace, log, Level::Warn, now) {
+            note_miss(
+                log,
+                address,
+                why,
+                if forgotten { None } else { Some(seconds) },
+            );
+        }
         if forgotten {
-            warn!(log; "no connection to {address}: {why}");
             forget(&mut self.targets, place);
-        } else {
-            warn!(log; "no connection to {address}: {why}; again in {seconds} s");
         }
     }
 
@@ -283,13 +302,16 @@ impl<R: ProcessHost> Process<R> {
         }
     }
 
-    #[tactic(auto, using(crate::proofs::Printing::memory_is_known, crate::proofs::Printing::no_slot_is_known, crate::proofs::Printing::already_is_known))]
-    /// Lets an operator wait for the first dial of an address. Refused if it is dialled already, or
-    /// no outbound slot is free.
+    #[tactic(auto, using(crate::proofs::Printing::memory_is_known, crate::proofs::Printing::no_slot_is_known, crate::proofs::Printing::already_is_known, crate::proofs::Printing::own_is_known))]
+    /// Lets an operator wait for the first dial of an address. Refused if it is the node's own or
+    /// dialled already, or no outbound slot is free.
     pub fn connect(&mut self, address: SocketAddr) -> Result<(), Refusal>
         ensures { IfErr result (λ refusal. refusal ≢ Unreadable) }
     {
-        if self.targets.iter().any(|target| target.address == address) {
+        if is_own(self.address, address) {
+            return Err(Refusal::Own);
+        }
+        if is_target(self.targets.as_slice(), address) {
             return Err(Refusal::Already);
         }
         if !self.node.can_connect() {
@@ -324,6 +346,37 @@ impl<R: ProcessHost> Process<R> {
 fn forget(targets: &mut Vec<Target>, place: usize) {
     if place < targets.len() {
         drop(targets.remove(place));
+    }
+}
+
+/// Whether a line about a connection may be logged at this time. If it may not, it is counted.
+fn may_tell<L: Log>(pace: &mut Pace, log: &L, level: Level, now: u64) -> bool {
+    log_enabled!(log; level) && pace.admits(now)
+}
+
+/// Logs how many lines about connections weren't logged, if any weren't.
+fn tell_others<L: Log>(log: &L, others: u64) {
+    if others > 0 {
+        warn!(log; "{others} more lines about connections");
+    }
+}
+
+/// Logs that a peer was turned away, where all slots are used up, or only none is free.
+fn note_turned_away<L: Log>(log: &L, spent: bool) {
+    if spent {
+        warn!(log; "a peer was turned away: all slots are used up, which restart mends");
+    } else {
+        warn!(log; "a peer was turned away: no slot is free");
+    }
+}
+
+/// Logs that no connection to an address was made, and in how many seconds it is dialled again, if it is.
+fn note_miss<L: Log>(log: &L, address: SocketAddr, why: &str, again: Option<u16>) {
+    match again {
+        Some(seconds) => {
+            warn!(log; "no connection to {address}: {why}; again in {seconds} s");
+        }
+        None => warn!(log; "no connection to {address}: {why}"),
     }
 }
 

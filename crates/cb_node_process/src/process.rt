@@ -3,15 +3,17 @@ ghost use Rattle.std.specs.Prelude.{◌≡◌, ◌≤◌, true, IfOk};
 ghost use Rattle.cb_node_process.specs.Telling.{refusal_of};
 
 use crate::auditing::{is_well, verdict_of};
-use crate::dialling::Target;
 use crate::host::ProcessHost;
 use crate::orders::NodeOrders;
-use crate::stopwatch::{Stopwatch, unix_time};
+use crate::start_fault::{StartFault, listen};
+use crate::stopwatch::Stopwatch;
 use crate::watching::Watched;
 use cb_base::{Hash256, Seed};
+use cb_dialling::{Target, is_own, targets_of};
 use cb_node::{Node, NodeEnd, NodeFault, NodeSettings};
 use cb_operator::{Moved, Refusal, Tip, Verdict};
-use log::{Log, error};
+use cb_pipes::{Pace, unix_time};
+use log::{Log, error, warn};
 use std::alloc::Global;
 use std::mem;
 use std::net::SocketAddr;
@@ -42,6 +44,8 @@ pub struct Process<R: ProcessHost> {
     /// When it may be logged again that a peer wasn't accepted, in milliseconds since the process
     /// began.
     pub(crate) next_complaint: u64,
+    /// How often lines about connections are logged.
+    pub(crate) pace: Pace,
     /// The tip that was logged last.
     pub(crate) tip: Hash256,
     /// The connections that last.
@@ -69,23 +73,18 @@ pub struct Restarted {
 
 impl<R: ProcessHost> Process<R> {
     /// Starts a node, which listens. Its tables, and those of the nodes that follow it, have this
-    /// seed.
-    ///
-    /// Fails with `NodeFault::Io` if it can't listen there, no thread can be started, or there are no
-    /// random bytes, and with `NodeFault::Memory`. No thread runs then.
+    /// seed. If that fails no thread runs.
     pub fn start(
         rt: R,
         alloc: Global,
         seed: Seed,
         orders: &NodeOrders,
-    ) -> Result<Process<R>, NodeFault>
-        requires handlers { (1 ≤ orders.now.handlers) × (orders.now.handlers ≤ 16) }
-    {
+    ) -> Result<Process<R>, StartFault> {
         let settings = settings_of(&rt, orders.handlers)?;
-        let targets = targets_of(alloc, orders.connect.as_slice())?;
+        let pace = Pace::new(alloc)?;
         let mut node = Node::start_with_seed(rt, alloc, settings, seed)?;
-        match node.listen_at(orders.listen) {
-            Ok(address) => Ok(Process {
+        match listen_and_aim(&rt, alloc, &mut node, orders) {
+            Ok((address, targets)) => Ok(Process {
                 rt,
                 alloc,
                 seed,
@@ -97,6 +96,7 @@ impl<R: ProcessHost> Process<R> {
                 tick: orders.tick,
                 next_tick: 0,
                 next_complaint: 0,
+                pace,
                 watched: Vec::new(alloc),
                 targets,
                 awaited: None,
@@ -106,7 +106,7 @@ impl<R: ProcessHost> Process<R> {
             }),
             Err(fault) => {
                 drop(node.finish());
-                drop(targets);
+                drop(pace);
                 Err(fault)
             }
         }
@@ -130,6 +130,15 @@ impl<R: ProcessHost> Process<R> {
     fn end_dials(&mut self) {
         for target in self.targets.as_mut_slice() {
             drop(target.take_stream(&self.rt, 0));
+        }
+    }
+
+    /// Logs which of these addresses is the node's own.
+    pub(crate) fn note_own<L: Log>(&self, log: &L, addresses: &[SocketAddr]) {
+        for address in addresses {
+            if is_own(self.address, *address) {
+                warn!(log; "{address} is this node's own address, which isn't dialled");
+            }
         }
     }
 
@@ -215,13 +224,16 @@ impl<R: ProcessHost> Process<R> {
     }
 }
 
-/// The addresses that are dialled from the start. Fails only with `NodeFault::Memory`.
-fn targets_of(alloc: Global, addresses: &[SocketAddr]) -> Result<Vec<Target>, NodeFault> {
-    let mut targets = Vec::with_capacity(alloc, addresses.len())?;
-    for address in addresses {
-        targets.push_reserved(Target::new(*address, true));
-    }
-    Ok(targets)
+/// Lets a node listen, and returns where, and the addresses that it dials from the start.
+fn listen_and_aim<R: ProcessHost>(
+    rt: &R,
+    alloc: Global,
+    node: &mut Node<R>,
+    orders: &NodeOrders,
+) -> Result<(SocketAddr, Vec<Target>), StartFault> {
+    let address = listen(rt, node, orders.listen)?;
+    let targets = targets_of(alloc, address, orders.connect.as_slice())?;
+    Ok((address, targets))
 }
 
 /// With what a node with so many handlers is started, at least 1 and at most 16. Its nonce and its

@@ -1,20 +1,31 @@
 //! The thread that reads the operator's lines.
-ghost use Rattle.std.specs.Prelude.{◌≡◌, ◌⊎◌, IfErr};
+ghost use Rattle.std.specs.Prelude.{◌≡◌, ◌⊎◌, IfErr, IsOkUnless};
 ghost use Rattle.cb_run.specs.declared.ending.Halt.TheVariants.{Memory, ReadFailed};
 
 use crate::host::ProcessHost;
+use cb_base::Shared;
 use cb_io::{In, Source};
 use cb_operator::{Line, read_line};
+use cb_pipes::Pipes;
 use cb_run::{Halt, LineReader};
-use crossbeam_channel::{Receiver, Sender, bounded};
-use std::alloc::{AllocError, Global};
+use crossbeam_channel::{Receiver, RecvTimeoutError, Sender, bounded};
+use std::alloc::Global;
 use std::io::StdinLock;
+use std::rt::Clock;
 use std::sync::Wait;
+use std::sync::atomic::{AtomicU64, Ordering};
 use std::thread;
 use std::thread::JoinHandle;
+use std::time::Duration;
 
-/// How many lines wait to be answered at most. Then no more are read.
-const MOST_WAITING: usize = 16;
+/// How many lines wait to be answered at most, and how many bytes they may have before one more is read.
+/// They are many, so that the end is seen though nobody reads the answers.
+const MOST_WAITING: usize = 16_384;
+
+const MOST_BYTES: u64 = 32_000_000;
+
+/// How many milliseconds pass until it is looked again whether the lines that wait are fewer.
+const PAUSE_MILLIS: u64 = 20;
 
 /// Why standard input can't be read any more.
 #[derive(Clone, Copy)]
@@ -62,37 +73,79 @@ impl Order {
     }
 }
 
+/// What came, and how many bytes its line has.
+#[derive(Drop)]
+struct Coming {
+    order: Order,
+    bytes: u64,
+}
+
 /// The lines that come, and the thread that reads them. It returns once it has read `quit` or the
 /// end of input.
 #[derive(Drop)]
 pub struct Orders {
     /// What came and wasn't answered yet.
-    pub coming: Receiver<Order, Global>,
+    coming: Receiver<Coming, Global>,
+    /// How many bytes that has.
+    waiting: Shared<AtomicU64>,
     thread: JoinHandle<()>,
 }
 
 impl Orders {
+    /// Waits so long for what comes next.
+    pub fn next<R: Wait + Clock>(
+        &self,
+        rt: &R,
+        pause: Duration,
+    ) -> Result<Order, RecvTimeoutError> {
+        let Coming { order, bytes } = self.coming.recv_timeout(rt, pause)?;
+        self.waiting.fetch_sub(bytes, Ordering::SeqCst);
+        Ok(order)
+    }
+
     /// Waits for the thread. It must have read `quit` or the end of input, or be about to.
     pub fn join<R: ProcessHost>(self, rt: &R) {
-        let Orders { coming, thread } = self;
-        drop(coming);
+        let Orders {
+            coming,
+            waiting,
+            thread,
+        } = self;
+        drop((coming, waiting));
         thread.join(rt);
     }
 }
 
-/// Starts the thread that reads standard input. Fails with `Halt::Memory`, and with
-/// `Halt::ReadFailed` if no thread can be made.
-pub fn start_reading<R: ProcessHost>(rt: &R, alloc: Global) -> Result<Orders, Halt>
+/// What the thread that reads has.
+#[derive(Drop)]
+struct Desk {
+    sender: Sender<Coming, Global>,
+    waiting: Shared<AtomicU64>,
+    pipes: Shared<Pipes>,
+}
+
+/// Starts the thread that reads standard input. At the end of input, and at `quit`, it tells the others
+/// that the end was asked for. Fails with `Halt::Memory`, and with `Halt::ReadFailed` if no thread can
+/// be made.
+pub fn start_reading<R: ProcessHost>(
+    rt: &R,
+    alloc: Global,
+    pipes: &Shared<Pipes>,
+) -> Result<Orders, Halt>
     ensures { IfErr result (λ halt. (halt ≡ Memory) ⊎ (halt ≡ ReadFailed)) }
 {
-    let (sender, coming) = channel(alloc)?;
+    let (desk, coming, waiting) = ways(alloc, pipes)?;
     let rt_of_thread = *rt;
     let started = thread::spawn(rt, move || {
-        let (rt, sender) = (rt_of_thread, sender);
-        read_all(&rt, alloc, &sender);
+        let (rt, desk) = (rt_of_thread, desk);
+        read_all(&rt, alloc, &desk);
+        desk.pipes.ask_end();
     });
     match started {
-        Ok(thread) => Ok(Orders { coming, thread }),
+        Ok(thread) => Ok(Orders {
+            coming,
+            waiting,
+            thread,
+        }),
         Err(refused) => {
             drop(refused);
             Err(Halt::ReadFailed)
@@ -100,31 +153,73 @@ pub fn start_reading<R: ProcessHost>(rt: &R, alloc: Global) -> Result<Orders, Ha
     }
 }
 
-/// The channel from the thread that reads to the one that answers.
-fn channel(alloc: Global) -> Result<(Sender<Order, Global>, Receiver<Order, Global>), AllocError> {
-    bounded(alloc, MOST_WAITING)
+/// What the thread that reads has, what comes from it, and how many bytes of it wait. Fails only with
+/// `Halt::Memory`.
+fn ways(
+    alloc: Global,
+    pipes: &Shared<Pipes>,
+) -> Result<(Desk, Receiver<Coming, Global>, Shared<AtomicU64>), Halt>
+    ensures { IsOkUnless result Memory }
+{
+    let (sender, coming) = bounded(alloc, MOST_WAITING)?;
+    let waiting = new_count(alloc)?;
+    let desk = Desk {
+        sender,
+        waiting: waiting.clone()?,
+        pipes: pipes.clone()?,
+    };
+    Ok((desk, coming, waiting))
+}
+
+/// A number, which is 0. Fails only with `Halt::Memory`.
+fn new_count(alloc: Global) -> Result<Shared<AtomicU64>, Halt>
+    ensures { IsOkUnless result Memory }
+{
+    match Shared::new(alloc, AtomicU64::new(0)) {
+        Ok(count) => Ok(count),
+        Err(failed) => {
+            drop(failed);
+            Err(Halt::Memory)
+        }
+    }
 }
 
 /// Reads lines and sends what they say, until nothing comes after one, or nobody listens.
-fn read_all<R: Wait + Input<Reader = StdinLock<'static>>>(
+fn read_all<R: Wait + Clock + Input<Reader = StdinLock<'static>>>(
     rt: &R,
     alloc: Global,
-    sender: &Sender<Order, Global>,
+    desk: &Desk,
 ) {
     let mut source = In::new(rt.reader());
     let mut lines = match LineReader::new(alloc) {
         Ok(lines) => lines,
         Err(_) => {
-            drop(sender.send(rt, Order::Broken(Broken::Memory)));
+            let order = Order::Broken(Broken::Memory);
+            drop(desk.sender.send(rt, Coming { order, bytes: 0 }));
             return;
         }
     };
     for _ in 0..u64::MAX {
+        wait_for_room(rt, desk);
         let order = next_order(alloc, &mut lines, &mut source);
-        let last = order.is_last();
-        if sender.send(rt, order).is_err() || last {
+        let (last, bytes) = (order.is_last(), lines.line().len() as u64);
+        if last {
+            desk.pipes.ask_end();
+        }
+        desk.waiting.fetch_add(bytes, Ordering::SeqCst);
+        if desk.sender.send(rt, Coming { order, bytes }).is_err() || last {
             return;
         }
+    }
+}
+
+/// Waits until fewer bytes wait than may.
+fn wait_for_room<R: Wait + Clock>(rt: &R, desk: &Desk) {
+    for _ in rt.forever() {
+        if desk.waiting.load(Ordering::SeqCst) <= MOST_BYTES {
+            return;
+        }
+        thread::sleep(rt, Duration::from_millis(PAUSE_MILLIS));
     }
 }
 

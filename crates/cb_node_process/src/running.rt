@@ -2,6 +2,7 @@
 ghost use Rattle.std.specs.Prelude.{◌≡◌, ◌≢◌, ◌↔◌, ◌⊎◌, ◌≤◌, true, IfErr, IfOk, OnErr, OnOk, IsOkUnless};
 ghost use Rattle.std.specs.Io.KnownBytes.{Appends};
 ghost use Rattle.cb_run.specs.declared.ending.Halt.TheVariants.{Memory, ReadFailed, WriteFailed};
+ghost use Rattle.cb_node_process.specs.declared.start_fault.StartFault.{StartFault};
 ghost use Rattle.cb_node_process.specs.Telling.{IsDialReply, TellsAll, TellsAnswers, TellsOne, TellsOpening, deaf_text};
 
 use crate::answering::{After, print};
@@ -10,13 +11,13 @@ use crate::host::ProcessHost;
 use crate::orders::NodeOrders;
 use crate::process::Process;
 use crate::reading::{Broken, Order, Orders, start_reading};
-use crate::timed_log::TimedLog;
-use cb_base::Seed;
+use crate::start_fault::StartFault;
+use cb_base::{Seed, Shared};
 use cb_io::Sink;
-use cb_node::NodeFault;
 use cb_operator::{Line, Refusal, Reply, Verdict};
+use cb_pipes::{LogFault, LogLine, PipedLog, Pipes, start_log};
 use cb_run::{Halt, Status, write_all};
-use crossbeam_channel::RecvTimeoutError;
+use crossbeam_channel::{RecvTimeoutError, Sender};
 use log::{Log, Logged, info};
 use std::alloc::Global;
 use std::net::SocketAddr;
@@ -47,10 +48,13 @@ struct Served {
 /// standard input. `quit` and the end of input end it: all its threads return, and the audit's
 /// answer is printed.
 ///
+/// While nobody takes what was printed, as `pipes` tells, peers are served and no line is answered.
+/// `pipes` is told when the end is asked for.
+///
 /// Returns the exit status: 0; 3 if it couldn't listen, an audit said no, or an address that it was
 /// to dial from the start was never reached. Why it couldn't listen goes to `errors`. Connections,
-/// their ends and new tips are logged on standard error. The node's tables have this seed, which
-/// changes no result.
+/// their ends and new tips are logged on standard error, by a thread of its own. The node's tables have
+/// this seed, which changes no result.
 ///
 /// Fails if memory runs out at the start, or a read or a write failed. The node has ended then.
 pub fn run_node<R: ProcessHost, W: Sink, E: Sink>(
@@ -58,6 +62,7 @@ pub fn run_node<R: ProcessHost, W: Sink, E: Sink>(
     alloc: Global,
     seed: Seed,
     orders: NodeOrders,
+    pipes: &Shared<Pipes>,
     writer: &mut W,
     errors: &mut E,
 ) -> Result<u8, Halt>
@@ -67,7 +72,8 @@ pub fn run_node<R: ProcessHost, W: Sink, E: Sink>(
     ensures told { IfOk result
         (λ status. (TellsAll (W.contents writer.old) (W.contents writer.new) status
         × (errors.new ≡ errors.old))
-        ⊎ (Appends (E.contents errors.old) (E.contents errors.new) (deaf_text orders.listen)
+        ⊎ ((fault : StartFault)
+        × Appends (E.contents errors.old) (E.contents errors.new) (deaf_text orders.listen fault)
         × (status ≡ 3))) }
     ensures status { IfOk result (λ status. (status ≡ 0) ⊎ (status ≡ 3)) }
     // For every writer and standard error: why it ends early.
@@ -78,28 +84,70 @@ pub fn run_node<R: ProcessHost, W: Sink, E: Sink>(
     ensures quiet { IfErr result
         (λ halt. (errors.new ≡ errors.old) ⊎ (E.has_failed errors.new ≡ true)) }
 {
-    let logged = Logged::new(rt, orders.level, TimedLog(rt));
-    let log = logged.with_target("cbrelay");
-    match Process::start(rt, alloc, seed, &orders) {
-        Ok(process) => run(rt, alloc, process, &log, writer),
-        Err(NodeFault::Memory) => Err(Halt::Memory),
-        Err(_) => refuse(alloc, orders.listen, errors),
+    match start_log(&rt, alloc) {
+        Ok((lines, thread)) => {
+            let ended = run_logged(rt, alloc, seed, orders, pipes, lines, writer, errors);
+            thread.end(&rt);
+            ended
+        }
+        Err(LogFault::Memory) => Err(Halt::Memory),
+        Err(LogFault::NoThread) => refuse(alloc, orders.listen, StartFault::NoMeans, errors),
     }
 }
 
-/// Tells that the node can't listen. Returns the exit status.
-fn refuse<E: Sink>(alloc: Global, address: SocketAddr, errors: &mut E) -> Result<u8, Halt>
+/// Runs a node whose log goes this way.
+fn run_logged<R: ProcessHost, W: Sink, E: Sink>(
+    rt: R,
+    alloc: Global,
+    seed: Seed,
+    orders: NodeOrders,
+    pipes: &Shared<Pipes>,
+    lines: Sender<LogLine, Global>,
+    writer: &mut W,
+    errors: &mut E,
+) -> Result<u8, Halt>
+    ensures told { IfOk result
+        (λ status. (TellsAll (W.contents writer.old) (W.contents writer.new) status
+        × (errors.new ≡ errors.old))
+        ⊎ ((fault : StartFault)
+        × Appends (E.contents errors.old) (E.contents errors.new) (deaf_text orders.listen fault)
+        × (status ≡ 3))) }
+    ensures status { IfOk result (λ status. (status ≡ 0) ⊎ (status ≡ 3)) }
+    ensures halts { IfErr result (λ halt. (halt ≡ Memory) ⊎ ((halt ≡ ReadFailed)
+        ⊎ ((halt ≡ WriteFailed)
+        × ((W.has_failed writer.new ≡ true) ⊎ (E.has_failed errors.new ≡ true))))) }
+    ensures quiet { IfErr result
+        (λ halt. (errors.new ≡ errors.old) ⊎ (E.has_failed errors.new ≡ true)) }
+{
+    let logged = Logged::new(rt, orders.level, PipedLog::new(rt, alloc, lines));
+    let log = logged.with_target("cbrelay");
+    match Process::start(rt, alloc, seed, &orders) {
+        Ok(process) => {
+            process.note_own(&log, orders.connect.as_slice());
+            run(rt, alloc, process, pipes, &log, writer)
+        }
+        Err(StartFault::Memory) => Err(Halt::Memory),
+        Err(fault) => refuse(alloc, orders.listen, fault, errors),
+    }
+}
+
+/// Tells why the node can't listen. Returns the exit status.
+fn refuse<E: Sink>(
+    alloc: Global,
+    address: SocketAddr,
+    fault: StartFault,
+    errors: &mut E,
+) -> Result<u8, Halt>
     ensures told { OnOk result
-        (Appends (E.contents errors.old) (E.contents errors.new) (deaf_text address)) }
+        (Appends (E.contents errors.old) (E.contents errors.new) (deaf_text address fault)) }
     ensures status { IfOk result (λ status. status ≡ 3) }
     ensures err { IfErr result
         (λ halt. (halt ≡ Memory) ⊎ ((halt ≡ WriteFailed) × (E.has_failed errors.new ≡ true))) }
     ensures quiet { IfErr result
         (λ halt. (errors.new ≡ errors.old) ⊎ (E.has_failed errors.new ≡ true)) }
 {
-    let text = format!(in alloc;
-        "error: can't listen at {address}: it is in use, not of this machine or not allowed, or no thread can be made\n"
-    )?;
+    let words = fault.cause();
+    let text = format!(in alloc; "error: can't listen at {address}: {words}\n")?;
     write_all(errors, text.as_bytes())?;
     Ok(Status::BadInput.code())
 }
@@ -109,6 +157,7 @@ fn run<R: ProcessHost, L: Log, W: Sink>(
     rt: R,
     alloc: Global,
     process: Process<R>,
+    pipes: &Shared<Pipes>,
     log: &L,
     writer: &mut W,
 ) -> Result<u8, Halt>
@@ -118,14 +167,14 @@ fn run<R: ProcessHost, L: Log, W: Sink>(
         ⊎ ((halt ≡ WriteFailed) × (W.has_failed writer.new ≡ true)))) }
 {
     let mut process = process;
-    let orders = match start_reading(&rt, alloc) {
+    let orders = match start_reading(&rt, alloc, pipes) {
         Ok(orders) => orders,
         Err(halt) => {
             drop(process.finish());
             return Err(halt);
         }
     };
-    let ended = serve(&rt, alloc, &mut process, &orders, log, writer);
+    let ended = serve(&rt, alloc, &mut process, &orders, pipes, log, writer);
     info!(log; "ending");
     process.note_all_ends(log);
     process.note_unreached(log);
@@ -170,6 +219,7 @@ fn serve<R: ProcessHost, L: Log, W: Sink>(
     alloc: Global,
     process: &mut Process<R>,
     orders: &Orders,
+    pipes: &Pipes,
     log: &L,
     writer: &mut W,
 ) -> Result<Served, Halt>
@@ -184,7 +234,7 @@ fn serve<R: ProcessHost, L: Log, W: Sink>(
     let (mut dials, mut well) = (false, true);
     for _ in rt.forever() {
         process.poll(log);
-        match advance(rt, alloc, process, orders, dials, log, writer)? {
+        match advance(rt, alloc, process, orders, pipes, dials, log, writer)? {
             Next::Line(After::Next) => dials = false,
             Next::Line(After::Failed) => (dials, well) = (false, false),
             Next::Line(After::Dial) => dials = true,
@@ -214,13 +264,14 @@ enum Next {
     Broken(Broken),
 }
 
-/// Waits a moment for a line and answers it, or for the dial that an operator waits for. Fails only
-/// with `Halt::WriteFailed`.
+/// Waits a moment for a line and answers it, or for the dial that an operator waits for. It only waits
+/// while nobody takes what was printed before. Fails only with `Halt::WriteFailed`.
 fn advance<R: ProcessHost, L: Log, W: Sink>(
     rt: &R,
     alloc: Global,
     process: &mut Process<R>,
     orders: &Orders,
+    pipes: &Pipes,
     dials: bool,
     log: &L,
     writer: &mut W,
@@ -230,10 +281,29 @@ fn advance<R: ProcessHost, L: Log, W: Sink>(
     ensures failed { IsOkUnless result WriteFailed }
     ensures marked { OnErr result (W.has_failed writer.new ≡ true) }
 {
-    if dials {
+    if pipes.has_failed() {
+        note_failure(writer)
+    } else if pipes.holds_answers() {
+        thread::sleep(rt, Duration::from_millis(PAUSE_MILLIS));
+        Ok(Next::Line(if dials { After::Dial } else { After::Next }))
+    } else if dials {
         answer_dial(rt, alloc, process, writer)
     } else {
         answer_next(rt, alloc, process, orders, log, writer)
+    }
+}
+
+/// What was printed before couldn't be written: the next write tells so. Fails with `Halt::WriteFailed`
+/// then.
+fn note_failure<W: Sink>(writer: &mut W) -> Result<Next, Halt>
+    ensures told { IfOk result (λ next. TellsAnswers (next ≢ Next.Line After.Failed)
+        (W.contents writer.old) (W.contents writer.new)) }
+    ensures failed { IsOkUnless result WriteFailed }
+    ensures marked { OnErr result (W.has_failed writer.new ≡ true) }
+{
+    match writer.write(b"") {
+        Some(_) => Ok(Next::Line(After::Next)),
+        None => Err(Halt::WriteFailed),
     }
 }
 
@@ -284,7 +354,7 @@ fn answer_next<R: ProcessHost, L: Log, W: Sink>(
     ensures marked { OnErr result (W.has_failed writer.new ≡ true) }
 {
     let pause = Duration::from_millis(PAUSE_MILLIS);
-    match orders.coming.recv_timeout(rt, pause) {
+    match orders.next(rt, pause) {
         Ok(Order::Line(line)) => obey(process, line, log, writer),
         Ok(Order::Unreadable) => tell(alloc, Reply::Refused(Refusal::Unreadable), writer),
         Ok(Order::NoMemory) => tell(alloc, Reply::Refused(Refusal::Memory), writer),

@@ -111,6 +111,7 @@ refusal_text refusals.NoSlot = codes "error no slot\n"
 refusal_text refusals.Io = codes "error io\n"
 refusal_text refusals.UnknownBlock = codes "error unknown block\n"
 refusal_text refusals.Already = codes "error already\n"
+refusal_text refusals.Own = codes "error own address\n"
 refusal_text refusals.Memory = codes "error memory\n"
 
 -- what an audit answers

@@ -20,6 +20,8 @@ pub enum Refusal {
     UnknownBlock,
     /// The node connects to this address already.
     Already,
+    /// The address leads to the node itself.
+    Own,
     /// Memory ran out.
     Memory,
 }
@@ -38,6 +40,7 @@ impl Refusal {
             Refusal::Io => writeln!(out, "error io")?,
             Refusal::UnknownBlock => writeln!(out, "error unknown block")?,
             Refusal::Already => writeln!(out, "error already")?,
+            Refusal::Own => writeln!(out, "error own address")?,
             Refusal::Memory => writeln!(out, "error memory")?,
         }
         Ok(())

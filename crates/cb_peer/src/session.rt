@@ -114,6 +114,7 @@ impl Session {
                 peer: kept.peer,
                 marks: kept.marks,
                 fetch: kept.fetch.copy(alloc)?,
+                resume_from: kept.resume_from,
                 compact: kept.compact.copy(alloc)?,
                 pending,
             },

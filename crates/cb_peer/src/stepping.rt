@@ -10,7 +10,7 @@ ghost use Rattle.cb_peer_state.specs.declared.state.State.TheVariants as states;
 ghost use Rattle.cb_peer_state.specs.Event.{ends_at_once};
 ghost use Rattle.cb_peer_state.specs.Outcomes.{Answers, IsLightOutcome, Makes};
 ghost use Rattle.cb_peer_state.specs.Receiving.{Outcome};
-ghost use Rattle.cb_peer_state.specs.Replying.{answered};
+ghost use Rattle.cb_peer_state.specs.Replying.{answered, replied};
 ghost use Rattle.cb_peer_state.specs.Session.{arrives, closes, for_item, is_light, open_step, spares, told, weighs_at};
 ghost use Rattle.cb_peer_state.specs.State.{bare, over};
 
@@ -95,7 +95,8 @@ fn follow(
     }
 }
 
-/// Handles an answer to the question asked for an item. Fails only with `Fault::Memory`.
+/// Handles an answer to the question asked for an item, and the end of the item. Fails only with
+/// `Fault::Memory`.
 #[tactic(auto, unfolding(cb_peer_state::specs::Replying::answered))]
 fn react(
     session: &mut SessionState,
@@ -111,6 +112,27 @@ fn react(
     ensures calm { answer.now ≡ answers.Kicked → IsOk result }
     ensures silent { weighs_at session.old item.now stage.now answer.now ≡ false →
         IsLightOutcome (answered session.old item.now stage.now answer.now) → IsOk result }
+{
+    let reaction = handle(session, alloc, item, stage, answer)?;
+    session.resume(alloc, reaction)
+}
+
+/// Handles an answer to the question asked for an item. Fails only with `Fault::Memory`.
+#[tactic(auto, unfolding(cb_peer_state::specs::Replying::replied))]
+fn handle(
+    session: &mut SessionState,
+    alloc: Global,
+    item: &Option<Shared<Item>>,
+    stage: &Stage,
+    answer: &Answer,
+) -> Result<Reaction, Fault>
+    ensures ok { IfOk result
+        (λ made. Makes (replied session.old item.now stage.now answer.now)
+        item.now session.new made.messages.items made.next) }
+    ensures memory { IsOkUnless result Memory }
+    ensures calm { answer.now ≡ answers.Kicked → IsOk result }
+    ensures silent { weighs_at session.old item.now stage.now answer.now ≡ false →
+        IsLightOutcome (replied session.old item.now stage.now answer.now) → IsOk result }
 {
     match stage {
         Stage::Admit => match answer {

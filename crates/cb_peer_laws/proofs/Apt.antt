@@ -7,12 +7,13 @@ use Rattle.cb_base.specs.declared.fault.Fault.{Fault}
 use Rattle.cb_base.specs.declared.fault.Fault.TheVariants as faults
 use Rattle.cb_base.specs.declared.hash.Hash256.{Hash256}
 use Rattle.cb_block.specs.declared.block.Block.{Block}
+use Rattle.cb_block.specs.declared.header.Header.{Header}
 use Rattle.cb_chain.specs.Entries.{block_hash, same}
 use Rattle.cb_compact.specs.Slots.{Unfilled, missing}
 use Rattle.cb_compact.specs.declared.named_tx.Pair.{Pair}
 use Rattle.cb_compact.specs.declared.partial.Filled.{Filled}
 use Rattle.cb_compact.specs.declared.partial.Filled.TheVariants as filling
-use Rattle.cb_fetch.specs.Fetching.{FetchState, IsReached as IsFetched, asks_now, blocks_in, fallen_back, idle, is_due, landed, taken_on, wanting_all}
+use Rattle.cb_fetch.specs.Fetching.{FetchState, IsReached as IsFetched, asks_now, blocks_in, idle, is_due, landed, taken_on, wanting_all}
 use Rattle.cb_fetch.specs.Fetching.IsReached.{opening as nothing_yet, wants, lands, falls_back as gives_back, takes_on}
 use Rattle.cb_journal.specs.declared.answer.Answer.{Answer}
 use Rattle.cb_journal.specs.declared.answer.Answer.TheVariants as answers
@@ -50,12 +51,13 @@ use Rattle.cb_peer_state.specs.Questions.{fits, is_nil, item_block, question_of,
 use Rattle.cb_peer_laws.specs.Laws.{IsReached}
 use Rattle.cb_peer_laws.specs.Laws.IsReached.{opens, steps, stops}
 use Rattle.cb_peer_state.specs.Receiving.{Outcome, asks, by_compact, by_headers, by_phase, completed_by, ended, ends, falls_back, filled_by, given_up, gives, gives_up, heard_of, in_greeted, in_ready, in_start, introduced, brought, processed, received, short_heard, txs_heard}
-use Rattle.cb_peer_state.specs.Replying.{answered, before_parent, excerpt_answered, given_told, heads_by, heads_for, heads_told, is_workless, need_told, news_told, paired, pairs_told, rebuilt_by, served_told, short_told, taken_told, wanted_told}
+use Rattle.cb_peer_state.specs.Replying.{answered, before_first, before_parent, excerpt_answered, given_told, heads_by, heads_for, heads_told, is_workless, need_told, news_told, paired, pairs_told, rebuilt_by, replied, served_told, short_told, taken_told, wanted_told}
 use Rattle.cb_peer_state.specs.Session.{arrives, open_step, pending_item, pending_of, step_of, told}
 use Rattle.cb_block.specs.Decision.{is_sound_block}
 use Rattle.cb_peer_state.specs.declared.session_state.SessionState.{SessionState}
-use Rattle.cb_peer_state.specs.State.{freed, is_closed, landing, with_fetch, with_partial, with_pending}
+use Rattle.cb_peer_state.specs.State.{freed, is_closed, landing, remembers, unless_remembered, with_fallen, with_fetch, with_lacking, with_partial, with_pending}
 use Rattle.cb_peer_state.proofs.Cases.{brought_cases, by_test, dropping_cases, ends_cases}
+use Rattle.cb_peer_state.proofs.Resuming.{resuming_cases}
 
 -- what is asked for an item suits what the session keeps
 pub record Suits (fetch : FetchState) (item : Option Item) (next : Option Stage) : Type 0 where
@@ -171,20 +173,20 @@ rebuilt_sound short pairs block =
 gives_suits : (item : Option Item) (s : SessionState) (block : Block) → IsFetched s.fetch → is_sound_block block ≡ true → SuitsOutcome item (gives s block)
 gives_suits item s block f sound = give_suits (landed (block_hash block.header) s.fetch) item block (lands s.fetch (block_hash block.header) f) sound
 
-falls_suits : (item : Option Item) (s : SessionState) (hash : Hash256) → IsFetched s.fetch → SuitsOutcome item (falls_back s hash)
+falls_suits : (item : Option Item) (s : SessionState) (hash before : Hash256) → IsFetched s.fetch → SuitsOutcome item (falls_back s hash before)
 unfolding falls_back
-falls_suits item s hash f = ends_suits item (with_fetch (fallen_back hash s.fetch) s) (cond (asks_now s.fetch hash) (asking_block hash ∷ []) []) (gives_back s.fetch hash f)
+falls_suits item s hash before f = ends_suits item (with_fallen hash before s) (cond (asks_now s.fetch hash) (asking_block hash ∷ []) []) (gives_back s.fetch hash f)
 
-filled_suits : (item : Option Item) (s : SessionState) (hash : Hash256) (filled : Result Filled Fault) → IsFetched s.fetch → ((block : Block) → filled ≡ Ok (filling.Sound block) → is_sound_block block ≡ true) → SuitsOutcome item (filled_by s hash filled)
-filled_suits item s hash (Ok (filling.Sound block)) f sound = gives_suits item s block f (sound block refl)
-filled_suits item s hash (Ok filling.Wrong) f sound = falls_suits item s hash f
-filled_suits item s hash (Err fault) f sound = none_suits idle item nothing_yet
+filled_suits : (item : Option Item) (s : SessionState) (hash before : Hash256) (filled : Result Filled Fault) → IsFetched s.fetch → ((block : Block) → filled ≡ Ok (filling.Sound block) → is_sound_block block ≡ true) → SuitsOutcome item (filled_by s hash before filled)
+filled_suits item s hash before (Ok (filling.Sound block)) f sound = gives_suits item s block f (sound block refl)
+filled_suits item s hash before (Ok filling.Wrong) f sound = falls_suits item s hash before f
+filled_suits item s hash before (Err fault) f sound = none_suits idle item nothing_yet
 
 completed_suits : (item : Option Item) (s : SessionState) (given : BlockTransactions) (partial : Option Unfilled) → IsFetched s.fetch → SuitsOutcome item (completed_by s given partial)
 completed_suits item s given None f = ends_suits item s [] f
 completed_suits item s given (Some partial) f =
-    by_test (SuitsOutcome item) (same (block_hash partial.header) given.block) (filled_by (with_partial None s) given.block (completed_of partial given)) (ends s [])
-    (λ _. filled_suits item (with_partial None s) given.block (completed_of partial given) f (completed_sound partial given)) (λ _. ends_suits item s [] f)
+    by_test (SuitsOutcome item) (same (block_hash partial.header) given.block) (filled_by (with_partial None s) given.block partial.header.prev (completed_of partial given)) (ends s [])
+    (λ _. filled_suits item (with_partial None s) given.block partial.header.prev (completed_of partial given) f (completed_sound partial given)) (λ _. ends_suits item s [] f)
 
 txs_suits : (item : Option Item) (s : SessionState) (given : BlockTransactions) → IsFetched s.fetch → SuitsOutcome item (txs_heard s given)
 unfolding txs_heard
@@ -258,24 +260,25 @@ heads_by_suits item s None locator f = ends_suits item s _ f
 short_suits : (item : Option Item) (s : SessionState) (hash : Hash256) (heads : Heads) → IsFetched s.fetch → SuitsOutcome item (short_told s hash heads)
 unfolding short_told
 short_suits item s hash heads f =
-    let before : List Message = before_parent heads.refused heads.locator in
+    let before : List Message = unless_remembered s (before_parent heads.refused heads.locator) in
     by_test (SuitsOutcome item) (is_workless heads.refused) (ended reasons.BadBlock s) (cond (is_nil heads.lack) (ends (landing hash s) before) (asks s before Match)) (λ _. none_suits idle item nothing_yet)
     (λ _. by_test (SuitsOutcome item) (is_nil heads.lack) (ends (landing hash s) before) (asks s before Match) (λ _. ends_suits item (landing hash s) before (lands s.fetch hash f)) (λ _. match_suits s.fetch item f))
 
 heads_for_suits : (item : Option Item) (s : SessionState) (short : Option HeaderAndShortIds) (heads : Heads) → IsFetched s.fetch → SuitsOutcome item (heads_for s item short heads)
-heads_for_suits item s None heads f = heads_by_suits item (with_fetch (wanting_all s.fetch heads.lack) s) heads.refused heads.locator (wants s.fetch heads.lack f)
+heads_for_suits item s None heads f =
+    heads_by_suits item (with_lacking heads.lack (before_first item) s) heads.refused heads.locator (by_test IsFetched (remembers s) s.fetch (wanting_all s.fetch heads.lack) (λ _. f) (λ _. wants s.fetch heads.lack f))
 heads_for_suits item s (Some short) heads f = short_suits item s (block_hash short.header) heads f
 
-rebuilt_suits : (item : Option Item) (s : SessionState) (hash : Hash256) (rebuilt : Rebuilt) → IsFetched s.fetch → ((block : Block) → rebuilt ≡ rebuilts.Sound block → is_sound_block block ≡ true) → SuitsOutcome item (rebuilt_by s hash rebuilt)
-rebuilt_suits item s hash (rebuilts.Sound block) f sound = gives_suits item s block f (sound block refl)
-rebuilt_suits item s hash (rebuilts.Lacking partial request) f sound = ends_suits item (with_partial (Some partial) s) (asking_txs request ∷ []) f
-rebuilt_suits item s hash rebuilts.Useless f sound = falls_suits item s hash f
+rebuilt_suits : (item : Option Item) (s : SessionState) (header : Header) (rebuilt : Rebuilt) → IsFetched s.fetch → ((block : Block) → rebuilt ≡ rebuilts.Sound block → is_sound_block block ≡ true) → SuitsOutcome item (rebuilt_by s header rebuilt)
+rebuilt_suits item s header (rebuilts.Sound block) f sound = gives_suits item s block f (sound block refl)
+rebuilt_suits item s header (rebuilts.Lacking partial request) f sound = ends_suits item (with_partial (Some partial) s) (asking_txs request ∷ []) f
+rebuilt_suits item s header rebuilts.Useless f sound = falls_suits item s (block_hash header) header.prev f
 
 paired_suits : (item : Option Item) (s : SessionState) (short : Option HeaderAndShortIds) (pairs : List Pair) → IsFetched s.fetch → SuitsOutcome item (paired s short pairs)
 paired_suits item s None pairs f = none_suits s.fetch item f
 paired_suits item s (Some short) pairs f =
-    by_test (SuitsOutcome item) (has_places short.txs) (rebuilt_by s (block_hash short.header) (rebuilt_of short pairs)) (ended reasons.BadMessage s)
-    (λ _. rebuilt_suits item s (block_hash short.header) (rebuilt_of short pairs) f (rebuilt_sound short pairs)) (λ _. none_suits idle item nothing_yet)
+    by_test (SuitsOutcome item) (has_places short.txs) (rebuilt_by s short.header (rebuilt_of short pairs)) (ended reasons.BadMessage s)
+    (λ _. rebuilt_suits item s short.header (rebuilt_of short pairs) f (rebuilt_sound short pairs)) (λ _. none_suits idle item nothing_yet)
 
 excerpt_suits : (item : Option Item) (s : SessionState) (excerpt : Excerpt) → IsFetched s.fetch → SuitsOutcome item (excerpt_answered s excerpt)
 unfolding excerpt_answered
@@ -289,23 +292,29 @@ taken_suits item s (Some faults.Known) locator f = ends_suits item s _ f
 taken_suits item s (Some faults.NoParent) locator f = ends_suits item s _ f
 taken_suits item s (Some other) locator f = none_suits idle item nothing_yet
 
+replied_suits : (s : SessionState) (item : Option Item) (stage : Stage) (answer : Answer) → IsFetched s.fetch → SuitsOutcome item (replied s item stage answer)
+unfolding replied heads_told need_told wanted_told news_told served_told given_told pairs_told
+replied_suits s item stage answers.Kicked f = none_suits idle item nothing_yet
+replied_suits s item Admit answers.Go f = processed_suits s item f
+replied_suits s item (About subject) (answers.Heads heads) f = heads_for_suits item s (short_in item) heads f
+replied_suits s item (About subject) (answers.Locator locator) f = ends_suits item s _ f
+replied_suits s item (About subject) (answers.Need need) f = ends_suits item s _ f
+replied_suits s item (About subject) (answers.TxTaken refused) f = ends_suits item s _ f
+replied_suits s item (About subject) (answers.Taken taken) f = taken_suits item s taken.refused taken.locator f
+replied_suits s item (About subject) (answers.Served pieces) f = ends_suits item _ _ f
+replied_suits s item (About subject) (answers.Following headers) f = ends_suits item s _ f
+replied_suits s item (About subject) (answers.Excerpt excerpt) f = excerpt_suits item s excerpt f
+replied_suits s item Match (answers.Pairs pairs) f = paired_suits item s (short_in item) pairs f
+replied_suits s item (Give block) (answers.Taken taken) f = ends_suits item s _ f
+replied_suits s item Wanted (answers.Need need) f = fresh_suits (taken_on (blocks_in need.entries)) item (takes_on s.fetch (blocks_in need.entries) f)
+replied_suits s item Fresh (answers.News news) f = none_suits s.fetch item f
+replied_suits s item stage other f = none_suits s.fetch item f
+
 answered_suits : (s : SessionState) (item : Option Item) (stage : Stage) (answer : Answer) → IsFetched s.fetch → SuitsOutcome item (answered s item stage answer)
-unfolding answered heads_told need_told wanted_told news_told served_told given_told pairs_told
-answered_suits s item stage answers.Kicked f = none_suits idle item nothing_yet
-answered_suits s item Admit answers.Go f = processed_suits s item f
-answered_suits s item (About subject) (answers.Heads heads) f = heads_for_suits item s (short_in item) heads f
-answered_suits s item (About subject) (answers.Locator locator) f = ends_suits item s _ f
-answered_suits s item (About subject) (answers.Need need) f = ends_suits item s _ f
-answered_suits s item (About subject) (answers.TxTaken refused) f = ends_suits item s _ f
-answered_suits s item (About subject) (answers.Taken taken) f = taken_suits item s taken.refused taken.locator f
-answered_suits s item (About subject) (answers.Served pieces) f = ends_suits item _ _ f
-answered_suits s item (About subject) (answers.Following headers) f = ends_suits item s _ f
-answered_suits s item (About subject) (answers.Excerpt excerpt) f = excerpt_suits item s excerpt f
-answered_suits s item Match (answers.Pairs pairs) f = paired_suits item s (short_in item) pairs f
-answered_suits s item (Give block) (answers.Taken taken) f = ends_suits item s _ f
-answered_suits s item Wanted (answers.Need need) f = fresh_suits (taken_on (blocks_in need.entries)) item (takes_on s.fetch (blocks_in need.entries) f)
-answered_suits s item Fresh (answers.News news) f = none_suits s.fetch item f
-answered_suits s item stage other f = none_suits s.fetch item f
+unfolding answered
+answered_suits s item stage answer f =
+    let suits = replied_suits s item stage answer f in
+    resuming_cases (SuitsOutcome item) (replied s item stage answer) suits (λ hash _ _ _. suits)
 
 -- ---- steps
 

@@ -5,12 +5,13 @@ use Rattle.cb_base.specs.declared.fault.Fault.{Fault}
 use Rattle.cb_base.specs.declared.fault.Fault.TheVariants.{WrongCount}
 use Rattle.cb_base.specs.declared.hash.Hash256.{Hash256}
 use Rattle.cb_block.specs.declared.block.Block.{Block}
+use Rattle.cb_block.specs.declared.header.Header.{Header}
 use Rattle.cb_chain.specs.Entries.{block_hash, same}
 use Rattle.cb_compact.specs.Slots.{Unfilled, missing}
 use Rattle.cb_compact.specs.declared.named_tx.Pair.{Pair}
 use Rattle.cb_compact.specs.declared.partial.Filled.{Filled}
 use Rattle.cb_compact.specs.declared.partial.Filled.TheVariants as filling
-use Rattle.cb_fetch.specs.Fetching.{asks_now, fallen_back}
+use Rattle.cb_fetch.specs.Fetching.{asks_now}
 use Rattle.cb_journal.specs.declared.answer.Answer.{Answer}
 use Rattle.cb_journal.specs.declared.answer.Answer.TheVariants as answers
 use Rattle.cb_payload.specs.declared.block_transactions.BlockTransactions.{BlockTransactions}
@@ -39,9 +40,10 @@ use Rattle.cb_peer_state.specs.declared.state.State.{State}
 use Rattle.cb_peer_state.specs.declared.state.State.TheVariants.{Start, Greeted, Ready, Closed}
 use Rattle.cb_peer_state.specs.Questions.{fits, is_nil, question_of}
 use Rattle.cb_peer_state.specs.Receiving.{Outcome, asks, by_phase, completed_by, ended, ends, falls_back, filled_by, gives, heard_of, in_greeted, in_ready, in_start, processed, received, sends, short_heard, txs_heard}
-use Rattle.cb_peer_state.specs.Replying.{answered, before_parent, given_told, heads_told, is_workless, news_told, pairs_told, rebuilt_by, short_told, wanted_told}
+use Rattle.cb_peer_state.specs.Replying.{answered, before_parent, given_told, heads_told, is_workless, news_told, pairs_told, rebuilt_by, replied, resuming, short_told, wanted_told}
 use Rattle.cb_peer_state.specs.Session.{Stepped, pending_item, step_of}
-use Rattle.cb_peer_state.specs.State.{freed, is_closed, landing, with_fetch, with_partial}
+use Rattle.cb_peer_state.specs.State.{freed, is_closed, landing, unless_remembered, with_fallen, with_partial}
+use Rattle.cb_peer_state.proofs.Resuming.{resuming_cases}
 use Rattle.cb_peer_laws.proofs.CompactSteps.{by_test, end_session, told_by}
 use Rattle.cb_peer_laws.proofs.CompactTable.{suits}
 use Rattle.cb_peer_laws.proofs.CompactLaws.{pending_suits, reached_suits}
@@ -59,9 +61,12 @@ goes_on reason outcome going closed = clash (is_closed outcome.session.state) go
 end_goes : (reason : Bool) (t : SessionState) (sent : List Message) → is_closed t.state ≡ false → OverBy reason (ends t sent)
 end_goes reason t sent going = goes_on reason (ends t sent) (ap (λ (u : SessionState). is_closed u.state) (end_session t sent) ∙ going)
 
-falls_goes : (reason : Bool) (t : SessionState) (hash : Hash256) → is_closed t.state ≡ false → OverBy reason (falls_back t hash)
+falls_goes : (reason : Bool) (t : SessionState) (hash before : Hash256) → is_closed t.state ≡ false → OverBy reason (falls_back t hash before)
 unfolding falls_back
-falls_goes reason t hash going = end_goes reason (with_fetch (fallen_back hash t.fetch) t) (cond (asks_now t.fetch hash) (asking_block hash ∷ []) []) going
+falls_goes reason t hash before going = end_goes reason (with_fallen hash before t) (cond (asks_now t.fetch hash) (asking_block hash ∷ []) []) going
+
+over_again : (reason : Bool) (outcome : Outcome) → OverBy reason outcome → OverBy reason (resuming outcome)
+over_again reason outcome over = resuming_cases (OverBy reason) outcome over (λ _ _ _ _. over)
 
 -- ---- the leave to process a compact block
 
@@ -79,8 +84,8 @@ short_phase Greeted t short going = goes_on (not (has_places short.txs)) (sends 
 short_phase Ready t short going = short_over t short going
 short_phase (Closed why) t short going = goes_on (not (has_places short.txs)) (sends t []) going
 
-short_let_in : (t : SessionState) (short : HeaderAndShortIds) → is_closed t.state ≡ false → OverBy (not (has_places short.txs)) (answered t (Some (Good (messages.CmpctBlock short))) Admit answers.Go)
-unfolding answered processed received
+short_let_in : (t : SessionState) (short : HeaderAndShortIds) → is_closed t.state ≡ false → OverBy (not (has_places short.txs)) (replied t (Some (Good (messages.CmpctBlock short))) Admit answers.Go)
+unfolding replied processed received
 short_let_in t short going = short_phase t.state t short going
 
 -- ---- the leave to process missing transactions
@@ -91,10 +96,10 @@ completed_fault partial given fault =
     by_test (λ (result : Result Filled Fault). result ≡ Err fault → not (length given.txs == length (missing 0 partial.slots)) ≡ true) (length given.txs == length (missing 0 partial.slots)) (Ok (judged_of (block_with partial given.txs))) (Err WrongCount)
     (λ _ e. absurd cc) (λ other _. ap not other)
 
-filled_over : (t : SessionState) (hash : Hash256) (reason : Bool) (result : Result Filled Fault) → is_closed t.state ≡ false → ((fault : Fault) → result ≡ Err fault → reason ≡ true) → OverBy reason (filled_by t hash result)
-filled_over t hash reason (Ok (filling.Sound block)) going faulty = goes_on reason (gives t block) going
-filled_over t hash reason (Ok filling.Wrong) going faulty = falls_goes reason t hash going
-filled_over t hash reason (Err fault) going faulty = λ _. faulty fault refl
+filled_over : (t : SessionState) (hash before : Hash256) (reason : Bool) (result : Result Filled Fault) → is_closed t.state ≡ false → ((fault : Fault) → result ≡ Err fault → reason ≡ true) → OverBy reason (filled_by t hash before result)
+filled_over t hash before reason (Ok (filling.Sound block)) going faulty = goes_on reason (gives t block) going
+filled_over t hash before reason (Ok filling.Wrong) going faulty = falls_goes reason t hash before going
+filled_over t hash before reason (Err fault) going faulty = λ _. faulty fault refl
 
 both_true : (a b : Bool) → a ≡ true → b ≡ true → (a && b) ≡ true
 both_true true b e f = f
@@ -104,8 +109,8 @@ completed_over : (t : SessionState) (given : BlockTransactions) (partial : Optio
 completed_over t given None going = end_goes false t [] going
 completed_over t given (Some partial) going =
     let reason = is_miscounted (Some partial) given in
-    by_test (OverBy reason) (same (block_hash partial.header) given.block) (filled_by (with_partial None t) given.block (completed_of partial given)) (ends t [])
-    (λ is. filled_over (with_partial None t) given.block reason (completed_of partial given) going
+    by_test (OverBy reason) (same (block_hash partial.header) given.block) (filled_by (with_partial None t) given.block partial.header.prev (completed_of partial given)) (ends t [])
+    (λ is. filled_over (with_partial None t) given.block partial.header.prev reason (completed_of partial given) going
     (λ fault e. both_true (same (block_hash partial.header) given.block) (not (length given.txs == length (missing 0 partial.slots))) is (completed_fault partial given fault e)))
     (λ _. end_goes reason t [] going)
 
@@ -120,51 +125,51 @@ txs_phase Greeted t given going = goes_on (is_miscounted t.compact.partial given
 txs_phase Ready t given going = txs_over t given going
 txs_phase (Closed why) t given going = goes_on (is_miscounted t.compact.partial given) (sends t []) going
 
-txs_let_in : (t : SessionState) (given : BlockTransactions) → is_closed t.state ≡ false → OverBy (is_miscounted t.compact.partial given) (answered t (Some (Good (messages.BlockTxn given))) Admit answers.Go)
-unfolding answered processed received
+txs_let_in : (t : SessionState) (given : BlockTransactions) → is_closed t.state ≡ false → OverBy (is_miscounted t.compact.partial given) (replied t (Some (Good (messages.BlockTxn given))) Admit answers.Go)
+unfolding replied processed received
 txs_let_in t given going = txs_phase t.state t given going
 
 -- ---- the header, and the transactions of the mempool
 
-header_over : (t : SessionState) (short : HeaderAndShortIds) (heads : Heads) → is_closed t.state ≡ false → OverBy (is_workless heads.refused) (answered t (Some (Good (messages.CmpctBlock short))) (About subjects.Headers) (answers.Heads heads))
-unfolding answered heads_told short_told
+header_over : (t : SessionState) (short : HeaderAndShortIds) (heads : Heads) → is_closed t.state ≡ false → OverBy (is_workless heads.refused) (replied t (Some (Good (messages.CmpctBlock short))) (About subjects.Headers) (answers.Heads heads))
+unfolding replied heads_told short_told
 header_over t short heads going =
     let reason = is_workless heads.refused in
-    let before = before_parent heads.refused heads.locator in
+    let before = unless_remembered t (before_parent heads.refused heads.locator) in
     let hash = block_hash short.header in
     by_test (OverBy reason) (is_workless heads.refused) (ended reasons.BadBlock t) (cond (is_nil heads.lack) (ends (landing hash t) before) (asks t before Match))
     (λ workless _. workless)
     (λ _. by_test (OverBy reason) (is_nil heads.lack) (ends (landing hash t) before) (asks t before Match)
     (λ _. end_goes reason (landing hash t) before going) (λ _. goes_on reason (asks t before Match) going))
 
-rebuilt_goes : (t : SessionState) (hash : Hash256) (reason : Bool) (rebuilt : Rebuilt) → is_closed t.state ≡ false → OverBy reason (rebuilt_by t hash rebuilt)
-rebuilt_goes t hash reason (rebuilts.Sound block) going = goes_on reason (gives t block) going
-rebuilt_goes t hash reason (rebuilts.Lacking partial request) going = end_goes reason (with_partial (Some partial) t) (asking_txs request ∷ []) going
-rebuilt_goes t hash reason rebuilts.Useless going = falls_goes reason t hash going
+rebuilt_goes : (t : SessionState) (header : Header) (reason : Bool) (rebuilt : Rebuilt) → is_closed t.state ≡ false → OverBy reason (rebuilt_by t header rebuilt)
+rebuilt_goes t header reason (rebuilts.Sound block) going = goes_on reason (gives t block) going
+rebuilt_goes t header reason (rebuilts.Lacking partial request) going = end_goes reason (with_partial (Some partial) t) (asking_txs request ∷ []) going
+rebuilt_goes t header reason rebuilts.Useless going = falls_goes reason t (block_hash header) header.prev going
 
-pairs_go : (t : SessionState) (short : HeaderAndShortIds) (pairs : List Pair) (reason : Bool) → has_places short.txs ≡ true → is_closed t.state ≡ false → OverBy reason (answered t (Some (Good (messages.CmpctBlock short))) Match (answers.Pairs pairs))
-unfolding answered pairs_told
+pairs_go : (t : SessionState) (short : HeaderAndShortIds) (pairs : List Pair) (reason : Bool) → has_places short.txs ≡ true → is_closed t.state ≡ false → OverBy reason (replied t (Some (Good (messages.CmpctBlock short))) Match (answers.Pairs pairs))
+unfolding replied pairs_told
 pairs_go t short pairs reason has going =
-    by_test (OverBy reason) (has_places short.txs) (rebuilt_by t (block_hash short.header) (rebuilt_of short pairs)) (ended reasons.BadMessage t)
-    (λ _. rebuilt_goes t (block_hash short.header) reason (rebuilt_of short pairs) going)
+    by_test (OverBy reason) (has_places short.txs) (rebuilt_by t short.header (rebuilt_of short pairs)) (ended reasons.BadMessage t)
+    (λ _. rebuilt_goes t short.header reason (rebuilt_of short pairs) going)
     (λ lacks. clash (has_places short.txs) lacks has)
 
 -- ---- what comes after the block is given
 
-given_goes : (t : SessionState) (item : Option Item) (block : Block) (answer : Answer) (question : SessionState) → fits (question_of question item (Give block)) answer ≡ true → is_closed t.state ≡ false → OverBy (is_reason t item answer) (answered t item (Give block) answer)
-unfolding answered given_told
+given_goes : (t : SessionState) (item : Option Item) (block : Block) (answer : Answer) (question : SessionState) → fits (question_of question item (Give block)) answer ≡ true → is_closed t.state ≡ false → OverBy (is_reason t item answer) (replied t item (Give block) answer)
+unfolding replied given_told
 given_goes t item block answers.Kicked question fit going = λ _. refl
-given_goes t item block (answers.Taken taken) question fit going = end_goes false t (before_parent taken.refused taken.locator) going
+given_goes t item block (answers.Taken taken) question fit going = end_goes false t (unless_remembered t (before_parent taken.refused taken.locator)) going
 given_goes t item block other question fit going = absurd cc
 
-wanted_goes : (t : SessionState) (item : Option Item) (answer : Answer) (question : SessionState) → fits (question_of question item Wanted) answer ≡ true → is_closed t.state ≡ false → OverBy (is_reason t item answer) (answered t item Wanted answer)
-unfolding answered wanted_told
+wanted_goes : (t : SessionState) (item : Option Item) (answer : Answer) (question : SessionState) → fits (question_of question item Wanted) answer ≡ true → is_closed t.state ≡ false → OverBy (is_reason t item answer) (replied t item Wanted answer)
+unfolding replied wanted_told
 wanted_goes t item answers.Kicked question fit going = λ _. refl
 wanted_goes t item (answers.Need need) question fit going = λ closed. clash (is_closed t.state) going closed
 wanted_goes t item other question fit going = absurd cc
 
-fresh_goes : (t : SessionState) (item : Option Item) (answer : Answer) (question : SessionState) → fits (question_of question item Fresh) answer ≡ true → is_closed t.state ≡ false → OverBy (is_reason t item answer) (answered t item Fresh answer)
-unfolding answered news_told
+fresh_goes : (t : SessionState) (item : Option Item) (answer : Answer) (question : SessionState) → fits (question_of question item Fresh) answer ≡ true → is_closed t.state ≡ false → OverBy (is_reason t item answer) (replied t item Fresh answer)
+unfolding replied news_told
 fresh_goes t item answers.Kicked question fit going = λ _. refl
 fresh_goes t item (answers.News news) question fit going = λ closed. clash (is_closed t.state) going closed
 fresh_goes t item other question fit going = absurd cc
@@ -172,31 +177,31 @@ fresh_goes t item other question fit going = absurd cc
 -- ---- all answers
 
 short_admit : (t : SessionState) (short : HeaderAndShortIds) (answer : Answer) → fits (question_of t (Some (Good (messages.CmpctBlock short))) Admit) answer ≡ true → is_closed t.state ≡ false
-    → OverBy (is_reason t (Some (Good (messages.CmpctBlock short))) answer) (answered t (Some (Good (messages.CmpctBlock short))) Admit answer)
+    → OverBy (is_reason t (Some (Good (messages.CmpctBlock short))) answer) (replied t (Some (Good (messages.CmpctBlock short))) Admit answer)
 short_admit t short answers.Kicked fit going = λ _. refl
 short_admit t short answers.Go fit going = short_let_in t short going
 short_admit t short other fit going = absurd cc
 
 txs_admit : (t : SessionState) (given : BlockTransactions) (answer : Answer) → fits (question_of t (Some (Good (messages.BlockTxn given))) Admit) answer ≡ true → is_closed t.state ≡ false
-    → OverBy (is_reason t (Some (Good (messages.BlockTxn given))) answer) (answered t (Some (Good (messages.BlockTxn given))) Admit answer)
+    → OverBy (is_reason t (Some (Good (messages.BlockTxn given))) answer) (replied t (Some (Good (messages.BlockTxn given))) Admit answer)
 txs_admit t given answers.Kicked fit going = λ _. refl
 txs_admit t given answers.Go fit going = txs_let_in t given going
 txs_admit t given other fit going = absurd cc
 
 short_headers : (t : SessionState) (short : HeaderAndShortIds) (answer : Answer) → fits (question_of t (Some (Good (messages.CmpctBlock short))) (About subjects.Headers)) answer ≡ true → is_closed t.state ≡ false
-    → OverBy (is_reason t (Some (Good (messages.CmpctBlock short))) answer) (answered t (Some (Good (messages.CmpctBlock short))) (About subjects.Headers) answer)
+    → OverBy (is_reason t (Some (Good (messages.CmpctBlock short))) answer) (replied t (Some (Good (messages.CmpctBlock short))) (About subjects.Headers) answer)
 short_headers t short answers.Kicked fit going = λ _. refl
 short_headers t short (answers.Heads heads) fit going = header_over t short heads going
 short_headers t short other fit going = absurd cc
 
 short_match : (t : SessionState) (short : HeaderAndShortIds) (answer : Answer) → has_places short.txs ≡ true → fits (question_of t (Some (Good (messages.CmpctBlock short))) Match) answer ≡ true → is_closed t.state ≡ false
-    → OverBy (is_reason t (Some (Good (messages.CmpctBlock short))) answer) (answered t (Some (Good (messages.CmpctBlock short))) Match answer)
+    → OverBy (is_reason t (Some (Good (messages.CmpctBlock short))) answer) (replied t (Some (Good (messages.CmpctBlock short))) Match answer)
 short_match t short answers.Kicked has fit going = λ _. refl
 short_match t short (answers.Pairs pairs) has fit going = pairs_go t short pairs false has going
 short_match t short other has fit going = absurd cc
 
 abbrev Held : SessionState → Option Item → Stage → Answer → Type 0
-Held s item stage answer = suits stage item ≡ true → fits (question_of s item stage) answer ≡ true → is_closed s.state ≡ false → OverBy (is_reason s item answer) (answered (freed s) item stage answer)
+Held s item stage answer = suits stage item ≡ true → fits (question_of s item stage) answer ≡ true → is_closed s.state ≡ false → OverBy (is_reason s item answer) (replied (freed s) item stage answer)
 
 short_held : (s : SessionState) (short : HeaderAndShortIds) (stage : Stage) (answer : Answer) → Held s (Some (Good (messages.CmpctBlock short))) stage answer
 short_held s short Admit answer suited fit going = short_admit (freed s) short answer fit going
@@ -221,9 +226,10 @@ held s (Some (Good (messages.BlockTxn given))) stage answer is = txs_held s give
 held s item stage answer is = absurd cc
 
 pub held_only : (s : SessionState) (answer : Answer) → IsReached s → is_short (pending_item s.pending) ≡ true → is_closed s.state ≡ false → is_closed (step_of s (events.Told answer)).session.state ≡ true → is_reason s (pending_item s.pending) answer ≡ true
+unfolding answered
 held_only s answer reached short going =
     told_by (λ (step : Stepped). is_closed step.session.state ≡ true → is_reason s (pending_item s.pending) answer ≡ true) s answer (clash (is_closed s.state) going)
     (λ pending e fit _ closed.
     let suited : suits pending.stage pending.item ≡ true = sym (ap pending_suits e) ∙ reached_suits s reached in
     let is : is_short pending.item ≡ true = sym (ap (λ (waits : Option Pending). is_short (pending_item waits)) e) ∙ short in
-    ap (λ (waits : Option Pending). is_reason s (pending_item waits) answer) e ∙ held s pending.item pending.stage answer is suited fit going closed)
+    ap (λ (waits : Option Pending). is_reason s (pending_item waits) answer) e ∙ over_again (is_reason s pending.item answer) (replied (freed s) pending.item pending.stage answer) (held s pending.item pending.stage answer is suited fit going) closed)

@@ -94,7 +94,7 @@ abbrev pub IsCounted : SessionState → Stepped → Type 0
 IsCounted s step = (nonces_in step.messages ≡ nonces_from (next_nonce s) (length (nonces_in step.messages))) × (is_closed step.session.state ≡ false → next_nonce step.session ≡ (next_nonce s + length (nonces_in step.messages)) % 2 ^ 64)
 
 counted_by : (s : SessionState) (item : Option Item) (outcome : Outcome) → Counts (freed s) outcome → IsCounted s (for_item item outcome)
-counted_by s item outcome (stopped closed silent) =
+counted_by s item outcome (stopped closed silent none) =
     (rw silent refl, λ going. absurd (let clash : true ≡ false = sym closed ∙ going in cc))
 counted_by s item outcome (used count sent next) =
     let many : length (nonces_in outcome.messages) ≡ count = ap (λ (ns : List ℕ). length ns) sent ∙ long_nonces (next_nonce s) count in

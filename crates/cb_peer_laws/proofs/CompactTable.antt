@@ -17,7 +17,7 @@ use Rattle.cb_compact.specs.Slots.{Unfilled}
 use Rattle.cb_compact.specs.declared.named_tx.Pair.{Pair}
 use Rattle.cb_compact.specs.declared.partial.Filled.{Filled}
 use Rattle.cb_compact.specs.declared.partial.Filled.TheVariants as filling
-use Rattle.cb_fetch.specs.Fetching.{asks_now, blocks_in, fallen_back, requests_of, taken_on, wanting_all}
+use Rattle.cb_fetch.specs.Fetching.{asks_now, blocks_in, requests_of, taken_on}
 use Rattle.cb_journal.specs.declared.answer.Answer.{Answer}
 use Rattle.cb_journal.specs.declared.answer.Answer.TheVariants as answers
 use Rattle.cb_payload.specs.declared.block_transactions.BlockTransactions.{BlockTransactions}
@@ -61,8 +61,11 @@ use Rattle.cb_peer_state.specs.declared.state.State.{State}
 use Rattle.cb_peer_state.specs.declared.state.State.TheVariants.{Start, Greeted, Ready, Closed}
 use Rattle.cb_peer_state.specs.Questions.{is_nil, short_in, told_of}
 use Rattle.cb_peer_state.specs.Receiving.{Outcome, asks, brought, by_compact, by_headers, by_phase, completed_by, ended, ends, falls_back, filled_by, given_up, gives, greeting, heard_of, in_greeted, in_ready, in_start, introduced, last_hash, processed, received, sends, short_heard, txs_heard}
-use Rattle.cb_peer_state.specs.Replying.{answered, before_parent, count_of, differ, excerpt_answered, given_told, heads_by, heads_for, heads_told, high_asked, is_block, is_untold, is_workless, more_behind, more_headers, need_told, news_told, paired, pairs_told, rebuilt_by, served_told, short_told, taken_told, tip_by, tip_made, tip_told, tx_request, wanted_told, wish_told, without_brought}
-use Rattle.cb_peer_state.specs.State.{dropping, is_closed, is_partial, is_ready, landing, next_nonce, over, with_asked_high, with_fetch, with_made, with_marks, with_partial, with_peer, with_state}
+use Rattle.cb_peer_state.specs.Replying.{answered, before_first, before_parent, count_of, differ, excerpt_answered, given_told, heads_by, heads_for, heads_told, high_asked, is_block, is_untold, is_workless, more_behind, more_headers, need_told, news_told, paired, pairs_told, rebuilt_by, replied, resumed, served_told, short_told, taken_told, tip_by, tip_made, tip_told, tx_request, wanted_told, wish_told, without_brought}
+use Rattle.cb_peer_state.specs.State.{dropping, is_closed, is_partial, is_ready, landing, next_nonce, over, unless_remembered, with_asked_high, with_fallen, with_fetch, with_lacking, with_made, with_marks, with_partial, with_peer, with_state}
+use Rattle.cb_peer_laws.specs.Laws.{but_headers}
+use Rattle.cb_peer_state.proofs.Resuming.{resuming_cases}
+use Rattle.cb_peer_laws.proofs.Behind.{but_more, found_more, unless_all}
 use Rattle.cb_peer_laws.proofs.CompactSteps.{by_test, ends_by}
 
 -- ---- which question an item may lead to
@@ -99,12 +102,12 @@ next_suits (Some stage) item = suits stage item
 pub data Keeps (s : SessionState) (item : Option Item) (outcome : Outcome) : Type 0 where
   same_one : outcome.session.compact.partial ≡ s.compact.partial → Keeps s item outcome
   is_over : is_closed outcome.session.state ≡ true → Keeps s item outcome
-  newer : (partial : Unfilled) (request : BlockTransactionsRequest) → outcome.session.compact.partial ≡ Some partial → outcome.messages ≡ messages.GetBlockTxn request ∷ [] → Keeps s item outcome
+  newer : (partial : Unfilled) (request : BlockTransactionsRequest) → outcome.session.compact.partial ≡ Some partial → but_headers outcome.messages ≡ messages.GetBlockTxn request ∷ [] → Keeps s item outcome
   came : ((partial : Unfilled) → s.compact.partial ≡ Some partial → brings (block_hash partial.header) item ≡ true) → Keeps s item outcome
 
 -- which nonces are used
 pub data Counts (s : SessionState) (outcome : Outcome) : Type 0 where
-  stopped : is_closed outcome.session.state ≡ true → outcome.messages ≡ [] → Counts s outcome
+  stopped : is_closed outcome.session.state ≡ true → outcome.messages ≡ [] → outcome.next ≡ None → Counts s outcome
   used : (count : ℕ) → nonces_in outcome.messages ≡ nonces_from (next_nonce s) count → next_nonce outcome.session ≡ (next_nonce s + count) % 2 ^ 64 → Counts s outcome
 
 -- which wishes are told
@@ -152,6 +155,9 @@ plain_for (first ∷ others) = record { no_nonce = refl; no_high = refl; no_requ
 
 plain_if : (test : Bool) (sent : List Message) → IsPlain sent → IsPlain (cond test sent [])
 plain_if test sent plain = by_test IsPlain test sent [] (λ _. plain) (λ _. plain_nothing)
+
+plain_unless : (s : SessionState) (sent : List Message) → IsPlain sent → IsPlain (unless_remembered s sent)
+plain_unless s sent plain = unless_all IsPlain s sent plain_nothing plain
 
 plain_parent : (refused : Option Fault) (locator : List Hash256) → IsPlain (before_parent refused locator)
 plain_parent (Some faults.NoParent) locator = plain_headers locator
@@ -271,7 +277,7 @@ quiet : (fine : Bool) (s : SessionState) (item : Option Item) → Turns fine s i
 quiet fine s item = calm fine s item (sends s []) (alike s) plain_nothing refl
 
 over_turns : (fine : Bool) (s : SessionState) (item : Option Item) (why : CloseReason) → Turns fine s item (ended why s)
-over_turns fine s item why = record { suited = λ _. refl; keeps = is_over refl; counts = stopped refl refl; tells = λ _. no_wish refl; requested = no_asking refl }
+over_turns fine s item why = record { suited = λ _. refl; keeps = is_over refl; counts = stopped refl refl refl; tells = λ _. no_wish refl; requested = no_asking refl }
 
 -- ---- messages
 
@@ -343,38 +349,38 @@ short_turns fine s short =
     (λ _. over_turns fine s item reasons.BadMessage)
 
 -- a block that can't be rebuilt; `s` is the session before, `t` the one that falls back
-falls_calm : (fine : Bool) (s t : SessionState) (item : Option Item) (hash : Hash256) → IsAlike s t → Turns fine s item (falls_back t hash)
+falls_calm : (fine : Bool) (s t : SessionState) (item : Option Item) (hash before : Hash256) → IsAlike s t → Turns fine s item (falls_back t hash before)
 unfolding falls_back
-falls_calm fine s t item hash like =
-    calm_end fine s (with_fetch (fallen_back hash t.fetch) t) item (cond (asks_now t.fetch hash) (asking_block hash ∷ []) []) (record { compact = like.compact; settings = like.settings }) (plain_if (asks_now t.fetch hash) (asking_block hash ∷ []) (record { no_nonce = refl; no_high = refl; no_request = refl }))
+falls_calm fine s t item hash before like =
+    calm_end fine s (with_fallen hash before t) item (cond (asks_now t.fetch hash) (asking_block hash ∷ []) []) (record { compact = like.compact; settings = like.settings }) (plain_if (asks_now t.fetch hash) (asking_block hash ∷ []) (record { no_nonce = refl; no_high = refl; no_request = refl }))
 
 -- what completes or replaces the block that is being rebuilt
 moved : (fine : Bool) (s t : SessionState) (item : Option Item) (outcome : Outcome) → next_nonce t ≡ next_nonce s → Turns fine t item outcome → Keeps s item outcome → (is_ready s.state ≡ true → Tells s outcome) → Turns fine s item outcome
 moved fine s t item outcome nonce turns keeps tells = record { suited = turns.suited; keeps = keeps; counts = recount turns.counts; tells = tells; requested = turns.requested }
   where
     recount : Counts t outcome → Counts s outcome
-    recount (stopped over silent) = stopped over silent
+    recount (stopped over silent none) = stopped over silent none
     recount (used count sent next) = used count (sent ∙ ap (λ (n : ℕ). nonces_from n count) nonce) (next ∙ ap (λ (n : ℕ). (n + count) % 2 ^ 64) nonce)
 
-falls_plain : (t : SessionState) (hash : Hash256) → IsPlain (falls_back t hash).messages
+falls_plain : (t : SessionState) (hash before : Hash256) → IsPlain (falls_back t hash before).messages
 unfolding falls_back
-falls_plain t hash =
+falls_plain t hash before =
     let list : List Message = cond (asks_now t.fetch hash) (asking_block hash ∷ []) [] in
     let plain = plain_if (asks_now t.fetch hash) (asking_block hash ∷ []) (record { no_nonce = refl; no_high = refl; no_request = refl }) in
-    ends_by (λ (outcome : Outcome). IsPlain outcome.messages) (with_fetch (fallen_back hash t.fetch) t) list plain plain plain
+    ends_by (λ (outcome : Outcome). IsPlain outcome.messages) (with_fallen hash before t) list plain plain plain
 
-filled_silent : (fine : Bool) (t : SessionState) (hash : Hash256) (result : Result Filled Fault) (item : Option Item) → Turns fine t item (filled_by t hash result) × IsPlain (filled_by t hash result).messages
-filled_silent fine t hash (Ok (filling.Sound block)) item = (calm fine t item (gives t block) (record { compact = refl; settings = refl }) plain_nothing refl, plain_nothing)
-filled_silent fine t hash (Ok filling.Wrong) item = (falls_calm fine t t item hash (alike t), falls_plain t hash)
-filled_silent fine t hash (Err fault) item = (over_turns fine t item reasons.BadMessage, plain_nothing)
+filled_silent : (fine : Bool) (t : SessionState) (hash before : Hash256) (result : Result Filled Fault) (item : Option Item) → Turns fine t item (filled_by t hash before result) × IsPlain (filled_by t hash before result).messages
+filled_silent fine t hash before (Ok (filling.Sound block)) item = (calm fine t item (gives t block) (record { compact = refl; settings = refl }) plain_nothing refl, plain_nothing)
+filled_silent fine t hash before (Ok filling.Wrong) item = (falls_calm fine t t item hash before (alike t), falls_plain t hash before)
+filled_silent fine t hash before (Err fault) item = (over_turns fine t item reasons.BadMessage, plain_nothing)
 
 completed_turns : (fine : Bool) (s : SessionState) (given : BlockTransactions) (partial : Option Unfilled) → s.compact.partial ≡ partial → Turns fine s (Some (Good (messages.BlockTxn given))) (completed_by s given partial)
 completed_turns fine s given None at = calm_end fine s s (Some (Good (messages.BlockTxn given))) [] (alike s) plain_nothing
 completed_turns fine s given (Some partial) at =
     let item : Option Item = Some (Good (messages.BlockTxn given)) in
     let t = with_partial None s in
-    let outcome = filled_by t given.block (completed_of partial given) in
-    let both = filled_silent fine t given.block (completed_of partial given) item in
+    let outcome = filled_by t given.block partial.header.prev (completed_of partial given) in
+    let both = filled_silent fine t given.block partial.header.prev (completed_of partial given) item in
     by_test (Turns fine s item) (same (block_hash partial.header) given.block) outcome (ends s [])
     (λ is. moved fine s t item outcome refl both.0
     (came (λ other there.
@@ -451,40 +457,40 @@ processed_turns fine s (Some (Bad command fault)) = over_turns fine s (Some (Bad
 -- ---- answers
 
 heads_turns : (fine : Bool) (s t : SessionState) (item : Option Item) (refused : Option Fault) (locator : List Hash256) → IsAlike s t → Turns fine s item (heads_by t item refused locator)
-heads_turns fine s t item (Some faults.BadWork) locator like = record { suited = λ _. refl; keeps = is_over refl; counts = stopped refl refl; tells = λ _. no_wish refl; requested = no_asking refl }
-heads_turns fine s t item (Some faults.NoParent) locator like = calm_end fine s t item (asking_headers locator ∷ []) like (plain_headers locator)
+heads_turns fine s t item (Some faults.BadWork) locator like = record { suited = λ _. refl; keeps = is_over refl; counts = stopped refl refl refl; tells = λ _. no_wish refl; requested = no_asking refl }
+heads_turns fine s t item (Some faults.NoParent) locator like = calm_end fine s t item (unless_remembered t (asking_headers locator ∷ [])) like (plain_unless t (asking_headers locator ∷ []) (plain_headers locator))
 heads_turns fine s t item (Some other) locator like = calm_end fine s t item [] like plain_nothing
-heads_turns fine s t item None locator like = calm_end fine s t item (more_headers item) like (plain_more item)
+heads_turns fine s t item None locator like = calm_end fine s t item (unless_remembered t (more_headers item)) like (plain_unless t (more_headers item) (plain_more item))
 
 taken_turns : (fine : Bool) (s : SessionState) (item : Option Item) (refused : Option Fault) (locator : List Hash256) → Turns fine s item (taken_told s refused locator)
 unfolding taken_told
 taken_turns fine s item None locator = calm_end fine s s item [] (alike s) plain_nothing
 taken_turns fine s item (Some faults.Known) locator = calm_end fine s s item [] (alike s) plain_nothing
-taken_turns fine s item (Some faults.NoParent) locator = calm_end fine s s item (asking_headers locator ∷ []) (alike s) (plain_headers locator)
+taken_turns fine s item (Some faults.NoParent) locator = calm_end fine s s item (unless_remembered s (asking_headers locator ∷ [])) (alike s) (plain_unless s (asking_headers locator ∷ []) (plain_headers locator))
 taken_turns fine s item (Some other) locator = over_turns fine s item reasons.BadBlock
 
 given_turns : (fine : Bool) (s : SessionState) (item : Option Item) (refused : Option Fault) (locator : List Hash256) → Turns fine s item (given_told s refused locator)
 unfolding given_told
-given_turns fine s item refused locator = calm_end fine s s item (before_parent refused locator) (alike s) (plain_parent refused locator)
+given_turns fine s item refused locator = calm_end fine s s item (unless_remembered s (before_parent refused locator)) (alike s) (plain_unless s (before_parent refused locator) (plain_parent refused locator))
 
 -- the search of the mempool follows the header of a compact block, whose places were looked at
 told_short_turns : (fine : Bool) (s : SessionState) (item : Option Item) (hash : Hash256) (heads : Heads) → (fine ≡ true → match_suits item ≡ true) → Turns fine s item (short_told s hash heads)
 unfolding short_told
 told_short_turns fine s item hash heads has =
     by_test (Turns fine s item) (is_workless heads.refused) (ended reasons.BadBlock s)
-    (cond (is_nil heads.lack) (ends (landing hash s) (before_parent heads.refused heads.locator)) (asks s (before_parent heads.refused heads.locator) Match))
+    (cond (is_nil heads.lack) (ends (landing hash s) (unless_remembered s (before_parent heads.refused heads.locator))) (asks s (unless_remembered s (before_parent heads.refused heads.locator)) Match))
     (λ _. over_turns fine s item reasons.BadBlock)
-    (λ _. by_test (Turns fine s item) (is_nil heads.lack) (ends (landing hash s) (before_parent heads.refused heads.locator)) (asks s (before_parent heads.refused heads.locator) Match)
-    (λ _. calm_end fine s (landing hash s) item (before_parent heads.refused heads.locator) (record { compact = refl; settings = refl }) (plain_parent heads.refused heads.locator))
+    (λ _. by_test (Turns fine s item) (is_nil heads.lack) (ends (landing hash s) (unless_remembered s (before_parent heads.refused heads.locator))) (asks s (unless_remembered s (before_parent heads.refused heads.locator)) Match)
+    (λ _. calm_end fine s (landing hash s) item (unless_remembered s (before_parent heads.refused heads.locator)) (record { compact = refl; settings = refl }) (plain_unless s (before_parent heads.refused heads.locator) (plain_parent heads.refused heads.locator)))
     (λ _. record {
       suited = has;
       keeps = same_one refl;
-      counts = used 0 (plain_parent heads.refused heads.locator).no_nonce (next_stays s.settings.salt s.compact.made);
-      tells = λ _. no_wish (plain_parent heads.refused heads.locator).no_high;
-      requested = no_asking (plain_parent heads.refused heads.locator).no_request;
+      counts = used 0 (plain_unless s (before_parent heads.refused heads.locator) (plain_parent heads.refused heads.locator)).no_nonce (next_stays s.settings.salt s.compact.made);
+      tells = λ _. no_wish (plain_unless s (before_parent heads.refused heads.locator) (plain_parent heads.refused heads.locator)).no_high;
+      requested = no_asking (plain_unless s (before_parent heads.refused heads.locator) (plain_parent heads.refused heads.locator)).no_request;
     }))
 
-rebuilt_turns : (fine : Bool) (s : SessionState) (item : Option Item) (short : HeaderAndShortIds) (pairs : List Pair) (rebuilt : Rebuilt) → short_in item ≡ Some short → rebuilt_of short pairs ≡ rebuilt → Turns fine s item (rebuilt_by s (block_hash short.header) rebuilt)
+rebuilt_turns : (fine : Bool) (s : SessionState) (item : Option Item) (short : HeaderAndShortIds) (pairs : List Pair) (rebuilt : Rebuilt) → short_in item ≡ Some short → rebuilt_of short pairs ≡ rebuilt → Turns fine s item (rebuilt_by s short.header rebuilt)
 rebuilt_turns fine s item short pairs (rebuilts.Sound block) is e = calm fine s item (gives s block) (record { compact = refl; settings = refl }) plain_nothing refl
 rebuilt_turns fine s item short pairs (rebuilts.Lacking partial request) is e = ends_by (Turns fine s item) t list (line (sends t list) refl refl refl) (line (asks t list Wanted) refl refl refl) (line (asks t list Fresh) refl refl refl)
   where
@@ -498,17 +504,17 @@ rebuilt_turns fine s item short pairs (rebuilts.Lacking partial request) is e = 
     line outcome after sent next =
         record {
           suited = λ _. next;
-          keeps = newer partial request (ap (λ (u : SessionState). u.compact.partial) after) sent;
+          keeps = newer partial request (ap (λ (u : SessionState). u.compact.partial) after) (ap but_headers sent);
           counts = used 0 (ap nonces_in sent) (ap next_nonce after ∙ next_stays s.settings.salt s.compact.made);
           tells = λ _. no_wish (ap highs_in sent);
           requested = asking short pairs partial request is e (ap requests_in sent) (ap (λ (u : SessionState). u.compact.partial) after);
         }
-rebuilt_turns fine s item short pairs rebuilts.Useless is e = falls_calm fine s s item (block_hash short.header) (alike s)
+rebuilt_turns fine s item short pairs rebuilts.Useless is e = falls_calm fine s s item (block_hash short.header) short.header.prev (alike s)
 
 paired_turns : (fine : Bool) (s : SessionState) (item : Option Item) (short : Option HeaderAndShortIds) (pairs : List Pair) → short_in item ≡ short → Turns fine s item (paired s short pairs)
 paired_turns fine s item None pairs is = quiet fine s item
 paired_turns fine s item (Some short) pairs is =
-    by_test (Turns fine s item) (has_places short.txs) (rebuilt_by s (block_hash short.header) (rebuilt_of short pairs)) (ended reasons.BadMessage s)
+    by_test (Turns fine s item) (has_places short.txs) (rebuilt_by s short.header (rebuilt_of short pairs)) (ended reasons.BadMessage s)
     (λ _. rebuilt_turns fine s item short pairs (rebuilt_of short pairs) is refl) (λ _. over_turns fine s item reasons.BadMessage)
 
 excerpt_turns : (fine : Bool) (s : SessionState) (item : Option Item) (excerpt : Excerpt) → Turns fine s item (excerpt_answered s excerpt)
@@ -542,8 +548,8 @@ need_turns : (fine : Bool) (s : SessionState) (item : Option Item) (need : Need)
 unfolding need_told
 need_turns fine s item need =
     let asked = asking_for (filter_map tx_request need.entries) in
-    let behind : List Message = cond (list_any is_block need.entries) (asking_headers need.locator ∷ []) [] in
-    calm_end fine s s item (asked ++ behind) (alike s) (plain_both asked behind (plain_for (filter_map tx_request need.entries)) (plain_if (list_any is_block need.entries) (asking_headers need.locator ∷ []) (plain_headers need.locator)))
+    let behind : List Message = unless_remembered s (cond (list_any is_block need.entries) (asking_headers need.locator ∷ []) []) in
+    calm_end fine s s item (asked ++ behind) (alike s) (plain_both asked behind (plain_for (filter_map tx_request need.entries)) (plain_unless s (cond (list_any is_block need.entries) (asking_headers need.locator ∷ []) []) (plain_if (list_any is_block need.entries) (asking_headers need.locator ∷ []) (plain_headers need.locator))))
 
 wanted_turns : (fine : Bool) (s : SessionState) (item : Option Item) (need : Need) → Turns fine s item (wanted_told s need)
 unfolding wanted_told
@@ -638,7 +644,7 @@ news_turns fine s item news =
 -- ---- all answers
 
 heads_told_turns : (fine : Bool) (s : SessionState) (item : Option Item) (subject : Subject) (heads : Heads) (short : Option HeaderAndShortIds) → short_in item ≡ short → (fine ≡ true → about_suits subject item ≡ true) → Turns fine s item (heads_for s item short heads)
-heads_told_turns fine s item subject heads None is fits = heads_turns fine s (with_fetch (wanting_all s.fetch heads.lack) s) item heads.refused heads.locator (record { compact = refl; settings = refl })
+heads_told_turns fine s item subject heads None is fits = heads_turns fine s (with_lacking heads.lack (before_first item) s) item heads.refused heads.locator (record { compact = refl; settings = refl })
 heads_told_turns fine s item subject heads (Some short) is fits = told_short_turns fine s item (block_hash short.header) heads (λ is_fine. match_from item subject (fits is_fine))
   where
     match_from : (item : Option Item) (subject : Subject) → about_suits subject item ≡ true → match_suits item ≡ true
@@ -646,20 +652,50 @@ heads_told_turns fine s item subject heads (Some short) is fits = told_short_tur
     match_from (Some (Good (messages.BlockTxn given))) subject fits = fits
     match_from other subject fits = fits
 
+replied_turns : (fine : Bool) (s : SessionState) (item : Option Item) (stage : Stage) (answer : Answer) → (fine ≡ true → suits stage item ≡ true) → Turns fine s item (replied s item stage answer)
+unfolding replied heads_told pairs_told
+replied_turns fine s item stage answers.Kicked fits = over_turns fine s item reasons.Kicked
+replied_turns fine s item Admit answers.Go fits = processed_turns fine s item
+replied_turns fine s item (About subject) (answers.Heads heads) fits = heads_told_turns fine s item subject heads (short_in item) refl fits
+replied_turns fine s item (About subject) (answers.Locator locator) fits = calm_end fine s s item (unless_remembered s (asking_headers locator ∷ [])) (alike s) (plain_unless s (asking_headers locator ∷ []) (plain_headers locator))
+replied_turns fine s item (About subject) (answers.Need need) fits = need_turns fine s item need
+replied_turns fine s item (About subject) (answers.TxTaken refused) fits = calm_end fine s s item [] (alike s) plain_nothing
+replied_turns fine s item (About subject) (answers.Taken taken) fits = taken_turns fine s item taken.refused taken.locator
+replied_turns fine s item (About subject) (answers.Served pieces) fits = served_turns fine s item pieces
+replied_turns fine s item (About subject) (answers.Following headers) fits = calm_end fine s s item (messages.Headers headers ∷ []) (alike s) (record { no_nonce = refl; no_high = refl; no_request = refl })
+replied_turns fine s item (About subject) (answers.Excerpt excerpt) fits = excerpt_turns fine s item excerpt
+replied_turns fine s item Match (answers.Pairs pairs) fits = paired_turns fine s item (short_in item) pairs refl
+replied_turns fine s item (Give block) (answers.Taken taken) fits = given_turns fine s item taken.refused taken.locator
+replied_turns fine s item Wanted (answers.Need need) fits = wanted_turns fine s item need
+replied_turns fine s item Fresh (answers.News news) fits = news_turns fine s item news
+replied_turns fine s item stage other fits = quiet fine s item
+
+-- ---- the end of an item
+
+resumed_turns : (fine : Bool) (s : SessionState) (item : Option Item) (outcome : Outcome) (hash : Hash256) → outcome.next ≡ Some Fresh → Turns fine s item outcome → Turns fine s item (resumed hash outcome)
+resumed_turns fine s item outcome hash news turns = record { suited = turns.suited; keeps = kept turns.keeps; counts = counted turns.counts; tells = λ ready. told (turns.tells ready); requested = asked turns.requested }
+  where
+    kept : Keeps s item outcome → Keeps s item (resumed hash outcome)
+    kept (same_one e) = same_one e
+    kept (is_over closed) = is_over closed
+    kept (newer partial request at sent) = newer partial request at (but_more outcome.messages (hash ∷ []) ∙ sent)
+    kept (came brought) = came brought
+
+    counted : Counts s outcome → Counts s (resumed hash outcome)
+    counted (stopped closed silent none) = absurd (let clash : Some Fresh ≡ None = sym news ∙ none in cc)
+    counted (used count sent next) = used count (found_more nonce_in outcome.messages (hash ∷ []) refl ∙ sent) next
+
+    told : Tells s outcome → Tells s (resumed hash outcome)
+    told (no_wish silent) = no_wish (found_more high_in outcome.messages (hash ∷ []) refl ∙ silent)
+    told (one_wish high sent new) = one_wish high (found_more high_in outcome.messages (hash ∷ []) refl ∙ sent) (record { capable = new.capable; other = new.other; kept = new.kept })
+
+    asked : Asks item outcome → Asks item (resumed hash outcome)
+    asked (no_asking silent) = no_asking (found_more request_in outcome.messages (hash ∷ []) refl ∙ silent)
+    asked (asking short pairs partial request is lacks sent at) = asking short pairs partial request is lacks (found_more request_in outcome.messages (hash ∷ []) refl ∙ sent) at
+
 pub answered_turns : (fine : Bool) (s : SessionState) (item : Option Item) (stage : Stage) (answer : Answer) → (fine ≡ true → suits stage item ≡ true) → Turns fine s item (answered s item stage answer)
-unfolding answered heads_told pairs_told
-answered_turns fine s item stage answers.Kicked fits = over_turns fine s item reasons.Kicked
-answered_turns fine s item Admit answers.Go fits = processed_turns fine s item
-answered_turns fine s item (About subject) (answers.Heads heads) fits = heads_told_turns fine s item subject heads (short_in item) refl fits
-answered_turns fine s item (About subject) (answers.Locator locator) fits = calm_end fine s s item (asking_headers locator ∷ []) (alike s) (plain_headers locator)
-answered_turns fine s item (About subject) (answers.Need need) fits = need_turns fine s item need
-answered_turns fine s item (About subject) (answers.TxTaken refused) fits = calm_end fine s s item [] (alike s) plain_nothing
-answered_turns fine s item (About subject) (answers.Taken taken) fits = taken_turns fine s item taken.refused taken.locator
-answered_turns fine s item (About subject) (answers.Served pieces) fits = served_turns fine s item pieces
-answered_turns fine s item (About subject) (answers.Following headers) fits = calm_end fine s s item (messages.Headers headers ∷ []) (alike s) (record { no_nonce = refl; no_high = refl; no_request = refl })
-answered_turns fine s item (About subject) (answers.Excerpt excerpt) fits = excerpt_turns fine s item excerpt
-answered_turns fine s item Match (answers.Pairs pairs) fits = paired_turns fine s item (short_in item) pairs refl
-answered_turns fine s item (Give block) (answers.Taken taken) fits = given_turns fine s item taken.refused taken.locator
-answered_turns fine s item Wanted (answers.Need need) fits = wanted_turns fine s item need
-answered_turns fine s item Fresh (answers.News news) fits = news_turns fine s item news
-answered_turns fine s item stage other fits = quiet fine s item
+unfolding answered
+answered_turns fine s item stage answer fits =
+    let outcome = replied s item stage answer in
+    let turns = replied_turns fine s item stage answer fits in
+    resuming_cases (Turns fine s item) outcome turns (λ hash news _ _. resumed_turns fine s item outcome hash news turns)

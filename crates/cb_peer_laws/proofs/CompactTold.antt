@@ -1,5 +1,5 @@
 -- Blocks that are requested whole, and how tips are announced.
-use Rattle.std.proofs.Common.{◌≡◌, ◌∙◌, ◌≤◌, Bool, true, false, cond, List, [], ◌∷◌, ◌++◌, Option, Some, None, Ok, length, refl, sym, ap, subst, arith, length-append}
+use Rattle.std.proofs.Common.{◌≡◌, ◌∙◌, ◌≤◌, Bool, true, false, cond, List, [], ◌∷◌, ◌++◌, Option, Some, None, Ok, Result, length, refl, sym, ap, subst, arith, length-append}
 use Rattle.std.specs.Prelude.{◌&&◌, ◌||◌, map, nat_lt, not}
 use Rattle.std.specs.List.{list_any}
 use Rattle.std.proofs.lemmas.Bool.{ltb-true}
@@ -11,6 +11,8 @@ use Rattle.cb_chain.specs.Entries.{block_hash, same}
 use Rattle.cb_chain.proofs.Nodes.{same-refl}
 use Rattle.cb_compact.specs.Slots.{Unfilled}
 use Rattle.cb_compact.specs.declared.named_tx.Pair.{Pair}
+use Rattle.cb_base.specs.declared.fault.Fault.{Fault}
+use Rattle.cb_compact.specs.declared.partial.Filled.{Filled}
 use Rattle.cb_compact.specs.declared.partial.Filled.TheVariants as filling
 use Rattle.cb_fetch.specs.Fetching.{FetchState, asks_now, fallen_back, has, with_flight, with_wanted}
 use Rattle.cb_fetch.proofs.Falling.{asked}
@@ -22,6 +24,7 @@ use Rattle.cb_payload.specs.declared.compact_block.HeaderAndShortIds.{HeaderAndS
 use Rattle.cb_rebuild.specs.Completing.{completed_of}
 use Rattle.cb_rebuild.specs.Places.{has_places}
 use Rattle.cb_rebuild.specs.Rebuilding.{rebuilt_of}
+use Rattle.cb_rebuild.specs.declared.rebuilding.Rebuilt.{Rebuilt}
 use Rattle.cb_rebuild.specs.declared.rebuilding.Rebuilt.TheVariants.{Useless}
 use Rattle.cb_state.specs.declared.news.News.{News}
 use Rattle.cb_talk.specs.Announcing.{announcing, telling, tx_entry}
@@ -40,9 +43,11 @@ use Rattle.cb_peer_state.specs.declared.stage.Stage.TheVariants.{Admit, About, M
 use Rattle.cb_peer_state.specs.declared.stage.Subject.TheVariants as subjects
 use Rattle.cb_peer_state.specs.Questions.{is_nil, pending_question, question_at, question_of}
 use Rattle.cb_peer_state.specs.Receiving.{ends, falls_back, filled_by}
-use Rattle.cb_peer_state.specs.Replying.{answered, differ, is_block, is_heard, is_untold, news_told, rebuilt_by, tip_by, tip_told, wish_told, without_brought}
+use Rattle.cb_peer_state.specs.Replying.{answered, differ, is_block, is_heard, is_untold, news_told, rebuilt_by, replied, resuming, tip_by, tip_told, wish_told, without_brought}
 use Rattle.cb_peer_state.specs.Session.{Stepped, for_item, step_of}
-use Rattle.cb_peer_state.specs.State.{freed, is_closed, is_ready, with_fetch, with_partial, with_pending}
+use Rattle.cb_peer_state.specs.State.{freed, is_closed, is_ready, with_fallen, with_partial, with_pending}
+use Rattle.cb_peer_laws.specs.Laws.{but_headers}
+use Rattle.cb_peer_laws.proofs.Behind.{same_but, same_fetch}
 use Rattle.cb_peer_laws.proofs.CompactSteps.{by_test, end_session, ready_is, ready_open, sent_at_end, told_by}
 use Rattle.cb_peer_laws.proofs.CompactHonest.{go_txs, said_waits, told_goes, told_pairs, waiting}
 
@@ -62,14 +67,22 @@ as_whole : (hash : Hash256) (now : Bool) → cond now (asking_block hash ∷ [])
 as_whole hash true = refl
 as_whole hash false = refl
 
-falls_whole : (t : SessionState) (item : Option Item) (hash : Hash256) → length t.fetch.flight ≤ 16 → IsAskedWhole hash (for_item item (falls_back t hash))
+-- a `getdata` isn't dropped with a `getheaders`
+whole_stays : (hash : Hash256) (now : Bool) → but_headers (whole_if now hash) ≡ whole_if now hash
+whole_stays hash true = refl
+whole_stays hash false = refl
+
+falls_whole : (t : SessionState) (item : Option Item) (hash before : Hash256) → length t.fetch.flight ≤ 16 → IsAskedWhole hash (for_item item (resuming (falls_back t hash before)))
 unfolding falls_back
-falls_whole t item hash few =
-    let u = with_fetch (fallen_back hash t.fetch) t in
+falls_whole t item hash before few =
+    let u = with_fallen hash before t in
     let sent : List Message = cond (asks_now t.fetch hash) (asking_block hash ∷ []) [] in
-    let flying : (ends u sent).session.fetch.flight ≡ (fallen_back hash t.fetch).flight = ap (λ (v : SessionState). v.fetch.flight) (end_session u sent) in
+    let outcome = ends u sent in
+    let flying : (resuming outcome).session.fetch.flight ≡ (fallen_back hash t.fetch).flight = ap (λ (f : FetchState). f.flight) (same_fetch outcome) ∙ ap (λ (v : SessionState). v.fetch.flight) (end_session u sent) in
     record {
-      messages = sent_at_end u sent ∙ as_whole hash (asks_now t.fetch hash) ∙ ap (λ (now : Bool). whole_if now hash) (asked t.fetch hash ∙ ap (λ (flight : List Hash256). has flight hash) (sym flying));
+      messages =
+          same_but outcome ∙ ap but_headers (sent_at_end u sent ∙ as_whole hash (asks_now t.fetch hash)) ∙ whole_stays hash (asks_now t.fetch hash)
+          ∙ ap (λ (now : Bool). whole_if now hash) (asked t.fetch hash ∙ ap (λ (flight : List Hash256). has flight hash) (sym flying));
       few = subst (λ (flight : List Hash256). length flight ≤ 16) (sym flying) (few_flying t.fetch hash few);
     }
 
@@ -79,9 +92,9 @@ useless_whole s short pairs going few at has useless =
     let item : Option Item = Some (Good (messages.CmpctBlock short)) in
     let hash = block_hash short.header in
     let is : s ≡ waiting s item Match = ap (λ (pending : Option Pending). with_pending pending s) at in
-    let goes : step_of (waiting s item Match) (events.Told (answers.Pairs pairs)) ≡ for_item item (falls_back (freed s) hash) =
-    told_goes s item Match (answers.Pairs pairs) going refl ∙ ap (for_item item) (told_pairs (freed s) short pairs has ∙ ap (rebuilt_by (freed s) hash) useless) in
-    subst (IsAskedWhole hash) (sym (ap (λ (t : SessionState). step_of t (events.Told (answers.Pairs pairs))) is ∙ goes)) (falls_whole (freed s) item hash few)
+    let goes : step_of (waiting s item Match) (events.Told (answers.Pairs pairs)) ≡ for_item item (resuming (falls_back (freed s) hash short.header.prev)) =
+    told_goes s item Match (answers.Pairs pairs) going refl ∙ ap (for_item item) (told_pairs (freed s) short pairs has ∙ ap (λ (rebuilt : Rebuilt). resuming (rebuilt_by (freed s) short.header rebuilt)) useless) in
+    subst (IsAskedWhole hash) (sym (ap (λ (t : SessionState). step_of t (events.Told (answers.Pairs pairs))) is ∙ goes)) (falls_whole (freed s) item hash short.header.prev few)
 
 pub wrong_whole : (s : SessionState) (given : BlockTransactions) (partial : Unfilled) → is_ready s.state ≡ true → s.pending ≡ None → length s.fetch.flight ≤ 16 → s.compact.partial ≡ Some partial → same (block_hash partial.header) given.block ≡ true
     → completed_of partial given ≡ Ok filling.Wrong → IsAskedWhole given.block (txs_come s given)
@@ -90,9 +103,9 @@ wrong_whole s given partial ready free few keeps named wrong =
     let t = with_partial None (freed s) in
     let going = ready_open s.state ready in
     let first : (step_of s (events.Said (Good (messages.BlockTxn given)))).session ≡ waiting s item Admit = said_waits s (Good (messages.BlockTxn given)) going free in
-    let second : step_of (waiting s item Admit) (events.Told answers.Go) ≡ for_item item (falls_back t given.block) =
-    told_goes s item Admit answers.Go going refl ∙ ap (for_item item) (go_txs (freed s) given partial (ready_is s.state ready) keeps named ∙ ap (filled_by t given.block) wrong) in
-    subst (IsAskedWhole given.block) (sym (ap (λ (u : SessionState). step_of u (events.Told answers.Go)) first ∙ second)) (falls_whole t item given.block few)
+    let second : step_of (waiting s item Admit) (events.Told answers.Go) ≡ for_item item (resuming (falls_back t given.block partial.header.prev)) =
+    told_goes s item Admit answers.Go going refl ∙ ap (for_item item) (go_txs (freed s) given partial (ready_is s.state ready) keeps named ∙ ap (λ (filled : Result Filled Fault). resuming (filled_by t given.block partial.header.prev filled)) wrong) in
+    subst (IsAskedWhole given.block) (sym (ap (λ (u : SessionState). step_of u (events.Told answers.Go)) first ∙ second)) (falls_whole t item given.block partial.header.prev few)
 
 -- ---- announcements
 
@@ -107,7 +120,7 @@ news_none test s item news tip txs wished =
     (by_test (λ (list : List Message). list_any test list ≡ false) (s.peer.capable && differ news.high s.compact.asked_high) (wish news.high ∷ []) [] (λ _. rw (wished news.high) refl) (λ _. refl))
 
 answered_none : (test : Message → Bool) (s : SessionState) (item : Option Item) (stage : Stage) (news : News) → list_any test (news_told s item news).messages ≡ false → list_any test (answered s item stage (answers.News news)).messages ≡ false
-unfolding answered
+unfolding answered resuming replied news_told
 answered_none test s item Fresh news none = none
 answered_none test s item other news none = refl
 

@@ -21,9 +21,10 @@ use Rattle.cb_payload.specs.declared.requests.CompactRelay.{CompactRelay}
 use Rattle.cb_payload.specs.declared.inventory.Inventory.TheVariants as entry
 use Rattle.cb_state.specs.declared.news.News.{News}
 use Rattle.cb_state.specs.declared.serving.Piece.{Piece}
+use Rattle.cb_state.specs.declared.serving.Piece.TheVariants as piece
 use Rattle.cb_talk.specs.Announcing.{announcing, telling}
 use Rattle.cb_talk.specs.Inventory.{asking_block, asking_for}
-use Rattle.cb_talk.specs.Serving.{served, shorts}
+use Rattle.cb_talk.specs.Serving.{lacking_in, nonce_behind, not_found, sent, served, shorts}
 use Rattle.cb_wire.specs.declared.item.Item.{Item}
 use Rattle.cb_wire.specs.declared.message.Message.{Message}
 use Rattle.cb_wire.specs.declared.message.Message.TheVariants as messages
@@ -37,9 +38,9 @@ use Rattle.cb_peer_state.specs.declared.pending.Pending.{Pending}
 use Rattle.cb_peer_state.specs.declared.state.State.{State}
 use Rattle.cb_peer_state.specs.declared.state.State.TheVariants.{Start, Greeted, Ready, Closed}
 use Rattle.cb_peer_state.specs.Questions.{fits, is_nil, item_block, question_at, question_of, questions_left, pending_question}
-use Rattle.cb_peer_laws.specs.Laws.{IsReached, asks_for_block, greets, is_following, is_headers, names_block, rebuilds, rebuilds_at, rebuilds_by, wishes_for}
+use Rattle.cb_peer_laws.specs.Laws.{IsReached, asks_for_block, asks_for_headers, but_headers, greets, is_following, is_headers, names_block, rebuilds, rebuilds_at, rebuilds_by, wishes_for}
 use Rattle.cb_peer_state.specs.Receiving.{Outcome, by_compact, by_phase, ends, in_greeted, in_start, received, sends}
-use Rattle.cb_peer_state.specs.Replying.{answered, is_heard, is_untold, news_told, served_told, tip_by, tip_told, tx_request, wish_told, without_brought}
+use Rattle.cb_peer_state.specs.Replying.{answered, is_heard, is_untold, news_told, replied, served_told, tip_by, tip_told, tx_request, wish_told, without_brought}
 use Rattle.cb_peer_state.specs.Session.{pending_item, step_of}
 use Rattle.cb_block.specs.Decision.{is_sound_block}
 use Rattle.cb_peer_state.specs.declared.session_state.SessionState.{SessionState}
@@ -48,7 +49,8 @@ use Rattle.cb_peer_laws.proofs.Apt.{IsApt, Suits, reached_apt, pending_stage}
 use Rattle.cb_peer_state.proofs.Cases.{by_test}
 use Rattle.cb_block.proofs.Deciding.{sound_from}
 use Rattle.cb_peer_laws.proofs.Steps.{open_fewer}
-use Rattle.cb_peer_laws.proofs.Sending.{IsMild, None_of, step_none, tip_none}
+use Rattle.cb_peer_laws.proofs.Behind.{all_there, same_but}
+use Rattle.cb_peer_laws.proofs.Sending.{IsMild, None_of, none_of_both, step_none, tip_none}
 use Rattle.cb_peer_state.proofs.Cases.{sent_at_end}
 
 -- ---- before the handshake is done
@@ -287,9 +289,26 @@ given_sound s given reached e = sound_from given.block (pending_sound s s.pendin
 
 -- ---- what is served
 
-pub served_is : (s : SessionState) (item : Option Item) (subject : Subject) (pieces : List Piece) → (answered s item (About subject) (answers.Served pieces)).messages ≡ served (next_nonce s) pieces
-unfolding answered served_told
-served_is s item subject pieces = sent_at_end (with_made (shorts pieces) s) (served (next_nonce s) pieces)
+no_asking_sent : (nonce : ℕ) (pieces : List Piece) → None_of asks_for_headers (sent nonce pieces)
+no_asking_sent nonce [] = refl
+no_asking_sent nonce (piece.Tx tx ∷ pieces) = no_asking_sent nonce pieces
+no_asking_sent nonce (piece.Whole block ∷ pieces) = no_asking_sent nonce pieces
+no_asking_sent nonce (piece.Short block ∷ pieces) = no_asking_sent (nonce_behind nonce (piece.Short block)) pieces
+no_asking_sent nonce (piece.Lacking asked ∷ pieces) = no_asking_sent nonce pieces
+
+no_asking_lacking : (entries : List Inventory) → None_of asks_for_headers (not_found entries)
+no_asking_lacking [] = refl
+no_asking_lacking (first ∷ others) = refl
+
+pub no_asking_served : (nonce : ℕ) (pieces : List Piece) → None_of asks_for_headers (served nonce pieces)
+no_asking_served nonce pieces =
+    none_of_both asks_for_headers (sent nonce pieces) (not_found (filter_map lacking_in pieces)) (no_asking_sent nonce pieces) (no_asking_lacking (filter_map lacking_in pieces))
+
+pub served_is : (s : SessionState) (item : Option Item) (subject : Subject) (pieces : List Piece) → but_headers (answered s item (About subject) (answers.Served pieces)).messages ≡ served (next_nonce s) pieces
+unfolding answered replied served_told
+served_is s item subject pieces =
+    same_but (ends (with_made (shorts pieces) s) (served (next_nonce s) pieces)) ∙ ap but_headers (sent_at_end (with_made (shorts pieces) s) (served (next_nonce s) pieces))
+    ∙ all_there (served (next_nonce s) pieces) (no_asking_served (next_nonce s) pieces)
 
 -- ---- questions run out
 

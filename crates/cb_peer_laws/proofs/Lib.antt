@@ -1,5 +1,6 @@
 pub mod Again
 pub mod Apt
+pub mod Behind
 pub mod CompactHeld
 pub mod CompactHonest
 pub mod CompactLaws
@@ -7,5 +8,6 @@ pub mod CompactSteps
 pub mod CompactTable
 pub mod CompactTold
 pub mod LawLemmas
+pub mod Remembered
 pub mod Sending
 pub mod Steps

@@ -14,7 +14,7 @@ use Rattle.cb_compact.specs.Slots.{Unfilled}
 use Rattle.cb_compact.specs.declared.named_tx.Pair.{Pair}
 use Rattle.cb_compact.specs.declared.partial.Filled.{Filled}
 use Rattle.cb_compact.specs.declared.partial.Filled.TheVariants.{Sound, Wrong}
-use Rattle.cb_fetch.specs.Fetching.{asks_now, blocks_in, fallen_back, requests_of, taken_on, wanting_all}
+use Rattle.cb_fetch.specs.Fetching.{asks_now, blocks_in, requests_of, taken_on}
 use Rattle.cb_journal.specs.declared.answer.Answer.{Answer}
 use Rattle.cb_journal.specs.declared.answer.Answer.TheVariants as answers
 use Rattle.cb_payload.specs.declared.block_transactions.BlockTransactions.{BlockTransactions}
@@ -59,11 +59,13 @@ use Rattle.cb_peer_state.specs.declared.state.State.TheVariants.{Start, Greeted,
 use Rattle.cb_peer_state.specs.Questions.{fits, is_nil, question_of, short_in, told_of}
 use Rattle.cb_peer_laws.specs.Laws.{completes, is_short_of, rebuilds_by}
 use Rattle.cb_peer_state.specs.Receiving.{Outcome, asks, by_phase, completed_by, ended, ends, falls_back, filled_by, greeting, heard_of, in_greeted, in_ready, in_start, introduced, last_hash, processed, received, short_heard, txs_heard}
-use Rattle.cb_peer_state.specs.Replying.{answered, before_parent, differ, excerpt_answered, given_told, heads_by, heads_for, heads_told, is_block, is_workless, more_behind, more_headers, need_told, news_told, paired, pairs_told, rebuilt_by, served_told, short_told, is_untold, taken_told, tip_by, tip_told, tx_request, wanted_told, wish_told, without_brought}
+use Rattle.cb_peer_state.specs.Replying.{answered, before_first, before_parent, differ, excerpt_answered, given_told, heads_by, heads_for, heads_told, is_block, is_workless, more_behind, more_headers, need_told, news_told, paired, pairs_told, rebuilt_by, replied, served_told, short_told, is_untold, taken_told, tip_by, tip_told, tx_request, wanted_told, wish_told, without_brought}
 use Rattle.cb_peer_state.specs.Session.{arrives, open_step, step_of, told}
 use Rattle.cb_peer_state.specs.declared.session_state.SessionState.{SessionState}
-use Rattle.cb_peer_state.specs.State.{freed, is_closed, landing, next_nonce, with_fetch, with_made, with_partial}
+use Rattle.cb_peer_state.specs.State.{freed, is_closed, landing, next_nonce, unless_remembered, with_fallen, with_lacking, with_made, with_partial}
 use Rattle.cb_peer_state.proofs.Cases.{brought_cases, by_test, sent_at_end}
+use Rattle.cb_peer_state.proofs.Resuming.{resuming_cases}
+use Rattle.cb_peer_laws.proofs.Behind.{unless_all}
 
 -- none of the messages meets the test
 abbrev pub None_of : (Message → Bool) → List Message → Type 0
@@ -96,12 +98,15 @@ or_step : (met first whole : Bool) → (met || first) ≡ false → (first ≡ f
 or_step true first whole e next = absurd cc
 or_step false first whole e next = next e
 
-none_of_both : (test : Message → Bool) (first others : List Message) → None_of test first → None_of test others → None_of test (first ++ others)
+pub none_of_both : (test : Message → Bool) (first others : List Message) → None_of test first → None_of test others → None_of test (first ++ others)
 none_of_both test [] others f o = o
 none_of_both test (message ∷ first) others f o = or_step (test message) (list_any test first) (list_any test (first ++ others)) f (λ e. none_of_both test first others e o)
 
 none_at_end : (test : Message → Bool) (s : SessionState) (sent : List Message) → None_of test sent → None_of test (ends s sent).messages
 none_at_end test s sent none = rw (sent_at_end s sent) none
+
+unless_none : (test : Message → Bool) (s : SessionState) (sent : List Message) → None_of test sent → None_of test (unless_remembered s sent)
+unless_none test s sent none = unless_all (None_of test) s sent refl none
 
 -- ---- lists of messages
 
@@ -193,22 +198,22 @@ greeted_none test s (messages.SendCmpct relay) m = refl
 greeted_none test s other m = refl
 
 -- a block that can't be rebuilt
-falls_none : (test : Message → Bool) (s : SessionState) (hash : Hash256) → test (asking_block hash) ≡ false → None_of test (falls_back s hash).messages
+falls_none : (test : Message → Bool) (s : SessionState) (hash before : Hash256) → test (asking_block hash) ≡ false → None_of test (falls_back s hash before).messages
 unfolding falls_back
-falls_none test s hash none =
-    none_at_end test (with_fetch (fallen_back hash s.fetch) s) (cond (asks_now s.fetch hash) (asking_block hash ∷ []) [])
+falls_none test s hash before none =
+    none_at_end test (with_fallen hash before s) (cond (asks_now s.fetch hash) (asking_block hash ∷ []) [])
     (by_test (None_of test) (asks_now s.fetch hash) (asking_block hash ∷ []) [] (λ _. none_of_one test (asking_block hash) none) (λ _. refl))
 
-filled_none : (test : Message → Bool) (s : SessionState) (hash : Hash256) (filled : Result Filled Fault) → test (asking_block hash) ≡ false → None_of test (filled_by s hash filled).messages
-filled_none test s hash (Ok (Sound block)) none = refl
-filled_none test s hash (Ok Wrong) none = falls_none test s hash none
-filled_none test s hash (Err fault) none = refl
+filled_none : (test : Message → Bool) (s : SessionState) (hash before : Hash256) (filled : Result Filled Fault) → test (asking_block hash) ≡ false → None_of test (filled_by s hash before filled).messages
+filled_none test s hash before (Ok (Sound block)) none = refl
+filled_none test s hash before (Ok Wrong) none = falls_none test s hash before none
+filled_none test s hash before (Err fault) none = refl
 
 completed_none : (test : Message → Bool) (s : SessionState) (given : BlockTransactions) (partial : Option Unfilled) → NoneWhole test (λ hash. completes hash partial (Some (Good (messages.BlockTxn given)))) → None_of test (completed_by s given partial).messages
 completed_none test s given None whole = none_at_end test s [] refl
 completed_none test s given (Some partial) whole =
-    by_test (λ (outcome : Outcome). None_of test outcome.messages) (same (block_hash partial.header) given.block) (filled_by (with_partial None s) given.block (completed_of partial given)) (ends s [])
-    (λ it. filled_none test (with_partial None s) given.block (completed_of partial given) (whole given.block (rw (same-refl given.block) it)))
+    by_test (λ (outcome : Outcome). None_of test outcome.messages) (same (block_hash partial.header) given.block) (filled_by (with_partial None s) given.block partial.header.prev (completed_of partial given)) (ends s [])
+    (λ it. filled_none test (with_partial None s) given.block partial.header.prev (completed_of partial given) (whole given.block (rw (same-refl given.block) it)))
     (λ _. none_at_end test s [] refl)
 
 txs_none : (test : Message → Bool) (s : SessionState) (given : BlockTransactions) → NoneWhole test (λ hash. completes hash s.compact.partial (Some (Good (messages.BlockTxn given)))) → None_of test (txs_heard s given).messages
@@ -266,39 +271,39 @@ more_none test item m = refl
 
 heads_by_none : (test : Message → Bool) (s : SessionState) (item : Option Item) (refused : Option Fault) (locator : List Hash256) → IsMild test → None_of test (heads_by s item refused locator).messages
 heads_by_none test s item (Some faults.BadWork) locator m = refl
-heads_by_none test s item (Some faults.NoParent) locator m = none_at_end test s _ (request_none test locator m)
+heads_by_none test s item (Some faults.NoParent) locator m = none_at_end test s _ (unless_none test s (asking_headers locator ∷ []) (request_none test locator m))
 heads_by_none test s item (Some other) locator m = none_at_end test s [] refl
-heads_by_none test s item None locator m = none_at_end test s _ (more_none test item m)
+heads_by_none test s item None locator m = none_at_end test s _ (unless_none test s (more_headers item) (more_none test item m))
 
 taken_none : (test : Message → Bool) (s : SessionState) (refused : Option Fault) (locator : List Hash256) → IsMild test → None_of test (taken_told s refused locator).messages
 unfolding taken_told
 taken_none test s None locator m = none_at_end test s [] refl
 taken_none test s (Some faults.Known) locator m = none_at_end test s [] refl
-taken_none test s (Some faults.NoParent) locator m = none_at_end test s _ (request_none test locator m)
+taken_none test s (Some faults.NoParent) locator m = none_at_end test s _ (unless_none test s (asking_headers locator ∷ []) (request_none test locator m))
 taken_none test s (Some other) locator m = refl
 
 short_none : (test : Message → Bool) (s : SessionState) (hash : Hash256) (heads : Heads) → IsMild test → None_of test (short_told s hash heads).messages
 unfolding short_told
 short_none test s hash heads m =
-    let before : List Message = before_parent heads.refused heads.locator in
-    let none : None_of test before = before_none test heads.refused heads.locator m in
+    let before : List Message = unless_remembered s (before_parent heads.refused heads.locator) in
+    let none : None_of test before = unless_none test s (before_parent heads.refused heads.locator) (before_none test heads.refused heads.locator m) in
     by_test (λ (outcome : Outcome). None_of test outcome.messages) (is_workless heads.refused) (ended reasons.BadBlock s) (cond (is_nil heads.lack) (ends (landing hash s) before) (asks s before Match)) (λ _. refl)
     (λ _. by_test (λ (outcome : Outcome). None_of test outcome.messages) (is_nil heads.lack) (ends (landing hash s) before) (asks s before Match) (λ _. none_at_end test (landing hash s) before none) (λ _. none))
 
 heads_for_none : (test : Message → Bool) (s : SessionState) (item : Option Item) (short : Option HeaderAndShortIds) (heads : Heads) → IsMild test → None_of test (heads_for s item short heads).messages
-heads_for_none test s item None heads m = heads_by_none test (with_fetch (wanting_all s.fetch heads.lack) s) item heads.refused heads.locator m
+heads_for_none test s item None heads m = heads_by_none test (with_lacking heads.lack (before_first item) s) item heads.refused heads.locator m
 heads_for_none test s item (Some short) heads m = short_none test s (block_hash short.header) heads m
 
-rebuilt_none : (test : Message → Bool) (s : SessionState) (hash : Hash256) (rebuilt : Rebuilt) → IsMild test → test (asking_block hash) ≡ false → None_of test (rebuilt_by s hash rebuilt).messages
-rebuilt_none test s hash (rebuilts.Sound block) m none = refl
-rebuilt_none test s hash (rebuilts.Lacking partial request) m none = none_at_end test (with_partial (Some partial) s) (asking_txs request ∷ []) (none_of_one test (asking_txs request) (m.get_txs request))
-rebuilt_none test s hash rebuilts.Useless m none = falls_none test s hash none
+rebuilt_none : (test : Message → Bool) (s : SessionState) (header : Header) (rebuilt : Rebuilt) → IsMild test → test (asking_block (block_hash header)) ≡ false → None_of test (rebuilt_by s header rebuilt).messages
+rebuilt_none test s header (rebuilts.Sound block) m none = refl
+rebuilt_none test s header (rebuilts.Lacking partial request) m none = none_at_end test (with_partial (Some partial) s) (asking_txs request ∷ []) (none_of_one test (asking_txs request) (m.get_txs request))
+rebuilt_none test s header rebuilts.Useless m none = falls_none test s (block_hash header) header.prev none
 
 paired_none : (test : Message → Bool) (s : SessionState) (short : Option HeaderAndShortIds) (pairs : List Pair) → IsMild test → NoneWhole test (λ hash. is_short_of hash short) → None_of test (paired s short pairs).messages
 paired_none test s None pairs m whole = refl
 paired_none test s (Some short) pairs m whole =
-    by_test (λ (outcome : Outcome). None_of test outcome.messages) (has_places short.txs) (rebuilt_by s (block_hash short.header) (rebuilt_of short pairs)) (ended reasons.BadMessage s)
-    (λ _. rebuilt_none test s (block_hash short.header) (rebuilt_of short pairs) m (whole (block_hash short.header) (same-refl (block_hash short.header)))) (λ _. refl)
+    by_test (λ (outcome : Outcome). None_of test outcome.messages) (has_places short.txs) (rebuilt_by s short.header (rebuilt_of short pairs)) (ended reasons.BadMessage s)
+    (λ _. rebuilt_none test s short.header (rebuilt_of short pairs) m (whole (block_hash short.header) (same-refl (block_hash short.header)))) (λ _. refl)
 
 excerpt_answered_none : (test : Message → Bool) (s : SessionState) (excerpt : Excerpt) → IsMild test → None_of test (excerpt_answered s excerpt).messages
 unfolding excerpt_answered
@@ -318,7 +323,7 @@ need_none : (test : Message → Bool) (s : SessionState) (need : Need) → IsMil
 unfolding need_told
 need_none test s need m asked =
     none_at_end test s _ (none_of_both test (asking_for (filter_map tx_request need.entries)) _ asked
-    (elim (cases_Bool (list_any is_block need.entries)) [ inl block ↦ rw block (request_none test need.locator m) | inr none ↦ rw none refl ]))
+    (unless_none test s _ (by_test (None_of test) (list_any is_block need.entries) (asking_headers need.locator ∷ []) [] (λ _. request_none test need.locator m) (λ _. refl))))
 
 news_none : (test : Message → Bool) (s : SessionState) (item : Option Item) (news : News) → IsMild test → None_of test (tip_told s news) → None_of test (news_told s item news).messages
 unfolding news_told
@@ -326,23 +331,30 @@ news_none test s item news m tip =
     none_of_both test (tip_told s news ++ telling (without_brought item news.txids)) (wish_told s news.high)
     (none_of_both test (tip_told s news) (telling (without_brought item news.txids)) tip (telling_none test (without_brought item news.txids) m)) (wish_none test s news.high m)
 
+replied_none : (test : Message → Bool) (s : SessionState) (item : Option Item) (stage : Stage) (answer : Answer) → IsMild test → IsCalm test s item stage answer → None_of test (replied s item stage answer).messages
+unfolding replied heads_told wanted_told given_told pairs_told served_told
+replied_none test s item stage answers.Kicked m calm = refl
+replied_none test s item Admit answers.Go m calm = processed_none test s item m calm.whole
+replied_none test s item (About subject) (answers.Heads heads) m calm = heads_for_none test s item (short_in item) heads m
+replied_none test s item (About subject) (answers.Locator locator) m calm = none_at_end test s _ (unless_none test s (asking_headers locator ∷ []) (request_none test locator m))
+replied_none test s item (About subject) (answers.Need need) m calm = need_none test s need m (calm.need need)
+replied_none test s item (About subject) (answers.TxTaken refused) m calm = none_at_end test s [] refl
+replied_none test s item (About subject) (answers.Taken taken) m calm = taken_none test s taken.refused taken.locator m
+replied_none test s item (About subject) (answers.Served pieces) m calm = none_at_end test (with_made (shorts pieces) s) (served (next_nonce s) pieces) (served_none test (next_nonce s) pieces m)
+replied_none test s item (About subject) (answers.Following headers) m calm = none_at_end test s _ (none_of_one test _ (calm.following headers refl))
+replied_none test s item (About subject) (answers.Excerpt excerpt) m calm = excerpt_answered_none test s excerpt m
+replied_none test s item Match (answers.Pairs pairs) m calm = paired_none test s (short_in item) pairs m calm.whole
+replied_none test s item (Give block) (answers.Taken taken) m calm = none_at_end test s _ (unless_none test s (before_parent taken.refused taken.locator) (before_none test taken.refused taken.locator m))
+replied_none test s item Wanted (answers.Need need) m calm = calm.wanted need refl
+replied_none test s item Fresh (answers.News news) m calm = news_none test s item news m (calm.tip news)
+replied_none test s item stage other m calm = refl
+
 answered_none : (test : Message → Bool) (s : SessionState) (item : Option Item) (stage : Stage) (answer : Answer) → IsMild test → IsCalm test s item stage answer → None_of test (answered s item stage answer).messages
-unfolding answered heads_told wanted_told given_told pairs_told served_told
-answered_none test s item stage answers.Kicked m calm = refl
-answered_none test s item Admit answers.Go m calm = processed_none test s item m calm.whole
-answered_none test s item (About subject) (answers.Heads heads) m calm = heads_for_none test s item (short_in item) heads m
-answered_none test s item (About subject) (answers.Locator locator) m calm = none_at_end test s _ (request_none test locator m)
-answered_none test s item (About subject) (answers.Need need) m calm = need_none test s need m (calm.need need)
-answered_none test s item (About subject) (answers.TxTaken refused) m calm = none_at_end test s [] refl
-answered_none test s item (About subject) (answers.Taken taken) m calm = taken_none test s taken.refused taken.locator m
-answered_none test s item (About subject) (answers.Served pieces) m calm = none_at_end test (with_made (shorts pieces) s) (served (next_nonce s) pieces) (served_none test (next_nonce s) pieces m)
-answered_none test s item (About subject) (answers.Following headers) m calm = none_at_end test s _ (none_of_one test _ (calm.following headers refl))
-answered_none test s item (About subject) (answers.Excerpt excerpt) m calm = excerpt_answered_none test s excerpt m
-answered_none test s item Match (answers.Pairs pairs) m calm = paired_none test s (short_in item) pairs m calm.whole
-answered_none test s item (Give block) (answers.Taken taken) m calm = none_at_end test s (before_parent taken.refused taken.locator) (before_none test taken.refused taken.locator m)
-answered_none test s item Wanted (answers.Need need) m calm = calm.wanted need refl
-answered_none test s item Fresh (answers.News news) m calm = news_none test s item news m (calm.tip news)
-answered_none test s item stage other m calm = refl
+unfolding answered
+answered_none test s item stage answer m calm =
+    let outcome = replied s item stage answer in
+    let none = replied_none test s item stage answer m calm in
+    resuming_cases (λ (o : Outcome). None_of test o.messages) outcome none (λ hash _ _ _. none_of_both test outcome.messages (asking_headers (hash ∷ []) ∷ []) none (request_none test (hash ∷ []) m))
 
 -- ---- steps
 

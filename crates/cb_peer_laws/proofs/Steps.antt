@@ -13,7 +13,7 @@ use Rattle.cb_compact.specs.Slots.{Unfilled}
 use Rattle.cb_compact.specs.declared.named_tx.Pair.{Pair}
 use Rattle.cb_compact.specs.declared.partial.Filled.{Filled}
 use Rattle.cb_compact.specs.declared.partial.Filled.TheVariants.{Sound, Wrong}
-use Rattle.cb_fetch.specs.Fetching.{asks_now, blocks_in, fallen_back, is_due, requests_of, taken_on, wanting_all}
+use Rattle.cb_fetch.specs.Fetching.{asks_now, blocks_in, is_due, requests_of, taken_on}
 use Rattle.cb_journal.specs.declared.answer.Answer.{Answer}
 use Rattle.cb_journal.specs.declared.answer.Answer.TheVariants as answers
 use Rattle.cb_journal.specs.declared.question.Question.{Question}
@@ -58,11 +58,13 @@ use Rattle.cb_peer_state.specs.Questions.{fits, is_nil, question_at, question_le
 use Rattle.cb_peer_state.specs.Event.{ends_at_once, is_reader_end}
 use Rattle.cb_peer_state.specs.Pings.{item_ping, ping_nonce, pong_nonce, pongs}
 use Rattle.cb_peer_state.specs.Receiving.{Outcome, asks, brought, by_compact, by_headers, by_phase, completed_by, ended, ends, falls_back, filled_by, given_up, gives, greeting, heard_of, in_greeted, in_ready, in_start, introduced, last_hash, processed, received, sends, short_heard, txs_heard}
-use Rattle.cb_peer_state.specs.Replying.{answered, before_parent, differ, excerpt_answered, given_told, heads_by, heads_for, heads_told, is_block, is_untold, is_workless, more_behind, more_headers, need_told, news_told, paired, pairs_told, rebuilt_by, served_told, short_told, taken_told, tip_by, tip_told, tx_request, wanted_told, wish_told, without_brought}
+use Rattle.cb_peer_state.specs.Replying.{answered, before_first, before_parent, differ, excerpt_answered, given_told, heads_by, heads_for, heads_told, is_block, is_untold, is_workless, more_behind, more_headers, need_told, news_told, paired, pairs_told, rebuilt_by, replied, resumed, served_told, short_told, taken_told, tip_by, tip_told, tx_request, wanted_told, wish_told, without_brought}
 use Rattle.cb_peer_state.specs.Session.{Stepped, arrives, closes, for_item, open_step, pending_of, stays, told}
 use Rattle.cb_peer_state.specs.declared.session_state.SessionState.{SessionState}
 use Rattle.cb_peer_state.proofs.Cases.{brought_cases, dropping_cases}
-use Rattle.cb_peer_state.specs.State.{bare, freed, is_closed, is_ready, landing, next_nonce, with_fetch, with_made, with_partial, with_peer, with_pending, with_state}
+use Rattle.cb_peer_state.proofs.Resuming.{resuming_cases}
+use Rattle.cb_peer_laws.proofs.Behind.{found_more, unless_all}
+use Rattle.cb_peer_state.specs.State.{bare, freed, is_closed, is_ready, landing, next_nonce, unless_remembered, with_fallen, with_fetch, with_lacking, with_made, with_partial, with_peer, with_pending, with_state}
 
 -- one of two
 if_either : {A : Type 0} (P : A → Type 0) (b : Bool) (x y : A) → P x → P y → P (cond b x y)
@@ -103,6 +105,12 @@ ends_comes s sent going =
     if_either (Comes s.settings 3 (pongs sent)) (not (is_ready s.state)) (sends s sent) (cond (is_due s.fetch) (asks s sent Wanted) (asks s sent Fresh)) (goes going refl (omega arith) refl)
     (if_either (Comes s.settings 3 (pongs sent)) (is_due s.fetch) (asks s sent Wanted) (asks s sent Fresh) (goes going refl (omega arith) refl) (goes going refl (omega arith) refl))
 
+unless_plain : (s : SessionState) (sent : List Message) → pongs sent ≡ [] → pongs (unless_remembered s sent) ≡ []
+unless_plain s sent plain = unless_all (λ (list : List Message). pongs list ≡ []) s sent refl plain
+
+ends_unless : (s : SessionState) (sent : List Message) → pongs sent ≡ [] → is_closed s.state ≡ false → Comes s.settings 3 [] (ends s (unless_remembered s sent))
+ends_unless s sent plain going = renamed s.settings 3 (pongs (unless_remembered s sent)) [] (ends s (unless_remembered s sent)) (unless_plain s sent plain) (ends_comes s (unless_remembered s sent) going)
+
 -- ---- messages that are no pongs
 
 greeting_plain : (settings : Settings) → pongs (greeting settings) ≡ []
@@ -130,10 +138,10 @@ asking_plain (first ∷ others) = refl
 pongs_append : (xs ys : List Message) → pongs xs ≡ [] → pongs ys ≡ [] → pongs (xs ++ ys) ≡ []
 pongs_append xs ys e f = filter_map-append pong_nonce xs ys ∙ ap (λ (ns : List ℕ). ns ++ pongs ys) e ∙ f
 
-need_plain : (entries : List Inventory) (b : Bool) (locator : List Hash256) → pongs (asking_for entries ++ cond b (asking_headers locator ∷ []) []) ≡ []
-need_plain entries b locator =
-    pongs_append (asking_for entries) (cond b (asking_headers locator ∷ []) []) (asking_plain entries)
-    (if_either (λ (sent : List Message). pongs sent ≡ []) b (asking_headers locator ∷ []) [] refl refl)
+need_plain : (s : SessionState) (entries : List Inventory) (b : Bool) (locator : List Hash256) → pongs (asking_for entries ++ unless_remembered s (cond b (asking_headers locator ∷ []) [])) ≡ []
+need_plain s entries b locator =
+    pongs_append (asking_for entries) (unless_remembered s (cond b (asking_headers locator ∷ []) [])) (asking_plain entries)
+    (unless_plain s (cond b (asking_headers locator ∷ []) []) (if_either (λ (sent : List Message). pongs sent ≡ []) b (asking_headers locator ∷ []) [] refl refl))
 
 not_found_plain : (entries : List Inventory) → pongs (not_found entries) ≡ []
 not_found_plain [] = refl
@@ -225,10 +233,10 @@ quiet_comes s going = more s.settings 3 6 [] (ends s []) (omega arith) (ends_com
 
 -- ---- compact blocks
 
-falls_back_comes : (s : SessionState) (hash : Hash256) → is_closed s.state ≡ false → Comes s.settings 3 [] (falls_back s hash)
+falls_back_comes : (s : SessionState) (hash before : Hash256) → is_closed s.state ≡ false → Comes s.settings 3 [] (falls_back s hash before)
 unfolding falls_back
-falls_back_comes s hash going =
-    let fallen : SessionState = with_fetch (fallen_back hash s.fetch) s in
+falls_back_comes s hash before going =
+    let fallen : SessionState = with_fallen hash before s in
     let sent : List Message = cond (asks_now s.fetch hash) (asking_block hash ∷ []) [] in
     renamed s.settings 3 (pongs sent) [] (ends fallen sent) (if_either (λ (sent : List Message). pongs sent ≡ []) (asks_now s.fetch hash) (asking_block hash ∷ []) [] refl refl) (ends_comes fallen sent going)
 
@@ -240,17 +248,17 @@ unfolding short_heard
 short_heard_comes s short going =
     if_either (Comes s.settings 6 []) (has_places short.txs) (asks (heard_of (block_hash short.header) s) [] (About subjects.Headers)) (ended reasons.BadMessage s) (goes going refl (omega arith) refl) (stops reasons.BadMessage (λ e. cc) refl)
 
-filled_by_comes : (s : SessionState) (hash : Hash256) (filled : Result Filled Fault) → is_closed s.state ≡ false → Comes s.settings 4 [] (filled_by s hash filled)
-filled_by_comes s hash (Ok (Sound block)) going = gives_comes s block going
-filled_by_comes s hash (Ok Wrong) going = more s.settings 3 4 [] (falls_back s hash) (omega arith) (falls_back_comes s hash going)
-filled_by_comes s hash (Err fault) going = stops reasons.BadMessage (λ e. cc) refl
+filled_by_comes : (s : SessionState) (hash before : Hash256) (filled : Result Filled Fault) → is_closed s.state ≡ false → Comes s.settings 4 [] (filled_by s hash before filled)
+filled_by_comes s hash before (Ok (Sound block)) going = gives_comes s block going
+filled_by_comes s hash before (Ok Wrong) going = more s.settings 3 4 [] (falls_back s hash before) (omega arith) (falls_back_comes s hash before going)
+filled_by_comes s hash before (Err fault) going = stops reasons.BadMessage (λ e. cc) refl
 
 completed_by_comes : (s : SessionState) (given : BlockTransactions) (partial : Option Unfilled) → is_closed s.state ≡ false → Comes s.settings 6 [] (completed_by s given partial)
 completed_by_comes s given None going = quiet_comes s going
 completed_by_comes s given (Some partial) going =
-    let filled : Outcome = filled_by (with_partial None s) given.block (completed_of partial given) in
+    let filled : Outcome = filled_by (with_partial None s) given.block partial.header.prev (completed_of partial given) in
     if_either (Comes s.settings 6 []) (same (block_hash partial.header) given.block) filled (ends s [])
-    (more s.settings 4 6 [] filled (omega arith) (filled_by_comes (with_partial None s) given.block (completed_of partial given) going)) (quiet_comes s going)
+    (more s.settings 4 6 [] filled (omega arith) (filled_by_comes (with_partial None s) given.block partial.header.prev (completed_of partial given) going)) (quiet_comes s going)
 
 txs_heard_comes : (s : SessionState) (given : BlockTransactions) → is_closed s.state ≡ false → Comes s.settings 6 [] (txs_heard s given)
 unfolding txs_heard
@@ -307,16 +315,16 @@ processed_comes s (Some (Bad command fault)) going = stops reasons.BadMessage (�
 
 heads_by_comes : (s : SessionState) (item : Option Item) (refused : Option Fault) (locator : List Hash256) → is_closed s.state ≡ false → Comes s.settings 3 [] (heads_by s item refused locator)
 heads_by_comes s item (Some faults.BadWork) locator going = stops reasons.BadBlock (λ e. cc) refl
-heads_by_comes s item (Some faults.NoParent) locator going = ends_comes s (asking_headers locator ∷ []) going
+heads_by_comes s item (Some faults.NoParent) locator going = ends_unless s (asking_headers locator ∷ []) refl going
 heads_by_comes s item (Some other) locator going = ends_comes s [] going
-heads_by_comes s item None locator going = renamed s.settings 3 (pongs (more_headers item)) [] (ends s (more_headers item)) (more_headers_plain item) (ends_comes s (more_headers item) going)
+heads_by_comes s item None locator going = ends_unless s (more_headers item) (more_headers_plain item) going
 
 -- the header of a compact block
 short_told_comes : (s : SessionState) (hash : Hash256) (heads : Heads) → is_closed s.state ≡ false → Comes s.settings 5 [] (short_told s hash heads)
 unfolding short_told
 short_told_comes s hash heads going =
-    let sent : List Message = before_parent heads.refused heads.locator in
-    let plain : pongs sent ≡ [] = before_plain heads.refused heads.locator in
+    let sent : List Message = unless_remembered s (before_parent heads.refused heads.locator) in
+    let plain : pongs sent ≡ [] = unless_plain s (before_parent heads.refused heads.locator) (before_plain heads.refused heads.locator) in
     let known : Outcome = ends (landing hash s) sent in
     if_either (Comes s.settings 5 []) (is_workless heads.refused) (ended reasons.BadBlock s) (cond (is_nil heads.lack) known (asks s sent Match)) (stops reasons.BadBlock (λ e. cc) refl)
     (if_either (Comes s.settings 5 []) (is_nil heads.lack) known (asks s sent Match)
@@ -325,7 +333,7 @@ short_told_comes s hash heads going =
 
 heads_for_comes : (s : SessionState) (item : Option Item) (short : Option HeaderAndShortIds) (heads : Heads) → is_closed s.state ≡ false → Comes s.settings 5 [] (heads_for s item short heads)
 heads_for_comes s item None heads going =
-    let wanting : SessionState = with_fetch (wanting_all s.fetch heads.lack) s in
+    let wanting : SessionState = with_lacking heads.lack (before_first item) s in
     more s.settings 3 5 [] (heads_by wanting item heads.refused heads.locator) (omega arith) (heads_by_comes wanting item heads.refused heads.locator going)
 heads_for_comes s item (Some short) heads going = short_told_comes s (block_hash short.header) heads going
 
@@ -334,18 +342,18 @@ unfolding heads_told
 heads_told_comes s item heads going = heads_for_comes s item (short_in item) heads going
 
 -- a block that is rebuilt
-rebuilt_by_comes : (s : SessionState) (hash : Hash256) (rebuilt : Rebuilt) → is_closed s.state ≡ false → Comes s.settings 4 [] (rebuilt_by s hash rebuilt)
-rebuilt_by_comes s hash (rebuilts.Sound block) going = gives_comes s block going
-rebuilt_by_comes s hash (rebuilts.Lacking partial request) going =
+rebuilt_by_comes : (s : SessionState) (header : Header) (rebuilt : Rebuilt) → is_closed s.state ≡ false → Comes s.settings 4 [] (rebuilt_by s header rebuilt)
+rebuilt_by_comes s header (rebuilts.Sound block) going = gives_comes s block going
+rebuilt_by_comes s header (rebuilts.Lacking partial request) going =
     let kept : SessionState = with_partial (Some partial) s in
     more s.settings 3 4 [] (ends kept (asking_txs request ∷ [])) (omega arith) (ends_comes kept (asking_txs request ∷ []) going)
-rebuilt_by_comes s hash rebuilts.Useless going = more s.settings 3 4 [] (falls_back s hash) (omega arith) (falls_back_comes s hash going)
+rebuilt_by_comes s header rebuilts.Useless going = more s.settings 3 4 [] (falls_back s (block_hash header) header.prev) (omega arith) (falls_back_comes s (block_hash header) header.prev going)
 
 paired_comes : (s : SessionState) (short : Option HeaderAndShortIds) (pairs : List Pair) → is_closed s.state ≡ false → Comes s.settings 4 [] (paired s short pairs)
 paired_comes s None pairs going = goes going refl (omega arith) refl
 paired_comes s (Some short) pairs going =
-    if_either (Comes s.settings 4 []) (has_places short.txs) (rebuilt_by s (block_hash short.header) (rebuilt_of short pairs)) (ended reasons.BadMessage s)
-    (rebuilt_by_comes s (block_hash short.header) (rebuilt_of short pairs) going) (stops reasons.BadMessage (λ e. cc) refl)
+    if_either (Comes s.settings 4 []) (has_places short.txs) (rebuilt_by s short.header (rebuilt_of short pairs)) (ended reasons.BadMessage s)
+    (rebuilt_by_comes s short.header (rebuilt_of short pairs) going) (stops reasons.BadMessage (λ e. cc) refl)
 
 pairs_told_comes : (s : SessionState) (item : Option Item) (pairs : List Pair) → is_closed s.state ≡ false → Comes s.settings 4 [] (pairs_told s item pairs)
 unfolding pairs_told
@@ -353,9 +361,7 @@ pairs_told_comes s item pairs going = paired_comes s (short_in item) pairs going
 
 given_told_comes : (s : SessionState) (refused : Option Fault) (locator : List Hash256) → is_closed s.state ≡ false → Comes s.settings 3 [] (given_told s refused locator)
 unfolding given_told
-given_told_comes s refused locator going =
-    let sent : List Message = before_parent refused locator in
-    renamed s.settings 3 (pongs sent) [] (ends s sent) (before_plain refused locator) (ends_comes s sent going)
+given_told_comes s refused locator going = ends_unless s (before_parent refused locator) (before_plain refused locator) going
 
 -- what the peer requested
 told_of_excerpt : (s : SessionState) (excerpt : Excerpt) → is_closed s.state ≡ false → Comes s.settings 3 [] (ends s (excerpt_told excerpt))
@@ -376,14 +382,14 @@ taken_told_comes : (s : SessionState) (refused : Option Fault) (locator : List H
 unfolding taken_told
 taken_told_comes s None locator going = ends_comes s [] going
 taken_told_comes s (Some faults.Known) locator going = ends_comes s [] going
-taken_told_comes s (Some faults.NoParent) locator going = ends_comes s (asking_headers locator ∷ []) going
+taken_told_comes s (Some faults.NoParent) locator going = ends_unless s (asking_headers locator ∷ []) refl going
 taken_told_comes s (Some other) locator going = stops reasons.BadBlock (λ e. cc) refl
 
 need_told_comes : (s : SessionState) (need : Need) → is_closed s.state ≡ false → Comes s.settings 3 [] (need_told s need)
 unfolding need_told
 need_told_comes s need going =
-    let sent : List Message = asking_for (filter_map tx_request need.entries) ++ cond (list_any is_block need.entries) (asking_headers need.locator ∷ []) [] in
-    renamed s.settings 3 (pongs sent) [] (ends s sent) (need_plain (filter_map tx_request need.entries) (list_any is_block need.entries) need.locator) (ends_comes s sent going)
+    let sent : List Message = asking_for (filter_map tx_request need.entries) ++ unless_remembered s (cond (list_any is_block need.entries) (asking_headers need.locator ∷ []) []) in
+    renamed s.settings 3 (pongs sent) [] (ends s sent) (need_plain s (filter_map tx_request need.entries) (list_any is_block need.entries) need.locator) (ends_comes s sent going)
 
 wanted_told_comes : (s : SessionState) (need : Need) → is_closed s.state ≡ false → Comes s.settings 2 [] (wanted_told s need)
 unfolding wanted_told
@@ -402,25 +408,37 @@ abbrev pub owed_at : Stage → Option Item → List ℕ
 owed_at Admit item = owed_by item
 owed_at other item = []
 
+replied_comes : (q s : SessionState) (item : Option Item) (stage : Stage) (answer : Answer) → fits (question_of q item stage) answer ≡ true → is_closed s.state ≡ false → Comes s.settings (question_left stage) (owed_at stage item) (replied s item stage answer)
+unfolding replied
+replied_comes q s item stage answers.Kicked fit going = stops reasons.Kicked (λ e. cc) refl
+replied_comes q s item Admit answers.Go fit going = processed_comes s item going
+replied_comes q s item Admit other fit going = absurd cc
+replied_comes q s item (About subject) (answers.Heads heads) fit going = heads_told_comes s item heads going
+replied_comes q s item (About subject) (answers.Locator locator) fit going = later s (ends s (unless_remembered s (asking_headers locator ∷ []))) (ends_unless s (asking_headers locator ∷ []) refl going)
+replied_comes q s item (About subject) (answers.Need need) fit going = later s (need_told s need) (need_told_comes s need going)
+replied_comes q s item (About subject) (answers.TxTaken refused) fit going = later s (ends s []) (ends_comes s [] going)
+replied_comes q s item (About subject) (answers.Taken taken) fit going = later s (taken_told s taken.refused taken.locator) (taken_told_comes s taken.refused taken.locator going)
+replied_comes q s item (About subject) (answers.Served pieces) fit going = later s (served_told s pieces) (served_told_comes s pieces going)
+replied_comes q s item (About subject) (answers.Following headers) fit going = later s (ends s (messages.Headers headers ∷ [])) (ends_comes s (messages.Headers headers ∷ []) going)
+replied_comes q s item (About subject) (answers.Excerpt excerpt) fit going = later s (excerpt_answered s excerpt) (excerpt_answered_comes s excerpt going)
+replied_comes q s item Match (answers.Pairs pairs) fit going = pairs_told_comes s item pairs going
+replied_comes q s item (Give block) (answers.Taken taken) fit going = given_told_comes s taken.refused taken.locator going
+replied_comes q s item Wanted (answers.Need need) fit going = wanted_told_comes s need going
+replied_comes q s item Fresh (answers.News news) fit going = news_told_comes s item news going
+replied_comes q s item stage other fit going = goes going refl (omega arith) refl
+
+resumed_comes : (settings : Settings) (left : ℕ) (nonces : List ℕ) (outcome : Outcome) (hash : Hash256) → outcome.next ≡ Some Fresh → Comes settings left nonces outcome → Comes settings left nonces (resumed hash outcome)
+resumed_comes settings left nonces outcome hash news (goes going same next sent) = goes going same next (found_more pong_nonce outcome.messages (hash ∷ []) refl ∙ sent)
+resumed_comes settings left nonces outcome hash news (stops why other e) =
+    absurd (let clash : Some Fresh ≡ None = sym news ∙ ap (λ (o : Outcome). o.next) e in cc)
+
 -- an answer that fits leaves fewer to be waited for, and only leave answers a ping
 pub answered_comes : (q s : SessionState) (item : Option Item) (stage : Stage) (answer : Answer) → fits (question_of q item stage) answer ≡ true → is_closed s.state ≡ false → Comes s.settings (question_left stage) (owed_at stage item) (answered s item stage answer)
 unfolding answered
-answered_comes q s item stage answers.Kicked fit going = stops reasons.Kicked (λ e. cc) refl
-answered_comes q s item Admit answers.Go fit going = processed_comes s item going
-answered_comes q s item Admit other fit going = absurd cc
-answered_comes q s item (About subject) (answers.Heads heads) fit going = heads_told_comes s item heads going
-answered_comes q s item (About subject) (answers.Locator locator) fit going = later s (ends s (asking_headers locator ∷ [])) (ends_comes s (asking_headers locator ∷ []) going)
-answered_comes q s item (About subject) (answers.Need need) fit going = later s (need_told s need) (need_told_comes s need going)
-answered_comes q s item (About subject) (answers.TxTaken refused) fit going = later s (ends s []) (ends_comes s [] going)
-answered_comes q s item (About subject) (answers.Taken taken) fit going = later s (taken_told s taken.refused taken.locator) (taken_told_comes s taken.refused taken.locator going)
-answered_comes q s item (About subject) (answers.Served pieces) fit going = later s (served_told s pieces) (served_told_comes s pieces going)
-answered_comes q s item (About subject) (answers.Following headers) fit going = later s (ends s (messages.Headers headers ∷ [])) (ends_comes s (messages.Headers headers ∷ []) going)
-answered_comes q s item (About subject) (answers.Excerpt excerpt) fit going = later s (excerpt_answered s excerpt) (excerpt_answered_comes s excerpt going)
-answered_comes q s item Match (answers.Pairs pairs) fit going = pairs_told_comes s item pairs going
-answered_comes q s item (Give block) (answers.Taken taken) fit going = given_told_comes s taken.refused taken.locator going
-answered_comes q s item Wanted (answers.Need need) fit going = wanted_told_comes s need going
-answered_comes q s item Fresh (answers.News news) fit going = news_told_comes s item news going
-answered_comes q s item stage other fit going = goes going refl (omega arith) refl
+answered_comes q s item stage answer fit going =
+    let outcome = replied s item stage answer in
+    let comes = replied_comes q s item stage answer fit going in
+    resuming_cases (Comes s.settings (question_left stage) (owed_at stage item)) outcome comes (λ hash news _ _. resumed_comes s.settings (question_left stage) (owed_at stage item) outcome hash news comes)
 
 -- ---- what is asked is what is open
 

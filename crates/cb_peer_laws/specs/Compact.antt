@@ -23,6 +23,7 @@ use Rattle.cb_wire.specs.declared.item.Item.{Item}
 use Rattle.cb_wire.specs.declared.item.Item.TheVariants.{Good}
 use Rattle.cb_wire.specs.declared.message.Message.{Message}
 use Rattle.cb_wire.specs.declared.message.Message.TheVariants as messages
+use Rattle.cb_peer_laws.specs.Laws.{but_headers}
 use Rattle.cb_peer_state.specs.declared.event.Event.{Event}
 use Rattle.cb_peer_state.specs.declared.event.Event.TheVariants as events
 use Rattle.cb_peer_state.specs.declared.session_state.SessionState.{SessionState}
@@ -70,7 +71,8 @@ IsCompletedLater block request partial =
     → given_by (txs_come s given).question ≡ Some block
 
 -- The hall is given the block, if nothing lacks. Otherwise exactly the places that nothing serves
--- are requested, in one message under the block's hash, and what is there is kept.
+-- are requested, in one message under the block's hash, and what is there is kept. A `getheaders` may
+-- follow it at the end of the item.
 pub data LeadsTo (block : Block) (nonce : ℕ) (places : List ℕ) (pairs : List Pair)
     (step : Stepped) : Type 0 where
   gives : AreUnserved block nonce places pairs [] → step.messages ≡ []
@@ -78,7 +80,7 @@ pub data LeadsTo (block : Block) (nonce : ℕ) (places : List ℕ) (pairs : List
   requests : (partial : Unfilled) (request : BlockTransactionsRequest)
       → AreUnserved block nonce places pairs (sums 0 request.differences)
       → request.block ≡ block_hash block.header
-      → step.messages ≡ messages.GetBlockTxn request ∷ []
+      → but_headers step.messages ≡ messages.GetBlockTxn request ∷ []
       → step.session.compact.partial ≡ Some partial → IsCompletedLater block request partial
       → LeadsTo block nonce places pairs step
 
@@ -152,7 +154,7 @@ pub data Fate (partial : Unfilled) (s : SessionState) (step : Stepped) : Type 0 
   ends : is_closed step.session.state ≡ true → Fate partial s step
   makes_way : (newer : Unfilled) (request : BlockTransactionsRequest)
       → step.session.compact.partial ≡ Some newer
-      → step.messages ≡ messages.GetBlockTxn request ∷ [] → Fate partial s step
+      → but_headers step.messages ≡ messages.GetBlockTxn request ∷ [] → Fate partial s step
   comes : brings (block_hash partial.header) (pending_item s.pending) ≡ true → Fate partial s step
 
 -- ---- a block that is requested whole
@@ -162,9 +164,10 @@ abbrev pub whole_if : Bool → Hash256 → List Message
 whole_if true hash = messages.GetData (entry.Block hash ∷ []) ∷ []
 whole_if false hash = []
 
--- It is requested whole exactly if it is in flight then, as one of at most 16.
+-- It is requested whole exactly if it is in flight then, as one of at most 16. Nothing else is sent but
+-- a `getheaders`.
 pub record IsAskedWhole (hash : Hash256) (step : Stepped) : Type 0 where
-  pub messages : step.messages ≡ whole_if (has step.session.fetch.flight hash) hash
+  pub messages : but_headers step.messages ≡ whole_if (has step.session.fetch.flight hash) hash
   pub few : length step.session.fetch.flight ≤ 16
 
 -- ---- announcements

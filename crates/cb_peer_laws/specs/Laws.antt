@@ -1,5 +1,5 @@
 -- The terms of the laws for every session, in the words of the protocol.
-use Rattle.std.specs.Prelude.{◌&&◌, Bool, true, false, Option, None, Some}
+use Rattle.std.specs.Prelude.{◌&&◌, Bool, true, false, not, List, filter, Option, None, Some}
 use Rattle.std.specs.List.{list_any}
 use Rattle.cb_base.specs.declared.hash.Hash256.{Hash256}
 use Rattle.cb_chain.specs.Entries.{block_hash, same}
@@ -37,6 +37,14 @@ greets (messages.Version version) = true
 greets messages.Verack = true
 greets (messages.Ping nonce) = true
 greets other = false
+
+abbrev pub asks_for_headers : Message → Bool
+asks_for_headers (messages.GetHeaders request) = true
+asks_for_headers other = false
+
+-- The messages but for a `getheaders`.
+abbrev pub but_headers : List Message → List Message
+but_headers sent = filter (λ message. not (asks_for_headers message)) sent
 
 -- How the peer wants blocks announced: `sendheaders` or `sendcmpct`.
 abbrev pub wishes_for : Message → Bool

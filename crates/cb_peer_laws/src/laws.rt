@@ -24,7 +24,7 @@ ghost use Rattle.cb_peer_state.specs.declared.event.Event.{Event};
 ghost use Rattle.cb_peer_state.specs.declared.event.Event.TheVariants.{Told};
 ghost use Rattle.cb_peer_state.specs.declared.pending.Pending.{Pending};
 ghost use Rattle.cb_peer_state.specs.Questions.{fits, questions_left, pending_question};
-ghost use Rattle.cb_peer_laws.specs.Laws.{IsReached, asks_for_block, greets, is_following, is_headers, rebuilds, wishes_for};
+ghost use Rattle.cb_peer_laws.specs.Laws.{IsReached, asks_for_block, but_headers, greets, is_following, is_headers, rebuilds, wishes_for};
 ghost use Rattle.cb_peer_state.specs.Receiving.{received, sends};
 ghost use Rattle.cb_peer_state.specs.Replying.{answered, news_told, wish_told, without_brought};
 ghost use Rattle.cb_peer_state.specs.Session.{step_of};
@@ -62,10 +62,11 @@ pub fn headers_are_sent_where_asked_for()
 {}
 
 /// A `getdata` is answered with what the hall has, in order, and then one `notfound` of all that it
-/// lacks (own). Each compact block has a nonce of its own (BIP 152), from the next one on.
+/// lacks (own). Each compact block has a nonce of its own (BIP 152), from the next one on. Nothing else
+/// is sent then but a `getheaders`.
 pub fn what_the_hall_has_is_served()
     ensures { (s : SessionState) (item : Option Item) (subject : Subject) (pieces : List Piece) →
-        (answered s item (About subject) (answers.Served pieces)).messages
+        but_headers (answered s item (About subject) (answers.Served pieces)).messages
         ≡ served (next_nonce s) pieces }
 {}
 
@@ -81,7 +82,8 @@ pub fn few_blocks_are_fetched()
 
 /// A reachable session requests no block that is in flight, with one exception. A block that can't
 /// be rebuilt from its compact form is requested again, alone and whole (BIP 152): at the mempool's
-/// transactions for its `cmpctblock`, or at a `blocktxn` while it is being rebuilt.
+/// transactions for its `cmpctblock`, or at a `blocktxn` while it is being rebuilt. Nothing else is
+/// sent then but a `getheaders`.
 pub fn no_block_in_flight_is_asked_for()
     ensures once { (s : SessionState) (event : Event) (hash : Hash256) → IsReached s →
         rebuilds hash s event ≡ false →
@@ -90,7 +92,7 @@ pub fn no_block_in_flight_is_asked_for()
     ensures again { (s : SessionState) (event : Event) (hash : Hash256) →
         rebuilds hash s event ≡ true →
         list_any (asks_for_block hash) (step_of s event).messages ≡ true →
-        (step_of s event).messages ≡ asking_block hash ∷ [] }
+        but_headers (step_of s event).messages ≡ asking_block hash ∷ [] }
 {}
 
 /// A reachable session gives the hall only blocks that are sound, whether they came whole or were

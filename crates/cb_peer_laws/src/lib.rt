@@ -3,6 +3,7 @@
 
 mod compact_laws;
 mod laws;
+mod resuming_laws;
 
 pub use compact_laws::{
     a_compact_block_is_not_held_against_its_peer, a_fallback_asks_for_the_whole_block,
@@ -14,4 +15,9 @@ pub use laws::{
     a_tip_is_not_told_to_its_source, few_blocks_are_fetched, headers_are_sent_where_asked_for,
     no_block_in_flight_is_asked_for, only_the_handshake_counts, questions_run_out,
     sound_blocks_are_given, what_the_hall_has_is_served,
+};
+pub use resuming_laws::{
+    headers_are_requested_as_soon_as_nothing_is_wanted,
+    headers_are_requested_from_what_is_remembered, no_missing_block_is_left_out,
+    nothing_joins_the_wanted_meanwhile,
 };

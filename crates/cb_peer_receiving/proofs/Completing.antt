@@ -11,7 +11,7 @@ use Rattle.cb_peer_state.specs.declared.session_state.SessionState.{SessionState
 completes_no_other : (s : SessionState) (given : BlockTransactions) (partial : Option Unfilled) → is_partial given.block partial ≡ false → completed_by s given partial ≡ ends s []
 completes_no_other s given None other = refl
 completes_no_other s given (Some partial) other =
-    ap (λ (same : Bool). cond same (filled_by (with_partial None s) given.block (completed_of partial given)) (ends s [])) other
+    ap (λ (same : Bool). cond same (filled_by (with_partial None s) given.block partial.header.prev (completed_of partial given)) (ends s [])) other
 
 pub ignored : (s : SessionState) (given : BlockTransactions) (sent : List Message) → is_partial given.block s.compact.partial ≡ false → sent ≡ [] → ends s sent ≡ txs_heard s given
 unfolding txs_heard

@@ -89,9 +89,10 @@ pub(crate) fn hear_txs(
     let Some(partial) = session.compact.partial.take() else {
         return session.end(alloc, Vec::new(alloc));
     };
+    let before = partial.header().prev;
     match complete(alloc, partial, given) {
         Ok(Filled::Sound(block)) => session.give(alloc, block),
-        Ok(Filled::Wrong) => session.fall_back(alloc, given.block),
+        Ok(Filled::Wrong) => session.fall_back(alloc, given.block, before),
         Err(fault) if fault == Fault::Memory => Err(fault),
         Err(_) => Ok(session.end_by(alloc, CloseReason::BadMessage)),
     }

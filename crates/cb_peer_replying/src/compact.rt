@@ -7,6 +7,7 @@ ghost use Rattle.cb_peer_state.specs.Outcomes.{IsLightOutcome, Makes};
 ghost use Rattle.cb_peer_state.specs.Questions.{short_in, sought_for};
 ghost use Rattle.cb_peer_state.specs.Session.{weighs_short};
 ghost use Rattle.cb_peer_state.specs.Replying.{before_parent, excerpt_answered, given_told, pairs_told, short_told};
+ghost use Rattle.cb_peer_state.specs.State.{unless_remembered};
 
 use cb_base::{Fault, Shared};
 use cb_journal::{Question, Sought};
@@ -38,17 +39,23 @@ pub(crate) fn short_in(item: &Option<Shared<Item>>) -> Option<&HeaderAndShortIds
     Some(short)
 }
 
-/// The request for the headers before one with an unknown parent. Fails only with `Fault::Memory`,
-/// and never if the parent is known.
+/// The request for the headers before one with an unknown parent, unless the session remembers a
+/// header. Fails only with `Fault::Memory`, and never if nothing is requested.
 fn requests_before(
+    session: &SessionState,
     alloc: Global,
     refused: Option<Fault>,
     locator: &Locator,
 ) -> Result<Vec<BoundedMessage>, Fault>
-    ensures messages { IfOk result (λ made. made.items ≡ before_parent refused locator.now) }
+    ensures messages { IfOk result (λ made.
+        made.items ≡ unless_remembered session.now (before_parent refused locator.now)) }
     ensures memory { IsOkUnless result Memory }
-    ensures silent { before_parent refused locator.now ≡ [] → IsOk result }
+    ensures silent { unless_remembered session.now (before_parent refused locator.now) ≡ [] →
+        IsOk result }
 {
+    if session.remembers() {
+        return Ok(Vec::new(alloc));
+    }
     if refused == Some(Fault::NoParent) {
         return one_message(alloc, asking_headers(locator.copy(alloc)?));
     }
@@ -78,7 +85,7 @@ pub(crate) fn hear_short_heads(
     if heads.refused == Some(Fault::BadWork) {
         return Ok(session.end_by(alloc, CloseReason::BadBlock));
     }
-    let messages = requests_before(alloc, heads.refused, &heads.locator)?;
+    let messages = requests_before(session, alloc, heads.refused, &heads.locator)?;
     if heads.lack.as_slice().is_empty() {
         session.fetch.land(&short.header.hash());
         return session.end(alloc, messages);
@@ -139,7 +146,7 @@ pub(crate) fn hear_pairs(
             session.compact.partial = Some(partial);
             session.end(alloc, messages)
         }
-        Ok(Rebuilt::Useless) => session.fall_back(alloc, short.header.hash()),
+        Ok(Rebuilt::Useless) => { session.fall_back(alloc, short.header.hash(), short.header.prev) }
         Err(fault) if fault == Fault::Memory => Err(fault),
         Err(_) => Ok(session.end_by(alloc, CloseReason::BadMessage)),
     }
@@ -160,7 +167,7 @@ pub(crate) fn hear_given(
     ensures silent { IsLightOutcome (given_told session.now taken.now.refused taken.now.locator) →
         IsOk result }
 {
-    let messages = requests_before(alloc, taken.refused, &taken.locator)?;
+    let messages = requests_before(session, alloc, taken.refused, &taken.locator)?;
     session.end(alloc, messages)
 }
 

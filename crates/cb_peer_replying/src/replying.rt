@@ -1,6 +1,6 @@
 //! How a session handles the hall's answers: one arm for each kind of answer. The hall is what
 //! Bitcoin Core keeps in ChainstateManager and CTxMemPool.
-ghost use Rattle.std.specs.Prelude.{◌≡◌, [], ◌∷◌, ◌≤◌, None, Option, Some, filter, filter_map, false, length, not, IfOk, IsOk, IsOkUnless};
+ghost use Rattle.std.specs.Prelude.{◌≡◌, [], ◌∷◌, ◌≤◌, None, Option, Some, filter, filter_map, false, if◌then◌else◌, length, not, IfOk, IsOk, IsOkUnless};
 ghost use Rattle.std.specs.List.{list_any};
 ghost use Rattle.cb_base.specs.DoubleHash.{double_hash};
 ghost use Rattle.cb_chain.specs.Entries.{same};
@@ -16,14 +16,15 @@ ghost use Rattle.cb_journal.specs.declared.answer.Answer.TheVariants as answers;
 ghost use Rattle.cb_peer_state.specs.Outcomes.{IsLightOutcome, Makes, as_list};
 ghost use Rattle.cb_peer_state.specs.Session.{weighs_answer, weighs_at, weighs_txids};
 ghost use Rattle.cb_peer_state.specs.Receiving.{ends};
-ghost use Rattle.cb_peer_state.specs.Replying.{answered, differ, heads_for, heads_told, is_block, is_leave, is_untold, more_headers, need_told, news_told, served_told, taken_told, tip_made, tip_told, tx_request, wanted_told, wish_told, without_brought};
+ghost use Rattle.cb_peer_state.specs.Replying.{before_first, differ, heads_for, heads_told, is_block, is_leave, is_untold, more_headers, need_told, news_told, replied, served_told, taken_told, tip_made, tip_told, tx_request, wanted_told, wish_told, without_brought};
+ghost use Rattle.cb_peer_state.specs.State.{unless_remembered};
 
 use crate::compact::{answer_places, hear_given, hear_pairs, hear_short_heads, short_in};
 use cb_base::{Fault, Hash256, Shared};
 use cb_journal::Answer;
 use cb_payload::{Entries, HeaderList, Inventory, Listed, Locator};
 use cb_peer_state::{
-    CloseReason, Reaction, SessionState, Stage, hash_of_last, one_message, push_some,
+    CloseReason, Reaction, SessionState, Stage, hash_of_last, locator_of, one_message, push_some,
 };
 use cb_state::{Heads, Need, News, Pieces, Taken, Txids};
 use cb_talk::{
@@ -38,7 +39,7 @@ const MOST_HEADERS: usize = 2_000;
 
 /// Handles an answer that fits the question asked for an item, unless it is the hall's leave to
 /// process the item. Fails only with `Fault::Memory`.
-#[tactic(auto, unfolding(cb_peer_state::specs::Replying::answered))]
+#[tactic(auto, unfolding(cb_peer_state::specs::Replying::replied))]
 pub fn reply(
     session: &mut SessionState,
     alloc: Global,
@@ -48,14 +49,14 @@ pub fn reply(
 ) -> Result<Reaction, Fault>
     requires { is_leave stage.now answer.now ≡ false }
     ensures ok { IfOk result
-        (λ made. Makes (answered session.old item.now stage.now answer.now)
+        (λ made. Makes (replied session.old item.now stage.now answer.now)
         item.now session.new made.messages.items made.next) }
     ensures memory { IsOkUnless result Memory }
     ensures calm { answer.now ≡ answers.Kicked → IsOk result }
     // Only an answer that lists missing blocks or needed entries is worked through, and only a
     // compact block and a transaction beside others that are new are hashed.
     ensures silent { weighs_at session.old item.now stage.now answer.now ≡ false →
-        IsLightOutcome (answered session.old item.now stage.now answer.now) → IsOk result }
+        IsLightOutcome (replied session.old item.now stage.now answer.now) → IsOk result }
 {
     if let Answer::Kicked = answer {
         return Ok(session.end_by(alloc, CloseReason::Kicked));
@@ -83,7 +84,7 @@ pub fn reply(
 }
 
 /// Handles the hall's answer about an item.
-#[tactic(auto, unfolding(cb_peer_state::specs::Replying::answered))]
+#[tactic(auto, unfolding(cb_peer_state::specs::Replying::replied))]
 #[inline(never)]
 fn hear_about(
     session: &mut SessionState,
@@ -92,12 +93,12 @@ fn hear_about(
     answer: &Answer,
 ) -> Result<Reaction, Fault>
     ensures ok { (subject : Subject) → IfOk result
-        (λ made. Makes (answered session.old item.now (stages.About subject) answer.now)
+        (λ made. Makes (replied session.old item.now (stages.About subject) answer.now)
         item.now session.new made.messages.items made.next) }
     ensures memory { IsOkUnless result Memory }
     ensures silent { (subject : Subject) →
         weighs_answer answer.now ≡ false →
-        IsLightOutcome (answered session.old item.now (stages.About subject) answer.now) →
+        IsLightOutcome (replied session.old item.now (stages.About subject) answer.now) →
         IsOk result }
 {
     match answer {
@@ -154,14 +155,21 @@ fn send_headers(
     session.end(alloc, messages)
 }
 
-/// Requests the headers after a locator, at the end of an item.
+/// Requests the headers after a locator, at the end of an item, unless the session remembers a header.
+/// Fails only with `Fault::Memory`.
 fn ask_headers(session: &SessionState, alloc: Global, locator: &Locator) -> Result<Reaction, Fault>
     ensures ok { (item : Option Item) →
         IfOk result (λ made. Makes
-        (ends session.now
-        (asking_headers locator.now ∷ [])) item session.now made.messages.items made.next) }
+        (ends session.now (unless_remembered session.now (asking_headers locator.now ∷ [])))
+        item session.now made.messages.items made.next) }
     ensures memory { IsOkUnless result Memory }
+    ensures silent { IsLightOutcome
+        (ends session.now (unless_remembered session.now (asking_headers locator.now ∷ []))) →
+        IsOk result }
 {
+    if session.remembers() {
+        return session.end(alloc, Vec::new(alloc));
+    }
     let messages = one_message(alloc, asking_headers(locator.copy(alloc)?))?;
     session.end(alloc, messages)
 }
@@ -189,8 +197,8 @@ fn hear_heads(
 }
 
 /// Handles the result of `headers`. Blocks of accepted headers that we don't have are queued
-/// for download. A header without proof of work ends the session. For an unknown parent the
-/// headers before it are requested.
+/// for download, as far as there is room. A header without proof of work ends the session. For an
+/// unknown parent the headers before it are requested.
 fn hear_headers(
     session: &mut SessionState,
     alloc: Global,
@@ -208,10 +216,10 @@ fn hear_headers(
     if heads.refused == Some(Fault::BadWork) {
         return Ok(session.end_by(alloc, CloseReason::BadBlock));
     }
-    session.fetch.want(heads.lack.as_slice())?;
+    session.want(heads.lack.as_slice(), before_first(item))?;
     match heads.refused {
         None => {
-            let messages = request_behind(alloc, item)?;
+            let messages = request_behind(session, alloc, item)?;
             session.end(alloc, messages)
         }
         Some(fault) if fault == Fault::NoParent => ask_headers(session, alloc, &heads.locator),
@@ -251,10 +259,30 @@ fn hear_need(session: &mut SessionState, alloc: Global, need: &Need) -> Result<R
 {
     let mut messages = Vec::new(alloc);
     push_some(&mut messages, requests_of_txs(alloc, &need.entries)?)?;
-    if names_block(need.entries.as_slice()) {
-        messages.push(asking_headers(need.locator.copy(alloc)?))?;
-    }
+    push_some(&mut messages, request_for_blocks(session, alloc, need)?)?;
     session.end(alloc, messages)
+}
+
+/// The request for headers if a block is wanted, unless the session remembers a header. Fails only
+/// with `Fault::Memory`, and never if no block is wanted.
+fn request_for_blocks(
+    session: &SessionState,
+    alloc: Global,
+    need: &Need,
+) -> Result<Option<BoundedMessage>, Fault>
+    ensures message { IfOk result (λ made. as_list made ≡ unless_remembered session.now
+        (if list_any is_block need.now.entries
+        then asking_headers need.now.locator ∷ [] else [])) }
+    ensures memory { IsOkUnless result Memory }
+    ensures unpaid { need.now.entries ≡ [] → IsOk result }
+{
+    if session.remembers() {
+        return Ok(None);
+    }
+    if !names_block(need.entries.as_slice()) {
+        return Ok(None);
+    }
+    Ok(Some(asking_headers(need.locator.copy(alloc)?)))
 }
 
 /// Requests the queued blocks that are still needed, at most 16. One alone on top of the tip is
@@ -377,8 +405,45 @@ fn told_tip(
     )
 }
 
+/// The request for more headers, if the message had 2,000, unless the session remembers a header.
+/// Fails only with `Fault::Memory`, and never if nothing is requested.
+fn request_behind(
+    session: &SessionState,
+    alloc: Global,
+    item: &Option<Shared<Item>>,
+) -> Result<Vec<BoundedMessage>, Fault>
+    ensures messages { IfOk result
+        (λ made. made.items ≡ unless_remembered session.now (more_headers item.now)) }
+    ensures memory { IsOkUnless result Memory }
+    ensures silent { unless_remembered session.now (more_headers item.now) ≡ [] → IsOk result }
+{
+    if session.remembers() {
+        return Ok(Vec::new(alloc));
+    }
+    request_more(alloc, item)
+}
+
+/// The hash of the header before the first of a message, if the item brought headers.
+fn before_first(item: &Option<Shared<Item>>) -> Option<Hash256>
+    ensures { result ≡ before_first item.now }
+{
+    let Some(shared) = item else {
+        return None;
+    };
+    let Item::Good(bounded) = &**shared else {
+        return None;
+    };
+    let Message::Headers(headers) = bounded.message() else {
+        return None;
+    };
+    match headers.as_slice().first() {
+        None => None,
+        Some(header) => Some(header.prev),
+    }
+}
+
 /// The request for more headers, if the message had 2,000. Fails only with `Fault::Memory`.
-fn request_behind(alloc: Global, item: &Option<Shared<Item>>) -> Result<Vec<BoundedMessage>, Fault>
+fn request_more(alloc: Global, item: &Option<Shared<Item>>) -> Result<Vec<BoundedMessage>, Fault>
     ensures messages { IfOk result (λ made. made.items ≡ more_headers item.now) }
     ensures memory { IsOkUnless result Memory }
     ensures silent { more_headers item.now ≡ [] → IsOk result }
@@ -400,16 +465,6 @@ fn request_behind(alloc: Global, item: &Option<Shared<Item>>) -> Result<Vec<Boun
         return Ok(Vec::new(alloc));
     };
     one_message(alloc, asking_headers(locator_of(alloc, hash)?))
-}
-
-/// A locator of one hash. Fails only with `Fault::Memory`.
-fn locator_of(alloc: Global, hash: Hash256) -> Result<Locator, Fault>
-    ensures locator { IfOk result (λ locator. locator ≡ hash ∷ []) }
-    ensures memory { IsOkUnless result Memory }
-{
-    let mut list = Vec::with_capacity(alloc, 1)?;
-    list.push_reserved(hash);
-    Ok(Locator::from_few(list))
 }
 
 /// The `getdata` for the transactions among the entries, if any. Fails only with `Fault::Memory`,

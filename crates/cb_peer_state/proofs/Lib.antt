@@ -1,3 +1,4 @@
 pub mod Cases
 pub mod Lights
 pub mod Meeting
+pub mod Resuming

@@ -24,10 +24,10 @@ use Rattle.cb_peer_state.specs.declared.event.Event.TheVariants as events
 use Rattle.cb_peer_state.specs.Questions.{fits, is_nil, question_of}
 use Rattle.cb_peer_state.specs.Outcomes.{Answers, IsLightOutcome, as_list, is_light_stage}
 use Rattle.cb_peer_state.specs.Receiving.{ends, last_hash, received}
-use Rattle.cb_peer_state.specs.Replying.{answered, is_block, taken_told}
+use Rattle.cb_peer_state.specs.Replying.{answered, is_block, replied, taken_told}
 use Rattle.cb_peer_state.specs.Session.{Stepped, for_item, is_light, spares, spares_pending, stays, told, weighs_at}
 use Rattle.cb_peer_state.specs.declared.session_state.SessionState.{SessionState}
-use Rattle.cb_peer_state.specs.State.{freed}
+use Rattle.cb_peer_state.specs.State.{freed, remembers, unless_remembered}
 use Rattle.cb_peer_state.proofs.Cases.{sent_at_end}
 
 -- a message that is sent isn't nothing
@@ -38,23 +38,28 @@ pub ping_sent : {P : Type 0} (s : SessionState) (message : Message) (nonce : ℕ
 unfolding received
 ping_sent s message nonce same light = some_sent s (messages.Pong nonce) [] (subst (λ (m : Message). IsLightOutcome (received s m)) same light)
 
-pub taken_sent : {P : Type 0} (s : SessionState) (refused : Option Fault) (locator : List Hash256) (fault : Fault) → refused ≡ Some fault → fault ≡ faults.NoParent → IsLightOutcome (taken_told s refused locator) → P
+-- headers are requested unless one is remembered
+pub headers_sent : {P : Type 0} (s : SessionState) (locator : List Hash256) → remembers s ≡ false → IsLightOutcome (ends s (unless_remembered s (asking_headers locator ∷ []))) → P
+headers_sent s locator free light = some_sent s (asking_headers locator) [] (subst (λ (b : Bool). IsLightOutcome (ends s (cond b [] (asking_headers locator ∷ [])))) free light)
+
+pub taken_light : (s : SessionState) (refused : Option Fault) (locator : List Hash256) (fault : Fault) → refused ≡ Some fault → fault ≡ faults.NoParent → IsLightOutcome (taken_told s refused locator)
+    → IsLightOutcome (ends s (unless_remembered s (asking_headers locator ∷ [])))
 unfolding taken_told
-taken_sent s refused locator fault is parent light =
-    some_sent s (asking_headers locator) [] (subst (λ (r : Option Fault). IsLightOutcome (taken_told s r locator)) (is ∙ ap (λ (f : Fault). Some f) parent) light)
+taken_light s refused locator fault is parent light = subst (λ (r : Option Fault). IsLightOutcome (taken_told s r locator)) (is ∙ ap (λ (f : Fault). Some f) parent) light
 
 -- no block is among no entries
 pub none_named : {P : Type 0} (entries : List Inventory) (found : Bool) → not (is_nil entries) ≡ false → found ≡ list_any is_block entries → found ≡ true → P
 none_named [] found none is named = absurd (let e : true ≡ false = sym named ∙ is in cc)
 none_named (first ∷ others) found none is named = absurd cc
 
-pub locator_sent : {P : Type 0} (s : SessionState) (item : Option Item) (subject : Subject) (answer : Answer) (locator : List Hash256) → answer ≡ answers.Locator locator → IsLightOutcome (answered s item (About subject) answer) → P
-unfolding answered
-locator_sent s item subject answer locator is light = some_sent s (asking_headers locator) [] (subst (λ (a : Answer). IsLightOutcome (answered s item (About subject) a)) is light)
+pub locator_light : (s : SessionState) (item : Option Item) (subject : Subject) (answer : Answer) (locator : List Hash256) → answer ≡ answers.Locator locator → IsLightOutcome (replied s item (About subject) answer)
+    → IsLightOutcome (ends s (unless_remembered s (asking_headers locator ∷ [])))
+unfolding replied
+locator_light s item subject answer locator is light = subst (λ (a : Answer). IsLightOutcome (replied s item (About subject) a)) is light
 
-pub following_sent : {P : Type 0} (s : SessionState) (item : Option Item) (subject : Subject) (answer : Answer) (headers : List Header) → answer ≡ answers.Following headers → IsLightOutcome (answered s item (About subject) answer) → P
-unfolding answered
-following_sent s item subject answer headers is light = some_sent s (messages.Headers headers) [] (subst (λ (a : Answer). IsLightOutcome (answered s item (About subject) a)) is light)
+pub following_sent : {P : Type 0} (s : SessionState) (item : Option Item) (subject : Subject) (answer : Answer) (headers : List Header) → answer ≡ answers.Following headers → IsLightOutcome (replied s item (About subject) answer) → P
+unfolding replied
+following_sent s item subject answer headers is light = some_sent s (messages.Headers headers) [] (subst (λ (a : Answer). IsLightOutcome (replied s item (About subject) a)) is light)
 
 -- ---- the last header
 

@@ -10,7 +10,7 @@ use Rattle.cb_chain.specs.Entries.{block_hash, same}
 use Rattle.cb_compact.specs.Slots.{Unfilled}
 use Rattle.cb_compact.specs.declared.partial.Filled.{Filled}
 use Rattle.cb_compact.specs.declared.partial.Filled.TheVariants.{Sound, Wrong}
-use Rattle.cb_fetch.specs.Fetching.{FetchState, asks_now, fallen_back, is_due, landed}
+use Rattle.cb_fetch.specs.Fetching.{FetchState, asks_now, is_due, landed}
 use Rattle.cb_payload.specs.declared.block_transactions.BlockTransactions.{BlockTransactions}
 use Rattle.cb_payload.specs.declared.compact_block.HeaderAndShortIds.{HeaderAndShortIds}
 use Rattle.cb_rebuild.specs.Completing.{completed_of}
@@ -36,7 +36,7 @@ use Rattle.cb_peer_state.specs.declared.state.State.TheVariants.{Start, Greeted,
 use Rattle.cb_peer_state.specs.Questions.{is_nil, told_of}
 use Rattle.cb_block.specs.Decision.{is_sound_block}
 use Rattle.cb_peer_state.specs.declared.session_state.SessionState.{SessionState}
-use Rattle.cb_peer_state.specs.State.{dropping, is_ready, landing, over, with_fetch, with_marks, with_partial, with_peer, with_state}
+use Rattle.cb_peer_state.specs.State.{dropping, is_ready, landing, over, with_fallen, with_fetch, with_marks, with_partial, with_peer, with_state}
 
 -- The result of a message or an answer: the session after it, the messages to send, and the next
 -- question, if any.
@@ -129,9 +129,9 @@ abbrev pub gives : SessionState → Block → Outcome
 gives s block = asks (landing (block_hash block.header) s) [] (Give block)
 
 -- A compact block that can't be rebuilt is requested whole, or queued for download if 16 others are
--- in flight.
-unfoldable pub falls_back : SessionState → Hash256 → Outcome
-falls_back s hash = ends (with_fetch (fallen_back hash s.fetch) s) (if asks_now s.fetch hash then asking_block hash ∷ [] else [])
+-- in flight. If the queue is full, the header before it is remembered.
+unfoldable pub falls_back : SessionState → Hash256 → Hash256 → Outcome
+falls_back s hash before = ends (with_fallen hash before s) (if asks_now s.fetch hash then asking_block hash ∷ [] else [])
 
 -- A `cmpctblock`: the hall is asked about its header. The session ends if a prefilled transaction
 -- has a place past the block's end.
@@ -142,17 +142,17 @@ short_heard s short =
 
 -- The completed block is given to the hall, or requested whole if it isn't sound. The session ends
 -- if not as many transactions came as were missing.
-abbrev pub filled_by : SessionState → Hash256 → Result Filled Fault → Outcome
-filled_by s hash (Ok (Sound block)) = gives s block
-filled_by s hash (Ok Wrong) = falls_back s hash
-filled_by s hash (Err fault) = ended reasons.BadMessage s
+abbrev pub filled_by : SessionState → Hash256 → Hash256 → Result Filled Fault → Outcome
+filled_by s hash before (Ok (Sound block)) = gives s block
+filled_by s hash before (Ok Wrong) = falls_back s hash before
+filled_by s hash before (Err fault) = ended reasons.BadMessage s
 
 -- The block that is completed is no longer being rebuilt, whatever comes of it. Transactions of
 -- another block are ignored.
 abbrev pub completed_by : SessionState → BlockTransactions → Option Unfilled → Outcome
 completed_by s given None = ends s []
 completed_by s given (Some partial) =
-    if same (block_hash partial.header) given.block then filled_by (with_partial None s) given.block (completed_of partial given)
+    if same (block_hash partial.header) given.block then filled_by (with_partial None s) given.block partial.header.prev (completed_of partial given)
     else ends s []
 
 -- A `blocktxn`: the transactions that a compact block lacked.

@@ -10,7 +10,7 @@ use Rattle.cb_block.specs.declared.block.Block.{Block}
 use Rattle.cb_block.specs.declared.header.Header.{Header}
 use Rattle.cb_chain.specs.Entries.{block_hash, same}
 use Rattle.cb_compact.specs.declared.named_tx.Pair.{Pair}
-use Rattle.cb_fetch.specs.Fetching.{blocks_in, requests_of, taken_on, wanting_all}
+use Rattle.cb_fetch.specs.Fetching.{blocks_in, requests_of, taken_on, wants_none}
 use Rattle.cb_journal.specs.declared.answer.Answer.{Answer}
 use Rattle.cb_journal.specs.declared.answer.Answer.TheVariants as answers
 use Rattle.cb_payload.specs.declared.compact_block.HeaderAndShortIds.{HeaderAndShortIds}
@@ -41,7 +41,7 @@ use Rattle.cb_peer_state.specs.declared.state.CloseReason.TheVariants as reasons
 use Rattle.cb_peer_state.specs.Receiving.{Outcome, asks, ended, ends, falls_back, gives, last_hash, processed, sends}
 use Rattle.cb_peer_state.specs.declared.session_state.SessionState.{SessionState}
 use Rattle.cb_peer_state.specs.Questions.{is_nil, short_in}
-use Rattle.cb_peer_state.specs.State.{landing, next_nonce, with_asked_high, with_fetch, with_made, with_marks, with_partial}
+use Rattle.cb_peer_state.specs.State.{landing, next_nonce, unless_remembered, with_asked_high, with_fetch, with_lacking, with_made, with_marks, with_partial, with_resume_from}
 
 -- After a full message of 2,000 headers, the headers after them are requested.
 abbrev pub more_behind : List Header → List Message
@@ -52,21 +52,25 @@ abbrev pub more_headers : Option Item → List Message
 more_headers (Some (Good (messages.Headers headers))) = more_behind headers
 more_headers item = []
 
--- The result of `headers`. Blocks of accepted headers that we don't have are queued for download. A
--- header without proof of work ends the session. For an unknown parent the headers before it are
--- requested.
+-- The header before the first of a message.
+abbrev pub before_first : Option Item → Option Hash256
+before_first (Some (Good (messages.Headers (first ∷ others)))) = Some first.prev
+before_first item = None
+
+-- The result of `headers`, once its missing blocks are noted (`with_lacking`). A header without proof
+-- of work ends the session. For an unknown parent the headers before it are requested.
 abbrev pub heads_by : SessionState → Option Item → Option Fault → List Hash256 → Outcome
 heads_by s item (Some faults.BadWork) locator = ended reasons.BadBlock s
-heads_by s item (Some faults.NoParent) locator = ends s (asking_headers locator ∷ [])
+heads_by s item (Some faults.NoParent) locator = ends s (unless_remembered s (asking_headers locator ∷ []))
 heads_by s item (Some other) locator = ends s []
-heads_by s item None locator = ends s (more_headers item)
+heads_by s item None locator = ends s (unless_remembered s (more_headers item))
 
 -- The result of `block`. A block already known is ignored. For an unknown parent the headers before
 -- it are requested. Any other refusal ends the session.
 unfoldable pub taken_told : SessionState → Option Fault → List Hash256 → Outcome
 taken_told s None locator = ends s []
 taken_told s (Some faults.Known) locator = ends s []
-taken_told s (Some faults.NoParent) locator = ends s (asking_headers locator ∷ [])
+taken_told s (Some faults.NoParent) locator = ends s (unless_remembered s (asking_headers locator ∷ []))
 taken_told s (Some other) locator = ended reasons.BadBlock s
 
 -- The headers before one with an unknown parent are requested.
@@ -76,7 +80,7 @@ before_parent refused locator = []
 
 -- A rebuilt block isn't held against its peer, whatever the hall says of it.
 unfoldable pub given_told : SessionState → Option Fault → List Hash256 → Outcome
-given_told s refused locator = ends s (before_parent refused locator)
+given_told s refused locator = ends s (unless_remembered s (before_parent refused locator))
 
 abbrev pub is_workless : Option Fault → Bool
 is_workless (Some faults.BadWork) = true
@@ -87,29 +91,30 @@ is_workless refused = false
 unfoldable pub short_told : SessionState → Hash256 → Heads → Outcome
 short_told s hash heads =
     if is_workless heads.refused then ended reasons.BadBlock s
-    else if is_nil heads.lack then ends (landing hash s) (before_parent heads.refused heads.locator)
-    else asks s (before_parent heads.refused heads.locator) Match
+    else if is_nil heads.lack then ends (landing hash s) (unless_remembered s (before_parent heads.refused heads.locator))
+    else asks s (unless_remembered s (before_parent heads.refused heads.locator)) Match
 
 -- What comes of the transactions of the mempool that have a compact block's short ids: the block is
 -- given, or what it lacks is requested and it replaces one that was being rebuilt, or it is
 -- requested whole.
-abbrev pub rebuilt_by : SessionState → Hash256 → Rebuilt → Outcome
-rebuilt_by s hash (rebuilts.Sound block) = gives s block
-rebuilt_by s hash (rebuilts.Lacking partial request) = ends (with_partial (Some partial) s) (asking_txs request ∷ [])
-rebuilt_by s hash rebuilts.Useless = falls_back s hash
+abbrev pub rebuilt_by : SessionState → Header → Rebuilt → Outcome
+rebuilt_by s header (rebuilts.Sound block) = gives s block
+rebuilt_by s header (rebuilts.Lacking partial request) = ends (with_partial (Some partial) s) (asking_txs request ∷ [])
+rebuilt_by s header rebuilts.Useless = falls_back s (block_hash header) header.prev
 
 abbrev pub paired : SessionState → Option HeaderAndShortIds → List Pair → Outcome
 paired s None pairs = sends s []
 paired s (Some short) pairs =
-    if has_places short.txs then rebuilt_by s (block_hash short.header) (rebuilt_of short pairs)
+    if has_places short.txs then rebuilt_by s short.header (rebuilt_of short pairs)
     else ended reasons.BadMessage s
 
 unfoldable pub pairs_told : SessionState → Option Item → List Pair → Outcome
 pairs_told s item pairs = paired s (short_in item) pairs
 
--- Headers, or the header of a compact block.
+-- Headers, or the header of a compact block. Blocks of accepted headers that we don't have are queued
+-- for download, as far as there is room.
 abbrev pub heads_for : SessionState → Option Item → Option HeaderAndShortIds → Heads → Outcome
-heads_for s item None heads = heads_by (with_fetch (wanting_all s.fetch heads.lack) s) item heads.refused heads.locator
+heads_for s item None heads = heads_by (with_lacking heads.lack (before_first item) s) item heads.refused heads.locator
 heads_for s item (Some short) heads = short_told s (block_hash short.header) heads
 
 unfoldable pub heads_told : SessionState → Option Item → Heads → Outcome
@@ -137,7 +142,7 @@ is_block other = false
 -- The result of `inv`: wanted transactions are requested, and headers if a block is wanted.
 unfoldable pub need_told : SessionState → Need → Outcome
 need_told s need =
-    ends s (asking_for (filter_map tx_request need.entries) ++ (if list_any is_block need.entries then asking_headers need.locator ∷ [] else []))
+    ends s (asking_for (filter_map tx_request need.entries) ++ unless_remembered s (if list_any is_block need.entries then asking_headers need.locator ∷ [] else []))
 
 -- Queued blocks that are still needed are requested, the first 16 of them: as a compact block
 -- (type 4) if one alone is needed, on top of the tip, from a peer that supports compact blocks; else
@@ -204,20 +209,48 @@ abbrev pub is_leave : Stage → Answer → Bool
 is_leave Admit answers.Go = true
 is_leave stage other = false
 
+-- An answer to the question asked for an item, before the end of the item.
+unfoldable pub replied : SessionState → Option Item → Stage → Answer → Outcome
+replied s item stage answers.Kicked = ended reasons.Kicked s
+replied s item Admit answers.Go = processed s item
+replied s item (About subject) (answers.Heads heads) = heads_told s item heads
+replied s item (About subject) (answers.Locator locator) = ends s (unless_remembered s (asking_headers locator ∷ []))
+replied s item (About subject) (answers.Need need) = need_told s need
+replied s item (About subject) (answers.TxTaken refused) = ends s []
+replied s item (About subject) (answers.Taken taken) = taken_told s taken.refused taken.locator
+replied s item (About subject) (answers.Served pieces) = served_told s pieces
+replied s item (About subject) (answers.Following headers) = ends s (messages.Headers headers ∷ [])
+replied s item (About subject) (answers.Excerpt excerpt) = excerpt_answered s excerpt
+replied s item Match (answers.Pairs pairs) = pairs_told s item pairs
+replied s item (Give block) (answers.Taken taken) = given_told s taken.refused taken.locator
+replied s item Wanted (answers.Need need) = wanted_told s need
+replied s item Fresh (answers.News news) = news_told s item news
+replied s item stage other = sends s []
+
+-- ---- headers from the remembered one
+
+abbrev pub asks_news : Option Stage → Bool
+asks_news (Some Fresh) = true
+asks_news next = false
+
+-- Headers are requested from the remembered one, which is forgotten.
+abbrev pub resumed : Hash256 → Outcome → Outcome
+resumed hash outcome =
+    record {
+      session = with_resume_from None outcome.session;
+      messages = outcome.messages ++ asking_headers (hash ∷ []) ∷ [];
+      next = outcome.next;
+    }
+
+abbrev pub resumes : Option Hash256 → Outcome → Outcome
+resumes None outcome = outcome
+resumes (Some hash) outcome = if wants_none outcome.session.fetch then resumed hash outcome else outcome
+
+-- The end of an item or a tick, where what is new is asked next: headers are requested from the
+-- remembered one if nothing is wanted any more.
+unfoldable pub resuming : Outcome → Outcome
+resuming outcome = if asks_news outcome.next then resumes outcome.session.resume_from outcome else outcome
+
 -- An answer to the question asked for an item.
 unfoldable pub answered : SessionState → Option Item → Stage → Answer → Outcome
-answered s item stage answers.Kicked = ended reasons.Kicked s
-answered s item Admit answers.Go = processed s item
-answered s item (About subject) (answers.Heads heads) = heads_told s item heads
-answered s item (About subject) (answers.Locator locator) = ends s (asking_headers locator ∷ [])
-answered s item (About subject) (answers.Need need) = need_told s need
-answered s item (About subject) (answers.TxTaken refused) = ends s []
-answered s item (About subject) (answers.Taken taken) = taken_told s taken.refused taken.locator
-answered s item (About subject) (answers.Served pieces) = served_told s pieces
-answered s item (About subject) (answers.Following headers) = ends s (messages.Headers headers ∷ [])
-answered s item (About subject) (answers.Excerpt excerpt) = excerpt_answered s excerpt
-answered s item Match (answers.Pairs pairs) = pairs_told s item pairs
-answered s item (Give block) (answers.Taken taken) = given_told s taken.refused taken.locator
-answered s item Wanted (answers.Need need) = wanted_told s need
-answered s item Fresh (answers.News news) = news_told s item news
-answered s item stage other = sends s []
+answered s item stage answer = resuming (replied s item stage answer)

@@ -1,9 +1,10 @@
 -- What a session keeps about its peer.
-use Rattle.std.specs.Prelude.{ℕ, ◌+◌, ◌%◌, ◌^◌, pos, Bool, true, false, List, codes, Option, None, Some, if◌then◌else◌}
+use Rattle.std.specs.Prelude.{ℕ, ◌+◌, ◌%◌, ◌^◌, pos, Bool, true, false, List, [], codes, Option, None, Some, is_some, if◌then◌else◌}
 use Rattle.cb_base.specs.declared.hash.Hash256.{Hash256}
 use Rattle.cb_chain.specs.Entries.{block_hash, same}
 use Rattle.cb_compact.specs.Slots.{Unfilled}
-use Rattle.cb_fetch.specs.Fetching.{FetchState, idle, landed}
+use Rattle.cb_fetch.specs.Fetching.{FetchState, fallen_back, idle, is_fetched, landed, leaves_out, wanting_all}
+use Rattle.cb_wire.specs.declared.message.Message.{Message}
 use Rattle.cb_peer_state.specs.declared.compact.CompactState.{CompactState}
 use Rattle.cb_peer_state.specs.declared.session_state.SessionState.{SessionState}
 use Rattle.cb_peer_state.specs.declared.settings.Settings.{Settings}
@@ -30,7 +31,7 @@ no_compact = record { partial = None; made = 0; asked_high = false }
 -- A session about which only its settings and its state are known. This is so at its beginning and
 -- when it is over.
 abbrev pub bare : Settings → State → SessionState
-bare settings state = record { settings = settings; state = state; peer = stranger; marks = unmarked; fetch = idle; compact = no_compact; pending = None }
+bare settings state = record { settings = settings; state = state; peer = stranger; marks = unmarked; fetch = idle; resume_from = None; compact = no_compact; pending = None }
 
 abbrev pub opening : Settings → SessionState
 opening settings = bare settings Start
@@ -49,22 +50,50 @@ is_ready other = false
 -- ---- a session with one part replaced
 
 abbrev pub with_state : State → SessionState → SessionState
-with_state state s = record { settings = s.settings; state = state; peer = s.peer; marks = s.marks; fetch = s.fetch; compact = s.compact; pending = s.pending }
+with_state state s = record { settings = s.settings; state = state; peer = s.peer; marks = s.marks; fetch = s.fetch; resume_from = s.resume_from; compact = s.compact; pending = s.pending }
 
 abbrev pub with_peer : Peer → SessionState → SessionState
-with_peer peer s = record { settings = s.settings; state = s.state; peer = peer; marks = s.marks; fetch = s.fetch; compact = s.compact; pending = s.pending }
+with_peer peer s = record { settings = s.settings; state = s.state; peer = peer; marks = s.marks; fetch = s.fetch; resume_from = s.resume_from; compact = s.compact; pending = s.pending }
 
 abbrev pub with_marks : Marks → SessionState → SessionState
-with_marks marks s = record { settings = s.settings; state = s.state; peer = s.peer; marks = marks; fetch = s.fetch; compact = s.compact; pending = s.pending }
+with_marks marks s = record { settings = s.settings; state = s.state; peer = s.peer; marks = marks; fetch = s.fetch; resume_from = s.resume_from; compact = s.compact; pending = s.pending }
 
 abbrev pub with_fetch : FetchState → SessionState → SessionState
-with_fetch fetch s = record { settings = s.settings; state = s.state; peer = s.peer; marks = s.marks; fetch = fetch; compact = s.compact; pending = s.pending }
+with_fetch fetch s = record { settings = s.settings; state = s.state; peer = s.peer; marks = s.marks; fetch = fetch; resume_from = s.resume_from; compact = s.compact; pending = s.pending }
 
 abbrev pub with_pending : Option Pending → SessionState → SessionState
-with_pending pending s = record { settings = s.settings; state = s.state; peer = s.peer; marks = s.marks; fetch = s.fetch; compact = s.compact; pending = pending }
+with_pending pending s = record { settings = s.settings; state = s.state; peer = s.peer; marks = s.marks; fetch = s.fetch; resume_from = s.resume_from; compact = s.compact; pending = pending }
 
 abbrev pub with_compact : CompactState → SessionState → SessionState
-with_compact compact s = record { settings = s.settings; state = s.state; peer = s.peer; marks = s.marks; fetch = s.fetch; compact = compact; pending = s.pending }
+with_compact compact s = record { settings = s.settings; state = s.state; peer = s.peer; marks = s.marks; fetch = s.fetch; resume_from = s.resume_from; compact = compact; pending = s.pending }
+
+abbrev pub with_resume_from : Option Hash256 → SessionState → SessionState
+with_resume_from hash s = record { settings = s.settings; state = s.state; peer = s.peer; marks = s.marks; fetch = s.fetch; resume_from = hash; compact = s.compact; pending = s.pending }
+
+-- ---- blocks that had no room among the wanted ones
+
+-- The session remembers a header behind which blocks had no room.
+abbrev pub remembers : SessionState → Bool
+remembers s = is_some s.resume_from
+
+-- The messages, requests for headers, unless a header is remembered: then headers are requested from
+-- that one alone, and later.
+abbrev pub unless_remembered : SessionState → List Message → List Message
+unless_remembered s sent = if remembers s then [] else sent
+
+-- Blocks are missing, in order. They become wanted as far as there is room. If some had none, the
+-- header before them is remembered. While one is remembered, nothing becomes wanted.
+abbrev pub with_lacking : List Hash256 → Option Hash256 → SessionState → SessionState
+with_lacking lack before s =
+    with_resume_from (if remembers s then s.resume_from else if leaves_out (wanting_all s.fetch lack) lack then before else None)
+    (with_fetch (if remembers s then s.fetch else wanting_all s.fetch lack) s)
+
+-- A compact block couldn't be rebuilt, so the whole block is needed. If it is neither in flight nor
+-- wanted then, the header before it is remembered, unless another one is.
+abbrev pub with_fallen : Hash256 → Hash256 → SessionState → SessionState
+with_fallen hash before s =
+    with_resume_from (if remembers s then s.resume_from else if is_fetched (fallen_back hash s.fetch) hash then None else Some before)
+    (with_fetch (fallen_back hash s.fetch) s)
 
 -- ---- compact blocks (BIP 152)
 

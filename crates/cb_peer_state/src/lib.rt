@@ -14,7 +14,7 @@ mod state;
 pub use compact::CompactState;
 pub use event::Event;
 pub use pending::Pending;
-pub use reaction::{NextQuestion, Reaction, hash_of_last, one_message, push_some};
+pub use reaction::{NextQuestion, Reaction, hash_of_last, locator_of, one_message, push_some};
 pub use session_state::SessionState;
 pub use settings::Settings;
 pub use stage::{Stage, Subject};

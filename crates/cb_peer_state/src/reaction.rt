@@ -9,6 +9,7 @@ use crate::stage::{Stage, Subject};
 use cb_base::{Fault, Hash256};
 use cb_block::Header;
 use cb_journal::Question;
+use cb_payload::Locator;
 use cb_wire::BoundedMessage;
 use std::alloc::Global;
 
@@ -95,6 +96,16 @@ pub fn push_some(
             Ok(())
         }
     }
+}
+
+/// A locator of one hash. Fails only with `Fault::Memory`.
+pub fn locator_of(alloc: Global, hash: Hash256) -> Result<Locator, Fault>
+    ensures locator { IfOk result (λ locator. locator ≡ hash ∷ []) }
+    ensures memory { IsOkUnless result Memory }
+{
+    let mut list = Vec::with_capacity(alloc, 1)?;
+    list.push_reserved(hash);
+    Ok(Locator::from_few(list))
 }
 
 /// The hash of the last header, or `None` if there is none.

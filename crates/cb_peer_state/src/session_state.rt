@@ -1,15 +1,17 @@
-ghost use Rattle.std.specs.Prelude.{◌≡◌, [], true, false, None, Option, IfOk, IsOk, IsOkUnless};
+ghost use Rattle.std.specs.Prelude.{◌≡◌, [], true, false, None, Option, IfOk, IsOk, IsOkUnless, OnOk, option_map};
 ghost use Rattle.cb_base.specs.declared.fault.Fault.TheVariants.{Memory};
+ghost use Rattle.cb_fetch.specs.Fetching.{asks_now};
 ghost use Rattle.cb_wire.specs.declared.item.Item.{Item};
 ghost use Rattle.cb_journal.specs.declared.question.Question.TheVariants as questions;
 ghost use Rattle.cb_peer_state.specs.declared.stage.Stage.TheVariants as stages;
 ghost use Rattle.cb_peer_state.specs.Outcomes.{Makes, is_light_stage};
-ghost use Rattle.cb_peer_state.specs.Receiving.{ends, falls_back, gives};
-ghost use Rattle.cb_peer_state.specs.State.{bare, next_nonce, over, with_made};
+ghost use Rattle.cb_peer_state.specs.Receiving.{Outcome, ends, falls_back, gives};
+ghost use Rattle.cb_peer_state.specs.Replying.{asks_news, resuming};
+ghost use Rattle.cb_peer_state.specs.State.{bare, next_nonce, over, remembers, with_fallen, with_lacking, with_made};
 
 use crate::compact::CompactState;
 use crate::pending::Pending;
-use crate::reaction::{NextQuestion, Reaction, one_message};
+use crate::reaction::{NextQuestion, Reaction, locator_of, one_message};
 use crate::settings::Settings;
 use crate::stage::Stage;
 use crate::state::{CloseReason, Marks, Peer, State};
@@ -17,7 +19,7 @@ use cb_base::{Fault, Hash256};
 use cb_block::SoundBlock;
 use cb_fetch::Fetch;
 use cb_journal::{Given, Question, Told};
-use cb_talk::asking_block;
+use cb_talk::{asking_block, asking_headers};
 use cb_wire::BoundedMessage;
 use std::alloc::Global;
 
@@ -49,6 +51,9 @@ pub struct SessionState {
     pub marks: Marks,
     /// The blocks that it downloads.
     pub fetch: Fetch,
+    /// The header behind which blocks had no room among the wanted ones. Headers are requested from
+    /// it once nothing is wanted.
+    pub resume_from: Option<Hash256>,
     /// What it keeps for compact blocks (BIP 152).
     pub compact: CompactState,
     /// The item or tick whose question is open, if there is one.
@@ -66,6 +71,7 @@ impl SessionState {
             peer: STRANGER,
             marks: UNMARKED,
             fetch: Fetch::new(alloc),
+            resume_from: None,
             compact: CompactState::new(),
             pending: None,
         }
@@ -174,19 +180,105 @@ impl SessionState {
     }
 
     /// Requests a block whole that couldn't be rebuilt from its compact block, or queues it for
-    /// download if 16 others are in flight. Then the item ends. Fails only with `Fault::Memory`.
+    /// download if 16 others are in flight. If the queue is full, the header before the block is
+    /// remembered. Then the item ends. Fails only with `Fault::Memory`.
     #[tactic(auto, unfolding(crate::specs::Receiving::falls_back))]
-    pub fn fall_back(&mut self, alloc: Global, hash: Hash256) -> Result<Reaction, Fault>
+    pub fn fall_back(
+        &mut self,
+        alloc: Global,
+        hash: Hash256,
+        before: Hash256,
+    ) -> Result<Reaction, Fault>
         ensures ok { (item : Option Item) →
             IfOk result (λ made. Makes
-            (falls_back self.old hash) item self.new made.messages.items made.next) }
+            (falls_back self.old hash before) item self.new made.messages.items made.next) }
         ensures memory { IsOkUnless result Memory }
     {
-        let messages = if self.fetch.fall_back(hash)? {
+        let messages = if self.put_fallen(hash, before)? {
             one_message(alloc, asking_block(alloc, hash)?)?
         } else {
             Vec::new(alloc)
         };
         self.end(alloc, messages)
+    }
+
+    /// Notes that a block couldn't be rebuilt from its compact block. Returns whether it is to be
+    /// requested whole now. Fails only with `Fault::Memory`.
+    fn put_fallen(&mut self, hash: Hash256, before: Hash256) -> Result<bool, Fault>
+        ensures asked { IfOk result (λ now. now ≡ asks_now self.old.fetch hash) }
+        ensures fallen { OnOk result (self.new ≡ with_fallen hash before self.old) }
+        ensures memory { IsOkUnless result Memory }
+    {
+        let now = self.fetch.fall_back(hash)?;
+        if !self.remembers() && !self.fetch.is_fetched(&hash) {
+            self.resume_from = Some(before);
+        }
+        Ok(now)
+    }
+
+    /// Whether the session remembers a header behind which blocks had no room.
+    pub fn remembers(&self) -> bool
+        ensures { result ≡ remembers self.now }
+    {
+        self.resume_from.is_some()
+    }
+
+    /// Queues missing blocks for download, in order, as far as there is room. If some had none, the
+    /// header before them is remembered. While one is remembered, no block is queued.
+    ///
+    /// Fails only with `Fault::Memory`, and never if no block is missing.
+    pub fn want(&mut self, lack: &[Hash256], before: Option<Hash256>) -> Result<(), Fault>
+        ensures wanted { OnOk result (self.new ≡ with_lacking lack.now before self.old) }
+        ensures memory { IsOkUnless result Memory }
+        ensures unpaid { lack.now ≡ [] → IsOk result }
+    {
+        if self.remembers() {
+            return Ok(());
+        }
+        self.fetch.want(lack)?;
+        if self.fetch.leaves_out(lack) {
+            self.resume_from = before;
+        }
+        Ok(())
+    }
+
+    /// The end of an item or a tick. Where news are asked for next and nothing is wanted, headers are
+    /// requested from the remembered one, which is forgotten.
+    ///
+    /// Fails only with `Fault::Memory`, and never if nothing is sent.
+    #[tactic(auto, unfolding(crate::specs::Replying::resuming))]
+    pub fn resume(&mut self, alloc: Global, mut reaction: Reaction) -> Result<Reaction, Fault>
+        ensures ok { (outcome : Outcome) (item : Option Item) →
+            Makes outcome item self.old reaction.messages.items reaction.next →
+            IfOk result (λ made. Makes
+            (resuming outcome) item self.new made.messages.items made.next) }
+        ensures memory { IsOkUnless result Memory }
+        ensures silent { (outcome : Outcome) (item : Option Item) →
+            Makes outcome item self.old reaction.messages.items reaction.next →
+            (resuming outcome).messages ≡ [] → IsOk result }
+    {
+        if !asks_news(&reaction.next) {
+            return Ok(reaction);
+        }
+        let Some(hash) = self.resume_from else {
+            return Ok(reaction);
+        };
+        if !self.fetch.wants_none() {
+            return Ok(reaction);
+        }
+        let request = asking_headers(locator_of(alloc, hash)?);
+        reaction.messages.push(request)?;
+        self.resume_from = None;
+        Ok(reaction)
+    }
+}
+
+/// Whether news are asked for next.
+fn asks_news(next: &Option<NextQuestion>) -> bool
+    ensures { result ≡ asks_news (option_map (λ asked. asked.stage) next.now) }
+{
+    match next {
+        None => false,
+        Some(asked) => matches!(asked.stage, Stage::Fresh),
     }
 }

@@ -104,7 +104,7 @@ fn print_totals(state: State, totals: &Totals, out: &mut String) -> Result<(), F
     )?;
     writeln!(
         out,
-        "blocks full {} compact {} completed {} fallback {} saved {}",
+        "blocks full {} compact {} completed {} fallback {} saved {} bytes",
         totals.full, totals.compact, totals.completed, totals.fallback, totals.saved
     )?;
     Ok(())

@@ -28,12 +28,14 @@ use Rattle.cb_peer_state.specs.Questions.{fits, question_at, question_of, pendin
 use Rattle.cb_peer_state.specs.Event.{is_input, is_told, kind_of}
 use Rattle.cb_peer_laws.specs.Laws.{is_following, is_headers}
 use Rattle.cb_peer_state.specs.Receiving.{Outcome, ends}
-use Rattle.cb_peer_state.specs.Replying.{answered}
+use Rattle.cb_peer_state.specs.Replying.{answered, replied, resuming}
 use Rattle.cb_peer_state.specs.Session.{Stepped, arrives, closes, for_item, open_step, openings, pending_item, pending_of, stays, told}
 use Rattle.cb_peer_state.specs.declared.session_state.SessionState.{SessionState}
 use Rattle.cb_peer_state.specs.State.{freed, is_closed}
 use Rattle.cb_peer_laws.proofs.LawLemmas.{no_headers_unasked}
 use Rattle.cb_peer_state.proofs.Cases.{sent_at_end}
+use Rattle.cb_peer_state.proofs.Resuming.{resuming_cases}
+use Rattle.cb_peer_laws.proofs.Behind.{found_more}
 use Rattle.cb_peer_laws.proofs.Steps.{no_question, open_over}
 use Rattle.cb_trace.specs.declared.trace.TraceEntry.{TraceEntry}
 use Rattle.cb_trace.specs.Fold.{Account, account_of, account_step, entry_step, first_account, inputs_of, replies, replies_to, sends, session_of}
@@ -56,8 +58,8 @@ pending_wishes item (Some stage) e = e
 outcome_plain : (state : State) (peer : Peer) (item : Option Item) (outcome : Outcome) → Hears state peer item outcome → item_wishes item ≡ false → peer.by_headers ≡ false → outcome.session.peer.by_headers ≡ false
 outcome_plain state peer item outcome (keeps at of by silent) e plain = by e ∙ plain
 outcome_plain state peer item outcome (greets from to by silent) e plain = by ∙ plain
-outcome_plain state peer item outcome (readies from to of sent) e plain = ap (λ (p : Peer). p.by_headers) of ∙ plain
-outcome_plain state peer item outcome (stops why to of sent) e plain = ap (λ (p : Peer). p.by_headers) of
+outcome_plain state peer item outcome (readies from to of sent next) e plain = ap (λ (p : Peer). p.by_headers) of ∙ plain
+outcome_plain state peer item outcome (stops why to of sent next) e plain = ap (λ (p : Peer). p.by_headers) of
 
 told_unasked : (pending : Option Pending) (s : SessionState) (answer : Answer) → item_wishes (pending_item pending) ≡ false → IsUnasked s → IsUnasked (told pending s answer).session
 told_unasked None s answer e un = un
@@ -111,13 +113,16 @@ reply_none (Some question) answer e = rw (not_following question answer e) refl
 
 -- an answer of headers is sent where it was asked for
 served_headers : (question : Question) (item : Option Item) (s : SessionState) (headers : List Header)
-    → filter_map following (record { question = question; answer = answers.Following headers } ∷ []) ≡ filter_map headers_in (cond (fits question (answers.Following headers)) (for_item item (ends (freed s) (messages.Headers headers ∷ []))) (stays s)).messages
-served_headers (questions.Serve (After locator stop)) item s headers = ap (filter_map headers_in) (sym (sent_at_end (freed s) (messages.Headers headers ∷ [])))
+    → filter_map following (record { question = question; answer = answers.Following headers } ∷ []) ≡ filter_map headers_in (cond (fits question (answers.Following headers)) (for_item item (resuming (ends (freed s) (messages.Headers headers ∷ [])))) (stays s)).messages
+served_headers (questions.Serve (After locator stop)) item s headers =
+    let outcome = ends (freed s) (messages.Headers headers ∷ []) in
+    let told : filter_map headers_in outcome.messages ≡ headers ∷ [] = ap (filter_map headers_in) (sent_at_end (freed s) (messages.Headers headers ∷ [])) in
+    sym (resuming_cases (λ (o : Outcome). filter_map headers_in o.messages ≡ headers ∷ []) outcome told (λ hash _ _ _. found_more headers_in outcome.messages (hash ∷ []) refl ∙ told))
 served_headers question item s headers = refl
 
 asked_headers : (s : SessionState) (item : Option Item) (stage : Stage) (headers : List Header)
     → filter_map following (record { question = question_of s item stage; answer = answers.Following headers } ∷ []) ≡ filter_map headers_in (cond (fits (question_of s item stage) (answers.Following headers)) (for_item item (answered (freed s) item stage (answers.Following headers))) (stays s)).messages
-unfolding answered
+unfolding answered resuming replied
 asked_headers s item Admit headers = refl
 asked_headers s item (About subject) headers = served_headers (question_of s item (About subject)) item s headers
 asked_headers s item Match headers = refl

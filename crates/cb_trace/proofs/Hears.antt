@@ -1,5 +1,5 @@
 -- How far a session is after a message or an answer, what it knows of its peer then, and whether it sent `sendheaders`.
-use Rattle.std.proofs.Common.{◌≡◌, Bool, true, false, cond, List, [], ◌∷◌, ◌++◌, Option, Some, None, refl, inl, inr}
+use Rattle.std.proofs.Common.{◌≡◌, Bool, true, false, cond, List, [], ◌∷◌, ◌++◌, Option, Some, None, refl, sym, ◌∙◌, inl, inr}
 use Rattle.std.specs.Prelude.{◌==◌, Result, Ok, Err, filter_map, int_lt, pos}
 use Rattle.std.specs.List.{list_any}
 use Rattle.std.proofs.lemmas.Bool.{cases_Bool}
@@ -7,13 +7,14 @@ use Rattle.cb_base.specs.declared.fault.Fault.{Fault}
 use Rattle.cb_base.specs.declared.fault.Fault.TheVariants as faults
 use Rattle.cb_base.specs.declared.hash.Hash256.{Hash256}
 use Rattle.cb_block.specs.declared.block.Block.{Block}
+use Rattle.cb_block.specs.declared.header.Header.{Header}
 use Rattle.cb_block.specs.Decision.{is_sound_block}
 use Rattle.cb_chain.specs.Entries.{block_hash, same}
 use Rattle.cb_compact.specs.Slots.{Unfilled}
 use Rattle.cb_compact.specs.declared.named_tx.Pair.{Pair}
 use Rattle.cb_compact.specs.declared.partial.Filled.{Filled}
 use Rattle.cb_compact.specs.declared.partial.Filled.TheVariants as filling
-use Rattle.cb_fetch.specs.Fetching.{asks_now, blocks_in, fallen_back, requests_of, taken_on, wanting_all}
+use Rattle.cb_fetch.specs.Fetching.{asks_now, blocks_in, requests_of, taken_on}
 use Rattle.cb_journal.specs.declared.answer.Answer.{Answer}
 use Rattle.cb_journal.specs.declared.answer.Answer.TheVariants as answers
 use Rattle.cb_payload.specs.declared.block_transactions.BlockTransactions.{BlockTransactions}
@@ -47,12 +48,13 @@ use Rattle.cb_peer_state.specs.declared.state.State.{State}
 use Rattle.cb_peer_state.specs.declared.state.State.TheVariants.{Start, Greeted, Ready, Closed}
 use Rattle.cb_peer_state.specs.Questions.{is_nil, short_in, told_of}
 use Rattle.cb_peer_state.specs.Receiving.{Outcome, asks, brought, by_compact, by_headers, by_phase, completed_by, ended, ends, falls_back, filled_by, given_up, heard_of, in_greeted, in_ready, in_start, introduced, processed, received, short_heard, txs_heard}
-use Rattle.cb_peer_state.specs.Replying.{answered, before_parent, excerpt_answered, given_told, heads_by, heads_for, heads_told, is_block, is_workless, more_headers, need_told, news_told, paired, pairs_told, rebuilt_by, served_told, short_told, taken_told, tx_request, wanted_told}
+use Rattle.cb_peer_state.specs.Replying.{answered, before_first, before_parent, excerpt_answered, given_told, heads_by, heads_for, heads_told, is_block, is_workless, more_headers, need_told, news_told, paired, pairs_told, rebuilt_by, replied, resumed, served_told, short_told, taken_told, tx_request, wanted_told}
 use Rattle.cb_peer_state.specs.declared.session_state.SessionState.{SessionState}
-use Rattle.cb_peer_state.specs.State.{dropping, is_partial, landing, next_nonce, stranger, with_fetch, with_made, with_partial}
+use Rattle.cb_peer_state.specs.State.{dropping, is_partial, landing, next_nonce, stranger, unless_remembered, with_fallen, with_fetch, with_lacking, with_made, with_partial}
 use Rattle.cb_peer_state.proofs.Cases.{by_test, ends_cases}
+use Rattle.cb_peer_state.proofs.Resuming.{resuming_cases}
 use Rattle.cb_trace.specs.Whole.{is_send_headers, is_wish}
-use Rattle.cb_trace.proofs.Quiet.{IsRare, NoneOf, excerpt_none, greeting_none, more_none, news_none, none_of_both, parent_none, served_none}
+use Rattle.cb_trace.proofs.Quiet.{again_none, IsRare, NoneOf, excerpt_none, greeting_none, more_none, news_none, none_of_both, parent_none, served_none, unless_none}
 
 -- by this item the peer asks to be told of blocks by their headers
 abbrev pub item_wishes : Option Item → Bool
@@ -67,8 +69,8 @@ Silent sent = NoneOf is_send_headers sent
 pub data Hears (state : State) (peer : Peer) (item : Option Item) (outcome : Outcome) : Type 0 where
   keeps : outcome.session.state ≡ state → outcome.session.peer.version ≡ peer.version → (item_wishes item ≡ false → outcome.session.peer.by_headers ≡ peer.by_headers) → Silent outcome.messages → Hears state peer item outcome
   greets : state ≡ Start → outcome.session.state ≡ Greeted → outcome.session.peer.by_headers ≡ peer.by_headers → Silent outcome.messages → Hears state peer item outcome
-  readies : state ≡ Greeted → outcome.session.state ≡ Ready → outcome.session.peer ≡ peer → outcome.messages ≡ wishes peer.version → Hears state peer item outcome
-  stops : (why : CloseReason) → outcome.session.state ≡ Closed why → outcome.session.peer ≡ stranger → outcome.messages ≡ [] → Hears state peer item outcome
+  readies : state ≡ Greeted → outcome.session.state ≡ Ready → outcome.session.peer ≡ peer → outcome.messages ≡ wishes peer.version → outcome.next ≡ Some (About subjects.Locator) → Hears state peer item outcome
+  stops : (why : CloseReason) → outcome.session.state ≡ Closed why → outcome.session.peer ≡ stranger → outcome.messages ≡ [] → outcome.next ≡ None → Hears state peer item outcome
 
 ends_hears : (state : State) (peer : Peer) (item : Option Item) (s : SessionState) (sent : List Message) → s.state ≡ state → s.peer.version ≡ peer.version → (item_wishes item ≡ false → s.peer.by_headers ≡ peer.by_headers) → Silent sent
     → Hears state peer item (ends s sent)
@@ -76,6 +78,9 @@ ends_hears state peer item s sent at of by silent = ends_cases (Hears state peer
 
 quiet_end : (item : Option Item) (s : SessionState) (sent : List Message) → Silent sent → Hears s.state s.peer item (ends s sent)
 quiet_end item s sent silent = ends_hears s.state s.peer item s sent refl refl (λ _. refl) silent
+
+unless_end : (item : Option Item) (s : SessionState) (sent : List Message) → Silent sent → Hears s.state s.peer item (ends s (unless_remembered s sent))
+unless_end item s sent silent = quiet_end item s (unless_remembered s sent) (unless_none is_send_headers s sent silent)
 
 -- ---- messages that are no `sendheaders`
 
@@ -113,10 +118,10 @@ introduced_hears : (item : Option Item) (s : SessionState) (version : Version) �
 unfolding introduced
 introduced_hears item s version at =
     elim (cases_Bool (version.nonce == s.settings.nonce)) [
-      | inl own ↦ rw own (stops reasons.SelfPeer refl refl refl)
+      | inl own ↦ rw own (stops reasons.SelfPeer refl refl refl refl)
       | inr other ↦
           elim (cases_Bool (int_lt version.version (pos 70001))) [
-            | inl old ↦ rw (other, old) (stops reasons.OldPeer refl refl refl)
+            | inl old ↦ rw (other, old) (stops reasons.OldPeer refl refl refl refl)
             | inr new ↦ rw (other, new) (greets at refl refl (greeting_none is_send_headers s.settings rare))
           ]
     ]
@@ -137,7 +142,7 @@ compact_by relay s = elim (cases_Bool (relay.version == 1)) [ inl one ↦ rw one
 
 greeted_hears : (s : SessionState) (message : Message) → s.state ≡ Greeted → Hears s.state s.peer (Some (Good message)) (in_greeted s message)
 unfolding in_greeted
-greeted_hears s messages.Verack at = readies at refl refl refl
+greeted_hears s messages.Verack at = readies at refl refl refl refl
 greeted_hears s messages.SendHeaders at = keeps refl refl (λ e. absurd cc) refl
 greeted_hears s (messages.SendCmpct relay) at = keeps (compact_state relay s) (compact_version relay s) (λ _. compact_by relay s) refl
 greeted_hears s other at = keeps refl refl (λ _. refl) refl
@@ -151,30 +156,30 @@ brought_hears item s block =
     elim (cases_Bool (is_partial hash s.compact.partial)) [
       | inl is ↦ rw is (keeps refl refl (λ _. refl) refl)
       | inr isnt ↦ rw isnt (keeps refl refl (λ _. refl) refl)
-    ]) (λ _. stops reasons.BadBlock refl refl refl)
+    ]) (λ _. stops reasons.BadBlock refl refl refl refl)
 
 -- ---- compact blocks
 
-falls_back_hears : (item : Option Item) (s : SessionState) (hash : Hash256) → Hears s.state s.peer item (falls_back s hash)
+falls_back_hears : (item : Option Item) (s : SessionState) (hash before : Hash256) → Hears s.state s.peer item (falls_back s hash before)
 unfolding falls_back
-falls_back_hears item s hash = quiet_end item (with_fetch (fallen_back hash s.fetch) s) (cond (asks_now s.fetch hash) (asking_block hash ∷ []) []) (whole_silent (asks_now s.fetch hash) hash)
+falls_back_hears item s hash before = quiet_end item (with_fallen hash before s) (cond (asks_now s.fetch hash) (asking_block hash ∷ []) []) (whole_silent (asks_now s.fetch hash) hash)
 
 short_hears : (item : Option Item) (s : SessionState) (short : HeaderAndShortIds) → Hears s.state s.peer item (short_heard s short)
 unfolding short_heard
 short_hears item s short =
     by_test (Hears s.state s.peer item) (has_places short.txs) (asks (heard_of (block_hash short.header) s) [] (About subjects.Headers)) (ended reasons.BadMessage s)
-    (λ _. keeps refl refl (λ _. refl) refl) (λ _. stops reasons.BadMessage refl refl refl)
+    (λ _. keeps refl refl (λ _. refl) refl) (λ _. stops reasons.BadMessage refl refl refl refl)
 
-filled_hears : (item : Option Item) (s : SessionState) (hash : Hash256) (filled : Result Filled Fault) → Hears s.state s.peer item (filled_by s hash filled)
-filled_hears item s hash (Ok (filling.Sound block)) = keeps refl refl (λ _. refl) refl
-filled_hears item s hash (Ok filling.Wrong) = falls_back_hears item s hash
-filled_hears item s hash (Err fault) = stops reasons.BadMessage refl refl refl
+filled_hears : (item : Option Item) (s : SessionState) (hash before : Hash256) (filled : Result Filled Fault) → Hears s.state s.peer item (filled_by s hash before filled)
+filled_hears item s hash before (Ok (filling.Sound block)) = keeps refl refl (λ _. refl) refl
+filled_hears item s hash before (Ok filling.Wrong) = falls_back_hears item s hash before
+filled_hears item s hash before (Err fault) = stops reasons.BadMessage refl refl refl refl
 
 completed_hears : (item : Option Item) (s : SessionState) (given : BlockTransactions) (partial : Option Unfilled) → Hears s.state s.peer item (completed_by s given partial)
 completed_hears item s given None = quiet_end item s [] refl
 completed_hears item s given (Some partial) =
-    by_test (Hears s.state s.peer item) (same (block_hash partial.header) given.block) (filled_by (with_partial None s) given.block (completed_of partial given)) (ends s [])
-    (λ _. filled_hears item (with_partial None s) given.block (completed_of partial given)) (λ _. quiet_end item s [] refl)
+    by_test (Hears s.state s.peer item) (same (block_hash partial.header) given.block) (filled_by (with_partial None s) given.block partial.header.prev (completed_of partial given)) (ends s [])
+    (λ _. filled_hears item (with_partial None s) given.block partial.header.prev (completed_of partial given)) (λ _. quiet_end item s [] refl)
 
 txs_hears : (item : Option Item) (s : SessionState) (given : BlockTransactions) → Hears s.state s.peer item (txs_heard s given)
 unfolding txs_heard
@@ -217,15 +222,15 @@ unfolding processed
 processed_hears s None = quiet_end None s [] refl
 processed_hears s (Some (Good message)) = received_hears s message
 processed_hears s (Some Damaged) = quiet_end (Some Damaged) s [] refl
-processed_hears s (Some (Bad command fault)) = stops reasons.BadMessage refl refl refl
+processed_hears s (Some (Bad command fault)) = stops reasons.BadMessage refl refl refl refl
 
 -- ---- answers
 
 heads_by_hears : (item : Option Item) (s : SessionState) (refused : Option Fault) (locator : List Hash256) → Hears s.state s.peer item (heads_by s item refused locator)
-heads_by_hears item s (Some faults.BadWork) locator = stops reasons.BadBlock refl refl refl
-heads_by_hears item s (Some faults.NoParent) locator = quiet_end item s (asking_headers locator ∷ []) refl
+heads_by_hears item s (Some faults.BadWork) locator = stops reasons.BadBlock refl refl refl refl
+heads_by_hears item s (Some faults.NoParent) locator = unless_end item s (asking_headers locator ∷ []) refl
 heads_by_hears item s (Some other) locator = quiet_end item s [] refl
-heads_by_hears item s None locator = quiet_end item s (more_headers item) (more_none is_send_headers item rare)
+heads_by_hears item s None locator = unless_end item s (more_headers item) (more_none is_send_headers item rare)
 
 parent_silent : (refused : Option Fault) (locator : List Hash256) → Silent (before_parent refused locator)
 parent_silent refused locator = parent_none is_send_headers refused locator rare
@@ -233,30 +238,30 @@ parent_silent refused locator = parent_none is_send_headers refused locator rare
 short_told_hears : (item : Option Item) (s : SessionState) (hash : Hash256) (heads : Heads) → Hears s.state s.peer item (short_told s hash heads)
 unfolding short_told
 short_told_hears item s hash heads =
-    let sent = before_parent heads.refused heads.locator in
-    let silent = parent_silent heads.refused heads.locator in
+    let sent = unless_remembered s (before_parent heads.refused heads.locator) in
+    let silent = unless_none is_send_headers s (before_parent heads.refused heads.locator) (parent_silent heads.refused heads.locator) in
     let there : Outcome = ends (landing hash s) sent in
-    by_test (Hears s.state s.peer item) (is_workless heads.refused) (ended reasons.BadBlock s) (cond (is_nil heads.lack) there (asks s sent Match)) (λ _. stops reasons.BadBlock refl refl refl)
+    by_test (Hears s.state s.peer item) (is_workless heads.refused) (ended reasons.BadBlock s) (cond (is_nil heads.lack) there (asks s sent Match)) (λ _. stops reasons.BadBlock refl refl refl refl)
     (λ _. by_test (Hears s.state s.peer item) (is_nil heads.lack) there (asks s sent Match) (λ _. quiet_end item (landing hash s) sent silent) (λ _. keeps refl refl (λ _. refl) silent))
 
 heads_for_hears : (item : Option Item) (s : SessionState) (short : Option HeaderAndShortIds) (heads : Heads) → Hears s.state s.peer item (heads_for s item short heads)
-heads_for_hears item s None heads = heads_by_hears item (with_fetch (wanting_all s.fetch heads.lack) s) heads.refused heads.locator
+heads_for_hears item s None heads = heads_by_hears item (with_lacking heads.lack (before_first item) s) heads.refused heads.locator
 heads_for_hears item s (Some short) heads = short_told_hears item s (block_hash short.header) heads
 
 heads_hears : (item : Option Item) (s : SessionState) (heads : Heads) → Hears s.state s.peer item (heads_told s item heads)
 unfolding heads_told
 heads_hears item s heads = heads_for_hears item s (short_in item) heads
 
-rebuilt_hears : (item : Option Item) (s : SessionState) (hash : Hash256) (rebuilt : Rebuilt) → Hears s.state s.peer item (rebuilt_by s hash rebuilt)
-rebuilt_hears item s hash (rebuilts.Sound block) = keeps refl refl (λ _. refl) refl
-rebuilt_hears item s hash (rebuilts.Lacking partial request) = quiet_end item (with_partial (Some partial) s) (asking_txs request ∷ []) refl
-rebuilt_hears item s hash rebuilts.Useless = falls_back_hears item s hash
+rebuilt_hears : (item : Option Item) (s : SessionState) (header : Header) (rebuilt : Rebuilt) → Hears s.state s.peer item (rebuilt_by s header rebuilt)
+rebuilt_hears item s header (rebuilts.Sound block) = keeps refl refl (λ _. refl) refl
+rebuilt_hears item s header (rebuilts.Lacking partial request) = quiet_end item (with_partial (Some partial) s) (asking_txs request ∷ []) refl
+rebuilt_hears item s header rebuilts.Useless = falls_back_hears item s (block_hash header) header.prev
 
 paired_hears : (item : Option Item) (s : SessionState) (short : Option HeaderAndShortIds) (pairs : List Pair) → Hears s.state s.peer item (paired s short pairs)
 paired_hears item s None pairs = keeps refl refl (λ _. refl) refl
 paired_hears item s (Some short) pairs =
-    by_test (Hears s.state s.peer item) (has_places short.txs) (rebuilt_by s (block_hash short.header) (rebuilt_of short pairs)) (ended reasons.BadMessage s)
-    (λ _. rebuilt_hears item s (block_hash short.header) (rebuilt_of short pairs)) (λ _. stops reasons.BadMessage refl refl refl)
+    by_test (Hears s.state s.peer item) (has_places short.txs) (rebuilt_by s short.header (rebuilt_of short pairs)) (ended reasons.BadMessage s)
+    (λ _. rebuilt_hears item s short.header (rebuilt_of short pairs)) (λ _. stops reasons.BadMessage refl refl refl refl)
 
 pairs_hears : (item : Option Item) (s : SessionState) (pairs : List Pair) → Hears s.state s.peer item (pairs_told s item pairs)
 unfolding pairs_told
@@ -266,40 +271,54 @@ taken_hears : (item : Option Item) (s : SessionState) (refused : Option Fault) (
 unfolding taken_told
 taken_hears item s None locator = quiet_end item s [] refl
 taken_hears item s (Some faults.Known) locator = quiet_end item s [] refl
-taken_hears item s (Some faults.NoParent) locator = quiet_end item s (asking_headers locator ∷ []) refl
-taken_hears item s (Some other) locator = stops reasons.BadBlock refl refl refl
+taken_hears item s (Some faults.NoParent) locator = unless_end item s (asking_headers locator ∷ []) refl
+taken_hears item s (Some other) locator = stops reasons.BadBlock refl refl refl refl
 
 given_hears : (item : Option Item) (s : SessionState) (refused : Option Fault) (locator : List Hash256) → Hears s.state s.peer item (given_told s refused locator)
 unfolding given_told
-given_hears item s refused locator = quiet_end item s (before_parent refused locator) (parent_silent refused locator)
+given_hears item s refused locator = unless_end item s (before_parent refused locator) (parent_silent refused locator)
 
 excerpt_hears : (item : Option Item) (s : SessionState) (excerpt : Excerpt) → Hears s.state s.peer item (excerpt_answered s excerpt)
 unfolding excerpt_answered
-excerpt_hears item s (excerpts.Refused fault) = stops reasons.BadRequest refl refl refl
+excerpt_hears item s (excerpts.Refused fault) = stops reasons.BadRequest refl refl refl refl
 excerpt_hears item s other = quiet_end item s (excerpt_told other) (excerpt_none is_send_headers other rare)
 
 need_hears : (item : Option Item) (s : SessionState) (need : Need) → Hears s.state s.peer item (need_told s need)
 unfolding need_told
 need_hears item s need =
-    quiet_end item s (asking_for (filter_map tx_request need.entries) ++ cond (list_any is_block need.entries) (asking_headers need.locator ∷ []) [])
-    (none_of_both is_send_headers (asking_for (filter_map tx_request need.entries)) (cond (list_any is_block need.entries) (asking_headers need.locator ∷ []) []) (asking_silent (filter_map tx_request need.entries))
-    (request_silent (list_any is_block need.entries) need.locator))
+    let behind : List Message = cond (list_any is_block need.entries) (asking_headers need.locator ∷ []) [] in
+    quiet_end item s (asking_for (filter_map tx_request need.entries) ++ unless_remembered s behind)
+    (none_of_both is_send_headers (asking_for (filter_map tx_request need.entries)) (unless_remembered s behind) (asking_silent (filter_map tx_request need.entries))
+    (unless_none is_send_headers s behind (request_silent (list_any is_block need.entries) need.locator)))
 
 -- an answer, to whatever it is one
+replied_hears : (s : SessionState) (item : Option Item) (stage : Stage) (answer : Answer) → Hears s.state s.peer item (replied s item stage answer)
+unfolding replied wanted_told news_told served_told
+replied_hears s item stage answers.Kicked = stops reasons.Kicked refl refl refl refl
+replied_hears s item Admit answers.Go = processed_hears s item
+replied_hears s item (About subject) (answers.Heads heads) = heads_hears item s heads
+replied_hears s item (About subject) (answers.Locator locator) = unless_end item s (asking_headers locator ∷ []) refl
+replied_hears s item (About subject) (answers.Need need) = need_hears item s need
+replied_hears s item (About subject) (answers.TxTaken refused) = quiet_end item s [] refl
+replied_hears s item (About subject) (answers.Taken taken) = taken_hears item s taken.refused taken.locator
+replied_hears s item (About subject) (answers.Served pieces) = quiet_end item (with_made (shorts pieces) s) (served (next_nonce s) pieces) (served_none is_send_headers (next_nonce s) pieces rare (λ _. refl))
+replied_hears s item (About subject) (answers.Following headers) = quiet_end item s (messages.Headers headers ∷ []) refl
+replied_hears s item (About subject) (answers.Excerpt excerpt) = excerpt_hears item s excerpt
+replied_hears s item Match (answers.Pairs pairs) = pairs_hears item s pairs
+replied_hears s item (Give block) (answers.Taken taken) = given_hears item s taken.refused taken.locator
+replied_hears s item Wanted (answers.Need need) = keeps refl refl (λ _. refl) (asking_silent (requests_of _ (taken_on (blocks_in need.entries)).flight))
+replied_hears s item Fresh (answers.News news) = keeps refl refl (λ _. refl) (news_none is_send_headers s item news rare (λ _. refl) (λ _. refl))
+replied_hears s item stage other = keeps refl refl (λ _. refl) refl
+
+resumed_hears : (state : State) (peer : Peer) (item : Option Item) (outcome : Outcome) (hash : Hash256) → outcome.next ≡ Some Fresh → Hears state peer item outcome → Hears state peer item (resumed hash outcome)
+resumed_hears state peer item outcome hash news (keeps at of by silent) = keeps at of by (again_none is_send_headers outcome.messages (hash ∷ []) rare silent)
+resumed_hears state peer item outcome hash news (greets from to by silent) = greets from to by (again_none is_send_headers outcome.messages (hash ∷ []) rare silent)
+resumed_hears state peer item outcome hash news (readies from to of sent next) = absurd (let clash : Some Fresh ≡ Some (About subjects.Locator) = sym news ∙ next in cc)
+resumed_hears state peer item outcome hash news (stops why to of sent next) = absurd (let clash : Some Fresh ≡ None = sym news ∙ next in cc)
+
 pub answered_hears : (s : SessionState) (item : Option Item) (stage : Stage) (answer : Answer) → Hears s.state s.peer item (answered s item stage answer)
-unfolding answered wanted_told news_told served_told
-answered_hears s item stage answers.Kicked = stops reasons.Kicked refl refl refl
-answered_hears s item Admit answers.Go = processed_hears s item
-answered_hears s item (About subject) (answers.Heads heads) = heads_hears item s heads
-answered_hears s item (About subject) (answers.Locator locator) = quiet_end item s (asking_headers locator ∷ []) refl
-answered_hears s item (About subject) (answers.Need need) = need_hears item s need
-answered_hears s item (About subject) (answers.TxTaken refused) = quiet_end item s [] refl
-answered_hears s item (About subject) (answers.Taken taken) = taken_hears item s taken.refused taken.locator
-answered_hears s item (About subject) (answers.Served pieces) = quiet_end item (with_made (shorts pieces) s) (served (next_nonce s) pieces) (served_none is_send_headers (next_nonce s) pieces rare (λ _. refl))
-answered_hears s item (About subject) (answers.Following headers) = quiet_end item s (messages.Headers headers ∷ []) refl
-answered_hears s item (About subject) (answers.Excerpt excerpt) = excerpt_hears item s excerpt
-answered_hears s item Match (answers.Pairs pairs) = pairs_hears item s pairs
-answered_hears s item (Give block) (answers.Taken taken) = given_hears item s taken.refused taken.locator
-answered_hears s item Wanted (answers.Need need) = keeps refl refl (λ _. refl) (asking_silent (requests_of _ (taken_on (blocks_in need.entries)).flight))
-answered_hears s item Fresh (answers.News news) = keeps refl refl (λ _. refl) (news_none is_send_headers s item news rare (λ _. refl) (λ _. refl))
-answered_hears s item stage other = keeps refl refl (λ _. refl) refl
+unfolding answered
+answered_hears s item stage answer =
+    let outcome = replied s item stage answer in
+    let hears = replied_hears s item stage answer in
+    resuming_cases (Hears s.state s.peer item) outcome hears (λ hash news _ _. resumed_hears s.state s.peer item outcome hash news hears)

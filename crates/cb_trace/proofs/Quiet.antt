@@ -33,6 +33,8 @@ use Rattle.cb_wire.specs.declared.message.Message.TheVariants as messages
 use Rattle.cb_peer_state.specs.declared.settings.Settings.{Settings}
 use Rattle.cb_peer_state.specs.Receiving.{greeting}
 use Rattle.cb_peer_state.specs.Replying.{before_parent, differ, is_untold, more_behind, more_headers, tip_by, tip_told, wish_told, without_brought}
+use Rattle.cb_peer_state.specs.State.{unless_remembered}
+use Rattle.cb_peer_laws.proofs.Behind.{unless_all}
 use Rattle.cb_peer_state.specs.declared.session_state.SessionState.{SessionState}
 
 -- none of the messages meets the test
@@ -90,6 +92,14 @@ more_none test item m = refl
 pub parent_none : (test : Message → Bool) (refused : Option Fault) (locator : List Hash256) → IsRare test → NoneOf test (before_parent refused locator)
 parent_none test (Some faults.NoParent) locator m = request_none test locator m
 parent_none test refused locator m = refl
+
+-- headers are requested unless one is remembered
+pub unless_none : (test : Message → Bool) (s : SessionState) (sent : List Message) → NoneOf test sent → NoneOf test (unless_remembered s sent)
+unless_none test s sent none = unless_all (NoneOf test) s sent refl none
+
+-- headers from the remembered one are requested at the end
+pub again_none : (test : Message → Bool) (sent : List Message) (locator : List Hash256) → IsRare test → NoneOf test sent → NoneOf test (sent ++ asking_headers locator ∷ [])
+again_none test sent locator m none = none_of_both test sent (asking_headers locator ∷ []) none (request_none test locator m)
 
 -- ---- what is served
 

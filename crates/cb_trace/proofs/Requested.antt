@@ -14,7 +14,7 @@ use Rattle.cb_compact.specs.Slots.{Unfilled, missing}
 use Rattle.cb_compact.specs.declared.named_tx.Pair.{Pair}
 use Rattle.cb_compact.specs.declared.partial.Filled.{Filled}
 use Rattle.cb_compact.specs.declared.partial.Filled.TheVariants as filling
-use Rattle.cb_fetch.specs.Fetching.{asks_now, blocks_in, fallen_back, has, request_of, requests_of, taken_on, wanting_all}
+use Rattle.cb_fetch.specs.Fetching.{FetchState, asks_now, blocks_in, has, request_of, requests_of, taken_on, wanting_all}
 use Rattle.cb_journal.specs.declared.answer.Answer.{Answer}
 use Rattle.cb_journal.specs.declared.answer.Answer.TheVariants as answers
 use Rattle.cb_journal.specs.declared.question.Question.{Question}
@@ -54,14 +54,16 @@ use Rattle.cb_peer_state.specs.declared.state.State.{State}
 use Rattle.cb_peer_state.specs.declared.state.State.TheVariants.{Start, Greeted, Ready, Closed}
 use Rattle.cb_peer_state.specs.Questions.{about, fits, is_nil, question_of, short_in, told_of}
 use Rattle.cb_peer_state.specs.Receiving.{Outcome, asks, brought, by_compact, by_headers, by_phase, completed_by, ended, ends, falls_back, filled_by, given_up, gives, greeting, heard_of, in_greeted, in_ready, in_start, introduced, processed, received, short_heard, txs_heard}
-use Rattle.cb_peer_state.specs.Replying.{answered, before_parent, excerpt_answered, given_told, heads_by, heads_for, heads_told, is_block, is_workless, more_headers, need_told, news_told, paired, pairs_told, rebuilt_by, served_told, short_told, taken_told, tip_told, tx_request, wanted_told, wish_told, without_brought}
+use Rattle.cb_peer_state.specs.Replying.{answered, before_first, before_parent, excerpt_answered, given_told, heads_by, heads_for, heads_told, is_block, is_workless, more_headers, need_told, news_told, paired, pairs_told, rebuilt_by, replied, served_told, short_told, taken_told, tip_told, tx_request, wanted_told, wish_told, without_brought}
 use Rattle.cb_peer_state.specs.declared.session_state.SessionState.{SessionState}
-use Rattle.cb_peer_state.specs.State.{dropping, is_partial, landing, next_nonce, with_fetch, with_made, with_partial}
+use Rattle.cb_peer_state.specs.State.{dropping, is_partial, landing, next_nonce, remembers, unless_remembered, with_fallen, with_fetch, with_lacking, with_made, with_partial}
 use Rattle.cb_peer_state.proofs.Cases.{by_test, ends_cases}
+use Rattle.cb_peer_state.proofs.Resuming.{resuming_cases}
+use Rattle.cb_peer_laws.proofs.Behind.{any_more}
 use Rattle.cb_peer_laws.specs.Laws.{asks_for_block, names_block}
 use Rattle.cb_trace.specs.Whole.{lacking_of, missing_in, needed_in}
 use Rattle.cb_trace.proofs.Fetches.{Each, Fetches, Tests, rebuilding, all_taken, all_wanted, back_fetches, given_up_fetches, idle_fetches, lands_fetches, none_each, same_each, with_rebuilding}
-use Rattle.cb_trace.proofs.Quiet.{IsRare, NoneOf, excerpt_none, greeting_none, more_none, news_none, none_of_both, parent_none, request_none, served_none}
+use Rattle.cb_trace.proofs.Quiet.{IsRare, NoneOf, excerpt_none, greeting_none, more_none, news_none, none_of_both, parent_none, request_none, served_none, unless_none}
 
 -- ---- what is asked for
 
@@ -110,11 +112,13 @@ asked_by_entries hash [] none = refl
 asked_by_entries hash (first ∷ others) none = rw none refl
 
 -- the transactions of an `inv` and the headers before its blocks
-need_asks : (need : Need) → AsksNone (asking_for (filter_map tx_request need.entries) ++ cond (list_any is_block need.entries) (asking_headers need.locator ∷ []) [])
-need_asks need hash =
-    none_of_both (asks_for_block hash) (asking_for (filter_map tx_request need.entries)) (cond (list_any is_block need.entries) (asking_headers need.locator ∷ []) [])
+need_asks : (s : SessionState) (need : Need) → AsksNone (asking_for (filter_map tx_request need.entries) ++ unless_remembered s (cond (list_any is_block need.entries) (asking_headers need.locator ∷ []) []))
+need_asks s need hash =
+    let behind : List Message = cond (list_any is_block need.entries) (asking_headers need.locator ∷ []) [] in
+    none_of_both (asks_for_block hash) (asking_for (filter_map tx_request need.entries)) (unless_remembered s behind)
     (asked_by_entries hash (filter_map tx_request need.entries) (no_block_among_txs hash need.entries))
-    (elim (cases_Bool (list_any is_block need.entries)) [ inl block ↦ rw block (request_none (asks_for_block hash) need.locator (rare hash)) | inr none ↦ rw none refl ])
+    (unless_none (asks_for_block hash) s behind
+    (by_test (NoneOf (asks_for_block hash)) (list_any is_block need.entries) (asking_headers need.locator ∷ []) [] (λ _. request_none (asks_for_block hash) need.locator (rare hash)) (λ _. refl)))
 
 -- a request of a compact block or of a whole one names it alone
 named_is : (compact : Bool) (hash other : Hash256) (others : Bool) → (names_block hash (request_of compact other) || others) ≡ (same hash other || others)
@@ -173,6 +177,9 @@ quiet_comes t item s f = ends_comes t item s [] f (silent t)
 plain_comes : (t : Tests) (item : Option Item) (s : SessionState) (sent : List Message) → FetchesAt t s → AsksNone sent → Comes t item (ends s sent)
 plain_comes t item s sent f none = ends_comes t item s sent f (none_asked t.needed sent none)
 
+unless_comes : (t : Tests) (item : Option Item) (s r : SessionState) (sent : List Message) → FetchesAt t s → AsksNone sent → Comes t item (ends s (unless_remembered r sent))
+unless_comes t item s r sent f none = plain_comes t item s (unless_remembered r sent) f (λ hash. unless_none (asks_for_block hash) r sent (none hash))
+
 over_comes : (t : Tests) (item : Option Item) (why : CloseReason) (s : SessionState) → Comes t item (ended why s)
 over_comes t item why s = record { fetches = idle_fetches t; sought = none_each t.missing; asked = silent t }
 
@@ -208,10 +215,10 @@ brought_comes t item s block f =
     by_test (Comes t item) (is_sound_block block) (asks (heard_of hash whole) [] (About subjects.Block)) (ended reasons.BadBlock s)
     (λ _. record { fetches = dropping_fetches t (landing hash s) hash (lands_fetches t s.fetch s.compact.partial hash f); sought = none_each t.missing; asked = silent t }) (λ _. over_comes t item reasons.BadBlock s)
 
-falls_back_comes : (t : Tests) (item : Option Item) (s : SessionState) (hash : Hash256) → Each t.missing (hash ∷ []) → FetchesAt t s → Comes t item (falls_back s hash)
+falls_back_comes : (t : Tests) (item : Option Item) (s : SessionState) (hash before : Hash256) → Each t.missing (hash ∷ []) → FetchesAt t s → Comes t item (falls_back s hash before)
 unfolding falls_back
-falls_back_comes t item s hash each f =
-    ends_comes t item (with_fetch (fallen_back hash s.fetch) s) (cond (asks_now s.fetch hash) (asking_block hash ∷ []) []) (back_fetches t s.fetch s.compact.partial hash each f)
+falls_back_comes t item s hash before each f =
+    ends_comes t item (with_fallen hash before s) (cond (asks_now s.fetch hash) (asking_block hash ∷ []) []) (back_fetches t s.fetch s.compact.partial hash each f)
     (whole_asks t.needed (asks_now s.fetch hash) hash (λ other e. t.is_needed other (each other e)))
 
 gives_comes : (t : Tests) (item : Option Item) (s : SessionState) (block : Block) → FetchesAt t s → Comes t item (gives s block)
@@ -223,18 +230,18 @@ short_comes t item s short f =
     by_test (Comes t item) (has_places short.txs) (asks (heard_of (block_hash short.header) s) [] (About subjects.Headers)) (ended reasons.BadMessage s)
     (λ _. record { fetches = f; sought = none_each t.missing; asked = silent t }) (λ _. over_comes t item reasons.BadMessage s)
 
-filled_comes : (t : Tests) (item : Option Item) (s : SessionState) (hash : Hash256) (filled : Result Filled Fault) → Each t.missing (hash ∷ []) → FetchesAt t s → Comes t item (filled_by s hash filled)
-filled_comes t item s hash (Ok (filling.Sound block)) each f = gives_comes t item s block f
-filled_comes t item s hash (Ok filling.Wrong) each f = falls_back_comes t item s hash each f
-filled_comes t item s hash (Err fault) each f = over_comes t item reasons.BadMessage s
+filled_comes : (t : Tests) (item : Option Item) (s : SessionState) (hash before : Hash256) (filled : Result Filled Fault) → Each t.missing (hash ∷ []) → FetchesAt t s → Comes t item (filled_by s hash before filled)
+filled_comes t item s hash before (Ok (filling.Sound block)) each f = gives_comes t item s block f
+filled_comes t item s hash before (Ok filling.Wrong) each f = falls_back_comes t item s hash before each f
+filled_comes t item s hash before (Err fault) each f = over_comes t item reasons.BadMessage s
 
 completed_comes : (t : Tests) (item : Option Item) (s : SessionState) (given : BlockTransactions) (partial : Option Unfilled) → s.compact.partial ≡ partial → FetchesAt t s → Comes t item (completed_by s given partial)
 completed_comes t item s given None is f = quiet_comes t item s f
 completed_comes t item s given (Some partial) is f =
     let was : Each t.missing (block_hash partial.header ∷ []) = subst (λ (p : Option Unfilled). Each t.missing (rebuilding p)) is f.rebuilt in
-    by_test (Comes t item) (same (block_hash partial.header) given.block) (filled_by (with_partial None s) given.block (completed_of partial given)) (ends s [])
+    by_test (Comes t item) (same (block_hash partial.header) given.block) (filled_by (with_partial None s) given.block partial.header.prev (completed_of partial given)) (ends s [])
     (λ e.
-    filled_comes t item (with_partial None s) given.block (completed_of partial given) (same_each t.missing (block_hash partial.header) given.block e was)
+    filled_comes t item (with_partial None s) given.block partial.header.prev (completed_of partial given) (same_each t.missing (block_hash partial.header) given.block e was)
     (with_rebuilding t s.fetch s.compact.partial None (none_each t.missing) f))
     (λ _. quiet_comes t item s f)
 
@@ -294,9 +301,9 @@ processed_comes t s (Some (Bad command fault)) f = over_comes t (Some (Bad comma
 
 heads_by_comes : (t : Tests) (item : Option Item) (s : SessionState) (refused : Option Fault) (locator : List Hash256) → FetchesAt t s → Comes t item (heads_by s item refused locator)
 heads_by_comes t item s (Some faults.BadWork) locator f = over_comes t item reasons.BadBlock s
-heads_by_comes t item s (Some faults.NoParent) locator f = plain_comes t item s (asking_headers locator ∷ []) f (λ _. refl)
+heads_by_comes t item s (Some faults.NoParent) locator f = unless_comes t item s s (asking_headers locator ∷ []) f (λ _. refl)
 heads_by_comes t item s (Some other) locator f = quiet_comes t item s f
-heads_by_comes t item s None locator f = plain_comes t item s (more_headers item) f (λ hash. more_none (asks_for_block hash) item (rare hash))
+heads_by_comes t item s None locator f = unless_comes t item s s (more_headers item) f (λ hash. more_none (asks_for_block hash) item (rare hash))
 
 parent_asks : (refused : Option Fault) (locator : List Hash256) → AsksNone (before_parent refused locator)
 parent_asks refused locator hash = parent_none (asks_for_block hash) refused locator (rare hash)
@@ -305,8 +312,8 @@ parent_asks refused locator hash = parent_none (asks_for_block hash) refused loc
 short_told_comes : (t : Tests) (item : Option Item) (s : SessionState) (hash : Hash256) (heads : Heads) → (is_nil heads.lack ≡ false → Each t.missing (matched item (Some Match))) → FetchesAt t s → Comes t item (short_told s hash heads)
 unfolding short_told
 short_told_comes t item s hash heads each f =
-    let sent = before_parent heads.refused heads.locator in
-    let none = parent_asks heads.refused heads.locator in
+    let sent = unless_remembered s (before_parent heads.refused heads.locator) in
+    let none : AsksNone sent = λ other. unless_none (asks_for_block other) s (before_parent heads.refused heads.locator) (parent_asks heads.refused heads.locator other) in
     let there : Outcome = ends (landing hash s) sent in
     by_test (Comes t item) (is_workless heads.refused) (ended reasons.BadBlock s) (cond (is_nil heads.lack) there (asks s sent Match)) (λ _. over_comes t item reasons.BadBlock s)
     (λ _.
@@ -315,7 +322,9 @@ short_told_comes t item s hash heads each f =
 
 heads_for_comes : (t : Tests) (item : Option Item) (s : SessionState) (short : Option HeaderAndShortIds) (heads : Heads) → Each t.lacks heads.lack → (is_nil heads.lack ≡ false → Each t.missing (matched item (Some Match))) → FetchesAt t s
     → Comes t item (heads_for s item short heads)
-heads_for_comes t item s None heads lack each f = heads_by_comes t item (with_fetch (wanting_all s.fetch heads.lack) s) heads.refused heads.locator (all_wanted t s.fetch s.compact.partial heads.lack lack f)
+heads_for_comes t item s None heads lack each f =
+    heads_by_comes t item (with_lacking heads.lack (before_first item) s) heads.refused heads.locator
+    (by_test (λ (x : FetchState). Fetches t x s.compact.partial) (remembers s) s.fetch (wanting_all s.fetch heads.lack) (λ _. f) (λ _. all_wanted t s.fetch s.compact.partial heads.lack lack f))
 heads_for_comes t item s (Some short) heads lack each f = short_told_comes t item s (block_hash short.header) heads each f
 
 heads_comes : (t : Tests) (item : Option Item) (s : SessionState) (heads : Heads) → Each t.lacks heads.lack → (is_nil heads.lack ≡ false → Each t.missing (matched item (Some Match))) → FetchesAt t s → Comes t item (heads_told s item heads)
@@ -342,17 +351,17 @@ rebuilt_under short pairs =
     by_test (IsUnder short) (are_different short.txs.ids) (told_by unfilled (missing 0 unfilled.slots)) rebuilts.Useless (λ _. told_under short unfilled (missing 0 unfilled.slots) refl) (λ _. tt)
 
 rebuilt_comes : (t : Tests) (item : Option Item) (s : SessionState) (short : HeaderAndShortIds) (rebuilt : Rebuilt) → IsUnder short rebuilt → Each t.missing (block_hash short.header ∷ []) → FetchesAt t s
-    → Comes t item (rebuilt_by s (block_hash short.header) rebuilt)
+    → Comes t item (rebuilt_by s short.header rebuilt)
 rebuilt_comes t item s short (rebuilts.Sound block) under each f = gives_comes t item s block f
 rebuilt_comes t item s short (rebuilts.Lacking partial request) under each f =
     let own : Each t.missing (rebuilding (Some partial)) = subst (λ (header : Header). Each t.missing (block_hash header ∷ [])) (sym under) each in
     plain_comes t item (with_partial (Some partial) s) (asking_txs request ∷ []) (with_rebuilding t s.fetch s.compact.partial (Some partial) own f) (λ _. refl)
-rebuilt_comes t item s short rebuilts.Useless under each f = falls_back_comes t item s (block_hash short.header) each f
+rebuilt_comes t item s short rebuilts.Useless under each f = falls_back_comes t item s (block_hash short.header) short.header.prev each f
 
 paired_comes : (t : Tests) (item : Option Item) (s : SessionState) (short : Option HeaderAndShortIds) (pairs : List Pair) → Each t.missing (short_hashes short) → FetchesAt t s → Comes t item (paired s short pairs)
 paired_comes t item s None pairs each f = record { fetches = f; sought = none_each t.missing; asked = silent t }
 paired_comes t item s (Some short) pairs each f =
-    by_test (Comes t item) (has_places short.txs) (rebuilt_by s (block_hash short.header) (rebuilt_of short pairs)) (ended reasons.BadMessage s)
+    by_test (Comes t item) (has_places short.txs) (rebuilt_by s short.header (rebuilt_of short pairs)) (ended reasons.BadMessage s)
     (λ _. rebuilt_comes t item s short (rebuilt_of short pairs) (rebuilt_under short pairs) each f) (λ _. over_comes t item reasons.BadMessage s)
 
 pairs_comes : (t : Tests) (item : Option Item) (s : SessionState) (pairs : List Pair) → Each t.missing (matched item (Some Match)) → FetchesAt t s → Comes t item (pairs_told s item pairs)
@@ -363,12 +372,12 @@ taken_comes : (t : Tests) (item : Option Item) (s : SessionState) (refused : Opt
 unfolding taken_told
 taken_comes t item s None locator f = quiet_comes t item s f
 taken_comes t item s (Some faults.Known) locator f = quiet_comes t item s f
-taken_comes t item s (Some faults.NoParent) locator f = plain_comes t item s (asking_headers locator ∷ []) f (λ _. refl)
+taken_comes t item s (Some faults.NoParent) locator f = unless_comes t item s s (asking_headers locator ∷ []) f (λ _. refl)
 taken_comes t item s (Some other) locator f = over_comes t item reasons.BadBlock s
 
 given_comes : (t : Tests) (item : Option Item) (s : SessionState) (refused : Option Fault) (locator : List Hash256) → FetchesAt t s → Comes t item (given_told s refused locator)
 unfolding given_told
-given_comes t item s refused locator f = plain_comes t item s (before_parent refused locator) f (parent_asks refused locator)
+given_comes t item s refused locator f = unless_comes t item s s (before_parent refused locator) f (parent_asks refused locator)
 
 excerpt_comes : (t : Tests) (item : Option Item) (s : SessionState) (excerpt : Excerpt) → FetchesAt t s → Comes t item (excerpt_answered s excerpt)
 unfolding excerpt_answered
@@ -381,7 +390,7 @@ served_comes t item s pieces f = plain_comes t item (with_made (shorts pieces) s
 
 need_comes : (t : Tests) (item : Option Item) (s : SessionState) (need : Need) → FetchesAt t s → Comes t item (need_told s need)
 unfolding need_told
-need_comes t item s need f = plain_comes t item s _ f (need_asks need)
+need_comes t item s need f = plain_comes t item s _ f (need_asks s need)
 
 wanted_comes : (t : Tests) (item : Option Item) (s : SessionState) (need : Need) → Each t.needed (blocks_in need.entries) → Each t.lacks (blocks_in need.entries) → FetchesAt t s → Comes t item (wanted_told s need)
 unfolding wanted_told
@@ -415,22 +424,35 @@ short_missing t q (Some (Good (messages.CmpctBlock short))) subject heads fit te
 short_missing t q item subject heads fit tells lacks = none_each t.missing
 
 -- an answer that fits
+replied_comes : (t : Tests) (q s : SessionState) (item : Option Item) (stage : Stage) (answer : Answer) → fits (question_of q item stage) answer ≡ true → Tells t (question_of q item stage) answer → Each t.missing (matched item (Some stage))
+    → FetchesAt t s → Comes t item (replied s item stage answer)
+unfolding replied
+replied_comes t q s item stage answers.Kicked fit tells each f = over_comes t item reasons.Kicked s
+replied_comes t q s item Admit answers.Go fit tells each f = processed_comes t s item f
+replied_comes t q s item (About subject) (answers.Heads heads) fit tells each f =
+    heads_comes t item s heads (heads_lack t (question_of q item (About subject)) heads fit tells) (short_missing t q item subject heads fit tells) f
+replied_comes t q s item (About subject) (answers.Locator locator) fit tells each f = unless_comes t item s s (asking_headers locator ∷ []) f (λ _. refl)
+replied_comes t q s item (About subject) (answers.Need need) fit tells each f = need_comes t item s need f
+replied_comes t q s item (About subject) (answers.TxTaken refused) fit tells each f = quiet_comes t item s f
+replied_comes t q s item (About subject) (answers.Taken taken) fit tells each f = taken_comes t item s taken.refused taken.locator f
+replied_comes t q s item (About subject) (answers.Served pieces) fit tells each f = served_comes t item s pieces f
+replied_comes t q s item (About subject) (answers.Following headers) fit tells each f = plain_comes t item s (messages.Headers headers ∷ []) f (λ _. refl)
+replied_comes t q s item (About subject) (answers.Excerpt excerpt) fit tells each f = excerpt_comes t item s excerpt f
+replied_comes t q s item Match (answers.Pairs pairs) fit tells each f = pairs_comes t item s pairs each f
+replied_comes t q s item (Give block) (answers.Taken taken) fit tells each f = given_comes t item s taken.refused taken.locator f
+replied_comes t q s item Wanted (answers.Need need) fit tells each f = wanted_comes t item s need tells.needed tells.lacks f
+replied_comes t q s item Fresh (answers.News news) fit tells each f = news_comes t item s news f
+replied_comes t q s item stage other fit tells each f = record { fetches = f; sought = none_each t.missing; asked = silent t }
+
 pub answered_comes : (t : Tests) (q s : SessionState) (item : Option Item) (stage : Stage) (answer : Answer) → fits (question_of q item stage) answer ≡ true → Tells t (question_of q item stage) answer → Each t.missing (matched item (Some stage))
     → FetchesAt t s → Comes t item (answered s item stage answer)
 unfolding answered
-answered_comes t q s item stage answers.Kicked fit tells each f = over_comes t item reasons.Kicked s
-answered_comes t q s item Admit answers.Go fit tells each f = processed_comes t s item f
-answered_comes t q s item (About subject) (answers.Heads heads) fit tells each f =
-    heads_comes t item s heads (heads_lack t (question_of q item (About subject)) heads fit tells) (short_missing t q item subject heads fit tells) f
-answered_comes t q s item (About subject) (answers.Locator locator) fit tells each f = plain_comes t item s (asking_headers locator ∷ []) f (λ _. refl)
-answered_comes t q s item (About subject) (answers.Need need) fit tells each f = need_comes t item s need f
-answered_comes t q s item (About subject) (answers.TxTaken refused) fit tells each f = quiet_comes t item s f
-answered_comes t q s item (About subject) (answers.Taken taken) fit tells each f = taken_comes t item s taken.refused taken.locator f
-answered_comes t q s item (About subject) (answers.Served pieces) fit tells each f = served_comes t item s pieces f
-answered_comes t q s item (About subject) (answers.Following headers) fit tells each f = plain_comes t item s (messages.Headers headers ∷ []) f (λ _. refl)
-answered_comes t q s item (About subject) (answers.Excerpt excerpt) fit tells each f = excerpt_comes t item s excerpt f
-answered_comes t q s item Match (answers.Pairs pairs) fit tells each f = pairs_comes t item s pairs each f
-answered_comes t q s item (Give block) (answers.Taken taken) fit tells each f = given_comes t item s taken.refused taken.locator f
-answered_comes t q s item Wanted (answers.Need need) fit tells each f = wanted_comes t item s need tells.needed tells.lacks f
-answered_comes t q s item Fresh (answers.News news) fit tells each f = news_comes t item s news f
-answered_comes t q s item stage other fit tells each f = record { fetches = f; sought = none_each t.missing; asked = silent t }
+answered_comes t q s item stage answer fit tells each f =
+    let outcome = replied s item stage answer in
+    let comes = replied_comes t q s item stage answer fit tells each f in
+    resuming_cases (Comes t item) outcome comes
+    (λ last _ _ _. record {
+      fetches = comes.fetches;
+      sought = comes.sought;
+      asked = λ hash e. comes.asked hash (sym (any_more (asks_for_block hash) outcome.messages (last ∷ []) refl) ∙ e);
+    })

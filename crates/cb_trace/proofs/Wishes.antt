@@ -57,8 +57,8 @@ outcome_tells s item outcome (keeps at of by silent) =
     quiet silent (λ knows. sym (knows_same outcome.session.state s.state outcome.session.peer.version s.peer.version at of) ∙ knows) (λ past. ap is_past at ∙ past)
 outcome_tells s item outcome (greets from to by silent) =
     quiet silent (λ knows. not_known outcome.session.state outcome.session.peer.version (ap is_ready to) knows) (λ past. not_past s.state Start from refl past)
-outcome_tells s item outcome (readies from to of sent) = tells from sent to of
-outcome_tells s item outcome (stops why to of sent) =
+outcome_tells s item outcome (readies from to of sent next) = tells from sent to of
+outcome_tells s item outcome (stops why to of sent next) =
     quiet (ap (λ (l : List Message). list_any is_send_headers l) sent) (λ knows. not_known outcome.session.state outcome.session.peer.version (ap is_ready to) knows) (λ past. ap is_past to)
 
 stays_tells : (s : SessionState) → Tells s (stays s)

@@ -2,7 +2,8 @@ use Rattle.std.proofs.Common.{◌≡◌, Result, ap, subst, sym, ◌∙◌}
 use Rattle.cb_node_process.specs.Telling.{TellsAll, deaf_text}
 use Rattle.cb_node_process.specs.declared.orders.NodeOrders.{NodeOrders}
 use Rattle.cb_command.specs.declared.node_words.BadWords.{BadWords}
-use Rattle.cb_command.specs.Command.{RunsNode, bad_words_text}
+use Rattle.cb_command.specs.Command.{RunsNode}
+use Rattle.cb_command.specs.NodeWords.{bad_words_text}
 use Rattle.cb_command.proofs.Running.{node_ran, node_refused, quiet_of}
 use Rattle.cb_command.proofs.commanding.start_node.Goals as goal
 
@@ -18,7 +19,7 @@ returns-in-Ok g c =
 pub returns-in-Err : goal.returns-in-Err
 returns-in-Err g c =
     record {
-      runs = subst (λ (node : Result NodeOrders BadWords). RunsNode (c.settle-in-Err.new.errors ≡ c.args.errors.now) (g.W.Sink.contents c.args.writer.now) (g.W.Sink.contents c.args.writer.now) (g.W.Sink.has_failed c.args.writer.now) (g.E.Sink.contents c.args.errors.now) (g.E.Sink.contents c.settle-in-Err.new.errors) (g.E.Sink.has_failed c.settle-in-Err.new.errors) node c.settle-in-Err.result) (sym c.in-Err.is) (node_refused (c.settle-in-Err.new.errors ≡ c.refuse_words.new.errors) (g.E.Sink.contents c.args.errors.now) (g.E.Sink.contents c.refuse_words.new.errors) (g.E.Sink.contents c.settle-in-Err.new.errors) bad_words_text
+      runs = subst (λ (node : Result NodeOrders BadWords). RunsNode (c.settle-in-Err.new.errors ≡ c.args.errors.now) (g.W.Sink.contents c.args.writer.now) (g.W.Sink.contents c.args.writer.now) (g.W.Sink.has_failed c.args.writer.now) (g.E.Sink.contents c.args.errors.now) (g.E.Sink.contents c.settle-in-Err.new.errors) (g.E.Sink.has_failed c.settle-in-Err.new.errors) node c.settle-in-Err.result) (sym c.in-Err.is) (node_refused (c.settle-in-Err.new.errors ≡ c.refuse_words.new.errors) (g.E.Sink.contents c.args.errors.now) (g.E.Sink.contents c.refuse_words.new.errors) (g.E.Sink.contents c.settle-in-Err.new.errors) (bad_words_text c.in-Err.bad)
           (g.W.Sink.has_failed c.args.writer.now) (g.E.Sink.has_failed c.refuse_words.new.errors) (g.E.Sink.has_failed c.settle-in-Err.new.errors) c.refuse_words.result c.settle-in-Err.result c.refuse_words.ensures.told c.refuse_words.ensures.err (quiet_of g.E.Sink.contents c.refuse_words.new.errors c.args.errors.now (g.E.Sink.has_failed c.refuse_words.new.errors) c.refuse_words.result c.refuse_words.ensures.quiet)
           c.settle-in-Err.ensures.settled (λ after. ap g.E.Sink.contents after) c.settle-in-Err.ensures.stays);
     }

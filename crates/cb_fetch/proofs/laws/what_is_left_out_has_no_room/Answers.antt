@@ -1,0 +1,11 @@
+use Rattle.cb_fetch.proofs.Rooms.{each_fetched, left_where_full, stays}
+use Rattle.cb_fetch.proofs.laws.what_is_left_out_has_no_room.Goals as goal
+
+pub returns-clause-full : goal.returns-clause-full
+returns-clause-full c = left_where_full
+
+pub returns-clause-others : goal.returns-clause-others
+returns-clause-others c = each_fetched
+
+pub returns-clause-stays : goal.returns-clause-stays
+returns-clause-stays c = stays
