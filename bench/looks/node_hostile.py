@@ -10,6 +10,9 @@ it grew by are told.
 - A peer that sends a byte a second: it says a ping so, in part only without --whole.
 - Peers that ask for many blocks: one never reads, one reads a byte each second, with --whole each 20 seconds, and one reads all, but late. The
   first two connections end with WriteFault once their sockets were still. One that asks for more than an outbox holds ends with it at once.
+- Peers that ask 50,000 times for a block of 1,000,000 bytes in one message and don't read: two by two handlers, eight by eight, and two that
+  ask for it as a compact block. A peer beside them gets each answer within a second, and the memory stays below 300 MB.
+- A peer that asks 500 times for such a block in one message gets all, though it reads slowly, or closed its side behind the message.
 - Peers that send messages of 4,000,000 bytes without end, for some seconds: ones of an unknown command, and ones that can't be read.
 - Connections that open and close at once, 1,000 of them, with --whole 10,000: threads and descriptors are given back.
 - With --whole, connections until all slots are used up, which is told, and `restart` mends.
@@ -35,7 +38,7 @@ from bench.tools.command_line import usage
 from bench.tools.messages import envelope
 from bench.tools.network import GENESIS
 from bench.tools.node_scripts import GIVEN, mined
-from bench.tools.plain_peer import BLOCK, HELLO, PlainPeer, dialled
+from bench.tools.plain_peer import BLOCK, COMPACT, HELLO, USUAL, PlainPeer, dialled
 from bench.tools.process_talk import NodeProcess, ProcessLooks, Stopwatch, shown
 from bench.tools.programs import built
 
@@ -43,8 +46,13 @@ from bench.tools.programs import built
 INBOUND, OUTBOUND, CONNECTIONS = 48, 16, 256
 # In how many seconds a block comes to a peer beside bad ones.
 SOON = 5
-# A block of this size is asked for so often that a socket can't take it, and so often that an outbox can't.
-LARGE, MANY, TOO_MANY = 900_000, 20, 60
+# A block of this size is asked for so often that a socket can't take it, and one of this size in so many messages of 50,000 entries that an
+# outbox can't.
+LARGE, MANY, SMALL, TOO_MANY = 900_000, 20, 250, 3
+# A block of this size is asked for so often in one message, as often as one may ask, and so often that all is read.
+FULL, ENTRIES, ALL = 1_000_000, 50_000, 500
+# In how many seconds a peer beside that has each answer, for how many seconds it asks, and how much memory the node may take then.
+AT_ONCE, BESIDE, MEMORY = 1, 8, 300_000_000
 # For how many seconds a socket needn't move, in how many its connection has ended at the most, and how long we wait for that.
 STILL, ENDED, PATIENCE = 30, 50, 240
 # After how many seconds a peer reads that reads late.
@@ -65,8 +73,9 @@ class Hostile(ProcessLooks):
         self.whole = whole
 
     @contextmanager
-    def pair(self, *words):
-        """Two linked nodes: the port of the first comes with them. What the first one took is told at the end, and both end well."""
+    def pair(self, *words, ends=True):
+        """Two linked nodes: the port of the first comes with them. What the first one took is told at the end, and both end well. Without
+        `ends` the first is killed: its audit would compare each block that was asked for, byte by byte."""
         with NodeProcess(self.program, *words, seconds=PATIENCE) as node:
             port = node.port()
             with NodeProcess(self.program, "--connect", f"127.0.0.1:{port}", seconds=PATIENCE) as other:
@@ -78,7 +87,8 @@ class Hostile(ProcessLooks):
                 print(f"{self.name}: {took:.1f} s, {spent:.0f} ms of the processor, memory {before / 1e6:.0f} MB before, "
                       f"{node.memory('VmHWM') / 1e6:.0f} MB at the most, {node.memory() / 1e6:.0f} MB at last")
                 self.ends(other)
-            self.ends(node)
+            if ends:
+                self.ends(node)
 
     def block_in_time(self, node, other):
         """A block that the node mines comes to the other in time."""
@@ -153,7 +163,7 @@ class Hostile(ProcessLooks):
             silent, late = stack.enter_context(small(port, 4_096)), stack.enter_context(small(port, 65_536))
             for peer in (slow, silent, late):
                 peer.send(HELLO, request)
-            self.comes("what they ask for", node, lambda: all(peer.bytes_out >= MANY * LARGE for peer in node.peers()[1:4]))
+            self.comes("what they ask for", node, lambda: all(peer.messages_out >= MANY for peer in node.peers()[1:4]))
             began = time.monotonic()
             reader = threading.Thread(target=self.reads_late, args=(late,), daemon=True)
             reader.start()
@@ -180,20 +190,70 @@ class Hostile(ProcessLooks):
     def a_full_outbox(self):
         """A peer that asks for more than may wait for it."""
         with self.pair("--handlers", "1") as (node, other, port), small(port, 4_096) as peer:
-            peer.send(HELLO, self.large_block(node, other, TOO_MANY))
+            peer.send(HELLO, *[self.large_block(node, other, ENTRIES, SMALL)] * TOO_MANY)
             watch = Stopwatch(node, other)
             self.look("its end", self.ended(node, 1), "WriteFault")
             self.look("whether it ends before a still socket does", watch.seconds() < STILL, True)
             self.block_in_time(node, other)
 
-    def large_block(self, node, other, count):
+    def large_block(self, node, other, count, size=LARGE, kind=BLOCK):
         """The node is given a large block, which comes to the other. A message that asks for it so often comes back."""
         block = mined(GENESIS, 1, GIVEN)
-        large = sized(block.header.name, LARGE)
+        large = sized(block.header.name, size)
         for one in (block, large):
             self.begins("submit-block", "submitted", node.say(f"submit-block {one.text.hex()}"))
         self.comes("the large block", other, lambda: other.tip() == node.tip())
-        return wire.entries(b"getdata", [(BLOCK, large.header.name)] * count)
+        return wire.entries(b"getdata", [(kind, large.header.name)] * count)
+
+    # ---- ones that ask for all that they may
+
+    def many_answers(self):
+        """Two peers ask 50,000 times for a block and don't read."""
+        self.asked_and_unread(2, "--handlers", "2")
+
+    def many_answers_at_eight(self):
+        """Eight peers ask 50,000 times for a block and don't read."""
+        self.asked_and_unread(8, "--handlers", "8")
+
+    def many_short_answers(self):
+        """Two peers ask 50,000 times for a compact block and don't read."""
+        self.asked_and_unread(2, "--handlers", "2", kind=COMPACT)
+
+    def asked_and_unread(self, count, *words, kind=BLOCK):
+        """So many peers ask for a block as often as they may in a message, and don't read. One beside them has its answers meanwhile."""
+        with self.pair(*words, ends=False) as (node, other, port), ExitStack() as stack:
+            request = self.large_block(node, other, ENTRIES, FULL, kind)
+            honest = stack.enter_context(dialled(port))
+            honest.shake_hands()
+            for _ in range(count):
+                stack.enter_context(small(port, 4_096)).send(HELLO, request)
+            end, longest, nonce = time.monotonic() + BESIDE, 0, 0
+            while time.monotonic() < end:
+                nonce, began = nonce + 1, time.monotonic()
+                self.look("a pong", honest.pinged(nonce, (*USUAL, "inv")), True)
+                longest = max(longest, time.monotonic() - began)
+                time.sleep(0.02)
+            most = node.memory("VmHWM")
+            print(f"{self.name}: {nonce} pings beside {count} that ask, the longest took {longest:.2f} s; memory {most / 1e6:.0f} MB at the most")
+            self.look(f"whether {longest:.2f} s aren't more than {AT_ONCE}", longest <= AT_ONCE, True)
+            self.look(f"whether {most:,} bytes aren't more than {MEMORY:,}", most <= MEMORY, True)
+
+    def slow_but_all(self):
+        """A peer that asks 500 times for a block reads slowly, and gets all."""
+        with self.pair() as (node, other, port), small(port, 65_536) as peer:
+            peer.send(HELLO, self.large_block(node, other, ALL, FULL))
+            self.look("whether all comes to the slow one", read_all(peer, ALL * FULL, pause=0.0005), True)
+            self.block_in_time(node, other)
+            self.look("its end", self.end(node, 1), None)
+
+    def half_closed(self):
+        """A peer that asks 500 times for a block closes its side behind the message, and gets all."""
+        with self.pair() as (node, other, port), small(port, 65_536) as peer:
+            peer.send(HELLO, self.large_block(node, other, ALL, FULL))
+            peer.stream.shutdown(socket.SHUT_WR)
+            self.look("whether all comes to the half-closed one", read_all(peer, ALL * FULL), True)
+            self.look("its end", self.ended(node, 1), "Bye")
+            self.block_in_time(node, other)
 
     # ---- loud ones
 
@@ -310,13 +370,14 @@ def received(peer, last):
     return peer.held
 
 
-def read_all(peer, count):
-    """Whether so many bytes come to a peer."""
+def read_all(peer, count, pause=0):
+    """Whether so many bytes come to a peer that pauses behind each piece."""
     while count > 0:
         piece = peer.stream.recv(1 << 20)
         if not piece:
             return False
         count -= len(piece)
+        time.sleep(pause)
     return True
 
 
@@ -333,7 +394,8 @@ def main():
     words.add_argument("--only", help="the name of the look to make alone")
     given = words.parse_args()
     looks = Hostile(built(given.program, "cbrelay"), given.whole)
-    for look in (looks.sixty_four_at_once, looks.a_byte_a_second, looks.slow_readers, looks.a_full_outbox, looks.huge_messages,
+    for look in (looks.sixty_four_at_once, looks.a_byte_a_second, looks.slow_readers, looks.a_full_outbox,
+                 looks.many_answers, looks.many_answers_at_eight, looks.many_short_answers, looks.slow_but_all, looks.half_closed, looks.huge_messages,
                  looks.unreadable_messages, looks.open_and_close, *[looks.all_slots_used_up] * given.whole):
         if given.only in (None, look.__name__):
             looks.make(look)

@@ -8,7 +8,7 @@ It needs the built program (crates/cbrelay/out/cbrelay, as ./build leaves it), p
 - A connection that ends is made again. `restart` goes on over the same chain and mempool.
 - A port in use, a peer that is never reached, an output that is closed or full, and words that can't be followed are told, with status 3
   or 1. A listener that accepts nothing holds up neither lines nor peers. Descriptors that run out are told once a second.
-- A node to which nothing happens costs little.
+- A node to which nothing happens costs little. Its `version` tells the time of the connection, and not that of the start.
 
 The status is 0 where all came out so.
 """
@@ -28,6 +28,7 @@ from bench.models.plain_block import paying
 from bench.tools.command_line import usage
 from bench.tools.network import GENESIS
 from bench.tools.node_scripts import GIVEN, SUBSIDY, mined
+from bench.tools.plain_peer import HELLO, PlainPeer, dialled
 from bench.tools.process_talk import NodeProcess, ProcessLooks, Stopwatch, closed_port, shown
 from bench.tools.programs import built
 
@@ -35,6 +36,8 @@ from bench.tools.programs import built
 DIALLED = 48
 # How long nodes wait to be measured, after how long, and how many milliseconds a second of that may cost.
 IDLE, REST, MOST = 5, 2, 30
+# How long after the start connections are made, and how many seconds their time may be wrong.
+LATE, NEAR = 6, 2
 # How many descriptors a node may have, and how many peers come then.
 DESCRIPTORS, PEERS = 20, 64
 UNREADABLE = ["", "tip ", " tip", "Tip", "mine 1001", "mine x", "mine ", "kick", "kick 65536", "kick -1", "tx", "tx 0", "tx 00", "tx zz",
@@ -267,6 +270,26 @@ class Processes(ProcessLooks):
             self.ends(one)
 
 
+    def versions_tell_their_time(self):
+        """Connections that are made seconds after the start, each the first of its slot: two from peers, and one that the node dials."""
+        with NodeProcess(self.program) as node, socket.create_server(("127.0.0.1", 0)) as server:
+            port = node.port()
+            time.sleep(LATE)
+            with dialled(port) as one, dialled(port) as other:
+                self.tells_the_time("the first peer", one)
+                self.tells_the_time("the second peer", other)
+            node.say(f"connect 127.0.0.1:{server.getsockname()[1]}")
+            with PlainPeer(server.accept()[0]) as peer:
+                self.tells_the_time("a peer that is dialled", peer)
+            self.ends(node)
+
+    def tells_the_time(self, whom, peer):
+        """Whether the `version` for a peer that was just connected tells what time it is."""
+        peer.send(HELLO)
+        wrong = peer.expect("version").time - time.time()
+        self.look(f"whether the time for {whom}, wrong by {wrong:.1f} seconds, is right", abs(wrong) <= NEAR, True)
+
+
 def blocks(peer):
     """How many blocks came by a connection, in whatever way."""
     return peer.full + peer.compact + peer.completed + peer.fallback
@@ -280,7 +303,7 @@ def main():
     for look in (looks.blocks_go_both_ways, looks.transactions_are_relayed, looks.lines_are_refused, looks.peers_come_again,
                  looks.nodes_begin_anew, looks.a_port_in_use, looks.a_peer_that_is_never_reached, looks.an_output_that_takes_nothing,
                  looks.words_that_are_refused, looks.slow_addresses_hold_nobody_up, looks.descriptors_run_out,
-                 looks.waiting_costs_little):
+                 looks.waiting_costs_little, looks.versions_tell_their_time):
         if given.only in (None, look.__name__):
             looks.make(look)
     return looks.told()

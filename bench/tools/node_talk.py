@@ -78,11 +78,20 @@ class NodeTalk:
 
     def ports(self):
         """The ports at which the nodes listen."""
-        folder = f"/proc/{self.process.pid}/fd"
-        inodes = {os.readlink(f"{folder}/{name}") for name in os.listdir(folder)}
+        inodes = set(self.opened())
         with open("/proc/net/tcp", encoding="ascii") as file:
             rows = [row.split() for row in file.readlines()[1:]]
         return [int(row[1].partition(":")[2], 16) for row in rows if row[3] == LISTENS and f"socket:[{row[9]}]" in inodes]
+
+    def opened(self):
+        """What the program's descriptors stand for."""
+        folder = f"/proc/{self.process.pid}/fd"
+        for name in os.listdir(folder):
+            try:
+                yield os.readlink(f"{folder}/{name}")
+            except FileNotFoundError:
+                # It was closed since.
+                pass
 
     def states(self):
         """The state of each thread of the program, one letter each as the kernel tells it: S sleeps."""

@@ -1,3 +1,4 @@
+pub mod Readers
 pub mod Settings
 pub mod Tally
 pub mod Work

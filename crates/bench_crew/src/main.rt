@@ -3,77 +3,48 @@
 //! printed. Each line of the input is a run.
 #![tactic(auto)]
 
-ghost use Rattle.std.specs.Prelude.{◌≡◌, ◌≤◌, length};
-ghost use Rattle.cb_crew.specs.Crew.{AreHandlersOf, AreOpeningSeats};
 ghost use Rattle.bench_crew.specs.Settings.{IsWithin};
 
+mod beginning;
 mod numbers;
 mod plain;
+mod serving;
 mod settings;
 mod tally;
 mod work;
 
-use crate::numbers::{Numbers, all_readers};
 use crate::plain::{run_loop, run_mutex, tally_of};
+use crate::serving::serve;
 use crate::settings::{Mode, Settings, read_settings};
 use crate::tally::Served;
 use crate::work::HashWork;
 use cb_base::Fault;
-use cb_crew::{Crew, Desk, Fresh, NewCrew};
-use cb_service::{Nothing, Orders, Refusal, Signals, Staff, serve_peers};
+use cb_crew::{Crew, Desk};
+use cb_service::Refusal;
 use std::alloc::Global;
 use std::io::{ErrorKind, Read};
-use std::marker::Sync;
+use std::marker::{Copy, Send, Sync};
 use std::process::ExitCode;
 use std::sync::Wait;
 use std::thread::Threads;
 use std::time::{Clock, Instant};
 
 /// Serves all items by a crew. Returns what was served in each connection.
-fn run_crew<R: Threads + Wait + Clock + Sync>(
+fn run_crew<R: Threads + Wait + Copy + Send + Drop + 'static>(
     rt: &R,
     alloc: Global,
     settings: &Settings,
 ) -> Result<Vec<Served>, Refusal>
     requires { IsWithin settings.now }
 {
-    let signals = Signals::new(alloc, settings.peers)?;
-    let readers = all_readers(alloc, settings)?;
     let works = HashWork::first(alloc, settings.peers, settings.rounds)?;
     match Crew::new(rt, alloc, works, settings.handlers, settings.capacity) {
-        Ok(made) => match serve_crew(rt, alloc, settings.budget, &signals, made, readers) {
+        Ok(made) => match serve(rt, alloc, settings, made) {
             Ok(desks) => Ok(tallies_of(alloc, desks.as_slice())?),
             Err(refusal) => Err(refusal),
         },
         Err(_) => Err(Refusal::Memory),
     }
-}
-
-/// Serves a new crew to its end.
-fn serve_crew<R: Threads + Wait + Sync>(
-    rt: &R,
-    alloc: Global,
-    budget: u32,
-    signals: &Signals,
-    made: NewCrew<HashWork>,
-    readers: Vec<Numbers<Fresh<HashWork>>>,
-) -> Result<Vec<Desk<HashWork>>, Refusal>
-    requires budget { (1 ≤ budget) × (budget ≤ 64) }
-    requires seats { AreOpeningSeats made.crew made.readers.items }
-    requires readers { length readers.items ≡ length made.crew.inboxes }
-    requires handlers { AreHandlersOf made.crew made.handlers.items }
-{
-    let orders = Orders {
-        budget,
-        hook: Nothing,
-    };
-    let crew = made.crew;
-    let staff = Staff {
-        seats: made.readers,
-        readers,
-        handlers: made.handlers,
-    };
-    serve_peers(rt, alloc, &crew, signals, &orders, staff)
 }
 
 /// What each work of each peer keeps, in the order of peers and connections.
@@ -133,7 +104,7 @@ fn report_peer(
 }
 
 /// Serves all items in the way that the settings say.
-fn run<R: Threads + Wait + Clock + Sync>(
+fn run<R: Threads + Wait + Copy + Send + Sync + Drop + 'static>(
     rt: &R,
     alloc: Global,
     settings: &Settings,
@@ -149,7 +120,7 @@ fn run<R: Threads + Wait + Clock + Sync>(
 
 /// Does the run of a line, and appends what is printed. Returns how many microseconds it took, and
 /// whether each list was right. Returns `None` if the line can't be read.
-fn do_line<R: Threads + Wait + Clock + Sync>(
+fn do_line<R: Threads + Wait + Clock + Copy + Send + Sync + Drop + 'static>(
     rt: &R,
     alloc: Global,
     line: &str,

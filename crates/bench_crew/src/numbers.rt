@@ -1,13 +1,14 @@
-ghost use Rattle.std.specs.Prelude.{◌≡◌, ◌<◌, ◌^◌, length, IfOk};
-ghost use Rattle.cb_crew.specs.Crew.{HasPlace, inbox_of};
-ghost use Rattle.cb_service.specs.Service.{HoldsSide};
+ghost use Rattle.std.specs.Prelude.{◌≡◌, ◌<◌, ◌^◌, length};
+ghost use Rattle.cb_crew.specs.Crew.{inbox_of};
+ghost use Rattle.cb_service.specs.Service.{HoldsSeat};
 
+use crate::beginning::Beginning;
 use crate::settings::Settings;
 use crate::work::HashWork;
 use cb_base::Fault;
-use cb_crew::{Fresh, ReaderSide};
+use cb_crew::Fresh;
 use cb_inbox::{Inbox, Opening, ReaderSeat};
-use cb_service::{Beginning, Reader, Signals, end, open, put};
+use cb_service::{Reader, Side, Signals, end, open, put};
 use std::alloc::Global;
 use std::sync::Wait;
 use std::thread::Parker;
@@ -30,35 +31,21 @@ pub struct Numbers<O: Opening + Drop> {
     later: Vec<Beginning<O>>,
 }
 
-/// The readers of all peers, in their order. Fails only with `Fault::Memory`.
-pub fn all_readers(
-    alloc: Global,
-    settings: &Settings,
-) -> Result<Vec<Numbers<Fresh<HashWork>>>, Fault>
-    ensures { IfOk result (λ readers. length readers.items ≡ settings.now.peers) }
-{
-    let mut readers = Vec::new(alloc);
-    for peer in 0..settings.peers {
-        readers.push(Numbers {
-            items: settings.items,
-            pause: settings.pause,
-            later: later_works(alloc, settings, peer)?,
-        })?;
-    }
-    Ok(readers)
-}
-
-/// The works of a peer's connections after the first.
-fn later_works(
+/// The reader of a peer. Fails only with `Fault::Memory`.
+pub fn numbers_of(
     alloc: Global,
     settings: &Settings,
     peer: u16,
-) -> Result<Vec<Beginning<Fresh<HashWork>>>, Fault> {
-    let mut works = Vec::new(alloc);
+) -> Result<Numbers<Fresh<HashWork>>, Fault> {
+    let mut later = Vec::new(alloc);
     for _ in 1..settings.connections {
-        works.push(Beginning::new(HashWork::fresh(peer, settings.rounds)))?;
+        later.push(Beginning::new(HashWork::fresh(peer, settings.rounds)))?;
     }
-    Ok(works)
+    Ok(Numbers {
+        items: settings.items,
+        pause: settings.pause,
+        later,
+    })
 }
 
 impl<O: Opening + Drop> Reader<u64, O> for Numbers<O> {
@@ -66,22 +53,17 @@ impl<O: Opening + Drop> Reader<u64, O> for Numbers<O> {
         self,
         rt: &R,
         inbox: &Inbox<u64, O>,
-        side: &mut Option<ReaderSide<u64, O>>,
+        seat: &mut Option<ReaderSeat<u64, O>>,
         signals: &Signals,
-    )
-        requires side { HoldsSide inbox.now.name side.old }
-        ensures side { HoldsSide inbox.now.name side.new }
+    ) -> Side<u64, O>
+        requires seat { HoldsSeat inbox.now.name seat.old }
+        ensures inbox { inbox_of result ≡ inbox.now.name }
     {
-        let Some(held) = side.take() else {
+        let Some(seat) = seat.take() else {
             unreachable!()
         };
-        *side = Some(match held {
-            ReaderSide::Live(seat) => {
-                wait(rt, self.pause);
-                read_all(rt, inbox, seat, signals, self.items, self.later)
-            }
-            ReaderSide::Ended(seat) => ReaderSide::Ended(seat),
-        });
+        wait(rt, self.pause);
+        read_all(rt, inbox, seat, signals, self.items, self.later)
     }
 }
 
@@ -100,34 +82,27 @@ fn read_all<O: Opening + Drop, R: Wait>(
     signals: &Signals,
     items: u32,
     later: Vec<Beginning<O>>,
-) -> ReaderSide<u64, O>
+) -> Side<u64, O>
     requires inbox { seat.inbox ≡ inbox.now.name }
     requires place { length seat.queued < 2 ^ 48 }
     ensures inbox { inbox_of result ≡ inbox.now.name }
-    ensures place { HasPlace result }
 {
     let mut seat = seat;
     let mut connection = 0u16;
-    for work in later {
+    for next in later {
         if !put_all(rt, inbox, &mut seat, signals, connection, items) {
-            return ReaderSide::Live(seat);
+            return Side::live(seat);
         }
-        let ended = match end(rt, inbox, seat, signals) {
-            Ok(ended) => ended,
-            Err(back) => return ReaderSide::Live(back),
-        };
-        seat = match open(rt, inbox, ended, signals, work.into_opening()) {
+        seat = match open(rt, inbox, Side::live(seat), signals, next.into_opening()) {
             Ok(opened) => opened,
-            Err(back) => return ReaderSide::Ended(back),
+            Err(side) => return side,
         };
         connection = connection.saturating_add(1);
     }
-    if !put_all(rt, inbox, &mut seat, signals, connection, items) {
-        return ReaderSide::Live(seat);
-    }
-    match end(rt, inbox, seat, signals) {
-        Ok(ended) => ReaderSide::Ended(ended),
-        Err(back) => ReaderSide::Live(back),
+    if put_all(rt, inbox, &mut seat, signals, connection, items) {
+        end(rt, inbox, Side::live(seat), signals)
+    } else {
+        Side::live(seat)
     }
 }
 

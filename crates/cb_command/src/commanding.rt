@@ -27,6 +27,7 @@ use cb_base::{Seed, Shared};
 use cb_decode::decode;
 use cb_io::{Sink, Source};
 use cb_node_process::{NodeOrders, ProcessHost, run_node};
+use cb_outgoing::MessageSink;
 use cb_pipes::Pipes;
 use cb_run::{Halt, Status, write_all};
 use cb_run_nodes::{RunOrders, Sizes, run_nodes};
@@ -100,7 +101,7 @@ Example:
 /// reads standard input and logs on standard error by `rt`, and looks at `pipes`, which it tells when its end is
 /// asked for. The tables of the halls of `serve`, `run` and `node` have the
 /// fixed seed, so that a run takes the same steps each time.
-pub fn command<N: ProcessHost, R: Source, W: Sink, E: Sink>(
+pub fn command<N: ProcessHost, R: Source, W: MessageSink, E: Sink>(
     rt: N,
     alloc: Global,
     words: Vec<String>,
@@ -179,7 +180,7 @@ pub fn command<N: ProcessHost, R: Source, W: Sink, E: Sink>(
 
 /// As `command`. The tables of the halls of `serve`, `run` and `node` have this seed, which changes
 /// no result. Peers choose the keys of these tables, so a seed that no peer knows keeps a lookup short.
-pub fn seeded_command<N: ProcessHost, R: Source, W: Sink, E: Sink>(
+pub fn seeded_command<N: ProcessHost, R: Source, W: MessageSink, E: Sink>(
     rt: N,
     alloc: Global,
     seed: Seed,
@@ -319,7 +320,7 @@ fn refuse_words<E: Sink>(bad: BadWords, errors: &mut E) -> Result<u8, Halt>
 }
 
 /// Serves a peer, reports on `errors` what failed, and returns the exit status.
-fn answer_peer<R: Source, W: Sink, E: Sink>(
+fn answer_peer<R: Source, W: MessageSink, E: Sink>(
     alloc: Global,
     seed: Seed,
     reader: &mut R,

@@ -15,6 +15,7 @@ ghost use Rattle.cb_command.specs.Peer.{WasServed, PeerEnds, closed_text, peer_e
 
 use cb_base::Seed;
 use cb_io::{Sink, Source};
+use cb_outgoing::MessageSink;
 use cb_run::{Halt, Status, write_all};
 use cb_session::{Badge, CloseReason, Hall, Settings, State, serve};
 use std::alloc::Global;
@@ -33,7 +34,7 @@ const SETTINGS: Settings = Settings {
 /// its hall have this seed.
 ///
 /// Fails if a read or a write failed. If memory runs out, the session ends and the status says so.
-pub fn serve_peer<R: Source, W: Sink, E: Sink>(
+pub fn serve_peer<R: Source, W: MessageSink, E: Sink>(
     alloc: Global,
     seed: Seed,
     reader: &mut R,
@@ -57,7 +58,7 @@ pub fn serve_peer<R: Source, W: Sink, E: Sink>(
 
 /// Serves the connection with a hall of its own. If memory runs out before the first read, the
 /// reason is `Memory`, as it is later.
-fn connection<R: Source, W: Sink>(
+fn connection<R: Source, W: MessageSink>(
     alloc: Global,
     seed: Seed,
     reader: &mut R,
@@ -101,7 +102,7 @@ fn last_of(mut badges: Vec<Badge>) -> Option<Badge>
 }
 
 /// Serves the connection with a new hall. Returns the reason why the session ended.
-fn converse<R: Source, W: Sink>(
+fn converse<R: Source, W: MessageSink>(
     alloc: Global,
     reader: &mut R,
     writer: &mut W,

@@ -6,8 +6,8 @@ ghost use Rattle.cb_audit.specs.Order.{AreInOrder, IsBefore};
 ghost use Rattle.cb_desks.specs.Desks.{told_in, trace_of_work, traces_of, traces_of_desk, uneven_in};
 
 use cb_crew::Desk;
-use cb_io::Sink;
 use cb_journal::{Connections, Journal, PEERS};
+use cb_outgoing::MessageSink;
 use cb_state::Connection;
 use cb_trace::Oracle;
 use cb_work::{Flags, PeerWork};
@@ -23,7 +23,7 @@ fn granted(connections: &Connections, connection: Connection) -> u64
 }
 
 /// How many answers a work was told, if it is the connection's.
-fn told_by_work<S: Sink + Drop, H: Oracle + Drop, F: Flags>(
+fn told_by_work<S: MessageSink + Drop, H: Oracle + Drop, F: Flags>(
     work: &PeerWork<S, H, F>,
     connection: Connection,
 ) -> Option<u64>
@@ -36,7 +36,7 @@ fn told_by_work<S: Sink + Drop, H: Oracle + Drop, F: Flags>(
 }
 
 /// How many answers the desk's work of a connection was told, if it has one.
-fn told_at_desk<S: Sink + Drop, H: Oracle + Drop, F: Flags>(
+fn told_at_desk<S: MessageSink + Drop, H: Oracle + Drop, F: Flags>(
     desk: &Desk<PeerWork<S, H, F>>,
     connection: Connection,
 ) -> Option<u64>
@@ -51,7 +51,7 @@ fn told_at_desk<S: Sink + Drop, H: Oracle + Drop, F: Flags>(
 }
 
 /// How many answers the work of a connection was told, if a desk has one: looks at all works.
-fn told_by_search<S: Sink + Drop, H: Oracle + Drop, F: Flags>(
+fn told_by_search<S: MessageSink + Drop, H: Oracle + Drop, F: Flags>(
     desks: &[Desk<PeerWork<S, H, F>>],
     connection: Connection,
 ) -> Option<u64>
@@ -66,7 +66,7 @@ fn told_by_search<S: Sink + Drop, H: Oracle + Drop, F: Flags>(
 }
 
 /// The work at a place of a desk: the past ones stand in order, and the latest one behind them.
-fn work_at<S: Sink + Drop, H: Oracle + Drop, F: Flags>(
+fn work_at<S: MessageSink + Drop, H: Oracle + Drop, F: Flags>(
     desk: &Desk<PeerWork<S, H, F>>,
     place: usize,
 ) -> Option<&PeerWork<S, H, F>>
@@ -81,7 +81,7 @@ fn work_at<S: Sink + Drop, H: Oracle + Drop, F: Flags>(
 
 /// How many answers the work of a connection was told, if it stands where it normally does: at its
 /// desk's place by its peer, and there by its generation.
-fn told_at_place<S: Sink + Drop, H: Oracle + Drop, F: Flags>(
+fn told_at_place<S: MessageSink + Drop, H: Oracle + Drop, F: Flags>(
     desks: &[Desk<PeerWork<S, H, F>>],
     connection: Connection,
 ) -> Option<u64>
@@ -96,7 +96,7 @@ fn told_at_place<S: Sink + Drop, H: Oracle + Drop, F: Flags>(
 
 /// How many answers the work of a connection was told, if a desk has one. It looks at all works only
 /// if the connection's doesn't stand where it normally does.
-fn told_at<S: Sink + Drop, H: Oracle + Drop, F: Flags>(
+fn told_at<S: MessageSink + Drop, H: Oracle + Drop, F: Flags>(
     desks: &[Desk<PeerWork<S, H, F>>],
     connection: Connection,
 ) -> Option<u64>
@@ -110,7 +110,7 @@ fn told_at<S: Sink + Drop, H: Oracle + Drop, F: Flags>(
 }
 
 /// Whether the hall granted as many questions as the connection was told answers.
-fn is_even<S: Sink + Drop, H: Oracle + Drop, F: Flags>(
+fn is_even<S: MessageSink + Drop, H: Oracle + Drop, F: Flags>(
     connections: &Connections,
     desks: &[Desk<PeerWork<S, H, F>>],
     connection: Connection,
@@ -122,7 +122,7 @@ fn is_even<S: Sink + Drop, H: Oracle + Drop, F: Flags>(
 }
 
 /// The connection of a work, if its numbers differ.
-fn uneven_work<S: Sink + Drop, H: Oracle + Drop, F: Flags>(
+fn uneven_work<S: MessageSink + Drop, H: Oracle + Drop, F: Flags>(
     connections: &Connections,
     work: &PeerWork<S, H, F>,
 ) -> Option<Connection>
@@ -135,7 +135,7 @@ fn uneven_work<S: Sink + Drop, H: Oracle + Drop, F: Flags>(
 }
 
 /// The first connection of a desk's works whose numbers differ.
-fn uneven_at_desk<S: Sink + Drop, H: Oracle + Drop, F: Flags>(
+fn uneven_at_desk<S: MessageSink + Drop, H: Oracle + Drop, F: Flags>(
     connections: &Connections,
     desk: &Desk<PeerWork<S, H, F>>,
 ) -> Option<Connection>
@@ -150,7 +150,7 @@ fn uneven_at_desk<S: Sink + Drop, H: Oracle + Drop, F: Flags>(
 }
 
 /// The first connection of the desks' works whose numbers differ.
-fn uneven_at<S: Sink + Drop, H: Oracle + Drop, F: Flags>(
+fn uneven_at<S: MessageSink + Drop, H: Oracle + Drop, F: Flags>(
     connections: &Connections,
     desks: &[Desk<PeerWork<S, H, F>>],
 ) -> Option<Connection>
@@ -166,7 +166,7 @@ fn uneven_at<S: Sink + Drop, H: Oracle + Drop, F: Flags>(
 
 /// The first of a peer's connections whose numbers differ.
 #[tactic(auto, using(cb_audit::proofs::Numbers::even_up_none, cb_audit::proofs::Numbers::even_next, cb_audit::proofs::Numbers::first_up, cb_audit::proofs::Numbers::even_up_all))]
-fn first_of_peer<S: Sink + Drop, H: Oracle + Drop, F: Flags>(
+fn first_of_peer<S: MessageSink + Drop, H: Oracle + Drop, F: Flags>(
     connections: &Connections,
     desks: &[Desk<PeerWork<S, H, F>>],
     peer: u16,
@@ -189,7 +189,7 @@ fn first_of_peer<S: Sink + Drop, H: Oracle + Drop, F: Flags>(
 
 /// The first of the 64 peers' connections whose numbers differ.
 #[tactic(auto, using(cb_audit::proofs::Numbers::even_below_none, cb_audit::proofs::Numbers::even_below, cb_audit::proofs::Numbers::first_below, cb_audit::proofs::Numbers::even_below_all))]
-fn first_known<S: Sink + Drop, H: Oracle + Drop, F: Flags>(
+fn first_known<S: MessageSink + Drop, H: Oracle + Drop, F: Flags>(
     connections: &Connections,
     desks: &[Desk<PeerWork<S, H, F>>],
 ) -> Option<Connection>
@@ -233,7 +233,7 @@ fn earlier(one: Option<Connection>, other: Option<Connection>) -> Option<Connect
 }
 
 /// The first connection whose numbers differ.
-pub(crate) fn first_uneven<S: Sink + Drop, H: Oracle + Drop, F: Flags>(
+pub(crate) fn first_uneven<S: MessageSink + Drop, H: Oracle + Drop, F: Flags>(
     journal: &Journal,
     desks: &[Desk<PeerWork<S, H, F>>],
 ) -> Option<Connection>

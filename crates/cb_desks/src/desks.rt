@@ -9,14 +9,14 @@ use cb_audit::{Audited, Split, audit};
 use cb_base::Fault;
 use cb_crew::Desk;
 use cb_hall::Hall;
-use cb_io::Sink;
+use cb_outgoing::MessageSink;
 use cb_trace::Oracle;
 use cb_work::{Flags, PeerWork};
 use std::alloc::Global;
 
 /// A list of traces, with those of one more desk. Fails only with `Fault::Memory`.
 #[tactic(auto, using(crate::proofs::Listing::map_first, crate::proofs::Listing::map_more, crate::proofs::Listing::map_last))]
-fn with_desk<'a, S: Sink + Drop, H: Oracle + Drop, F: Flags>(
+fn with_desk<'a, S: MessageSink + Drop, H: Oracle + Drop, F: Flags>(
     list: Vec<Audited<'a>>,
     desk: &'a Desk<PeerWork<S, H, F>>,
 ) -> Result<Vec<Audited<'a>>, Fault>
@@ -35,7 +35,7 @@ fn with_desk<'a, S: Sink + Drop, H: Oracle + Drop, F: Flags>(
 /// The traces of all works of the desks, each with its connection: for each desk those of the past
 /// connections in order, and then that of the latest one. Fails only with `Fault::Memory`.
 #[tactic(auto, using(crate::proofs::Listing::flat_more, crate::proofs::Listing::flat_all))]
-pub fn traces<'a, S: Sink + Drop, H: Oracle + Drop, F: Flags>(
+pub fn traces<'a, S: MessageSink + Drop, H: Oracle + Drop, F: Flags>(
     alloc: Global,
     desks: &'a [Desk<PeerWork<S, H, F>>],
 ) -> Result<Vec<Audited<'a>>, Fault>
@@ -56,7 +56,7 @@ pub fn traces<'a, S: Sink + Drop, H: Oracle + Drop, F: Flags>(
 /// Fails as `audit` does, and with `Split::Memory` also if there isn't enough memory to list the
 /// traces. The numbers are compared before that, without memory: where they differ, `Split::Count`
 /// is told.
-pub fn audit_desks<S: Sink + Drop, H: Oracle + Drop, F: Flags>(
+pub fn audit_desks<S: MessageSink + Drop, H: Oracle + Drop, F: Flags>(
     alloc: Global,
     hall: &Hall,
     desks: &[Desk<PeerWork<S, H, F>>],

@@ -1,5 +1,5 @@
 -- What went out of a piece, write by write.
-use Rattle.std.proofs.Common.{◌≡◌, ◌≢◌, ℕ, ◌^◌, ◌<◌, List, [], ◌++◌, length, take, drop, false, Option, Some, None, refl, sym, ap, ◌∙◌, append_assoc, arith}
+use Rattle.std.proofs.Common.{◌≡◌, ◌≢◌, ℕ, List, [], ◌++◌, length, take, drop, false, Option, Some, None, refl, sym, ap, ◌∙◌, append_assoc, arith}
 use Rattle.std.specs.Prelude.{◌&&◌, ◌==◌, Bool, nat_lt, if◌then◌else◌}
 use Rattle.std.proofs.lemmas.Bool.Decides.{nat_tests}
 use Rattle.std.proofs.lemmas.List.{length-take, take-append-drop}
@@ -7,7 +7,6 @@ use Rattle.std.specs.Io.KnownBytes.{Appends}
 use Rattle.cb_io.specs.declared.sink.SinkFailure.{SinkFailure}
 use Rattle.cb_io.specs.declared.sink.SinkFailure.TheVariants.{Zero}
 use Rattle.cb_io.specs.Bytes.{failure_after}
-use Rattle.cb_io.specs.Writing.{WrotePart}
 use Rattle.cb_io.proofs.Known.{Keeps-same, Appends-then, Appends-nothing}
 
 -- the front of a piece was taken, and this is left
@@ -37,20 +36,3 @@ unfailed_more None after n rest e some =
 -- one write more, of a sink that has failed just if it had at first
 pub heeds_more : {S : Type 0} (heeds : S → S → Type 0) → ((a b c : S) → heeds a b → heeds b c → heeds a c) → (a b c : S) (had has : Bool) → (had ≡ false → heeds a b) → has ≡ had → (has ≡ false → heeds b c) → had ≡ false → heeds a c
 heeds_more heeds both a b c had has before same more unfailed = both a b c (before unfailed) (more (same ∙ unfailed))
-
--- a beginning of a text went out, and no more
-pub part_front : (old new : Option (List ℕ)) (piece text : List ℕ) (n : ℕ) → piece ≡ text → length piece < 2 ^ 64 → Appends old new (take n piece) → n < length piece → WrotePart old new text n
-part_front old new piece text n e small w short =
-    record {
-      missing = drop n piece;
-      wrote = record {
-        sent = take n piece;
-        parts = sym e ∙ sym (take-append-drop n piece);
-        appended = w;
-        count = omega (arith, length-take n piece);
-      };
-    }
-
--- nothing went out
-pub part_none : (old : Option (List ℕ)) (text : List ℕ) → WrotePart old old text 0
-part_none old text = record { missing = text; wrote = record { sent = []; parts = refl; appended = Appends-nothing old old (Keeps-same old); count = refl } }

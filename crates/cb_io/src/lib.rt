@@ -1,4 +1,4 @@
-//! Input and output of a node: sources and sinks of bytes, and writing messages to a sink.
+//! Input and output of a node: sources and sinks of bytes.
 #![tactic(auto)]
 
 mod read_end;
@@ -9,4 +9,4 @@ mod writing;
 pub use read_end::ReadEnd;
 pub use sink::{Out, Sink, SinkFailure};
 pub use source::{In, Source};
-pub use writing::{Unwritten, WriteEnd, WriteFault, write_all, write_out};
+pub use writing::{Unwritten, write_all};

@@ -38,7 +38,7 @@ pub struct NodeEnd<R: Wait + Drop> {
 /// connection is served by the lowest slot of its kind that never had a socket, or else by the
 /// lowest whose latest connection was read to its end and whose inbox has room.
 ///
-/// A write to a peer fails if 32,000,000 bytes wait for its socket, or if that took nothing for
+/// A write to a peer fails if its outbox is full (docs/NODE.md), or if its socket took nothing for
 /// `WRITE_MILLISECONDS`. It ends the connection.
 #[derive(Drop)]
 pub struct Node<R: Wait + Drop> {
@@ -97,8 +97,7 @@ impl<
         Ok(address)
     }
 
-    /// The time with which the sessions of later connections begin, in seconds since 1970. The
-    /// first connection of each slot has the time with which the node was started.
+    /// The time that the `version` messages of later connections tell, in seconds since 1970.
     pub fn set_time(&mut self, time: i64)
         ensures { self.new ≡ self.old }
     {

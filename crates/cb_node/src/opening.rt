@@ -5,9 +5,8 @@ ghost use Rattle.cb_slots.specs.Slot.{IsNew};
 use cb_base::{Fault, Shared};
 use cb_crew::Fresh;
 use cb_hall::{Badge, Hall};
-use cb_io::Out;
 use cb_peer::Settings;
-use cb_slots::{Link, SocketWriter};
+use cb_peers::{Link, OutboxSink};
 use cb_state::Connection;
 use cb_work::{NotStarted, Outlet, PeerFlags, PeerWork, SharedHall};
 use std::alloc::{AllocError, Global};
@@ -15,7 +14,7 @@ use std::marker::Copy;
 use std::sync::{Mutex, Wait};
 
 /// What serves a connection of a node.
-pub type NodeWork<R> = PeerWork<Out<SocketWriter<R>>, SharedHall<R>, PeerFlags>;
+pub type NodeWork<R> = PeerWork<OutboxSink<R>, SharedHall<R>, PeerFlags>;
 
 /// A badge under which no work could be made.
 #[derive(Drop)]
@@ -29,7 +28,7 @@ pub struct NotReady {
 /// What a session writes to, asks, and tells.
 #[derive(Drop)]
 struct Ends<R: Wait + Drop> {
-    outlet: Outlet<Out<SocketWriter<R>>>,
+    outlet: Outlet<OutboxSink<R>>,
     hall: SharedHall<R>,
     flags: PeerFlags,
 }
@@ -47,7 +46,7 @@ fn ends_of<R: Wait + Copy + Drop>(
 {
     let (one, status, hall) = (link.clone()?, link.status.clone()?, hall.clone()?);
     Ok(Ends {
-        outlet: Outlet::new(connection.peer, Out::new(SocketWriter { rt, link: one })),
+        outlet: Outlet::new(connection.peer, OutboxSink::new(rt, one)),
         hall: SharedHall::new(rt, hall, status.clone()?),
         flags: PeerFlags::new(status),
     })

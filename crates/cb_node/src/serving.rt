@@ -7,7 +7,8 @@ use crate::opening::{NodeWork, NotReady, new_work};
 use crate::settings::{NodeSettings, session_settings};
 use cb_base::{Fault, Shared};
 use cb_hall::{Badge, Hall};
-use cb_slots::{Common, Link, Links, Next, NodeFault, Slot, has_left, lowest_unused, shared};
+use cb_peers::{Link, Links};
+use cb_slots::{Common, Next, NodeFault, Slot, has_left, lowest_unused, shared};
 use std::alloc::Global;
 use std::marker::{Copy, Send};
 use std::net::TcpStream;
@@ -22,7 +23,7 @@ pub struct Service<R: Wait + Drop> {
     pub rt: R,
     /// Where it allocates.
     pub alloc: Global,
-    /// What the node was started with. The time is that of later connections.
+    /// What the node was started with. The time is that of the connections that are made next.
     pub settings: NodeSettings,
     /// How many milliseconds a write to a peer may wait.
     pub write_milliseconds: u64,
@@ -94,7 +95,8 @@ impl<R: Threads + Wait + Copy + Send + Drop + 'static> Service<R> {
         ensures err { OnErr result (AreAlike slots.old.items slots.new.items) }
         ensures kinds { IfErr result (λ fault. (fault ≡ Io) ⊎ (fault ≡ Memory)) }
     {
-        match slots[usize::from(number)].attach(&self.rt, self.alloc, &self.common, stream) {
+        let time = self.settings.time;
+        match slots[usize::from(number)].attach(&self.rt, self.alloc, &self.common, stream, time) {
             Ok(()) => Ok(number),
             Err(fault) => Err(fault),
         }
@@ -252,7 +254,7 @@ impl<R: Threads + Wait + Copy + Send + Drop + 'static> Service<R> {
 
     /// The link of a slot's connection. Fails only with `Fault::Memory`.
     fn new_link(&self, number: u16, generation: u64) -> Result<Shared<Link>, Fault> {
-        let link = Link::new(self.alloc, generation)?;
+        let link = self.links.link(self.alloc, generation)?;
         self.links.add(&self.rt, number, link.clone()?)?;
         Ok(link)
     }

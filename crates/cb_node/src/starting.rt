@@ -10,7 +10,8 @@ use crate::settings::{NodeSettings, session_settings};
 use cb_base::{Fault, Seed, Shared};
 use cb_crew::Fresh;
 use cb_hall::{Badge, Hall};
-use cb_slots::{Crewed, Link, Links, NodeFault, crew_slots, shared, start_handlers};
+use cb_peers::{Link, Links};
+use cb_slots::{Crewed, NodeFault, crew_slots, shared, start_handlers};
 use std::alloc::Global;
 use std::marker::{Copy, Send};
 use std::net::{Net, TcpListener, TcpStream};
@@ -155,7 +156,7 @@ fn parts_of<R: Threads + Wait + Copy + Send + Drop + 'static>(
     let Works {
         works,
         links: of_slots,
-    } = first_works(rt, alloc, settings, badges, &hall)?;
+    } = first_works(rt, alloc, settings, badges, &hall, &links)?;
     match crew_slots(&rt, alloc, works, of_slots, &links, settings.handlers) {
         Ok(crewed) => Ok(Parts {
             hall,
@@ -176,6 +177,7 @@ fn first_works<R: Wait + Copy + Drop>(
     settings: &NodeSettings,
     badges: Vec<Badge>,
     hall: &Shared<Mutex<Hall>>,
+    all: &Links,
 ) -> Result<Works<R>, Fault>
     requires { All IsNew badges.items }
     ensures works { IfOk result (λ made. length made.works.items ≡ length badges.items) }
@@ -184,7 +186,7 @@ fn first_works<R: Wait + Copy + Drop>(
     let mut works = Vec::with_capacity(alloc, badges.len())?;
     let mut links = Vec::with_capacity(alloc, badges.len())?;
     for badge in badges {
-        let (work, link) = first_work(rt, alloc, settings, badge, hall)?;
+        let (work, link) = first_work(rt, alloc, settings, badge, hall, all)?;
         works.push_reserved(work);
         links.push_reserved(link);
     }
@@ -198,11 +200,12 @@ fn first_work<R: Wait + Copy + Drop>(
     settings: &NodeSettings,
     badge: Badge,
     hall: &Shared<Mutex<Hall>>,
+    all: &Links,
 ) -> Result<(Fresh<NodeWork<R>>, Shared<Link>), Fault>
     requires { IsNew badge }
 {
     let connection = badge.connection();
-    let link = Link::new(alloc, connection.generation)?;
+    let link = all.link(alloc, connection.generation)?;
     let settings = session_settings(settings, connection.peer);
     match new_work(rt, alloc, settings, badge, &link, hall) {
         Ok(work) => Ok((work, link)),

@@ -10,9 +10,9 @@ use crate::stepping::{arrive, end_of, hear_answer, starve};
 use cb_base::{Fault, Seed};
 use cb_fetch::Fetch;
 use cb_journal::Question;
+use cb_outgoing::Outgoing;
 use cb_peer_state::{CloseReason, Event, Peer, SessionState, Settings, State, one_message};
 use cb_talk::our_version;
-use cb_wire::BoundedMessage;
 use std::alloc::Global;
 use std::marker::Model;
 
@@ -40,7 +40,7 @@ impl Session {
     /// connection, and none otherwise. The table of its wanted blocks has the fixed seed.
     ///
     /// Fails only with `Fault::Memory`, and never for an inbound connection.
-    pub fn new(alloc: Global, settings: Settings) -> Result<(Session, Vec<BoundedMessage>), Fault>
+    pub fn new(alloc: Global, settings: Settings) -> Result<(Session, Vec<Outgoing>), Fault>
         ensures session { IfOk result (λ made. made.0 ≡ opening settings) }
         ensures messages { IfOk result (λ made. made.1.items ≡ openings settings) }
         ensures memory { IsOkUnless result Memory }
@@ -54,7 +54,7 @@ impl Session {
         alloc: Global,
         settings: Settings,
         seed: Seed,
-    ) -> Result<(Session, Vec<BoundedMessage>), Fault>
+    ) -> Result<(Session, Vec<Outgoing>), Fault>
         ensures session { IfOk result (λ made. made.0 ≡ opening settings) }
         ensures messages { IfOk result (λ made. made.1.items ≡ openings settings) }
         ensures memory { IsOkUnless result Memory }
@@ -132,7 +132,7 @@ impl Session {
         &mut self,
         alloc: Global,
         event: &Event,
-    ) -> Result<(Vec<BoundedMessage>, Option<Question>), Fault>
+    ) -> Result<(Vec<Outgoing>, Option<Question>), Fault>
         ensures ok { IfOk result
             (λ made. Answers (step_of self.old event.now) self.new made.0.items made.1) }
         ensures err { OnErr result (self.new ≡ over reasons.Memory self.old) }
@@ -167,11 +167,7 @@ impl Session {
     }
 
     /// Ends the session for this reason. Returns no messages and no question. Takes no memory.
-    pub fn close(
-        &mut self,
-        alloc: Global,
-        why: CloseReason,
-    ) -> (Vec<BoundedMessage>, Option<Question>)
+    pub fn close(&mut self, alloc: Global, why: CloseReason) -> (Vec<Outgoing>, Option<Question>)
         ensures { Answers (closes why self.old) self.new result.0.items result.1 }
     {
         self.kept = SessionState::bare(alloc, self.kept.settings, State::Closed(why));

@@ -16,12 +16,13 @@ ghost use Rattle.cb_peer_state.specs.State.{bare, over};
 
 use cb_base::{Fault, Shared};
 use cb_journal::{Answer, Question};
+use cb_outgoing::Outgoing;
 use cb_peer_receiving::process;
 use cb_peer_replying::reply;
 use cb_peer_state::{
     CloseReason, Event, NextQuestion, Pending, Reaction, SessionState, Settings, Stage, State,
 };
-use cb_wire::{BoundedMessage, Item};
+use cb_wire::Item;
 use std::alloc::Global;
 
 /// An item or a tick asks the hall for admission. It is ignored while a question is open.
@@ -29,7 +30,7 @@ pub(crate) fn arrive(
     session: &mut SessionState,
     alloc: Global,
     item: Option<Shared<Item>>,
-) -> (Vec<BoundedMessage>, Option<Question>)
+) -> (Vec<Outgoing>, Option<Question>)
     ensures { Answers
         (arrives session.old.pending session.old item) session.new result.0.items result.1 }
 {
@@ -48,7 +49,7 @@ pub(crate) fn hear_answer(
     session: &mut SessionState,
     alloc: Global,
     answer: &Answer,
-) -> Result<(Vec<BoundedMessage>, Option<Question>), Fault>
+) -> Result<(Vec<Outgoing>, Option<Question>), Fault>
     ensures ok { IfOk result
         (λ made. Answers
         (told session.old.pending session.old answer.now) session.new made.0.items made.1) }
@@ -75,7 +76,7 @@ fn follow(
     alloc: Global,
     pending: Pending,
     answer: &Answer,
-) -> Result<(Vec<BoundedMessage>, Option<Question>), Fault>
+) -> Result<(Vec<Outgoing>, Option<Question>), Fault>
     ensures ok { IfOk result
         (λ made. Answers
         (for_item pending.item
@@ -150,7 +151,7 @@ fn open_next(
     session: &mut SessionState,
     item: Option<Shared<Item>>,
     reaction: Reaction,
-) -> (Vec<BoundedMessage>, Option<Question>)
+) -> (Vec<Outgoing>, Option<Question>)
     ensures { (outcome : Outcome) →
         Makes outcome item session.old reaction.messages.items reaction.next →
         Answers (for_item item outcome) session.new result.0.items result.1 }

@@ -15,12 +15,13 @@ use cb_base::{Fault, Hash256, Shared};
 use cb_block::{Block, Header, sound_of};
 use cb_fetch::Fetch;
 use cb_journal::{Given, Question, Request};
+use cb_outgoing::Outgoing;
 use cb_payload::{CompactRelay, Entries, HeaderList, HeadersRequest, Inventory, Version};
 use cb_peer_state::{
     CloseReason, Reaction, SessionState, Settings, State, Subject, hash_of_last, one_message,
 };
 use cb_talk::{our_version, wishes};
-use cb_wire::{BoundedMessage, Item, Message};
+use cb_wire::{Item, Message};
 use std::alloc::Global;
 
 /// The oldest protocol version that a peer may speak (own).
@@ -66,7 +67,7 @@ fn receive(session: &mut SessionState, alloc: Global, message: &Message) -> Resu
         IsLightOutcome (received session.old message.now) → IsOk result }
 {
     if let Message::Ping(nonce) = message {
-        let pong = one_message(alloc, BoundedMessage::new(Message::Pong(*nonce)))?;
+        let pong = one_message(alloc, Outgoing::new(Message::Pong(*nonce)))?;
         return session.end(alloc, pong);
     }
     match session.state {
@@ -361,7 +362,7 @@ fn bring(
 
 /// The answer to the peer's `version`: `verack`, and before it our `version` if the peer made the
 /// connection. Fails only with `Fault::Memory`.
-fn greeting_of(alloc: Global, settings: Settings) -> Result<Vec<BoundedMessage>, Fault>
+fn greeting_of(alloc: Global, settings: Settings) -> Result<Vec<Outgoing>, Fault>
     ensures messages { IfOk result (λ made. made.items ≡ greeting settings) }
     ensures memory { IsOkUnless result Memory }
 {
@@ -369,7 +370,7 @@ fn greeting_of(alloc: Global, settings: Settings) -> Result<Vec<BoundedMessage>,
     if settings.inbound {
         made.push(our_version(alloc, settings.nonce, settings.time, settings.height)?)?;
     }
-    made.push(BoundedMessage::new(Message::Verack))?;
+    made.push(Outgoing::new(Message::Verack))?;
     Ok(made)
 }
 

@@ -11,6 +11,7 @@ ghost use Rattle.cb_peer_state.specs.State.{unless_remembered};
 
 use cb_base::{Fault, Shared};
 use cb_journal::{Question, Sought};
+use cb_outgoing::Outgoing;
 use cb_payload::{HeaderAndShortIds, Locator};
 use cb_peer_state::{
     CloseReason, NextQuestion, Reaction, SessionState, Stage, one_message, push_some,
@@ -19,7 +20,7 @@ use cb_pool::{Pairs, ShortIds};
 use cb_rebuild::{Rebuilt, rebuild};
 use cb_state::{Excerpt, Heads, Taken};
 use cb_talk::{asking_headers, asking_txs, send_excerpt};
-use cb_wire::{BoundedMessage, Item, Message};
+use cb_wire::{Item, Message};
 use std::alloc::Global;
 
 /// The compact block that an item brought, if it did.
@@ -46,7 +47,7 @@ fn requests_before(
     alloc: Global,
     refused: Option<Fault>,
     locator: &Locator,
-) -> Result<Vec<BoundedMessage>, Fault>
+) -> Result<Vec<Outgoing>, Fault>
     ensures messages { IfOk result (λ made.
         made.items ≡ unless_remembered session.now (before_parent refused locator.now)) }
     ensures memory { IsOkUnless result Memory }

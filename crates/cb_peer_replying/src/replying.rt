@@ -22,6 +22,7 @@ ghost use Rattle.cb_peer_state.specs.State.{unless_remembered};
 use crate::compact::{answer_places, hear_given, hear_pairs, hear_short_heads, short_in};
 use cb_base::{Fault, Hash256, Shared};
 use cb_journal::Answer;
+use cb_outgoing::Outgoing;
 use cb_payload::{Entries, HeaderList, Inventory, Listed, Locator};
 use cb_peer_state::{
     CloseReason, Reaction, SessionState, Stage, hash_of_last, locator_of, one_message, push_some,
@@ -31,7 +32,7 @@ use cb_talk::{
     announce_block, announce_tip, announce_txs, asking_for, asking_headers, served, shorts, wish,
 };
 use cb_tx::Tx;
-use cb_wire::{BoundedMessage, Item, Message};
+use cb_wire::{Item, Message};
 use std::alloc::Global;
 
 /// The most headers in one message. After a full message there may be more.
@@ -150,7 +151,7 @@ fn send_headers(
         (messages.Headers headers.now ∷ [])) item session.now made.messages.items made.next) }
     ensures memory { IsOkUnless result Memory }
 {
-    let message = BoundedMessage::new(Message::Headers(headers.copy(alloc)?));
+    let message = Outgoing::new(Message::Headers(headers.copy(alloc)?));
     let messages = one_message(alloc, message)?;
     session.end(alloc, messages)
 }
@@ -269,7 +270,7 @@ fn request_for_blocks(
     session: &SessionState,
     alloc: Global,
     need: &Need,
-) -> Result<Option<BoundedMessage>, Fault>
+) -> Result<Option<Outgoing>, Fault>
     ensures message { IfOk result (λ made. as_list made ≡ unless_remembered session.now
         (if list_any is_block need.now.entries
         then asking_headers need.now.locator ∷ [] else [])) }
@@ -363,7 +364,7 @@ fn tip_made(session: &SessionState, news: &News) -> u64
 
 /// How the peer is told that it is to announce blocks as compact blocks, or no longer, if that
 /// changed.
-fn told_wish(session: &SessionState, high: bool) -> Option<BoundedMessage>
+fn told_wish(session: &SessionState, high: bool) -> Option<Outgoing>
     ensures { as_list result ≡ wish_told session.now high }
 {
     if session.peer.capable && differ(high, session.compact.asked_high) {
@@ -382,11 +383,7 @@ fn differ(one: bool, other: bool) -> bool
 
 /// The announcement of a new tip, unless the peer announced it: by its block as a compact block where
 /// the hall gave it (BIP 152), else by headers or its hash.
-fn told_tip(
-    session: &SessionState,
-    alloc: Global,
-    news: &News,
-) -> Result<Option<BoundedMessage>, Fault>
+fn told_tip(session: &SessionState, alloc: Global, news: &News) -> Result<Option<Outgoing>, Fault>
     ensures message { IfOk result (λ made. as_list made ≡ tip_told session.now news.now) }
     ensures memory { IsOkUnless result Memory }
     ensures silent { tip_told session.now news.now ≡ [] → IsOk result }
@@ -395,7 +392,7 @@ fn told_tip(
         return Ok(None);
     }
     if let Some(block) = &news.block {
-        return Ok(Some(announce_block(alloc, block, session.next_nonce())?));
+        return Ok(Some(announce_block(block, session.next_nonce())?));
     }
     announce_tip(
         alloc,
@@ -411,7 +408,7 @@ fn request_behind(
     session: &SessionState,
     alloc: Global,
     item: &Option<Shared<Item>>,
-) -> Result<Vec<BoundedMessage>, Fault>
+) -> Result<Vec<Outgoing>, Fault>
     ensures messages { IfOk result
         (λ made. made.items ≡ unless_remembered session.now (more_headers item.now)) }
     ensures memory { IsOkUnless result Memory }
@@ -443,7 +440,7 @@ fn before_first(item: &Option<Shared<Item>>) -> Option<Hash256>
 }
 
 /// The request for more headers, if the message had 2,000. Fails only with `Fault::Memory`.
-fn request_more(alloc: Global, item: &Option<Shared<Item>>) -> Result<Vec<BoundedMessage>, Fault>
+fn request_more(alloc: Global, item: &Option<Shared<Item>>) -> Result<Vec<Outgoing>, Fault>
     ensures messages { IfOk result (λ made. made.items ≡ more_headers item.now) }
     ensures memory { IsOkUnless result Memory }
     ensures silent { more_headers item.now ≡ [] → IsOk result }
@@ -469,7 +466,7 @@ fn request_more(alloc: Global, item: &Option<Shared<Item>>) -> Result<Vec<Bounde
 
 /// The `getdata` for the transactions among the entries, if any. Fails only with `Fault::Memory`,
 /// and never if there are no entries.
-fn requests_of_txs(alloc: Global, entries: &Entries) -> Result<Option<BoundedMessage>, Fault>
+fn requests_of_txs(alloc: Global, entries: &Entries) -> Result<Option<Outgoing>, Fault>
     ensures message { IfOk result
         (λ made. as_list made ≡ asking_for (filter_map tx_request entries.now)) }
     ensures memory { IsOkUnless result Memory }
@@ -511,7 +508,7 @@ fn told_txs(
     alloc: Global,
     item: &Option<Shared<Item>>,
     txids: &Txids,
-) -> Result<Option<BoundedMessage>, Fault>
+) -> Result<Option<Outgoing>, Fault>
     ensures message { IfOk result
         (λ made. as_list made ≡ telling (without_brought item.now txids.now)) }
     ensures memory { IsOkUnless result Memory }
@@ -535,7 +532,7 @@ fn told_txs(
 
 /// The announcement of the transactions other than this one, if any. Fails only with
 /// `Fault::Memory`.
-fn told_beside(alloc: Global, tx: &Tx, txids: &Txids) -> Result<Option<BoundedMessage>, Fault>
+fn told_beside(alloc: Global, tx: &Tx, txids: &Txids) -> Result<Option<Outgoing>, Fault>
     ensures message { IfOk result
         (λ made. as_list made
         ≡ telling (filter (λ txid. not (same (double_hash (tx_text tx.now)) txid)) txids.now)) }
@@ -547,7 +544,7 @@ fn told_beside(alloc: Global, tx: &Tx, txids: &Txids) -> Result<Option<BoundedMe
 }
 
 /// The announcement of the transactions, if any. Fails only with `Fault::Memory`.
-fn announce_all(alloc: Global, txids: &Txids) -> Result<Option<BoundedMessage>, Fault>
+fn announce_all(alloc: Global, txids: &Txids) -> Result<Option<Outgoing>, Fault>
     ensures message { IfOk result (λ made. as_list made ≡ telling txids.now) }
     ensures memory { IsOkUnless result Memory }
 {

@@ -9,8 +9,8 @@ use crate::stage::{Stage, Subject};
 use cb_base::{Fault, Hash256};
 use cb_block::Header;
 use cb_journal::Question;
+use cb_outgoing::Outgoing;
 use cb_payload::Locator;
-use cb_wire::BoundedMessage;
 use std::alloc::Global;
 
 /// The next question to the hall, and how far the session is with the item then.
@@ -27,14 +27,14 @@ pub struct NextQuestion {
 #[derive(Drop)]
 pub struct Reaction {
     /// The messages to send.
-    pub messages: Vec<BoundedMessage>,
+    pub messages: Vec<Outgoing>,
     /// The next question.
     pub next: Option<NextQuestion>,
 }
 
 impl Reaction {
     /// Sends these messages and asks nothing.
-    pub fn sends(messages: Vec<BoundedMessage>) -> Reaction
+    pub fn sends(messages: Vec<Outgoing>) -> Reaction
         ensures messages { result.messages.items ≡ messages.items }
         ensures next { result.next ≡ None }
     {
@@ -69,7 +69,7 @@ impl Reaction {
 }
 
 /// A list of one message. Fails only with `Fault::Memory`.
-pub fn one_message(alloc: Global, message: BoundedMessage) -> Result<Vec<BoundedMessage>, Fault>
+pub fn one_message(alloc: Global, message: Outgoing) -> Result<Vec<Outgoing>, Fault>
     ensures messages { IfOk result (λ made. made.items ≡ message ∷ []) }
     ensures memory { IsOkUnless result Memory }
 {
@@ -80,10 +80,7 @@ pub fn one_message(alloc: Global, message: BoundedMessage) -> Result<Vec<Bounded
 
 /// Appends a message, if there is one. Fails only with `Fault::Memory`, and never if there is none.
 /// The list is then unchanged.
-pub fn push_some(
-    messages: &mut Vec<BoundedMessage>,
-    message: Option<BoundedMessage>,
-) -> Result<(), Fault>
+pub fn push_some(messages: &mut Vec<Outgoing>, message: Option<Outgoing>) -> Result<(), Fault>
     ensures messages { OnOk result (messages.new.items ≡ messages.old.items ++ as_list message) }
     ensures memory { IsOkUnless result Memory }
     ensures err { OnErr result (messages.new.items ≡ messages.old.items) }

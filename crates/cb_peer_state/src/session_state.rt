@@ -19,8 +19,8 @@ use cb_base::{Fault, Hash256};
 use cb_block::SoundBlock;
 use cb_fetch::Fetch;
 use cb_journal::{Given, Question, Told};
+use cb_outgoing::Outgoing;
 use cb_talk::{asking_block, asking_headers};
-use cb_wire::BoundedMessage;
 use std::alloc::Global;
 
 /// What is known of a peer that has sent nothing.
@@ -92,7 +92,7 @@ impl SessionState {
     ///
     /// Fails only with `Fault::Memory`, and never if it doesn't ask which blocks are needed.
     #[tactic(auto, unfolding(crate::specs::Receiving::ends))]
-    pub fn end(&self, alloc: Global, messages: Vec<BoundedMessage>) -> Result<Reaction, Fault>
+    pub fn end(&self, alloc: Global, messages: Vec<Outgoing>) -> Result<Reaction, Fault>
         ensures ok { (item : Option Item) →
             IfOk result (λ made. Makes
             (ends self.now messages.items) item self.now made.messages.items made.next) }

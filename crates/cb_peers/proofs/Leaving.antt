@@ -1,15 +1,20 @@
 -- What was read of a connection, as its seat is left.
-use Rattle.std.proofs.Common.{◌≡◌, ℕ, ◌+◌, ◌≤◌, Bool, true, false, List, [], ◌∷◌, ◌++◌, length, take, drop, Option, refl, sym, ap, subst, ◌∙◌, arith}
+use Rattle.std.proofs.Common.{◌≡◌, ℕ, ◌+◌, ◌≤◌, Bool, true, false, List, [], ◌∷◌, ◌++◌, length, take, drop, Option, Some, inl, inr, refl, sym, ap, subst, ◌∙◌, arith}
 use Rattle.std.specs.List.{flat_map}
 use Rattle.std.proofs.lemmas.List.{append-nil, append_assoc, append_cancel_left, length-append, take-append-drop}
 use Rattle.std.proofs.lemmas.Grind.{flat_map-append}
 use Rattle.cb_inbox.specs.declared.queued.Queued.{Queued}
+use Rattle.cb_inbox.specs.declared.queued.Queued.TheVariants as queued
 use Rattle.cb_inbox.specs.Queued.{has_ended}
+use Rattle.cb_inbox.specs.Seat.{SeatState}
+use Rattle.cb_crew.specs.declared.reader_side.ReaderSide.{ReaderSide}
+use Rattle.cb_crew.specs.declared.reader_side.ReaderSide.TheVariants as side
 use Rattle.cb_crew.specs.Work.{brought_by, openings_of}
 use Rattle.cb_io.specs.declared.read_end.ReadEnd.{ReadEnd}
 use Rattle.cb_reader.specs.declared.input.Input.{Input}
 use Rattle.cb_reader.specs.Putting.{SeatNow}
 use Rattle.cb_reader.specs.Reading.{Reads}
+use Rattle.cb_service.specs.Service.{HasEnded, queued_by}
 use Rattle.cb_peers.specs.Seat.{IsSameSeat, SeatView, before_in, input_in, is_ended, marks_of, put_in}
 use Rattle.cb_peers.specs.Reading.{HasRead, opened}
 
@@ -51,3 +56,15 @@ left_by {O} {input} {remaining} {b} {f} {s} {t} {why} before old new after more 
       queued_all = omega (arith, long);
       ended_last = last;
     }
+
+-- a seat whose connection lasted is left, as it is or after the end mark
+pub left_live : {O : Type 0} {input remaining : Option (List ℕ)} {b f s t : Bool} {why : ReadEnd} (before : List (Queued Input O)) (old new : SeatView O) (seat : SeatState (Queued Input O)) (left : ReaderSide Input O)
+    → put_in old ≡ [] → before_in old ≡ before → is_ended old.side ≡ false → marks_of old.side ≡ before → IsSameSeat old new
+    → Reads input remaining b f (now_of old s) (now_of new t) why → Some (side.Live seat) ≡ new.side → HasEnded (side.Live seat) left
+    → HasRead input remaining b f s t why before (queued_by left)
+left_live before old new seat left nothing was live marks same reads held (inl stays) =
+    left_by before old new (queued_by left) [] nothing was live marks same reads (ap queued_by stays ∙ ap marks_of held ∙ sym (append-nil _)) refl refl
+    (λ e. absurd (let y : false ≡ true = ap is_ended held ∙ e in cc))
+left_live before old new seat left nothing was live marks same reads held (inr ends) =
+    left_by before old new (queued_by left) (queued.End ∷ []) nothing was live marks same reads (ap queued_by ends.0 ∙ ap (λ xs. xs ++ queued.End ∷ []) (ap marks_of held)) refl refl
+    (λ e. absurd (let y : false ≡ true = ap is_ended held ∙ e in cc))

@@ -1,4 +1,4 @@
 pub mod Leaving
 pub mod Seats
 pub mod Served
-pub mod Streams
+pub mod Writing

@@ -1,7 +1,7 @@
 -- What a node promises of its connections: what was made of all that their readers queued.
 use Rattle.std.specs.Prelude.{◌≡◌, ℕ, true, false, List, [], length, map, All, Option}
 use Rattle.std.specs.List.{AllZip, range_with_len}
-use Rattle.cb_io.specs.Writing.{Wrote}
+use Rattle.cb_outgoing.specs.Writing.{Wrote}
 use Rattle.cb_wire.specs.Stream.{texts}
 use Rattle.cb_peer_state.specs.declared.state.State.TheVariants.{Closed}
 use Rattle.cb_peer_state.specs.declared.state.CloseReason.TheVariants.{Bye}

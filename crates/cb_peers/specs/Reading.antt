@@ -1,16 +1,13 @@
 -- What a peer's reader queues of its connections.
-use Rattle.std.specs.Prelude.{◌≡◌, ℕ, ◌≤◌, ◌⊎◌, Bool, true, false, List, [], ◌∷◌, ◌++◌, length, Option}
+use Rattle.std.specs.Prelude.{◌≡◌, ℕ, ◌≤◌, Bool, true, false, List, [], ◌++◌, length, Option}
 use Rattle.std.specs.List.{flat_map}
-use Rattle.cb_wire.specs.declared.item.Item.{Item}
 use Rattle.cb_inbox.specs.declared.queued.Queued.{Queued}
-use Rattle.cb_inbox.specs.declared.queued.Queued.TheVariants as queued
 use Rattle.cb_inbox.specs.Queued.{has_ended}
 use Rattle.cb_crew.specs.Work.{openings_of}
 use Rattle.cb_io.specs.declared.read_end.ReadEnd.{ReadEnd}
 use Rattle.cb_reader.specs.declared.input.Input.{Input}
-use Rattle.cb_reader.specs.Input.{maybe, said}
 use Rattle.cb_reader.specs.Putting.{SeatNow}
-use Rattle.cb_reader.specs.Reading.{IsToPut, Reads}
+use Rattle.cb_reader.specs.Reading.{Reads}
 use Rattle.cb_peers.specs.Seat.{input_in}
 
 -- a seat that counts so many marks, in a connection in which nothing was put
@@ -31,26 +28,3 @@ pub record HasRead {O : Type 0} (input remaining : Option (List ℕ)) (failed_be
   -- The seat counts no mark that wasn't queued. If reading ended the connection, its end mark is last.
   pub queued_all : now.counted ≤ length after
   pub ended_last : now.ended ≡ true → has_ended after ≡ true
-
--- These are marks of one connection. Their inputs are the first ones of those that some bytes
--- spell, in order and each once.
-pub record IsOfAStream {O : Type 0} (marks : List (Queued Input O)) : Type 0 where
-  pub unopened : openings_of marks ≡ []
-  pub bytes : List ℕ
-  pub items : List Item
-  pub last : Option Input
-  pub to_put : IsToPut bytes items last
-  pub later : List Input
-  pub in_order : flat_map input_in marks ++ later ≡ said items ++ maybe last
-
--- Marks of one connection after another, each of which is of a stream.
-pub data AreOfStreams {O : Type 0} : List (Queued Input O) → Type 0 where
-  one : (marks : List (Queued Input O)) → IsOfAStream marks → AreOfStreams marks
-  next : (done marks : List (Queued Input O)) (opening : O) → AreOfStreams done → IsOfAStream marks → AreOfStreams (done ++ queued.Open opening ∷ marks)
-
--- What a reader queued, after all that was queued before: nothing, or marks of one connection after
--- another.
-pub record QueuesStreams {O : Type 0} (before after : List (Queued Input O)) : Type 0 where
-  pub marks : List (Queued Input O)
-  pub grown : after ≡ before ++ marks
-  pub streams : (marks ≡ []) ⊎ AreOfStreams marks

@@ -1,11 +1,9 @@
 ghost use Rattle.std.specs.Prelude.{IsOkUnless};
 ghost use Rattle.cb_base.specs.declared.fault.Fault.TheVariants.{Memory};
 
-use cb_base::{Fault, Shared};
+use cb_base::Fault;
 use cb_crew::Turn;
-use cb_service::AfterTurn;
 use std::alloc::Global;
-use std::sync::Wait;
 use std::sync::atomic::{AtomicU64, Ordering};
 
 /// What lies queued of one peer's earlier connections.
@@ -74,18 +72,5 @@ impl Backlogs {
         if let Some(backlog) = self.peers.get(usize::from(peer)) {
             backlog.left.store(bytes, Ordering::SeqCst);
         }
-    }
-}
-
-/// After each turn of a handler, counts the marks that it took.
-#[derive(Drop)]
-pub struct CountTaken {
-    /// Where they are counted.
-    pub backlogs: Shared<Backlogs>,
-}
-
-impl AfterTurn for CountTaken {
-    fn after_turn<R: Wait>(&self, _rt: &R, turn: Turn) {
-        self.backlogs.count(turn);
     }
 }

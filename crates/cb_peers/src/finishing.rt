@@ -2,7 +2,7 @@ ghost use Rattle.cb_crew.specs.Crew.{AreHandlersOf, AreSidesOf};
 ghost use Rattle.cb_peers.specs.Headline.{IsHeadline};
 
 use cb_crew::{Crew, Desk, Fresh, Handler, ReaderSide};
-use cb_io::Sink;
+use cb_outgoing::MessageSink;
 use cb_reader::Input;
 use cb_trace::Oracle;
 use cb_work::{Flags, PeerWork};
@@ -20,7 +20,7 @@ use std::sync::Wait;
 /// its trace on one thread. What was written is a prefix of the text of what that fold sends. As
 /// many answers were logged as its badge counts. Every block that was given to the hall is the only
 /// sound transaction list under its header, unless hashes collide.
-pub fn finish_peers<S: Sink + Drop, H: Oracle + Drop, F: Flags, R: Wait>(
+pub fn finish_peers<S: MessageSink + Drop, H: Oracle + Drop, F: Flags, R: Wait>(
     rt: &R,
     crew: &Crew<PeerWork<S, H, F>>,
     sides: Vec<ReaderSide<Input, Fresh<PeerWork<S, H, F>>>>,

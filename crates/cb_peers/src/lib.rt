@@ -1,20 +1,23 @@
-//! The peers of a node: the threads that read their connections, and what a crew that served them
-//! promises in the end.
+//! The connections of peers, over any work: how one is read and written, by what its threads are told
+//! to stop, and what a crew that served all of them promises in the end.
 #![tactic(auto)]
 
 mod backlogs;
-mod connections;
 mod finishing;
 mod inbox_seat;
-mod peer_reader;
+mod link;
+mod outbox;
 mod reading;
+mod socket;
 mod stopping;
+mod threads;
 
-pub use backlogs::{Backlogs, CountTaken};
-pub use cb_service::Beginning;
-pub use connections::{Connected, Connections, PeerStream};
+pub use backlogs::Backlogs;
 pub use finishing::finish_peers;
 pub use inbox_seat::{InboxSeat, MOST_BYTES};
-pub use peer_reader::{PeerReader, read_connections};
-pub use reading::{Left, read_connection, read_until_told};
+pub use link::{CloseEnded, Link, Links, OutboxSink};
+pub use outbox::{Outbox, WriterEnd};
+pub use reading::{Left, read_connection};
+pub use socket::{Socket, SocketReader};
 pub use stopping::ConnectionStop;
+pub use threads::{SocketReading, start_threads};

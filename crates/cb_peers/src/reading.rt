@@ -1,4 +1,4 @@
-ghost use Rattle.std.specs.Prelude.{◌≡◌, ◌<◌, ◌^◌, Bool, false, length};
+ghost use Rattle.std.specs.Prelude.{◌≡◌, ◌<◌, ◌^◌, length};
 ghost use Rattle.cb_crew.specs.Crew.{inbox_of};
 ghost use Rattle.cb_service.specs.Service.{queued_by};
 ghost use Rattle.cb_peers.specs.Reading.{HasRead};
@@ -9,7 +9,7 @@ use crate::stopping::ConnectionStop;
 use cb_crew::ReaderSide;
 use cb_inbox::{Inbox, Opening, ReaderSeat};
 use cb_reader::{Input, ReadEnd, Seat, Source, Stop, read_loop};
-use cb_service::{Signals, end};
+use cb_service::{Side, Signals, end};
 use cb_work::ConnectionStatus;
 use std::alloc::Global;
 use std::sync::Wait;
@@ -18,9 +18,7 @@ use std::sync::Wait;
 #[derive(Drop)]
 pub struct Left<O: Opening + Drop> {
     /// The side of the inbox.
-    pub side: ReaderSide<Input, O>,
-    /// How many marks the side queued, over all connections.
-    pub count: u64,
+    pub side: Side<Input, O>,
     /// Why reading ended.
     pub why: ReadEnd,
 }
@@ -29,7 +27,7 @@ pub struct Left<O: Opening + Drop> {
 /// stream's end or fault, or once it is stopped. Then the connection is ended.
 ///
 /// The side that comes back is live only if all threads are told to return, or if it queued 2^40
-/// marks. It queued fewer than 2^48.
+/// marks.
 ///
 /// It may wait, for bytes and for room.
 pub fn read_connection<R: Wait, S: Source, P: Stop, O: Opening + Drop>(
@@ -46,8 +44,6 @@ pub fn read_connection<R: Wait, S: Source, P: Stop, O: Opening + Drop>(
     requires inbox { seat.inbox ≡ inbox.now.name }
     requires place { length seat.queued < 2 ^ 48 }
     ensures inbox { inbox_of result.side ≡ inbox.now.name }
-    ensures count { result.count ≡ length (queued_by result.side) }
-    ensures few { result.count < 2 ^ 48 }
     ensures reads { HasRead (S.remaining source.old) (S.remaining source.new)
         (S.has_failed source.old) (S.has_failed source.new) (P.has_stopped stop.old)
         (P.has_stopped stop.new) result.why seat.queued (queued_by result.side) }
@@ -60,49 +56,13 @@ pub fn read_connection<R: Wait, S: Source, P: Stop, O: Opening + Drop>(
             // No effect when it runs: it tells the prover that the last mark is an end mark.
             ended.reached();
             Left {
-                side: ReaderSide::Ended(ended),
-                count,
+                side: Side::ended(ended, count),
                 why,
             }
         }
-        ReaderSide::Live(seat) => match end(rt, inbox, seat, signals) {
-            Ok(ended) => Left {
-                side: ReaderSide::Ended(ended),
-                count: count + 1,
-                why,
-            },
-            Err(back) => Left {
-                side: ReaderSide::Live(back),
-                count,
-                why,
-            },
+        ReaderSide::Live(seat) => Left {
+            side: end(rt, inbox, Side::live(seat), signals),
+            why,
         },
     }
-}
-
-/// The same as `read_connection`, stopped by the connection's and the threads' own flags
-/// (`ConnectionStop`).
-pub fn read_until_told<R: Wait, S: Source, O: Opening + Drop>(
-    rt: &R,
-    alloc: Global,
-    source: &mut S,
-    status: &ConnectionStatus,
-    inbox: &Inbox<Input, O>,
-    seat: ReaderSeat<Input, O>,
-    signals: &Signals,
-    backlogs: &Backlogs,
-) -> Left<O>
-    requires inbox { seat.inbox ≡ inbox.now.name }
-    requires place { length seat.queued < 2 ^ 48 }
-    ensures inbox { inbox_of result.side ≡ inbox.now.name }
-    ensures count { result.count ≡ length (queued_by result.side) }
-    ensures few { result.count < 2 ^ 48 }
-    ensures reads { (stopped : Bool) × HasRead (S.remaining source.old) (S.remaining source.new)
-        (S.has_failed source.old) (S.has_failed source.new) false stopped result.why seat.queued
-        (queued_by result.side) }
-{
-    let mut stop = ConnectionStop::new(status, signals);
-    read_connection(
-        rt, alloc, source, &mut stop, status, inbox, seat, signals, backlogs,
-    )
 }

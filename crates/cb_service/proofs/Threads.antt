@@ -1,16 +1,17 @@
 -- What the threads of a crew hand back.
-use Rattle.std.proofs.Common.{◌≡◌, ℕ, zero, suc, ◌+◌, ◌-◌, ◌<◌, ◌≤◌, List, [], ◌∷◌, ◌++◌, length, map, take, drop, slice_index_or, All, refl, sym, ap, subst, ◌∙◌, arith}
+use Rattle.std.proofs.Common.{◌≡◌, ℕ, zero, suc, ◌<◌, ◌≤◌, List, [], ◌∷◌, ◌++◌, length, map, slice_index_or, All, refl, sym, ap, subst, ◌∙◌, arith}
 use Rattle.std.specs.List.{AllZip}
-use Rattle.std.proofs.lemmas.List.{append-nil, map-append, nil_from_length, append_assoc, length-map, length-drop, drop_more, take_more, take_all}
+use Rattle.std.proofs.lemmas.List.{append-nil, map-append, append_assoc, length-map}
 use Rattle.std.proofs.lemmas.List.Elements.{All-append, All-cons, All-nil, All-head, All-tail}
-use Rattle.atomic_table.specs.Seated.{TableId}
-use Rattle.cb_inbox.specs.declared.queued.Queued.{Queued}
-use Rattle.cb_inbox.specs.Seat.{InboxState, SeatState, opening_seat}
 use Rattle.cb_crew.specs.Turn.{HandlerState}
 use Rattle.cb_crew.specs.Crew.{CrewState, AreHandlersOf, FirstHasRoom, IsHandlerOf}
 use Rattle.cb_crew.proofs.Works.{zip_push}
 
 -- ---- started one after another
+
+-- what holds of all that are left holds of the next
+pub next_has : {H : Type 0} (P : H → Type 0) (rest left : List H) (h : H) → All P rest → rest ≡ h ∷ left → P h
+next_has P rest left h all steps = All-head P h left (subst (All P) steps all)
 
 -- one thread more, for the next of all handlers
 pub started_more : {T H : Type 0} (f : T → H) (C : T → Type 0) (P : H → Type 0) (done new : List T) (t : T) (h : H) (rest left all : List H)
@@ -27,65 +28,6 @@ started_more f C P done new t h rest left all was steps pushed is of =
 -- where no handler is left, each has its thread
 pub started_all : {T H : Type 0} (f : T → H) (done : List T) (rest all : List H) → map f done ++ rest ≡ all → rest ≡ [] → map f done ≡ all
 started_all f done rest all was none = sym (append-nil (map f done)) ∙ ap (λ xs. map f done ++ xs) (sym none) ∙ was
-
--- what a seat is made of, by the names of the inboxes
-abbrev pub seats_of : {S : Type 0} → (TableId → S) → List InboxState → List S
-seats_of seat_of inboxes = map seat_of (map (λ (inbox : InboxState). inbox.name) inboxes)
-
--- where a seat is left, an inbox is
-pub some_left : {S : Type 0} (seat_of : TableId → S) (inboxes : List InboxState) (k : ℕ) (seat : S) (rest left : List S)
-    → rest ≡ seats_of seat_of (drop k inboxes) → rest ≡ seat ∷ left → k < length inboxes
-some_left seat_of inboxes k seat rest left was steps =
-    let names : List TableId = map (λ (inbox : InboxState). inbox.name) (drop k inboxes) in
-    let counts : suc (length left) ≡ length inboxes - k =
-    ap length (sym steps ∙ was) ∙ length-map names seat_of ∙ length-map (drop k inboxes) (λ (inbox : InboxState). inbox.name) ∙ length-drop k inboxes in
-    omega arith
-
--- and the seat is of the inbox at its place
-pub seat_here : {S : Type 0} (seat_of : TableId → S) (inboxes : List InboxState) (k : ℕ) (at : InboxState) (seat : S) (rest left : List S)
-    → rest ≡ seats_of seat_of (drop k inboxes) → rest ≡ seat ∷ left → at ≡ slice_index_or inboxes k at → (seat ≡ seat_of at.name) × (left ≡ seats_of seat_of (drop (k + 1) inboxes))
-seat_here seat_of inboxes k at seat rest left was steps here =
-    let lt = some_left seat_of inboxes k seat rest left was steps in
-    let both : seat ∷ left ≡ seat_of at.name ∷ seats_of seat_of (drop (k + 1) inboxes) =
-    sym steps ∙ was ∙ ap (seats_of seat_of) (drop_more inboxes k at lt ∙ ap (λ i. i ∷ drop (k + 1) inboxes) (sym here)) in
-    (ap (λ ss. slice_index_or ss 0 seat) both, ap (drop 1) both)
-
--- so many inboxes have their readers' threads; what is left has none
-pub record IsStarting {T D M O : Type 0} (f : T → InboxState) (inboxes : List InboxState) (k : ℕ) (done : List T) (rest : List (SeatState (Queued M O))) (left : List D) : Type 0 where
-  pub inboxes_are : map f done ≡ take k inboxes
-  pub seats_left : rest ≡ seats_of opening_seat (drop k inboxes)
-  pub as_many : length left ≡ length rest
-
--- at first none has
-pub starting_none : {T D M O : Type 0} (f : T → InboxState) (inboxes : List InboxState) (done : List T) (rest : List (SeatState (Queued M O))) (left : List D)
-    → done ≡ [] → rest ≡ seats_of opening_seat inboxes → length left ≡ length inboxes → IsStarting f inboxes 0 done rest left
-starting_none f inboxes done rest left none seats many = record {
-  inboxes_are = ap (map f) none;
-  seats_left = seats;
-  as_many = many ∙ sym (ap length seats ∙ length-map (map (λ (inbox : InboxState). inbox.name) inboxes) opening_seat ∙ length-map inboxes (λ (inbox : InboxState). inbox.name));
-}
-
--- one thread more, for the reader of the next inbox
-pub starting_more : {T D M O : Type 0} (f : T → InboxState) (inboxes : List InboxState) (k : ℕ) (at : InboxState) (done new : List T) (t : T)
-    (seat : SeatState (Queued M O)) (reader : D) (rest rest' : List (SeatState (Queued M O))) (left left' : List D)
-    → IsStarting f inboxes k done rest left → rest ≡ seat ∷ rest' → left ≡ reader ∷ left' → new ≡ done ++ t ∷ [] → f t ≡ at → at ≡ slice_index_or inboxes k at
-    → IsStarting f inboxes (k + 1) new rest' left'
-starting_more f inboxes k at done new t seat reader rest rest' left left' was steps steps' pushed is here =
-    let lt = some_left opening_seat inboxes k seat rest rest' was.seats_left steps in
-    record {
-      inboxes_are = ap (map f) pushed ∙ map-append f done (t ∷ []) ∙ ap (λ i. map f done ++ i ∷ []) (is ∙ here) ∙ ap (λ is. is ++ slice_index_or inboxes k at ∷ []) was.inboxes_are ∙ sym (take_more inboxes k at lt);
-      seats_left = (seat_here opening_seat inboxes k at seat rest rest' was.seats_left steps here).1;
-      as_many = omega (arith, ap length steps, ap length steps', was.as_many);
-    }
-
--- where none is left, each inbox has its reader's thread
-pub starting_all : {T D M O : Type 0} (f : T → InboxState) (inboxes : List InboxState) (k : ℕ) (done : List T) (rest : List (SeatState (Queued M O))) (left : List D)
-    → IsStarting f inboxes k done rest left → rest ≡ [] → map f done ≡ inboxes
-starting_all f inboxes k done rest left was none =
-    let names : List TableId = map (λ (inbox : InboxState). inbox.name) (drop k inboxes) in
-    let counts : 0 ≡ length inboxes - k =
-    ap length (sym none ∙ was.seats_left) ∙ length-map names opening_seat ∙ length-map (drop k inboxes) (λ (inbox : InboxState). inbox.name) ∙ length-drop k inboxes in
-    was.inboxes_are ∙ take_all k inboxes (omega arith)
 
 -- ---- handed back
 
@@ -112,15 +54,6 @@ returned_map K f g same (t ∷ threads) (s ∷ back) len each =
 map_map : {A B N : Type 0} (f : A → B) (g : B → N) (xs : List A) → map g (map f xs) ≡ map (λ x. g (f x)) xs
 map_map f g [] = refl
 map_map f g (x ∷ xs) = ap (λ ys. g (f x) ∷ ys) (map_map f g xs)
-
--- all sides are those of the crew's inboxes
-pub sides_back : {T S : Type 0} (K : T → S → Type 0) (f : T → InboxState) (inbox : S → TableId) (P : S → Type 0) → ((t : T) (s : S) → K t s → (inbox s ≡ (f t).name) × P s)
-    → (inboxes : List InboxState) (threads : List T) (back : List S) → map f threads ≡ inboxes → length back ≡ length threads → Returned K threads back
-    → (map inbox back ≡ map (λ (i : InboxState). i.name) inboxes) × All P back
-sides_back K f inbox P keeps inboxes threads back of len each = (
-  returned_map K (λ t. (f t).name) inbox (λ t s k. (keeps t s k).0) threads back len each ∙ sym (map_map f (λ (i : InboxState). i.name) threads) ∙ ap (map (λ (i : InboxState). i.name)) of,
-  λ i d lt. (keeps _ _ (each i d lt).2).1,
-)
 
 first_room : {X : Type 0} (crew : CrewState) (xs ys : List (HandlerState X)) → map (λ (h : HandlerState X). h.room) xs ≡ map (λ (h : HandlerState X). h.room) ys → FirstHasRoom crew ys → FirstHasRoom crew xs
 first_room crew [] [] same room = room

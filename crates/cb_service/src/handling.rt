@@ -1,7 +1,7 @@
 ghost use Rattle.std.specs.Prelude.{◌≡◌, ◌≤◌};
 ghost use Rattle.cb_crew.specs.Crew.{IsHandlerOf};
 
-use crate::signals::Signals;
+use crate::signals::{Bed, Signals};
 use cb_crew::{Crew, Handler, Turn, Work};
 use std::sync::Wait;
 
@@ -30,45 +30,38 @@ pub struct Orders<H> {
     pub hook: H,
 }
 
-/// How many milliseconds a handler's sleep lasts at most: the first one, and any later one.
-const SHORTEST_SLEEP: u64 = 10;
-
-const LONGEST_SLEEP: u64 = 2_000;
-
 /// How long a handler has found nothing to do.
 #[derive(Drop)]
 struct Vigil {
     /// How many turns in a row served nothing, since the last turn that served something or the
     /// last round in vain.
     fruitless: u16,
-    /// After the handler lay down: the count of the bell's rings at that moment, by which it may
-    /// sleep.
-    seen: Option<u64>,
-    /// How many milliseconds the next sleep lasts at most.
-    longest: u64,
+    /// Whether the handler lies in its bed.
+    lies: bool,
+    bed: Bed,
 }
 
 impl Vigil {
-    fn new() -> Vigil {
+    fn new(bed: Bed) -> Vigil {
         Vigil {
             fruitless: 0,
-            seen: None,
-            longest: SHORTEST_SLEEP,
+            lies: false,
+            bed,
+        }
+    }
+
+    /// The handler gets up if it lay down.
+    fn stand_up(&mut self, signals: &Signals) {
+        if self.lies {
+            self.lies = false;
+            signals.get_up(self.bed);
         }
     }
 
     /// A turn served something: counts from the beginning again.
     fn served(&mut self, signals: &Signals) {
         self.fruitless = 0;
-        self.longest = SHORTEST_SLEEP;
         self.stand_up(signals);
-    }
-
-    /// The handler gets up if it lay down.
-    fn stand_up(&mut self, signals: &Signals) {
-        if self.seen.take().is_some() {
-            signals.get_up();
-        }
     }
 
     /// A turn served nothing. Returns whether that completes a round in vain: as many such turns in
@@ -83,31 +76,30 @@ impl Vigil {
     }
 
     /// What a handler does after a round in vain. First it lies down. After another round in vain
-    /// it sleeps and then gets up. Each sleep is twice as long as the one before, up to a limit.
+    /// it sleeps. It gets up once a turn served something.
     fn rest<R: Wait>(&mut self, rt: &R, signals: &Signals) {
-        match self.seen.take() {
-            None => self.seen = Some(signals.lie_down()),
-            Some(seen) => {
-                signals.sleep(rt, seen, self.longest);
-                signals.get_up();
-                self.longest = self.longest.saturating_mul(2).min(LONGEST_SLEEP);
-            }
+        if self.lies {
+            signals.sleep(rt, self.bed);
+        } else {
+            self.lies = true;
+            signals.lie_down(self.bed);
         }
     }
 }
 
 /// What a handler's thread does. It makes turns until it is told to stop and a round is in vain, or
-/// it has made all its turns. It then returns its handler, after getting up, so that no reader
-/// rings for it any more. After each turn it calls the hook.
+/// it has made all its turns. It then returns its handler, after getting up, so that nobody wakes it
+/// any more. After each turn it calls the hook.
 ///
 /// So what is still queued when the last reader returns is shared by all handlers. It isn't left to
 /// the one thread that finishes the crew.
-pub fn handle<W: Work, H: AfterTurn, R: Wait>(
+pub(crate) fn handle<W: Work, H: AfterTurn, R: Wait>(
     rt: &R,
     crew: &Crew<W>,
     mut handler: Handler<W>,
     signals: &Signals,
     orders: &Orders<H>,
+    bed: Bed,
 ) -> Handler<W>
     requires crew { IsHandlerOf crew.now handler }
     requires budget { (1 ≤ orders.now.budget) × (orders.now.budget ≤ 64) }
@@ -115,7 +107,7 @@ pub fn handle<W: Work, H: AfterTurn, R: Wait>(
     ensures room { result.room ≡ handler.room }
 {
     let budget = orders.budget;
-    let mut vigil = Vigil::new();
+    let mut vigil = Vigil::new(bed);
     for _ in rt.forever() {
         let stopped = signals.is_stopped();
         let turn = handler.turn(rt, crew, budget);

@@ -1,10 +1,11 @@
 ghost use Rattle.std.specs.Prelude.{◌≡◌, ◌≤◌, List, [], length, vec_capacity};
 ghost use Rattle.cb_crew.specs.Desk.{DeskState};
 ghost use Rattle.cb_crew.specs.Turn.{HandlerState};
-ghost use Rattle.cb_crew.specs.Crew.{AreHandlersOf, CrewState, HasPlace, IsHandlerOf, inbox_of};
+ghost use Rattle.cb_crew.specs.Crew.{AreHandlersOf, CrewState, IsHandlerOf, inbox_of};
 ghost use Rattle.cb_service.specs.Service.{HandBack, crew_of, handler_of, inbox_for};
 
-use cb_crew::{Crew, Fresh, Handler, ReaderSide, Work};
+use crate::side::Side;
+use cb_crew::{Crew, Fresh, Handler, Work};
 use cb_inbox::Inbox;
 use std::snapshot::Snapshot;
 use std::thread::{Promise, PromisedHandle, Threads};
@@ -21,21 +22,21 @@ impl<W: Work> Promise<Handler<W>> for OfCrew<W> {
     ghost kept_by = { λ promise handler. IsHandlerOf promise.crew.value handler × (handler.room ≡ promise.handler.value.room) };
 }
 
-/// A promise: a reader's thread returns a side of this inbox. A live side has room for its end mark.
+/// A promise: a reader's thread returns a side of this inbox.
 #[derive(Drop)]
 pub struct OfReader<W: Work> {
     pub(crate) inbox: Snapshot<Inbox<W::Item, Fresh<W>>>,
 }
 
-impl<W: Work> Promise<ReaderSide<W::Item, Fresh<W>>> for OfReader<W> {
-    ghost kept_by = { λ promise side. (inbox_of side ≡ promise.inbox.value.name) × HasPlace side };
+impl<W: Work> Promise<Side<W::Item, Fresh<W>>> for OfReader<W> {
+    ghost kept_by = { λ promise side. inbox_of side ≡ promise.inbox.value.name };
 }
 
 /// A handler's thread.
 pub type Handling<W> = PromisedHandle<Handler<W>, OfCrew<W>>;
 
 /// A reader's thread.
-pub type Reading<W> = PromisedHandle<ReaderSide<<W as Work>::Item, Fresh<W>>, OfReader<W>>;
+pub type Reading<W> = PromisedHandle<Side<<W as Work>::Item, Fresh<W>>, OfReader<W>>;
 
 /// Waits until a handler's thread returns, and returns its handler.
 pub fn join_handler<W: Work, R: Threads>(rt: &R, thread: Handling<W>) -> Handler<W>
@@ -68,9 +69,8 @@ pub fn join_handlers<W: Work, R: Threads>(
 }
 
 /// Waits until a reader's thread returns, and returns the reader's side.
-pub fn join_reader<W: Work, R: Threads>(rt: &R, thread: Reading<W>) -> ReaderSide<W::Item, Fresh<W>>
-    ensures inbox { inbox_of result ≡ (inbox_for thread).name }
-    ensures place { HasPlace result }
+pub fn join_reader<W: Work, R: Threads>(rt: &R, thread: Reading<W>) -> Side<W::Item, Fresh<W>>
+    ensures { inbox_of result ≡ (inbox_for thread).name }
 {
     thread.join(rt)
 }

@@ -1,50 +1,43 @@
-ghost use Rattle.std.specs.Prelude.{◌≡◌};
-ghost use Rattle.cb_crew.specs.Crew.{HasPlace, inbox_of};
+ghost use Rattle.std.specs.Prelude.{◌≡◌, ◌<◌, ◌^◌, length};
+ghost use Rattle.cb_crew.specs.Crew.{inbox_of};
 
+use crate::side::Side;
 use crate::signals::Signals;
-use cb_crew::ReaderSide;
-use cb_inbox::{Inbox, Opening};
+use cb_inbox::{Inbox, Opening, ReaderSeat};
 use std::sync::Wait;
 
 /// What a reader's thread does, over items `M` and what an open mark brings, `O`: for a crew of
 /// works `W` these are `W::Item` and `Fresh<W>`. An impl is for every `O`.
-///
-/// The reader queues items in its peer's inbox, ends connections and opens new ones, and then leaves
-/// its side. While the inbox is full it waits (`Signals::wait_for_room`). It returns early once the
-/// signals tell it to stop.
 pub trait Reader<M: Drop, O: Opening + Drop>: Drop {
-    ghost use Rattle.cb_service.specs.Service.{HoldsSide};
+    ghost use Rattle.cb_crew.specs.Crew.{inbox_of};
+    ghost use Rattle.cb_service.specs.Service.{HoldsSeat};
 
-    /// Reads until nothing more comes or it is told to stop. There is a side before and after, and it
-    /// stays that of this inbox. A live side has room for its end mark.
+    /// Takes the seat, which is there and of this inbox, and queues items until nothing more comes.
+    /// Then leaves its side of the inbox. While the inbox is full it waits
+    /// (`Signals::wait_for_room`). It returns early once the signals tell it to stop.
     fn read<R: Wait>(
         self,
         rt: &R,
         inbox: &Inbox<M, O>,
-        side: &mut Option<ReaderSide<M, O>>,
+        seat: &mut Option<ReaderSeat<M, O>>,
         signals: &Signals,
-    )
-        requires side { HoldsSide inbox.now.name side.old }
-        ensures side { HoldsSide inbox.now.name side.new };
+    ) -> Side<M, O>
+        requires seat { HoldsSeat inbox.now.name seat.old }
+        ensures inbox { inbox_of result ≡ inbox.now.name };
 }
 
-/// Lets a reader read. Returns what it makes of its side.
-pub(crate) fn read_side<M: Drop, O: Opening + Drop, D: Reader<M, O>, R: Wait>(
+/// Lets a reader read from this seat on.
+pub(crate) fn read_from<M: Drop, O: Opening + Drop, D: Reader<M, O>, R: Wait>(
     rt: &R,
     reader: D,
     inbox: &Inbox<M, O>,
-    side: ReaderSide<M, O>,
+    seat: ReaderSeat<M, O>,
     signals: &Signals,
-) -> ReaderSide<M, O>
-    requires inbox { inbox_of side ≡ inbox.now.name }
-    requires place { HasPlace side }
-    ensures inbox { inbox_of result ≡ inbox.now.name }
-    ensures place { HasPlace result }
+) -> Side<M, O>
+    requires inbox { seat.inbox ≡ inbox.now.name }
+    requires place { length seat.queued < 2 ^ 48 }
+    ensures { inbox_of result ≡ inbox.now.name }
 {
-    let mut held = Some(side);
-    reader.read(rt, inbox, &mut held, signals);
-    match held {
-        Some(side) => side,
-        None => unreachable!(),
-    }
+    let mut held = Some(seat);
+    reader.read(rt, inbox, &mut held, signals)
 }

@@ -1,57 +1,72 @@
 ghost use Rattle.std.specs.Prelude.{IsOkUnless};
 ghost use Rattle.cb_base.specs.declared.fault.Fault.TheVariants.{Memory};
 
+use crate::sleeper::Sleeper;
 use cb_base::Fault;
 use std::alloc::Global;
 use std::sync::Wait;
 use std::sync::atomic::{AtomicBool, AtomicU64, Ordering};
-use std::thread::Parker;
-use std::time::Duration;
+
+/// How many handlers a crew has at most.
+const MOST_HANDLERS: u64 = 16;
 
 /// How the threads of a crew wait for each other. A handler sleeps while nothing is queued, and a
-/// reader while its inbox is full. No thread spins.
+/// reader while its inbox is full. No thread spins, and no sleep ends by itself.
 ///
-/// Before a handler sleeps, it lies down and goes round the ring once more. It then sleeps unless
-/// the bell rang since it lay down. During that round another handler may have held a desk, so each
-/// sleep ends by itself after a while. A reader rings after it queued something, but only if a
-/// handler lies down or sleeps. So while all handlers work, a reader reads one number and writes
-/// none.
+/// Who queues a mark or makes a tick due (1) does that, (2) loads `lying`, and (3) wakes each handler
+/// whose bit it saw. A handler that finds nothing to do (a) sets its bit, and then does by turns two
+/// things: (b) it makes as many turns as there are desks, and (c) it sleeps, unless it was woken since
+/// its last sleep. (d) It clears its bit once a turn served something.
+///
+/// No wake-up is lost: some turn claims the mark's desk after (1), before all handlers sleep. All
+/// these loads and stores, the ring's and the inboxes' are in one order (`SeqCst`).
+///
+/// - A handler whose bit (2) saw is woken by (3). So it begins a (b) again before a sleep of it
+///   lasts. One whose bit (2) didn't see passes (a) after (2). So each handler makes all turns of a
+///   (b) after (1) before it sleeps for good.
+/// - If the desk lies in the ring as such a (b) begins, a turn of it or of another handler claims
+///   the desk: each claim moves it forward by a place, and none fails while it lies there.
+/// - If a handler holds the desk as (1) happens, that one gives it back before its own (b) begins.
 #[derive(Drop)]
 pub struct Signals {
     stopped: AtomicBool,
-    /// How many handlers lie down or sleep.
+    /// A bit for each handler that lies down or sleeps.
     lying: AtomicU64,
-    /// How often the bell rang.
-    rings: AtomicU64,
-    /// What each peer's reader waits on for room.
-    readers: Vec<Parker>,
+    /// How many handlers have asked for a bed.
+    beds: AtomicU64,
+    /// Where each handler sleeps.
+    handlers: Vec<Sleeper>,
+    /// Where each peer's reader waits for room.
+    readers: Vec<Sleeper>,
+}
+
+/// Where one handler sleeps.
+#[derive(Clone, Copy)]
+pub(crate) struct Bed {
+    number: usize,
+    /// Its bit in `Signals::lying`.
+    bit: u64,
 }
 
 impl Signals {
-    /// The signals of a crew with so many peers. Fails only with `Fault::Memory`.
-    pub fn new(alloc: Global, peers: u16) -> Result<Signals, Fault>
+    /// The signals of a crew with so many peers and handlers. Fails only with `Fault::Memory`.
+    pub fn new(alloc: Global, peers: u16, handlers: u16) -> Result<Signals, Fault>
         ensures { IsOkUnless result Memory }
     {
-        let mut readers = Vec::with_capacity(alloc, usize::from(peers))?;
-        for _ in 0..peers {
-            readers.push(Parker::new())?;
-        }
         Ok(Signals {
             stopped: AtomicBool::new(false),
             lying: AtomicU64::new(0),
-            rings: AtomicU64::new(0),
-            readers,
+            beds: AtomicU64::new(0),
+            handlers: sleepers(alloc, handlers)?,
+            readers: sleepers(alloc, peers)?,
         })
     }
 
-    /// Tells all threads to return, and wakes those that wait.
+    /// Tells all threads to return, and wakes those that sleep.
     pub fn stop(&self) {
         self.stopped.store(true, Ordering::SeqCst);
-        self.rings.fetch_add(1, Ordering::SeqCst);
-        self.rings.wake_all();
-        for reader in self.readers.as_slice() {
-            reader.unpark();
-        }
+        wake_all(self.handlers.as_slice());
+        wake_all(self.readers.as_slice());
     }
 
     /// Whether all threads are told to return.
@@ -59,39 +74,56 @@ impl Signals {
         self.stopped.load(Ordering::SeqCst)
     }
 
-    /// Wakes a handler after something was queued, if one lies down or sleeps.
+    /// Wakes the handlers that lie down or sleep, after something was queued or a tick is due.
+    /// While all handlers work it looks at one number, and writes none.
     pub fn ring(&self) {
-        if self.lying.load(Ordering::SeqCst) > 0 {
-            self.rings.fetch_add(1, Ordering::SeqCst);
-            self.rings.wake_one();
+        let mut lying = self.lying.load(Ordering::SeqCst);
+        if lying == 0 {
+            return;
+        }
+        for handler in self.handlers.as_slice() {
+            if lying % 2 == 1 {
+                handler.wake();
+            }
+            lying /= 2;
         }
     }
 
-    /// A handler lies down. Returns the number by which it may sleep, once it has looked at all
-    /// desks again.
-    pub fn lie_down(&self) -> u64 {
-        self.lying.fetch_add(1, Ordering::SeqCst);
-        self.rings.load(Ordering::SeqCst)
+    /// A bed for one more handler; `None` if all were given out.
+    pub(crate) fn bed(&self) -> Option<Bed> {
+        let number = self.beds.fetch_add(1, Ordering::SeqCst);
+        if number >= MOST_HANDLERS || number >= self.handlers.len() as u64 {
+            return None;
+        }
+        Some(Bed {
+            number: number as usize,
+            bit: 1 << number,
+        })
     }
 
-    /// A handler that lay down sleeps until the bell rings, at most so many milliseconds. It
-    /// doesn't sleep if the bell rang since it lay down.
-    pub fn sleep<R: Wait>(&self, rt: &R, seen: u64, longest: u64) {
-        let rings = (seen % (1 << 32)) as u32;
-        self.rings
-            .park_timeout(rt, rings, Duration::from_millis(longest));
+    /// A handler lies down.
+    pub(crate) fn lie_down(&self, bed: Bed) {
+        self.lying.fetch_or(bed.bit, Ordering::SeqCst);
     }
 
     /// A handler that lay down gets up.
-    pub fn get_up(&self) {
-        self.lying.fetch_sub(1, Ordering::SeqCst);
+    pub(crate) fn get_up(&self, bed: Bed) {
+        self.lying.fetch_and(!bed.bit, Ordering::SeqCst);
+    }
+
+    /// A handler that lay down sleeps until it is woken. It doesn't sleep if it was woken since its
+    /// last sleep.
+    pub(crate) fn sleep<R: Wait>(&self, rt: &R, bed: Bed) {
+        if let Some(handler) = self.handlers.get(bed.number) {
+            handler.sleep(rt);
+        }
     }
 
     /// Wakes a peer's reader if it waits: its inbox has room, or it is to look at a stop flag of its
     /// own.
     pub fn make_room(&self, peer: u16) {
         if let Some(reader) = self.readers.get(usize::from(peer)) {
-            reader.unpark();
+            reader.wake();
         }
     }
 
@@ -100,7 +132,25 @@ impl Signals {
     /// wait, and at a stop flag of its own if it has one. Who sets that flag calls `make_room`.
     pub fn wait_for_room<R: Wait>(&self, rt: &R, peer: u16) {
         if let Some(reader) = self.readers.get(usize::from(peer)) {
-            reader.park(rt);
+            reader.sleep(rt);
         }
+    }
+}
+
+/// So many sleepers. Fails only with `Fault::Memory`.
+fn sleepers(alloc: Global, count: u16) -> Result<Vec<Sleeper>, Fault>
+    ensures { IsOkUnless result Memory }
+{
+    let mut all = Vec::with_capacity(alloc, usize::from(count))?;
+    for _ in 0..count {
+        all.push(Sleeper::new(alloc)?)?;
+    }
+    Ok(all)
+}
+
+/// Wakes all of these.
+fn wake_all(sleepers: &[Sleeper]) {
+    for sleeper in sleepers {
+        sleeper.wake();
     }
 }

@@ -1,16 +1,19 @@
-ghost use Rattle.std.specs.Prelude.{◌≡◌, ◌<◌, ◌≤◌, length, slice_index_or, IfOk, IfErr};
-ghost use Rattle.cb_crew.specs.Crew.{HasPlace, IsHandlerOf, inbox_of};
-ghost use Rattle.cb_service.specs.Service.{IsSideOf, crew_of, handler_of, inbox_for};
+ghost use Rattle.std.specs.Prelude.{◌≡◌, ◌<◌, ◌≤◌, ◌^◌, length, All, IfOk, IfErr};
+ghost use Rattle.cb_crew.specs.declared.reader_side.ReaderSide.TheVariants.{Live};
+ghost use Rattle.cb_crew.specs.Crew.{IsHandlerOf, inbox_of};
+ghost use Rattle.cb_service.specs.Service.{HandBack, IsInboxAt, crew_of, handler_of, inbox_for};
 
 use crate::handling::{AfterTurn, Orders, handle};
-use crate::promises::{Handling, OfCrew, OfReader, Reading};
-use crate::reader::{Reader, read_side};
+use crate::promises::{Handling, OfCrew, OfReader, Reading, join_handler};
+use crate::reader::{Reader, read_from};
 use crate::refusal::Refusal;
+use crate::side::Side;
 use crate::signals::Signals;
 use cb_base::Shared;
 use cb_crew::{Crew, Fresh, Handler, ReaderSide, Work};
-use std::alloc::Global;
-use std::marker::{Copy, Send, Sync};
+use cb_inbox::{Opening, ReaderSeat};
+use std::alloc::{AllocError, Global};
+use std::marker::{Copy, Send};
 use std::snapshot::Snapshot;
 use std::sync::Wait;
 use std::sync::atomic::{AtomicBool, Ordering};
@@ -24,18 +27,18 @@ pub struct NoHandler<W: Work> {
     pub cause: Refusal,
 }
 
-/// A reader's side that got no thread, and why. The reader itself is dropped.
+/// A reader's seat that got no thread, and why. The reader itself is dropped.
 #[derive(Drop)]
 pub struct NoReader<W: Work> {
-    pub side: ReaderSide<W::Item, Fresh<W>>,
+    pub seat: ReaderSeat<W::Item, Fresh<W>>,
     pub cause: Refusal,
 }
 
 /// Starts a handler's thread, which may outlive the call. It returns its handler once the signals
 /// tell it to stop, or once it has made all its turns.
 ///
-/// Fails with `Refusal::Thread` if no thread can be made, and with `Refusal::Memory` if memory runs
-/// out. The handler then comes back.
+/// Fails with `Refusal::Thread` if no thread can be made or the signals are for fewer handlers, and
+/// with `Refusal::Memory` if memory runs out. The handler then comes back.
 pub fn start_handler<
     W: Work + Send + 'static,
     H: AfterTurn + Drop + Send + 'static,
@@ -57,6 +60,12 @@ where
     ensures refused { IfErr result
         (λ back. IsHandlerOf crew back.handler × (back.handler.room ≡ handler.room)) }
 {
+    let Some(bed) = signals.bed() else {
+        return Err(NoHandler {
+            handler,
+            cause: Refusal::Thread,
+        });
+    };
     let Ok((off, flag)) = new_flag(alloc) else {
         return Err(NoHandler {
             handler,
@@ -79,7 +88,7 @@ where
             if flag.load(Ordering::SeqCst) {
                 return handler;
             }
-            handle(&rt, &crew, handler, &signals, &orders)
+            handle(&rt, &crew, handler, &signals, &orders, bed)
         },
     );
     match started {
@@ -95,11 +104,84 @@ where
     }
 }
 
+#[tactic(auto, using(crate::proofs::Threads::next_has))]
+/// Starts a thread for each of these handlers, whose hook is a clone of the given one. If one can't
+/// be started, tells all to return, and waits until those do that were; the handlers are dropped.
+pub fn start_handlers<
+    W: Work + Send + 'static,
+    H: AfterTurn + Clone + Drop + Send + 'static,
+    R: Threads + Wait + Copy + Send + Drop + 'static,
+>(
+    rt: &R,
+    alloc: Global,
+    crew: &Shared<Crew<W>>,
+    signals: &Shared<Signals>,
+    orders: &Orders<H>,
+    handlers: Vec<Handler<W>>,
+) -> Result<Vec<Handling<W>>, Refusal>
+where
+    W::Item: Send + 'static,
+    requires budget { (1 ≤ orders.now.budget) × (orders.now.budget ≤ 64) }
+    requires handlers { All (IsHandlerOf crew.now) handlers.items }
+    ensures { IfOk result (λ threads. HandBack crew.now threads.items handlers.items) }
+{
+    let mut threads = Vec::with_capacity(alloc, handlers.len())?;
+    for handler in handlers {
+        match start_one(rt, alloc, crew, signals, orders, handler) {
+            Ok(thread) => threads.push_reserved(thread),
+            Err(cause) => {
+                signals.stop();
+                return Err(joined(rt, threads, cause));
+            }
+        }
+    }
+    Ok(threads)
+}
+
+/// Starts a handler's thread. If that fails, the handler is dropped.
+fn start_one<
+    W: Work + Send + 'static,
+    H: AfterTurn + Clone + Drop + Send + 'static,
+    R: Threads + Wait + Copy + Send + Drop + 'static,
+>(
+    rt: &R,
+    alloc: Global,
+    crew: &Shared<Crew<W>>,
+    signals: &Shared<Signals>,
+    orders: &Orders<H>,
+    handler: Handler<W>,
+) -> Result<Handling<W>, Refusal>
+where
+    W::Item: Send + 'static,
+    requires budget { (1 ≤ orders.now.budget) × (orders.now.budget ≤ 64) }
+    requires handler { IsHandlerOf crew.now handler }
+    ensures { IfOk result
+        (λ thread. (crew_of thread ≡ crew.now) × (handler_of thread ≡ handler)) }
+{
+    let orders = Orders {
+        budget: orders.budget,
+        hook: orders.hook.clone()?,
+    };
+    let (crew, signals) = (crew.clone()?, signals.clone()?);
+    match start_handler(rt, alloc, crew, signals, orders, handler) {
+        Ok(thread) => Ok(thread),
+        Err(refused) => Err(refused.cause),
+    }
+}
+
+/// Waits until these threads return. Returns the given cause.
+fn joined<W: Work, R: Threads>(rt: &R, threads: Vec<Handling<W>>, cause: Refusal) -> Refusal {
+    for thread in threads {
+        drop(join_handler(rt, thread));
+    }
+    cause
+}
+
 /// Starts the thread of a peer's reader, which may outlive the call. It returns the reader's side
 /// once the reader has read all, or was told to stop.
 ///
 /// Fails with `Refusal::Thread` if no thread can be made, and with `Refusal::Memory` if memory runs
-/// out. The side then comes back, and the reader is dropped.
+/// out. The seat then comes back, and the reader is dropped.
 pub fn start_reader<
     W: Work + Send + 'static,
     D: Reader<W::Item, Fresh<W>> + Send + 'static,
@@ -110,21 +192,21 @@ pub fn start_reader<
     crew: Shared<Crew<W>>,
     signals: Shared<Signals>,
     peer: u16,
-    side: ReaderSide<W::Item, Fresh<W>>,
+    seat: ReaderSeat<W::Item, Fresh<W>>,
     reader: D,
 ) -> Result<Reading<W>, NoReader<W>>
 where
     W::Item: Send + 'static,
     requires peer { peer < length crew.inboxes }
-    requires inbox { IsSideOf crew peer side }
-    requires place { HasPlace side }
-    ensures started { IfOk result (λ thread. (inbox_for thread).name ≡ inbox_of side) }
+    requires inbox { IsInboxAt crew peer seat.inbox }
+    requires place { length seat.queued < 2 ^ 48 }
+    ensures started { IfOk result (λ thread. (inbox_for thread).name ≡ seat.inbox) }
     ensures refused { IfErr result
-        (λ back. (inbox_of back.side ≡ inbox_of side) × HasPlace back.side) }
+        (λ back. (back.seat.inbox ≡ seat.inbox) × (length back.seat.queued < 2 ^ 48)) }
 {
     let Ok((off, flag)) = new_flag(alloc) else {
         return Err(NoReader {
-            side,
+            seat,
             cause: Refusal::Memory,
         });
     };
@@ -135,33 +217,50 @@ where
     let started = thread::spawn_with(
         rt,
         promise,
-        move || -> ReaderSide<W::Item, Fresh<W>>
-            requires { (peer < length crew.inboxes) × IsSideOf crew peer side × HasPlace side }
-            ensures { (inbox_of result ≡ inbox_of side) × HasPlace result }
+        move || -> Side<W::Item, Fresh<W>>
+            requires { (peer < length crew.inboxes) × IsInboxAt crew peer seat.inbox
+                × (length seat.queued < 2 ^ 48) }
+            ensures { inbox_of result ≡ seat.inbox }
         {
             let (rt, crew, signals) = (rt_of_thread, crew, signals);
             if flag.load(Ordering::SeqCst) {
-                return side;
+                return Side::live(seat);
             }
-            read_side(&rt, reader, crew.inbox(peer), side, &signals)
+            read_from(&rt, reader, crew.inbox(peer), seat, &signals)
         },
     );
     match started {
         Ok(thread) => Ok(thread),
         Err(refused) => {
-            // The closure now only hands the side back.
+            // The closure now only hands the seat back.
             off.store(true, Ordering::SeqCst);
             Err(NoReader {
-                side: (refused.value)(),
+                seat: live_seat(rt, (refused.value)()),
                 cause: Refusal::Thread,
             })
         }
     }
 }
 
+/// The seat of a side whose connection lasts. A thread that wasn't started leaves it so, but no clause
+/// can tell that: it depends on a flag that threads share. If it were otherwise, this would wait for
+/// ever.
+fn live_seat<M: Drop, O: Opening + Drop, R: Wait>(rt: &R, side: Side<M, O>) -> ReaderSeat<M, O>
+    ensures same { side ≡ Live result }
+    ensures place { length result.queued < 2 ^ 48 }
+{
+    match side.into_side() {
+        ReaderSide::Live(seat) => seat,
+        ReaderSide::Ended(_) => {
+            for _ in rt.forever() {}
+            unreachable!()
+        }
+    }
+}
+
 /// A flag that isn't set, with two owners.
-fn new_flag(alloc: Global) -> Result<(Shared<AtomicBool>, Shared<AtomicBool>), Refusal> {
-    let flag = Shared::new(alloc, AtomicBool::new(false)).map_err(|_| Refusal::Memory)?;
-    let other = flag.clone().map_err(|_| Refusal::Memory)?;
+fn new_flag(alloc: Global) -> Result<(Shared<AtomicBool>, Shared<AtomicBool>), AllocError> {
+    let flag = Shared::new(alloc, AtomicBool::new(false))?;
+    let other = flag.clone()?;
     Ok((flag, other))
 }

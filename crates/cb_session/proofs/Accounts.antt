@@ -10,7 +10,8 @@ use Rattle.cb_base.specs.declared.fault.Fault.TheVariants.{JournalFull, Memory}
 use Rattle.cb_wire.specs.declared.message.Message.{Message}
 use Rattle.cb_wire.specs.Envelope.{envelope_text, text}
 use Rattle.cb_wire.specs.Stream.{texts}
-use Rattle.cb_io.specs.Writing.{counted, Wrote, WrotePart}
+use Rattle.cb_outgoing.specs.Writing.{counted, IsTextOfLast, Wrote}
+use Rattle.cb_outgoing.proofs.Writes.{tells_still}
 use Rattle.cb_io.proofs.Known.{Appends-then}
 use Rattle.cb_journal.specs.declared.answer.Answer.{Answer}
 use Rattle.cb_journal.specs.declared.question.Question.{Question}
@@ -627,7 +628,7 @@ accounts_wrote told refused from trace hall badge held held' failed failed' writ
             a.wrote.parts ∙ ap (λ (x : List ℕ). a.wrote.sent ++ (x ++ following)) w.parts
             ∙ ap (λ (x : List ℕ). a.wrote.sent ++ x) (append_assoc w.sent rest following) ∙ sym (append_assoc a.wrote.sent w.sent (rest ++ following));
         appended = Appends-then from.held held held' a.wrote.sent w.sent a.wrote.appended w.appended;
-        count = counted_more a.wrote.sent w.sent written n written' a.wrote.count w.count count;
+        count = λ tells. counted_more a.wrote.sent w.sent written n written' (a.wrote.count tells) (w.count (tells_still from.held held a.wrote.sent a.wrote.appended tells)) count;
       };
       inputs_are = a.inputs_are;
       prompt = a.prompt;
@@ -650,10 +651,6 @@ pub ok_err : {T E : Type 0} (r : Result T E) (e : E) → r ≡ Err e → IsOk r 
 ok_err (Ok x) e is h = absurd cc
 ok_err (Err x) e is h = cc
 
--- a call that was refused had some messages, where it isn't refused for none
-pub has_messages : {T E : Type 0} (messages : List Message) (r : Result T E) (e : E) → (messages ≡ [] → IsOk r) → r ≡ Err e → messages ≢ []
-has_messages messages r e nothing is none = ok_err r e is (nothing none)
-
 text_some : (message : Message) → text message ≢ []
 unfolding envelope_text
 text_some message e = absurd (let empty = e in cc)
@@ -666,15 +663,9 @@ texts_some : (messages : List Message) → messages ≢ [] → texts messages �
 texts_some [] some e = some refl
 texts_some (message ∷ messages) some e = text_some message (append_left (text message) (texts messages) e)
 
-counted_none : (bytes : List ℕ) → 0 ≡ counted bytes → bytes ≡ []
-counted_none [] e = refl
-counted_none (b ∷ bytes) e = absurd (omega (arith, e))
-
--- where no byte of some messages went out, bytes are missing
-pub whole_missing : (messages : List Message) (old new : Option (List ℕ)) (written : ℕ) (part : WrotePart old new (texts messages) written) → written ≡ 0 → messages ≢ [] → part.missing ≢ []
-whole_missing messages old new written part zero some none =
-    let nothing : part.wrote.sent ≡ [] = counted_none part.wrote.sent (sym zero ∙ part.wrote.count) in
-    texts_some messages some (part.wrote.parts ∙ ap (λ (x : List ℕ). x ++ part.missing) nothing ∙ none)
+-- where a whole message is left, bytes are missing
+pub whole_missing : (messages : List Message) (missing : List ℕ) → IsTextOfLast messages missing → missing ≢ []
+whole_missing messages missing left none = texts_some left.last left.some (sym left.text_is ∙ none)
 
 -- and with what follows them
 pub front_some : {T : Type 0} (xs ys : List T) → xs ≢ [] → xs ++ ys ≢ []

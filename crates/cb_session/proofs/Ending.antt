@@ -117,7 +117,7 @@ accounts_first told refused oracle settings trace hall badge held failed message
         settings = s;
         history = [];
         stands = stands;
-        wrote = record { sent = []; parts = ap texts (sym m); appended = Appends-nothing held held (Keeps-same held); count = refl };
+        wrote = record { sent = []; parts = ap texts (sym m); appended = Appends-nothing held held (Keeps-same held); count = λ tells. refl };
         inputs_are = refl;
         prompt = tt;
         replies_are = oracle.none hall badge;

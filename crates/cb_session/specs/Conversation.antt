@@ -4,7 +4,7 @@ use Rattle.cb_base.specs.declared.fault.Fault.{Fault}
 use Rattle.cb_base.specs.declared.fault.Fault.TheVariants.{JournalFull, Memory}
 use Rattle.cb_wire.specs.declared.item.Item.{Item}
 use Rattle.cb_wire.specs.Stream.{texts}
-use Rattle.cb_io.specs.Writing.{Wrote}
+use Rattle.cb_outgoing.specs.Writing.{Wrote}
 use Rattle.cb_hall.specs.Badge.{BadgeState}
 use Rattle.cb_hall.specs.Histories.{Reply}
 use Rattle.cb_journal.specs.declared.question.Question.{Question}

@@ -3,7 +3,7 @@
 ghost use Rattle.std.specs.Prelude.{◌≡◌, ◌≢◌, ◌⊎◌, ◌<◌, ◌≤◌, ◌++◌, true, false, Bool, List, ℕ, [], length, Option, Some, None, IfSome, if◌then◌else◌};
 ghost use Rattle.cb_wire.specs.Stream.{texts};
 ghost use Rattle.cb_wire.specs.declared.item.Item.{Item};
-ghost use Rattle.cb_io.specs.Writing.{IsOfSink};
+ghost use Rattle.cb_outgoing.specs.Writing.{IsOfSink};
 ghost use Rattle.cb_peer_state.specs.declared.event.Event.{Event};
 ghost use Rattle.cb_peer_state.specs.declared.event.Event.TheVariants as events;
 ghost use Rattle.cb_peer_state.specs.Event.{begins, ends_at_once, is_input, is_no_memory, is_write_fault, kind_of, loses};
@@ -13,11 +13,11 @@ ghost use Rattle.cb_session.specs.Conversation.{Accounts, AnswerOf, Gave, GaveIt
 
 use cb_base::{Fault, Shared};
 use cb_hall::Badge;
-use cb_io::{Sink, WriteFault, write_out};
 use cb_journal::Question;
+use cb_outgoing::{MessageSink, Outgoing, WriteFault, write_out};
 use cb_peer::{Event, State};
 use cb_trace::{Oracle, Trace};
-use cb_wire::{BoundedMessage, Item};
+use cb_wire::Item;
 use std::alloc::Global;
 
 /// One connection's conversation: the trace (the session and the log of its events), the sink for
@@ -36,7 +36,7 @@ pub struct Conversation<'a, W, H> {
     messages: u64,
 }
 
-impl<'a, W: Sink, H: Oracle> Conversation<'a, W, H> {
+impl<'a, W: MessageSink, H: Oracle> Conversation<'a, W, H> {
     /// A conversation over these, with `written` bytes already written. Messages are counted from 0.
     pub fn new(
         trace: &'a mut Trace,
@@ -73,7 +73,7 @@ impl<'a, W: Sink, H: Oracle> Conversation<'a, W, H> {
         self.trace.state()
     }
 
-    /// The number of bytes written; `u64::MAX` if that is more.
+    /// The number of bytes written, as far as the sink tells; `u64::MAX` if that is more.
     pub fn written(&self) -> u64
         ensures { result ≡ self.now.written }
     {
@@ -81,7 +81,7 @@ impl<'a, W: Sink, H: Oracle> Conversation<'a, W, H> {
     }
 
     /// The number of messages written since the conversation was made; `u64::MAX` if that is more.
-    /// The messages of a write that ended early aren't counted.
+    /// The messages of a step that wasn't written whole aren't counted.
     pub fn messages(&self) -> u64
         ensures { result ≡ self.now.messages }
     {
@@ -136,12 +136,7 @@ impl<'a, W: Sink, H: Oracle> Conversation<'a, W, H> {
     ///
     /// Returns the messages that are still held back: all of them if the event closes the session,
     /// since nothing is written then, and otherwise none.
-    pub fn begin(
-        &mut self,
-        alloc: Global,
-        event: Event,
-        held_back: Vec<BoundedMessage>,
-    ) -> Vec<BoundedMessage>
+    pub fn begin(&mut self, alloc: Global, event: Event, held_back: Vec<Outgoing>) -> Vec<Outgoing>
         requires going { IsOpen self.old.trace.now }
         requires room { 2 ≤ self.old.trace.now.room }
         requires begins { begins (kind_of event) ≡ true }
@@ -165,7 +160,7 @@ impl<'a, W: Sink, H: Oracle> Conversation<'a, W, H> {
         if self.state().is_closed() {
             return held_back;
         }
-        self.follow_up(alloc, held_back.as_slice(), sent.as_slice(), question);
+        self.follow_up(alloc, held_back, sent, question);
         Vec::new(alloc)
     }
 
@@ -174,8 +169,8 @@ impl<'a, W: Sink, H: Oracle> Conversation<'a, W, H> {
     fn follow_up(
         &mut self,
         alloc: Global,
-        held_back: &[BoundedMessage],
-        sent: &[BoundedMessage],
+        held_back: Vec<Outgoing>,
+        sent: Vec<Outgoing>,
         question: Option<Question>,
     )
         requires going { IsOpen self.old.trace.now }
@@ -188,7 +183,7 @@ impl<'a, W: Sink, H: Oracle> Conversation<'a, W, H> {
             IsPending self.old.trace.now question →
             (W.has_failed self.old.writer.now ≡ true → from.failed ≡ true) →
             Underway H.told H.refused from (at W.contents W.has_failed self.old) inputs
-            (texts held_back.now ++ texts sent.now) false →
+            (texts held_back.items ++ texts sent.items) false →
             Settled H.told H.refused from (at W.contents W.has_failed self.new) inputs false }
     {
         self.send(alloc, held_back);
@@ -220,7 +215,7 @@ impl<'a, W: Sink, H: Oracle> Conversation<'a, W, H> {
                 return;
             }
             let (messages, asked) = self.ask(alloc, question);
-            self.send(alloc, messages.as_slice());
+            self.send(alloc, messages);
             next = asked;
         }
     }
@@ -228,7 +223,7 @@ impl<'a, W: Sink, H: Oracle> Conversation<'a, W, H> {
     /// Asks the hall the open question and gives the session the answer. Returns the messages to
     /// send and the next question. Room for the answer in the trace is made before the hall is
     /// asked. No message is unwritten while the hall is asked.
-    fn ask(&mut self, alloc: Global, question: Question) -> (Vec<BoundedMessage>, Option<Question>)
+    fn ask(&mut self, alloc: Global, question: Question) -> (Vec<Outgoing>, Option<Question>)
         requires stands { open_question self.old.trace.now ≡ Some question }
         ensures ends { SameReferences self.old self.new }
         ensures sink { self.new.writer.now ≡ self.old.writer.now }
@@ -250,10 +245,10 @@ impl<'a, W: Sink, H: Oracle> Conversation<'a, W, H> {
         self.trace.step(event)
     }
 
-    /// Writes the messages of a step, all in one write, and counts them then. If the write fails or
+    /// Writes the messages of a step, one after another, and counts them then. If a write fails or
     /// memory runs out, the trace logs that and the session ends, and none of them is counted.
-    pub fn send(&mut self, alloc: Global, messages: &[BoundedMessage])
-        requires silent { is_closed self.old.trace.now.session.state ≡ true → messages.now ≡ [] }
+    pub fn send(&mut self, alloc: Global, messages: Vec<Outgoing>)
+        requires silent { is_closed self.old.trace.now.session.state ≡ true → messages.items ≡ [] }
         ensures ends { SameReferences self.old self.new }
         // Once a write has failed, there is no other write.
         ensures heeds { WritesOn self.old.trace.now (W.has_failed self.old.writer.now) →
@@ -268,7 +263,7 @@ impl<'a, W: Sink, H: Oracle> Conversation<'a, W, H> {
             Underway H.told H.refused from
             (progress self.old.trace.now hall badge (W.contents self.old.writer.now)
             (W.has_failed self.old.writer.now) self.old.written) inputs
-            (texts messages.now ++ following) false →
+            (texts messages.items ++ following) false →
             (self.new.trace.now ≡ self.old.trace.now → later ≡ following) →
             (W.has_failed self.old.writer.now ≡ true → from.failed ≡ true) →
             Sent H.told H.refused from
@@ -277,14 +272,15 @@ impl<'a, W: Sink, H: Oracle> Conversation<'a, W, H> {
         ensures kept { IsOpen self.new.trace.now → self.new.trace.now ≡ self.old.trace.now }
         // The messages are counted, unless the session is over.
         ensures counted { IsOpen self.new.trace.now →
-            self.new.messages ≡ number_after self.old.messages (length messages.now) }
+            self.new.messages ≡ number_after self.old.messages (length messages.items) }
         ensures stays { is_closed self.old.trace.now.session.state ≡ true →
             is_closed self.new.trace.now.session.state ≡ true }
     {
+        let count = messages.len() as u64;
         match write_out(alloc, self.writer, messages) {
             Ok(taken) => {
                 self.written = self.written.saturating_add(taken);
-                self.messages = self.messages.saturating_add(messages.len() as u64);
+                self.messages = self.messages.saturating_add(count);
             }
             Err(end) => {
                 self.written = self.written.saturating_add(end.written);

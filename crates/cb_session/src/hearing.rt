@@ -9,7 +9,7 @@ ghost use Rattle.cb_session.specs.Conversation.{Origin, SameReferences, Settled,
 ghost use Rattle.cb_session.specs.Serving.{Pieced, Took, said};
 
 use crate::conversation::Conversation;
-use cb_io::Sink;
+use cb_outgoing::MessageSink;
 use cb_peer::Event;
 use cb_trace::Oracle;
 use cb_wire::{Assembler, Fed, Item};
@@ -17,7 +17,7 @@ use std::alloc::Global;
 
 /// Takes a piece of the stream. Gives the session the items that are complete now, and then the
 /// stream's fault, if it has one. The session ends if memory runs out.
-pub(crate) fn hear_piece<'a, W: Sink, H: Oracle>(
+pub(crate) fn hear_piece<'a, W: MessageSink, H: Oracle>(
     alloc: Global,
     assembler: &mut Assembler,
     conversation: &mut Conversation<'a, W, H>,
@@ -53,7 +53,7 @@ pub(crate) fn hear_piece<'a, W: Sink, H: Oracle>(
 }
 
 /// Gives the session the items in order, until all are given or it is over.
-fn give_all<'a, W: Sink, H: Oracle>(
+fn give_all<'a, W: MessageSink, H: Oracle>(
     alloc: Global,
     conversation: &mut Conversation<'a, W, H>,
     items: Vec<Item>,

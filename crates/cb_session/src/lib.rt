@@ -10,8 +10,9 @@ mod reading;
 mod serving;
 
 pub use cb_hall::{Badge, Hall};
-pub use cb_io::{In, Out, ReadEnd, Sink, SinkFailure, Source, WriteEnd, WriteFault, write_out};
+pub use cb_io::{In, Out, ReadEnd, Sink, SinkFailure, Source};
 pub use cb_journal::{Answer, Entry, Question};
+pub use cb_outgoing::{MessageSink, Outgoing, WriteEnd, WriteFault, write_out};
 pub use cb_peer::{CloseReason, Event, Pending, Session, Settings, Stage, State, Subject};
 pub use cb_trace::{Counts, Oracle, Trace, TraceEntry};
 pub use conversation::Conversation;

@@ -10,35 +10,34 @@ ghost use Rattle.cb_session.specs.Conversation.{Origin, Stands, WritesOn, input_
 
 use crate::conversation::Conversation;
 use cb_hall::Badge;
-use cb_io::Sink;
+use cb_outgoing::{MessageSink, Outgoing};
 use cb_peer::Event;
 use cb_trace::{Oracle, Trace};
-use cb_wire::BoundedMessage;
 use std::alloc::Global;
 
 /// What an event of a conversation left and did.
 #[derive(Drop)]
 pub struct Begun {
     /// The messages that are still held back.
-    pub unsent: Vec<BoundedMessage>,
+    pub unsent: Vec<Outgoing>,
     /// The number of messages written with the event: what was held back, and what the session
-    /// sent. The messages of a write that ended early aren't counted. `u64::MAX` if that is more.
+    /// sent. The messages of a step that wasn't written whole aren't counted. `u64::MAX` if that is more.
     pub messages: u64,
 }
 
 /// The same as `Conversation::begin`, over the parts of a conversation. `written` is the number of
-/// bytes written.
+/// bytes written, as far as the sink tells.
 ///
 /// The number of messages is told for statistics: no clause speaks of it here, and tests look at
 /// it. A clause of `Conversation::send` counts each write.
-pub fn begin_by<W: Sink, H: Oracle>(
+pub fn begin_by<W: MessageSink, H: Oracle>(
     alloc: Global,
     trace: &mut Trace,
     writer: &mut W,
     hall: &mut H,
     badge: &mut Badge,
     written: &mut u64,
-    held_back: Vec<BoundedMessage>,
+    held_back: Vec<Outgoing>,
     event: Event,
 ) -> Begun
     requires going { IsOpen trace.old }
@@ -69,7 +68,7 @@ pub fn begin_by<W: Sink, H: Oracle>(
 
 /// Ends the session with `NoMemory`, because something from the peer couldn't be kept. Writes
 /// nothing and asks nothing.
-pub fn lose_by<W: Sink, H: Oracle>(
+pub fn lose_by<W: MessageSink, H: Oracle>(
     trace: &mut Trace,
     writer: &mut W,
     hall: &mut H,

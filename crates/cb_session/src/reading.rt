@@ -6,7 +6,8 @@ ghost use Rattle.cb_session.specs.Serving.{Heard, HeardBy};
 
 use crate::conversation::Conversation;
 use crate::hearing::hear_piece;
-use cb_io::{ReadEnd, Sink, Source};
+use cb_io::{ReadEnd, Source};
+use cb_outgoing::MessageSink;
 use cb_trace::Oracle;
 use cb_wire::Assembler;
 use std::alloc::Global;
@@ -44,7 +45,7 @@ impl<'a, R: Source> Reading<'a, R> {
 
     /// Reads the source to its end and gives the session all items in its bytes, or as many as come
     /// before the session is over. Makes at most 2^40 reads. Returns why reading ended.
-    pub fn hear<'c, W: Sink, H: Oracle>(
+    pub fn hear<'c, W: MessageSink, H: Oracle>(
         &mut self,
         alloc: Global,
         conversation: &mut Conversation<'c, W, H>,

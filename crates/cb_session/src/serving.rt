@@ -9,7 +9,8 @@ use crate::conversation::Conversation;
 use crate::reading::Reading;
 use cb_base::Fault;
 use cb_hall::{Badge, Hall};
-use cb_io::{ReadEnd, Sink, Source};
+use cb_io::{ReadEnd, Source};
+use cb_outgoing::MessageSink;
 use cb_peer::{Event, Settings};
 use cb_trace::{Oracle, Trace};
 use cb_wire::Assembler;
@@ -25,7 +26,7 @@ pub struct Served {
     pub trace: Trace,
     /// Why reading ended.
     pub read: ReadEnd,
-    /// The number of bytes written; `u64::MAX` if that is more.
+    /// The number of bytes written, as far as the sink tells; `u64::MAX` if that is more.
     pub written: u64,
 }
 
@@ -36,7 +37,7 @@ pub struct Served {
 ///
 /// Fails only with `Fault::Memory`, before the first read. Reader, writer, hall and badge are then
 /// unchanged.
-pub fn serve<R: Source, W: Sink>(
+pub fn serve<R: Source, W: MessageSink>(
     alloc: Global,
     reader: &mut R,
     writer: &mut W,
@@ -64,7 +65,7 @@ pub fn serve<R: Source, W: Sink>(
 }
 
 /// The same as `serve`, with any oracle instead of a hall: whatever answers a session's questions.
-pub fn serve_by<R: Source, W: Sink, H: Oracle>(
+pub fn serve_by<R: Source, W: MessageSink, H: Oracle>(
     alloc: Global,
     reader: &mut R,
     writer: &mut W,
@@ -90,7 +91,7 @@ pub fn serve_by<R: Source, W: Sink, H: Oracle>(
     let mut assembler = Assembler::new(alloc);
     let mut reading = Reading::new(reader, buffer.as_mut_slice(), &mut assembler);
     let mut conversation = Conversation::new(&mut trace, writer, hall, badge, 0);
-    conversation.send(alloc, messages.as_slice());
+    conversation.send(alloc, messages);
     let read = hear_all(alloc, &mut reading, &mut conversation);
     let written = conversation.written();
     Ok(Served {
@@ -102,7 +103,7 @@ pub fn serve_by<R: Source, W: Sink, H: Oracle>(
 
 /// Reads the peer's stream to its end, or to the end of the session, and then gives the session the
 /// stream's end. Returns why reading ended.
-fn hear_all<'r, 'c, R: Source, W: Sink, H: Oracle>(
+fn hear_all<'r, 'c, R: Source, W: MessageSink, H: Oracle>(
     alloc: Global,
     reading: &mut Reading<'r, R>,
     conversation: &mut Conversation<'c, W, H>,
@@ -126,7 +127,7 @@ fn hear_all<'r, 'c, R: Source, W: Sink, H: Oracle>(
 }
 
 /// Gives the session the end of the peer's stream, unless the session is already over.
-fn finish<'a, W: Sink, H: Oracle>(
+fn finish<'a, W: MessageSink, H: Oracle>(
     alloc: Global,
     read: ReadEnd,
     conversation: &mut Conversation<'a, W, H>,

@@ -1,3 +1,2 @@
 mod Lowest
 mod Placing
-mod Writing

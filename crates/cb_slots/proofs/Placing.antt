@@ -7,26 +7,6 @@ use Rattle.cb_inbox.specs.Seat.{InboxState, SeatState, opening_seat}
 use Rattle.cb_crew.specs.Crew.{CrewState}
 use Rattle.cb_slots.specs.Slot.{AreSlotsOf, IsInboxOf, SlotState, inboxes_of, new_slot, uses_of}
 
--- what holds of all that are left holds of the next
-pub next_has : {H : Type 0} (P : H → Type 0) (rest left : List H) (h : H) → All P rest → rest ≡ h ∷ left → P h
-next_has P rest left h all steps = All-head P h left (subst (All P) steps all)
-
--- one thread more, for the next of all handlers
-pub started_more : {T H : Type 0} (f : T → H) (C : T → Type 0) (P : H → Type 0) (done new : List T) (t : T) (h : H) (rest left all : List H)
-    → map f done ++ rest ≡ all → All C done → All P rest → rest ≡ h ∷ left → new ≡ done ++ t ∷ [] → f t ≡ h → C t
-    → (map f new ++ left ≡ all) × All C new × All P left
-started_more f C P done new t h rest left all was of are steps pushed is here =
-    let mapped : map f (done ++ t ∷ []) ++ left ≡ all =
-    ap (λ xs. xs ++ left) (map-append f done (t ∷ [])) ∙ append_assoc (map f done) (f t ∷ []) left ∙ ap (λ x. map f done ++ x ∷ left) is ∙ ap (λ xs. map f done ++ xs) (sym steps) ∙ was in (
-      ap (λ ts. map f ts ++ left) pushed ∙ mapped,
-      subst (All C) (sym pushed) (All-append C done (t ∷ []) of (All-cons C t [] here (All-nil C))),
-      All-tail P h left (subst (All P) steps are),
-    )
-
--- where no handler is left, each has its thread
-pub started_all : {T H : Type 0} (f : T → H) (done : List T) (rest all : List H) → map f done ++ rest ≡ all → rest ≡ [] → map f done ≡ all
-started_all f done rest all was none = sym (append-nil (map f done)) ∙ ap (λ xs. map f done ++ xs) (sym none) ∙ was
-
 -- ---- the slots of a new crew
 
 abbrev pub seats_of : {S : Type 0} → (TableId → S) → List InboxState → List S

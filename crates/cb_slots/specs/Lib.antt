@@ -1,4 +1,3 @@
 pub mod Choosing
 pub mod Fault
 pub mod Slot
-pub mod WriteQueue

@@ -1,5 +1,5 @@
 -- How contracts see the slots of a node.
-use Rattle.std.specs.Prelude.{◌≡◌, ℕ, ◌<◌, ◌^◌, Bool, true, false, List, length, map, All, Option, Some, None, slice_index_or, slice_set}
+use Rattle.std.specs.Prelude.{◌≡◌, ℕ, ◌<◌, Bool, true, false, List, length, map, All, Option, Some, None, slice_index_or, slice_set}
 use Rattle.std.specs.declared.thread.PromisedHandle.{PromisedHandle}
 use Rattle.atomic_table.specs.Seated.{TableId}
 use Rattle.cb_inbox.specs.Seat.{InboxState}
@@ -9,11 +9,8 @@ use Rattle.cb_crew.specs.Crew.{AreHandlersOf, CrewState, inbox_of, names_of}
 use Rattle.cb_crew.specs.Desk.{DeskState}
 use Rattle.cb_crew.specs.Turn.{HandlerState}
 use Rattle.cb_service.specs.declared.promises.OfCrew.{OfCrew}
-use Rattle.cb_service.specs.Service.{HandBack, queued_by}
+use Rattle.cb_service.specs.Service.{HandBack, inbox_for}
 use Rattle.cb_hall.specs.Badge.{BadgeState}
-use Rattle.cb_reader.specs.declared.input.Input.{Input}
-use Rattle.cb_peers.specs.declared.reading.Left.{Left}
-use Rattle.cb_slots.specs.declared.threads.OfSlot.{OfSlot}
 use Rattle.cb_slots.specs.declared.slot.Seating.{Seating}
 use Rattle.cb_slots.specs.declared.slot.Seating.TheVariants as seating
 
@@ -74,25 +71,14 @@ pub record AreAlikeBut (n : ℕ) (old new : List SlotState) : Type 0 where
 
 -- ---- where a slot's side of its inbox is
 
--- A reader left this inbox with this side. So many marks were queued over all connections, fewer
--- than 2^48.
-pub record HasLeft {O : Type 0} (name : TableId) (left : Left O) : Type 0 where
-  pub inbox : inbox_of left.side ≡ name
-  pub count : left.count ≡ length (queued_by left.side)
-  pub few : left.count < 2 ^ 48
-
--- the inbox whose reader's thread it is
-abbrev pub inbox_for : {O : Type 0} → PromisedHandle (Left O) (OfSlot O) → InboxState
-inbox_for thread = thread.promise.inbox.value
-
 -- A connection that waits for its socket lasts.
-abbrev pub LastsIf : {O : Type 0} → Bool → ReaderSide Input O → Type 0
+abbrev pub LastsIf : {M O : Type 0} → Bool → ReaderSide M O → Type 0
 LastsIf waits (side.Live seat) = Unit {0}
 LastsIf waits (side.Ended seat) = waits ≡ false
 
 -- The slot has its side of this inbox, or the thread of a connection that doesn't wait has it.
 abbrev pub IsSeatingOf : {W M : Type 0} → TableId → Bool → Option (Seating W M) → Type 0
-IsSeatingOf name waits (Some (seating.Kept left)) = HasLeft name left × LastsIf waits left.side
+IsSeatingOf name waits (Some (seating.Kept held)) = (inbox_of held ≡ name) × LastsIf waits held
 IsSeatingOf name waits (Some (seating.Lent thread)) = ((inbox_for thread).name ≡ name) × (waits ≡ false)
 IsSeatingOf name waits None = ⊥
 

@@ -1,18 +1,16 @@
 ghost use Rattle.std.specs.Prelude.{◌≡◌, ◌≤◌, [], length, map, vec_capacity, All, IfOk, IsOkUnless};
 ghost use Rattle.cb_base.specs.declared.fault.Fault.TheVariants.{Memory};
-ghost use Rattle.cb_crew.specs.Crew.{AreHandlersOf, AreOpeningSeats, HasPlace, IsHandlerOf, inbox_of};
-ghost use Rattle.cb_service.specs.Service.{crew_of, handler_of};
+ghost use Rattle.cb_crew.specs.Crew.{AreHandlersOf, AreOpeningSeats, HasPlace, inbox_of};
 ghost use Rattle.cb_slots.specs.Slot.{AreSlotsOf, AreThreadsOf, names_in, new_slot};
 
 use crate::fault::NodeFault;
-use crate::link::{CloseEnded, Link, Links};
 use crate::slot::{Common, Slot};
 use cb_base::{Fault, Shared};
 use cb_crew::{Crew, Fresh, Handler, NewCrew, ReaderSide, Work};
 use cb_inbox::ReaderSeat;
-use cb_peers::Backlogs;
+use cb_peers::{Backlogs, CloseEnded, Link, Links};
 use cb_reader::Input;
-use cb_service::{Handling, Orders, Signals, join_handler, start_handler};
+use cb_service::{Handling, Orders, Signals};
 use std::alloc::Global;
 use std::marker::{Copy, Send};
 use std::sync::Wait;
@@ -124,9 +122,9 @@ fn common_of<W: Work>(alloc: Global, crew: Crew<W>) -> Result<Common<W>, Fault>
     ensures crew { IfOk result (λ common. common.crew ≡ crew) }
     ensures memory { IsOkUnless result Memory }
 {
-    let peers = crew.peers();
+    let (peers, handlers) = (crew.peers(), crew.handlers());
     Ok(Common {
-        signals: Shared::new(alloc, Signals::new(alloc, peers)?)?,
+        signals: Shared::new(alloc, Signals::new(alloc, peers, handlers)?)?,
         backlogs: Shared::new(alloc, Backlogs::new(alloc, peers)?)?,
         crew: Shared::new(alloc, crew)?,
     })
@@ -159,7 +157,6 @@ fn slots_of<W: Work<Item = Input>, R: Wait>(
     Ok(slots)
 }
 
-#[tactic(auto, using(crate::proofs::Placing::next_has))]
 /// Starts a thread for each handler. If one can't be started, waits until those return that were.
 pub fn start_handlers<W: Work + Send + 'static, R: Threads + Wait + Copy + Send + Drop + 'static>(
     rt: &R,
@@ -174,43 +171,6 @@ where
     ensures { IfOk result (λ threads. AreThreadsOf common.now.crew threads.items
         × (length threads.items ≡ length handlers.items)) }
 {
-    let mut threads = Vec::with_capacity(alloc, handlers.len())?;
-    for handler in handlers {
-        match start_one(rt, alloc, common, links, handler) {
-            Ok(thread) => threads.push_reserved(thread),
-            Err(fault) => {
-                common.signals.stop();
-                return Err(joined(rt, threads, fault));
-            }
-        }
-    }
-    Ok(threads)
-}
-
-/// Waits until these threads return. Returns the given fault.
-fn joined<W: Work, R: Threads>(rt: &R, threads: Vec<Handling<W>>, fault: NodeFault) -> NodeFault
-    ensures { result ≡ fault }
-{
-    for thread in threads {
-        drop(join_handler(rt, thread));
-    }
-    fault
-}
-
-/// Starts a handler's thread. If that fails, the handler is dropped.
-fn start_one<W: Work + Send + 'static, R: Threads + Wait + Copy + Send + Drop + 'static>(
-    rt: &R,
-    alloc: Global,
-    common: &Common<W>,
-    links: &Shared<Links>,
-    handler: Handler<W>,
-) -> Result<Handling<W>, NodeFault>
-where
-    W::Item: Send + 'static,
-    requires { IsHandlerOf common.now.crew handler }
-    ensures { IfOk result
-        (λ thread. (crew_of thread ≡ common.now.crew) × (handler_of thread ≡ handler)) }
-{
     let orders = Orders {
         budget: BUDGET,
         hook: CloseEnded {
@@ -218,12 +178,13 @@ where
             links: links.clone()?,
         },
     };
-    let (crew, signals) = (common.crew.clone()?, common.signals.clone()?);
-    match start_handler(rt, alloc, crew, signals, orders, handler) {
-        Ok(thread) => Ok(thread),
-        Err(refused) => Err(NodeFault::from(refused.cause)),
+    let (crew, signals) = (&common.crew, &common.signals);
+    match cb_service::start_handlers(rt, alloc, crew, signals, &orders, handlers) {
+        Ok(threads) => Ok(threads),
+        Err(refusal) => Err(NodeFault::from(refusal)),
     }
 }
+
 /// The sides of these slots, in the given empty list. Waits for the threads of readers. It takes no
 /// memory: the list must have room.
 pub fn sides_of<W: Work<Item = Input>, R: Threads>(

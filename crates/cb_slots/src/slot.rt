@@ -1,20 +1,18 @@
-ghost use Rattle.std.specs.Prelude.{◌≡◌, ◌⊎◌, ◌↔◌, ◌<◌, ◌^◌, true, false, length, None, IfErr, OnErr, OnOk};
+ghost use Rattle.std.specs.Prelude.{◌≡◌, ◌⊎◌, ◌↔◌, true, false, IfErr, OnErr, OnOk};
 ghost use Rattle.cb_base.specs.declared.fault.Fault.TheVariants as faults;
 ghost use Rattle.cb_inbox.specs.Seat.{opening_seat};
 ghost use Rattle.cb_crew.specs.Crew.{HasPlace, inbox_of};
 ghost use Rattle.cb_slots.specs.declared.fault.NodeFault.TheVariants.{Io, Memory};
-ghost use Rattle.cb_slots.specs.Slot.{HasLeft, IsInboxOf, IsNew, IsUnspent, LastsIf, attached, new_slot, reopened};
+ghost use Rattle.cb_slots.specs.Slot.{IsInboxOf, IsNew, IsUnspent, attached, new_slot, reopened};
 
 use crate::fault::NodeFault;
-use crate::link::Link;
-use crate::threads::{Errand, NoThread, Reading, join_reading, start_threads, unread};
 use cb_base::{Fault, Shared};
 use cb_crew::{Crew, Fresh, ReaderSide, Work};
 use cb_hall::Badge;
-use cb_inbox::{EndedSeat, Inbox, ReaderSeat};
-use cb_peers::{Backlogs, Left};
-use cb_reader::{Input, ReadEnd};
-use cb_service::{Signals, offer_end};
+use cb_inbox::{Inbox, ReaderSeat};
+use cb_peers::{Backlogs, Link, SocketReading, start_threads};
+use cb_reader::Input;
+use cb_service::{NoReader, Reading, Side, Signals, Unopened, join_reader, offer_open};
 use cb_work::Totals;
 use std::alloc::Global;
 use std::marker::{Copy, Model, Send};
@@ -23,9 +21,6 @@ use std::net::TcpStream;
 use std::snapshot::Snapshot;
 use std::sync::Wait;
 use std::thread::Threads;
-
-/// With this many marks queued over all connections, no further connection is opened.
-const MOST_QUEUED: u64 = 1 << 40;
 
 /// How many connections a slot serves at most, one after another.
 const MOST_CONNECTIONS: u64 = 256;
@@ -45,9 +40,9 @@ pub struct Common<W: Work> {
 #[derive(Drop)]
 enum Seating<W: Work> {
     /// In the slot.
-    Kept(Left<Fresh<W>>),
+    Kept(Side<W::Item, Fresh<W>>),
     /// With the thread of a connection's reader.
-    Lent(Reading<Fresh<W>>),
+    Lent(Reading<W>),
 }
 
 /// A connection that isn't opened yet.
@@ -116,7 +111,7 @@ impl<W: Work<Item = Input>> Slot<W> {
         Slot {
             inbox: Snapshot::of(inbox),
             number: inbox.peer(),
-            seating: Some(Seating::Kept(unread(seat))),
+            seating: Some(Seating::Kept(Side::live(seat))),
             used: false,
             waits: true,
             latest: link,
@@ -225,7 +220,7 @@ impl<W: Work<Item = Input>> Slot<W> {
             return;
         }
         self.seating = match self.seating.take() {
-            Some(Seating::Lent(thread)) => Some(Seating::Kept(join_reading(rt, thread))),
+            Some(Seating::Lent(thread)) => Some(Seating::Kept(join_reader(rt, thread))),
             kept => kept,
         };
     }
@@ -253,20 +248,20 @@ impl<W: Work<Item = Input>> Slot<W> {
             return Ok(false);
         };
         match self.seating.take() {
-            Some(Seating::Kept(left)) => {
+            Some(Seating::Kept(side)) => {
                 let inbox = crew.inbox(self.number);
-                let Tried { left, refused } = try_open(rt, inbox, signals, left, next.work);
-                self.seating = Some(Seating::Kept(left));
-                match refused {
-                    None => {
+                match offer_open(rt, inbox, side, signals, next.work) {
+                    Ok(seat) => {
+                        self.seating = Some(Seating::Kept(Side::live(seat)));
                         self.past
                             .push_reserved(mem::replace(&mut self.latest, next.link));
                         self.waits = true;
                         Ok(true)
                     }
-                    Some(work) => {
+                    Err(Unopened { side, opening, .. }) => {
+                        self.seating = Some(Seating::Kept(side));
                         self.next = Some(Next {
-                            work,
+                            work: opening,
                             link: next.link,
                         });
                         Ok(false)
@@ -282,13 +277,14 @@ impl<W: Work<Item = Input>> Slot<W> {
     }
 
     /// Gives the connection that waits its socket, and starts the threads that read and write it. If
-    /// that fails, the connection still waits.
+    /// that fails, the connection still waits. Its `version` tells this time, in seconds since 1970.
     pub fn attach<R: Threads + Wait + Copy + Send + Drop + 'static>(
         &mut self,
         rt: &R,
         alloc: Global,
         common: &Common<W>,
         stream: Shared<TcpStream>,
+        time: i64,
     ) -> Result<(), NodeFault>
     where
         W: Send + 'static,
@@ -298,38 +294,32 @@ impl<W: Work<Item = Input>> Slot<W> {
         ensures kinds { IfErr result (λ fault. (fault ≡ Io) ⊎ (fault ≡ Memory)) }
         ensures err { OnErr result (self.new ≡ self.old) }
     {
-        let errand = Errand {
+        let reading = SocketReading {
             alloc,
-            crew: common.crew.clone()?,
-            signals: common.signals.clone()?,
             backlogs: common.backlogs.clone()?,
             link: self.latest.clone()?,
             stream: stream.clone()?,
-            slot: self.number,
         };
-        let Some(
-            Seating::Kept(
-                Left {
-                    side: ReaderSide::Live(seat),
-                    ..
-                },
-            ),
-        ) = self.seating.take()
-        else {
+        let (crew, signals) = (common.crew.clone()?, common.signals.clone()?);
+        let Some(Seating::Kept(side)) = self.seating.take() else {
             unreachable!()
         };
+        let ReaderSide::Live(seat) = side.into_side() else {
+            unreachable!()
+        };
+        self.latest.status.set_made(time);
         self.latest.socket.fill(rt, stream);
-        match start_threads(rt, &self.latest, errand, seat) {
+        match start_threads(rt, &self.latest, crew, signals, self.number, seat, reading) {
             Ok(thread) => {
                 self.seating = Some(Seating::Lent(thread));
                 self.used = true;
                 self.waits = false;
                 Ok(())
             }
-            Err(NoThread { seat, cause }) => {
+            Err(NoReader { seat, cause }) => {
                 self.latest.socket.close(rt);
-                self.seating = Some(Seating::Kept(unread(seat)));
-                Err(cause)
+                self.seating = Some(Seating::Kept(Side::live(seat)));
+                Err(NodeFault::from(cause))
             }
         }
     }
@@ -341,68 +331,10 @@ impl<W: Work<Item = Input>> Slot<W> {
     {
         let Slot { seating, .. } = self;
         match seating {
-            Some(Seating::Kept(left)) => left.side,
-            Some(Seating::Lent(thread)) => join_reading(rt, thread).side,
+            Some(Seating::Kept(side)) => side.into_side(),
+            Some(Seating::Lent(thread)) => join_reader(rt, thread).into_side(),
             None => unreachable!(),
         }
-    }
-}
-
-/// How an inbox is left after a try to open a connection, and what was to serve that if it wasn't
-/// opened.
-#[derive(Drop)]
-struct Tried<W: Work> {
-    left: Left<Fresh<W>>,
-    refused: Option<Fresh<W>>,
-}
-
-/// Opens a connection once. The latest connection is ended before, if it lasts.
-fn try_open<W: Work<Item = Input>, R: Wait>(
-    rt: &R,
-    inbox: &Inbox<Input, Fresh<W>>,
-    signals: &Signals,
-    left: Left<Fresh<W>>,
-    work: Fresh<W>,
-) -> Tried<W>
-    requires { HasLeft inbox.now.name left }
-    ensures left { HasLeft inbox.now.name result.left }
-    ensures live { result.refused ≡ None → LastsIf true result.left.side }
-{
-    let count = left.count;
-    if count >= MOST_QUEUED {
-        return Tried {
-            left,
-            refused: Some(work),
-        };
-    }
-    let (seat, count) = match left.side {
-        ReaderSide::Ended(seat) => (seat, count),
-        ReaderSide::Live(seat) => match offer_end(rt, inbox, seat, signals) {
-            Ok(ended) => (ended, count + 1),
-            Err(back) => {
-                return Tried {
-                    left: unread(back),
-                    refused: Some(work),
-                };
-            }
-        },
-    };
-    match seat.open(rt, inbox, work) {
-        Ok(seat) => {
-            signals.ring();
-            Tried {
-                left: unread(seat),
-                refused: None,
-            }
-        }
-        Err(refused) => Tried {
-            left: Left {
-                side: ReaderSide::Ended(refused.seat),
-                count,
-                why: ReadEnd::Stopped,
-            },
-            refused: Some(refused.opening),
-        },
     }
 }
 

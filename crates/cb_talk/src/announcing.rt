@@ -3,10 +3,10 @@ ghost use Rattle.cb_base.specs.declared.fault.Fault.TheVariants.{Memory};
 ghost use Rattle.cb_talk.specs.Announcing.{announcing, announcing_block, telling, tx_entry};
 
 use cb_base::{Fault, Hash256};
+use cb_outgoing::Outgoing;
 use cb_payload::{Entries, HeaderList, Inventory};
-use cb_rebuild::shortened;
 use cb_state::{Announced, BoundedBlock, Txids};
-use cb_wire::{BoundedMessage, Message};
+use cb_wire::Message;
 use std::alloc::Global;
 
 /// Returns the message that announces a new tip. It holds the new headers (`headers`, BIP 130) if
@@ -18,7 +18,7 @@ pub fn announce_tip(
     by_headers: bool,
     tip: Hash256,
     path: &Announced,
-) -> Result<Option<BoundedMessage>, Fault>
+) -> Result<Option<Outgoing>, Fault>
     ensures message { IfOk result
         (λ made. MatchOption made (announcing by_headers tip path.now ≡ [])
         (λ message. announcing by_headers tip path.now ≡ message ∷ [])) }
@@ -31,35 +31,30 @@ pub fn announce_tip(
     }
     if by_headers {
         let headers = Vec::from_slice(alloc, headers)?;
-        return Ok(Some(BoundedMessage::new(Message::Headers(HeaderList::from_few(headers)))));
+        return Ok(Some(Outgoing::new(Message::Headers(HeaderList::from_few(headers)))));
     }
     let mut entries = Vec::with_capacity(alloc, 1)?;
     entries.push(Inventory::Block(tip))?;
-    Ok(Some(BoundedMessage::new(Message::Inv(Entries::from_few(entries)))))
+    Ok(Some(Outgoing::new(Message::Inv(Entries::from_few(entries)))))
 }
 
 /// Returns the message that announces a block by itself (`cmpctblock`, BIP 152): its first
-/// transaction whole, and short ids of all others under the nonce. No transaction is hashed or
-/// copied.
+/// transaction whole, and short ids of all others under the nonce. The block is shared, and the
+/// message is made when it is spelled.
 ///
-/// Fails only with `Fault::Memory`.
-pub fn announce_block(
-    alloc: Global,
-    block: &BoundedBlock,
-    nonce: u64,
-) -> Result<BoundedMessage, Fault>
+/// Fails only with `Fault::Memory`, if the block's count of owners is full.
+pub fn announce_block(block: &BoundedBlock, nonce: u64) -> Result<Outgoing, Fault>
     ensures message { IfOk result (λ message. message ≡ announcing_block block.now nonce) }
     ensures memory { IsOkUnless result Memory }
 {
-    let form = shortened(alloc, block.block(), nonce)?;
-    Ok(BoundedMessage::new(Message::CmpctBlock(form)))
+    Ok(Outgoing::short(block.block().copy()?, nonce))
 }
 
 /// Returns the message that announces transactions (`inv`). Without transactions there is no
 /// message.
 ///
 /// Fails only with `Fault::Memory`, and never if there is no message.
-pub fn announce_txs(alloc: Global, txids: &Txids) -> Result<Option<BoundedMessage>, Fault>
+pub fn announce_txs(alloc: Global, txids: &Txids) -> Result<Option<Outgoing>, Fault>
     ensures message { IfOk result
         (λ made. MatchOption made (telling txids.now ≡ [])
         (λ message. telling txids.now ≡ message ∷ [])) }
@@ -70,7 +65,7 @@ pub fn announce_txs(alloc: Global, txids: &Txids) -> Result<Option<BoundedMessag
         return Ok(None);
     }
     let entries = tx_entries(alloc, txids.as_slice())?;
-    Ok(Some(BoundedMessage::new(Message::Inv(Entries::from_few(entries)))))
+    Ok(Some(Outgoing::new(Message::Inv(Entries::from_few(entries)))))
 }
 
 /// The inventory entries of transactions, in order. Fails only with `Fault::Memory`.

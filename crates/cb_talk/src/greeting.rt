@@ -3,8 +3,9 @@ ghost use Rattle.cb_base.specs.declared.fault.Fault.TheVariants.{Memory};
 ghost use Rattle.cb_talk.specs.Greeting.{our_version, wish, wishes};
 
 use cb_base::Fault;
+use cb_outgoing::Outgoing;
 use cb_payload::{Agent, CompactRelay, NetAddress, Version};
-use cb_wire::{BoundedMessage, Message};
+use cb_wire::Message;
 use std::alloc::Global;
 
 /// The protocol version that this node speaks.
@@ -26,17 +27,12 @@ const NO_ADDRESS: NetAddress = NetAddress {
 /// own message, `time` is in seconds since the start of 1970, and `height` is the best chain's.
 ///
 /// Fails only with `Fault::Memory`.
-pub fn our_version(
-    alloc: Global,
-    nonce: u64,
-    time: i64,
-    height: i32,
-) -> Result<BoundedMessage, Fault>
+pub fn our_version(alloc: Global, nonce: u64, time: i64, height: i32) -> Result<Outgoing, Fault>
     ensures message { IfOk result (λ message. message ≡ our_version nonce time height) }
     ensures memory { IsOkUnless result Memory }
 {
     let agent = Vec::from_slice(alloc, b"/cbrelay:1/")?;
-    Ok(BoundedMessage::new(Message::Version(Version {
+    Ok(Outgoing::new(Message::Version(Version {
         version: PROTOCOL_VERSION,
         services: 1,
         time,
@@ -52,10 +48,10 @@ pub fn our_version(
 /// Returns the message that says how this node wishes to hear of new blocks (`sendcmpct`, BIP 152):
 /// by compact blocks of version 1. They come unasked if `high` (high-bandwidth mode), or else only
 /// on request. No memory is allocated.
-pub fn wish(high: bool) -> BoundedMessage
+pub fn wish(high: bool) -> Outgoing
     ensures { result ≡ wish high }
 {
-    BoundedMessage::new(Message::SendCmpct(CompactRelay {
+    Outgoing::new(Message::SendCmpct(CompactRelay {
         high_bandwidth: high,
         version: 1,
     }))
@@ -68,14 +64,14 @@ pub fn wish(high: bool) -> BoundedMessage
 ///   (BIP 152, low-bandwidth mode).
 ///
 /// Fails only with `Fault::Memory`, and never if there are no such messages.
-pub fn wishes(alloc: Global, version: i32) -> Result<Vec<BoundedMessage>, Fault>
+pub fn wishes(alloc: Global, version: i32) -> Result<Vec<Outgoing>, Fault>
     ensures messages { IfOk result (λ messages. messages.items ≡ wishes version) }
     ensures memory { IsOkUnless result Memory }
     ensures unpaid { wishes version ≡ [] → IsOk result }
 {
     let mut messages = Vec::new(alloc);
     if version >= SENDHEADERS_VERSION {
-        messages.push(BoundedMessage::new(Message::SendHeaders))?;
+        messages.push(Outgoing::new(Message::SendHeaders))?;
     }
     if version >= COMPACT_VERSION {
         messages.push(wish(false))?;

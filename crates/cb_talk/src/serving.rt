@@ -5,20 +5,21 @@ ghost use Rattle.cb_talk.specs.Serving.{excerpt_told, lacking_in, nonce_behind, 
 
 use crate::announcing::announce_block;
 use cb_base::Fault;
+use cb_outgoing::Outgoing;
 use cb_payload::{BlockTransactions, Entries, Inventory};
 use cb_pool::Candidate;
 use cb_state::{BoundedBlock, Excerpt, Part, Piece, Pieces};
-use cb_wire::{BoundedMessage, Message};
+use cb_wire::Message;
 use std::alloc::Global;
 
 /// Returns the messages that answer a `getdata`: a `tx`, `block` or `cmpctblock` (BIP 152) for each
 /// piece that is there, in order, and then one `notfound` with all entries that aren't there, if
 /// any (this node's own order). The first `cmpctblock` is made under the nonce, and each further
-/// one under the next. Transactions and blocks are shared; for a `cmpctblock` no transaction is
-/// hashed.
+/// one under the next. Transactions and blocks are shared, and a `cmpctblock` is made when it is
+/// spelled.
 ///
 /// Fails only with `Fault::Memory`, and never without pieces.
-pub fn served(alloc: Global, pieces: &Pieces, nonce: u64) -> Result<Vec<BoundedMessage>, Fault>
+pub fn served(alloc: Global, pieces: &Pieces, nonce: u64) -> Result<Vec<Outgoing>, Fault>
     ensures messages { IfOk result (λ messages. messages.items ≡ served nonce pieces.now) }
     ensures memory { IsOkUnless result Memory }
     ensures unpaid { pieces.now ≡ [] → IsOk result }
@@ -26,7 +27,7 @@ pub fn served(alloc: Global, pieces: &Pieces, nonce: u64) -> Result<Vec<BoundedM
     let mut messages = sent(alloc, pieces.as_slice(), nonce)?;
     let lacking = lacking(alloc, pieces.as_slice())?;
     if !lacking.is_empty() {
-        messages.push(BoundedMessage::new(Message::NotFound(Entries::from_few(lacking))))?;
+        messages.push(Outgoing::new(Message::NotFound(Entries::from_few(lacking))))?;
     }
     Ok(messages)
 }
@@ -53,7 +54,7 @@ fn count_shorts(pieces: &[Piece]) -> u64
 
 /// The messages of the pieces that are there, in order. Fails only with `Fault::Memory`, and never
 /// without pieces.
-fn sent(alloc: Global, pieces: &[Piece], nonce: u64) -> Result<Vec<BoundedMessage>, Fault>
+fn sent(alloc: Global, pieces: &[Piece], nonce: u64) -> Result<Vec<Outgoing>, Fault>
     ensures messages { IfOk result (λ messages. messages.items ≡ sent nonce pieces.now) }
     ensures memory { IsOkUnless result Memory }
     ensures unpaid { length pieces.now ≡ 0 → IsOk result }
@@ -61,7 +62,7 @@ fn sent(alloc: Global, pieces: &[Piece], nonce: u64) -> Result<Vec<BoundedMessag
     let mut messages = Vec::new(alloc);
     let mut next = nonce;
     for piece in pieces {
-        let made = message_of(alloc, piece, next)?;
+        let made = message_of(piece, next)?;
         next = nonce_behind(piece, next);
         if let Some(message) = made {
             messages.push(message)?;
@@ -81,7 +82,7 @@ fn nonce_behind(piece: &Piece, nonce: u64) -> u64
 }
 
 /// The message of a piece; `None` if it isn't there. Fails only with `Fault::Memory`.
-fn message_of(alloc: Global, piece: &Piece, nonce: u64) -> Result<Option<BoundedMessage>, Fault>
+fn message_of(piece: &Piece, nonce: u64) -> Result<Option<Outgoing>, Fault>
     ensures message { IfOk result (λ made. MatchOption made (served_as nonce piece.now ≡ [])
         (λ message. served_as nonce piece.now ≡ message ∷ [])) }
     ensures memory { IsOkUnless result Memory }
@@ -89,27 +90,27 @@ fn message_of(alloc: Global, piece: &Piece, nonce: u64) -> Result<Option<Bounded
     match piece {
         Piece::Tx(candidate) => Ok(Some(tx_message(candidate)?)),
         Piece::Whole(block) => Ok(Some(block_message(block)?)),
-        Piece::Short(block) => Ok(Some(announce_block(alloc, block, nonce)?)),
+        Piece::Short(block) => Ok(Some(announce_block(block, nonce)?)),
         Piece::Lacking(_) => Ok(None),
     }
 }
 
 /// The message of a transaction. Fails only with `Fault::Memory`.
-fn tx_message(candidate: &Candidate) -> Result<BoundedMessage, Fault>
+fn tx_message(candidate: &Candidate) -> Result<Outgoing, Fault>
     ensures message { IfOk result (λ message. message ≡ Tx candidate.now) }
     ensures memory { IsOkUnless result Memory }
 {
     let shared = candidate.tx().clone()?;
-    Ok(BoundedMessage::new(Message::Tx(shared)))
+    Ok(Outgoing::new(Message::Tx(shared)))
 }
 
 /// The message of a block. Fails only with `Fault::Memory`.
-fn block_message(block: &BoundedBlock) -> Result<BoundedMessage, Fault>
+fn block_message(block: &BoundedBlock) -> Result<Outgoing, Fault>
     ensures message { IfOk result (λ message. message ≡ Block block.now) }
     ensures memory { IsOkUnless result Memory }
 {
     let shared = block.block().copy()?.into_block();
-    Ok(BoundedMessage::new(Message::Block(shared)))
+    Ok(Outgoing::new(Message::Block(shared)))
 }
 
 /// The entries that aren't there, in order. Fails only with `Fault::Memory`, and never if all are
@@ -134,7 +135,7 @@ fn lacking(alloc: Global, pieces: &[Piece]) -> Result<Vec<Inventory>, Fault>
 /// or if it hasn't these places. Transactions and blocks are shared.
 ///
 /// Fails only with `Fault::Memory`, and never if there is no message.
-pub fn send_excerpt(alloc: Global, excerpt: &Excerpt) -> Result<Option<BoundedMessage>, Fault>
+pub fn send_excerpt(alloc: Global, excerpt: &Excerpt) -> Result<Option<Outgoing>, Fault>
     ensures message { IfOk result (λ made. MatchOption made (excerpt_told excerpt.now ≡ [])
         (λ message. excerpt_told excerpt.now ≡ message ∷ [])) }
     ensures memory { IsOkUnless result Memory }
@@ -148,7 +149,7 @@ pub fn send_excerpt(alloc: Global, excerpt: &Excerpt) -> Result<Option<BoundedMe
 }
 
 /// The message of a part of a block. Fails only with `Fault::Memory`.
-fn part_message(alloc: Global, part: &Part) -> Result<BoundedMessage, Fault>
+fn part_message(alloc: Global, part: &Part) -> Result<Outgoing, Fault>
     ensures message { IfOk result (λ message. message
         ≡ BlockTxn (record { block = part.now.hash; txs = part.now.txs })) }
     ensures memory { IsOkUnless result Memory }
@@ -157,5 +158,5 @@ fn part_message(alloc: Global, part: &Part) -> Result<BoundedMessage, Fault>
     // No effect when it runs: it tells the prover what the type keeps.
     let _ = block.bytes();
     let txs = part.copy(alloc)?.into_txs();
-    Ok(BoundedMessage::new(Message::BlockTxn(BlockTransactions { block, txs })))
+    Ok(Outgoing::new(Message::BlockTxn(BlockTransactions { block, txs })))
 }

@@ -9,8 +9,8 @@ ghost use Rattle.cb_trace.specs.Fold.{entry_step};
 use crate::asking::questions_asked;
 use cb_base::{Fault, Seed};
 use cb_journal::Question;
+use cb_outgoing::Outgoing;
 use cb_peer::{CloseReason, Event, Session, Settings, State};
-use cb_wire::BoundedMessage;
 use std::alloc::Global;
 use std::marker::Model;
 
@@ -101,7 +101,7 @@ impl Trace {
     /// table of the session's wanted blocks has the fixed seed.
     ///
     /// Fails only with `Fault::Memory`.
-    pub fn new(alloc: Global, settings: Settings) -> Result<(Trace, Vec<BoundedMessage>), Fault>
+    pub fn new(alloc: Global, settings: Settings) -> Result<(Trace, Vec<Outgoing>), Fault>
         ensures settings { IfOk result (λ made. made.0.settings ≡ settings) }
         ensures history { IfOk result (λ made. StandsFor made.0 []) }
         ensures room { IfOk result (λ made. 1 ≤ made.0.room) }
@@ -116,7 +116,7 @@ impl Trace {
         alloc: Global,
         settings: Settings,
         seed: Seed,
-    ) -> Result<(Trace, Vec<BoundedMessage>), Fault>
+    ) -> Result<(Trace, Vec<Outgoing>), Fault>
         ensures settings { IfOk result (λ made. made.0.settings ≡ settings) }
         ensures history { IfOk result (λ made. StandsFor made.0 []) }
         ensures room { IfOk result (λ made. 1 ≤ made.0.room) }
@@ -142,6 +142,13 @@ impl Trace {
             total: none,
         };
         Ok((trace, messages))
+    }
+
+    /// The settings of the session.
+    pub fn settings(&self) -> Settings
+        ensures { result ≡ self.now.settings }
+    {
+        self.settings
     }
 
     /// How far the session is.
@@ -296,7 +303,7 @@ impl Trace {
     /// question to ask the hall after that. If the session lacks memory, the entry is starved and
     /// nothing is sent.
     #[inline(always)]
-    pub fn step(&mut self, event: Event) -> (Vec<BoundedMessage>, Option<Question>)
+    pub fn step(&mut self, event: Event) -> (Vec<Outgoing>, Option<Question>)
         requires going { IsOpen self.old }
         requires ready { 2 ≤ self.old.room }
         ensures { TraceSteps self.old self.new event result.0.items result.1 }
@@ -307,7 +314,7 @@ impl Trace {
     /// Logs an event and gives it to the session. An event that doesn't end the session at once
     /// leaves room for one more entry.
     #[inline(always)]
-    fn put(&mut self, event: Event) -> (Vec<BoundedMessage>, Option<Question>)
+    fn put(&mut self, event: Event) -> (Vec<Outgoing>, Option<Question>)
         requires going { IsOpen self.old }
         requires spare { ends_at_once event ≡ false → 2 ≤ self.old.room }
         ensures { TraceSteps self.old self.new event result.0.items result.1 }
@@ -350,7 +357,7 @@ fn hear(
     session: &mut Session,
     before: u64,
     event: &Event,
-) -> Result<(Vec<BoundedMessage>, Option<Question>), Fault>
+) -> Result<(Vec<Outgoing>, Option<Question>), Fault>
     requires going { is_closed session.old.state ≡ false }
     requires few { before < 2 ^ 62 }
     ensures ok { IfOk result

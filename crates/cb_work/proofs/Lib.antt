@@ -1,4 +1,5 @@
 pub mod Keeping
+pub mod Renewing
 pub mod Serving
 pub mod Starting
 pub mod Ticking

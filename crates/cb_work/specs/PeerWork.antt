@@ -7,6 +7,7 @@ use Rattle.cb_hall.specs.Badge.{BadgeState, fresh_badge}
 use Rattle.cb_hall.specs.Histories.{Reply}
 use Rattle.cb_wire.specs.declared.message.Message.{Message}
 use Rattle.cb_wire.specs.Stream.{texts}
+use Rattle.cb_peer_state.specs.declared.settings.Settings.{Settings}
 use Rattle.cb_peer_state.specs.declared.event.Event.{Event}
 use Rattle.cb_peer_state.specs.declared.event.Event.TheVariants as events
 use Rattle.cb_peer_state.specs.Session.{openings}
@@ -132,6 +133,10 @@ pub record IsSamePeer {S H F : Type 0} (looks : F → List Bool → Type 0) (old
   pub connection : new.badge.connection ≡ old.badge.connection
   pub slot : new.slot ≡ old.slot
   pub looked : (answers : List Bool) → looks old.flags answers → looks new.flags answers
+
+-- The settings are the same but for the time.
+abbrev pub IsAtTime : Settings → Settings → Type 0
+IsAtTime old new = new ≡ record old { time = new.time }
 
 -- The items after an event from the peer was given.
 abbrev pub items_after : List (Given Input) → Event → List (Given Input)

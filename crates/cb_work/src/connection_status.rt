@@ -5,7 +5,7 @@ use crate::flags::Flags;
 use crate::traffic::{BlockPath, Brought, Totals, Traffic};
 use cb_base::Shared;
 use cb_peer_state::{CloseReason, State};
-use std::sync::atomic::{AtomicBool, AtomicU64, Ordering};
+use std::sync::atomic::{AtomicBool, AtomicI64, AtomicU64, Ordering};
 
 /// What the threads of one connection share. A handler's thread serves the connection's
 /// work, a reader's thread queues what the peer sends, and the node sets ticks and looks at the
@@ -31,6 +31,12 @@ pub struct ConnectionStatus {
     state: AtomicU64,
     /// Whether the connection's socket took nothing for too long.
     still: AtomicBool,
+    /// Whether memory ran out for a message that was to be spelled.
+    starved: AtomicBool,
+    /// Whether the time was told at which the connection was made.
+    is_made: AtomicBool,
+    /// That time, in seconds since 1970.
+    made: AtomicI64,
 }
 
 impl ConnectionStatus {
@@ -52,6 +58,25 @@ impl ConnectionStatus {
             given: AtomicU64::new(0),
             state: AtomicU64::new(0),
             still: AtomicBool::new(false),
+            starved: AtomicBool::new(false),
+            is_made: AtomicBool::new(false),
+            made: AtomicI64::new(0),
+        }
+    }
+
+    /// Tells the time at which the connection is made, in seconds since 1970. Its session's `version`
+    /// has this time, if nothing came of the connection before.
+    pub fn set_made(&self, time: i64) {
+        self.made.store(time, Ordering::SeqCst);
+        self.is_made.store(true, Ordering::SeqCst);
+    }
+
+    /// The time at which the connection was made, if it was told.
+    fn made_at(&self) -> Option<i64> {
+        if self.is_made.load(Ordering::SeqCst) {
+            Some(self.made.load(Ordering::SeqCst))
+        } else {
+            None
         }
     }
 
@@ -111,13 +136,27 @@ impl ConnectionStatus {
         self.still.store(true, Ordering::SeqCst);
     }
 
+    /// Memory ran out for a message that was to be spelled: the socket is about to be shut.
+    pub fn set_starved(&self) {
+        self.starved.store(true, Ordering::SeqCst);
+    }
+
+    /// Counts bytes that the socket took.
+    pub fn add_written(&self, bytes: u64) {
+        self.written.fetch_add(bytes, Ordering::SeqCst);
+    }
+
     /// How far the session is, as its work told last. It tells why a session is over before it
     /// sets the stop flag.
     ///
-    /// A socket that was shut since it took nothing is to the session as one that the peer closed.
-    /// Here such an end is a failed write.
+    /// A socket that was shut since it took nothing, or since memory ran out for what was to be
+    /// written to it, is to the session as one that the peer closed. Here such an end is a failed
+    /// write, or want of memory.
     pub fn state(&self) -> State {
         match state_of(self.state.load(Ordering::SeqCst)) {
+            State::Closed(CloseReason::Bye) if self.starved.load(Ordering::SeqCst) => {
+                State::Closed(CloseReason::Memory)
+            }
             State::Closed(CloseReason::Bye) if self.still.load(Ordering::SeqCst) => {
                 State::Closed(CloseReason::WriteFault)
             }
@@ -226,6 +265,10 @@ impl Flags for PeerFlags {
         self.looked = self.looked.saturating_add(1);
         self.found = self.found.saturating_add(u64::from(due));
         due
+    }
+
+    fn made_at(&self) -> Option<i64> {
+        self.status.made_at()
     }
 
     fn stop(&mut self) {

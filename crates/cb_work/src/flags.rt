@@ -1,7 +1,7 @@
 use crate::traffic::Traffic;
 
 /// The flags of one connection, which other threads set and read: whether a tick is due, and
-/// whether the connection is over. They also count what the connection moved.
+/// whether the connection is over. They also tell when it was made, and count what it moved.
 pub trait Flags: Drop {
     ghost use Rattle.std.specs.Prelude.{◌≡◌, Bool, true, List, ◌++◌, ◌∷◌, []};
 
@@ -16,6 +16,9 @@ pub trait Flags: Drop {
         ensures looks { (answers : List Bool) → looks self.old answers →
             looks self.new (answers ++ result ∷ []) }
         ensures stopped { is_stopped self.new ≡ is_stopped self.old };
+
+    /// The time at which the connection was made, in seconds since 1970, if that was told.
+    fn made_at(&self) -> Option<i64>;
 
     /// Sets the stop flag: the connection is over.
     fn stop(&mut self)

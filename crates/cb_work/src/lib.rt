@@ -13,7 +13,7 @@ mod traffic;
 
 pub use cb_crew::{Given, Work};
 pub use cb_hall::{Badge, Hall};
-pub use cb_io::Sink;
+pub use cb_outgoing::MessageSink;
 pub use cb_peer::Settings;
 pub use cb_reader::Input;
 pub use cb_trace::{Oracle, Trace};

@@ -8,7 +8,7 @@ ghost use Rattle.cb_reader.specs.declared.input.Input.TheVariants as inputs;
 ghost use Rattle.cb_peer_state.specs.Event.{begins, ends_at_once, kind_of};
 ghost use Rattle.cb_peer_state.specs.State.{is_closed};
 ghost use Rattle.cb_trace.specs.Trace.{weight_of};
-ghost use Rattle.cb_work.specs.PeerWork.{HoldsNothing, IsPrimed, IsSamePeer, Serves, ServesNext, ServesOn, WasGiven, WasTicked, is_over, label_of};
+ghost use Rattle.cb_work.specs.PeerWork.{HoldsNothing, IsAtTime, IsPrimed, IsSamePeer, Serves, ServesNext, ServesOn, WasGiven, WasTicked, is_over, label_of};
 
 use crate::carried::{Carried, Rebuilding};
 use crate::flags::Flags;
@@ -17,13 +17,12 @@ use crate::traffic::Traffic;
 use cb_base::Fault;
 use cb_crew::{Given, Work};
 use cb_hall::Badge;
-use cb_io::Sink;
+use cb_outgoing::{MessageSink, Outgoing};
 use cb_peer::{Event, Settings};
 use cb_reader::Input;
 use cb_session::{begin_by, lose_by};
 use cb_state::Connection;
 use cb_trace::{Oracle, Trace};
-use cb_wire::BoundedMessage;
 use std::alloc::Global;
 use std::marker::Model;
 use std::mem;
@@ -34,9 +33,10 @@ use std::sync::Wait;
 /// CTxMemPool; the badge is the connection's permit to ask it.
 ///
 /// A work is made before its connection is. The messages that its session opens with are held back
-/// until the first tick that is due or the first item, and go out before its first question.
+/// until the first tick that is due or the first item, and go out before its first question. Its
+/// `version` tells the time at which the connection is made, if the flags tell that by then.
 #[derive(Drop)]
-pub struct PeerWork<S: Sink + Drop, H: Oracle + Drop, F: Flags> {
+pub struct PeerWork<S: MessageSink + Drop, H: Oracle + Drop, F: Flags> {
     alloc: Global,
     trace: Trace,
     badge: Badge,
@@ -44,13 +44,13 @@ pub struct PeerWork<S: Sink + Drop, H: Oracle + Drop, F: Flags> {
     hall: H,
     flags: F,
     written: u64,
-    unsent: Vec<BoundedMessage>,
+    unsent: Vec<Outgoing>,
     /// How many messages were written that the flags weren't told of yet.
     untold: u64,
     rebuilding: Rebuilding,
 }
 
-impl<S: Sink + Drop, H: Oracle + Drop, F: Flags> Model for PeerWork<S, H, F> {
+impl<S: MessageSink + Drop, H: Oracle + Drop, F: Flags> Model for PeerWork<S, H, F> {
     ghost use Rattle.cb_work.specs.PeerWork.{IsPeerWork, WorkState, work_state};
 
     ghost Value = { WorkState S H F };
@@ -75,7 +75,7 @@ pub struct NotStarted<S: Drop, H: Drop, F: Drop> {
     pub cause: Fault,
 }
 
-impl<S: Sink + Drop, H: Oracle + Drop, F: Flags> PeerWork<S, H, F> {
+impl<S: MessageSink + Drop, H: Oracle + Drop, F: Flags> PeerWork<S, H, F> {
     /// The work of a connection that isn't made yet. Nothing was asked under its badge. The sink is
     /// its peer's slot's, and holds nothing.
     ///
@@ -171,7 +171,7 @@ impl<S: Sink + Drop, H: Oracle + Drop, F: Flags> PeerWork<S, H, F> {
         &self.flags
     }
 
-    /// The number of bytes written; `u64::MAX` if that is more.
+    /// The number of bytes written, as far as the sink tells; `u64::MAX` if that is more.
     pub fn written(&self) -> u64
         ensures { result ≡ self.now.written }
     {
@@ -203,6 +203,44 @@ impl<S: Sink + Drop, H: Oracle + Drop, F: Flags> PeerWork<S, H, F> {
         let ready = self.trace.ready();
         stop_if_over(&self.trace, &mut self.flags);
         ready
+    }
+
+    /// Makes ready for the next event. If that fails, the session is over, and the result is false.
+    fn prepare(&mut self) -> bool
+        requires going { is_over self.old ≡ false }
+        ensures ready { result ≡ true → IsPrimed self.new }
+        ensures closed { result ≡ false → is_over self.new ≡ true }
+        ensures same { IsSamePeer F.looks self.old self.new }
+        ensures serves { ServesOn H.told H.refused S.contents S.has_failed self.old self.new }
+    {
+        self.begin_anew();
+        self.make_room()
+    }
+
+    /// Before its first event, begins the session anew with the time at which the connection was
+    /// made, if its `version` tells another. Want of memory leaves it as it is.
+    fn begin_anew(&mut self)
+        requires going { is_over self.old ≡ false }
+        ensures going { is_over self.new ≡ false }
+        ensures settings { IsAtTime self.old.trace.settings self.new.trace.settings }
+        ensures same { IsSamePeer F.looks self.old self.new }
+        ensures serves { ServesOn H.told H.refused S.contents S.has_failed self.old self.new }
+    {
+        if self.trace.total().entries != 0 {
+            return;
+        }
+        let Some(time) = self.flags.made_at() else {
+            return;
+        };
+        let mut settings = self.trace.settings();
+        if time == settings.time {
+            return;
+        }
+        settings.time = time;
+        if let Ok((trace, unsent)) = Trace::with_seed(self.alloc, settings, self.hall.seed()) {
+            drop(mem::replace(&mut self.trace, trace));
+            drop(mem::replace(&mut self.unsent, unsent));
+        }
     }
 
     /// Gives the session an event that begins something new: input from the peer, or a tick. Writes
@@ -297,7 +335,7 @@ impl<S: Sink + Drop, H: Oracle + Drop, F: Flags> PeerWork<S, H, F> {
     }
 }
 
-impl<S: Sink + Drop, H: Oracle + Drop, F: Flags> Work for PeerWork<S, H, F> {
+impl<S: MessageSink + Drop, H: Oracle + Drop, F: Flags> Work for PeerWork<S, H, F> {
     type Item = Input;
 
     ghost given = { λ work items. WasGiven H.told H.refused S.contents S.has_failed work items };
@@ -326,7 +364,7 @@ impl<S: Sink + Drop, H: Oracle + Drop, F: Flags> Work for PeerWork<S, H, F> {
     }
 
     fn ready(&mut self) -> bool {
-        self.make_room()
+        self.prepare()
     }
 
     fn step<R: Wait>(&mut self, _rt: &R, item: Given<Input>)
@@ -351,7 +389,7 @@ impl<S: Sink + Drop, H: Oracle + Drop, F: Flags> Work for PeerWork<S, H, F> {
         if !self.flags.take_tick() {
             return;
         }
-        if !self.make_room() {
+        if !self.prepare() {
             return;
         }
         let written = self.written;

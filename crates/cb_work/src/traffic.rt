@@ -31,9 +31,9 @@ pub struct Traffic {
     pub messages: u64,
     /// The number of payload bytes of the item, which has left the inbox.
     pub payload: u64,
-    /// The number of bytes written.
+    /// The number of bytes written, as far as the sink told.
     pub written: u64,
-    /// The number of messages written.
+    /// The number of messages written, or taken by a sink that keeps them.
     pub sent: u64,
     /// The block that the step handed to the hall, if it did.
     pub block: Option<Brought>,

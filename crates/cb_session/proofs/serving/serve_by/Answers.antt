@@ -19,7 +19,7 @@ pub returns-clause-served : goal.returns-clause-served
 returns-clause-served g c =
     let from = origin_of c.args.settings c.args.hall.now c.args.badge.now (g.W.Sink.contents c.args.writer.now) (g.W.Sink.has_failed c.args.writer.now) in
     let first = accounts_first g.H.Oracle.told g.H.Oracle.refused (record { none = g.met.H.Oracle.told_none; next = g.met.H.Oracle.told_then; stays = g.met.H.Oracle.full_stays }) c.args.settings c.in_ok-trace.trace c.args.hall.now c.args.badge.now (g.W.Sink.contents c.args.writer.now) (g.W.Sink.has_failed c.args.writer.now)
-    c.as_slice.result.now c.in_ok-trace.ensures.settings c.in_ok-trace.ensures.history (c.as_slice.ensures.value ∙ c.in_ok-trace.ensures.messages) in
+    c.in_ok-trace.messages.items c.in_ok-trace.ensures.settings c.in_ok-trace.ensures.history c.in_ok-trace.ensures.messages in
     let opened = c.send.ensures.accounts from [] [] [] c.args.hall.now c.args.badge.now
     (rw (c.new-conversation.ensures.trace, c.new-conversation.ensures.writer, c.new-conversation.ensures.written)
     (underway_nil g.H.Oracle.told g.H.Oracle.refused from _ [] _ false (record { lost = false; accounts = first.accounts }))) (λ _. refl) (rw c.new-conversation.ensures.writer (λ h. h)) in

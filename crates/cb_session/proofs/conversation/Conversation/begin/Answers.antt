@@ -34,5 +34,4 @@ returns-clause-stands g c =
     λ from inputs s.
     stands_on g.H.Oracle.told g.H.Oracle.refused (record { none = g.met.H.Oracle.told_none; next = g.met.H.Oracle.told_then; stays = g.met.H.Oracle.full_stays }) from c.args.self.now.trace.now c.step-sent.new.self c.args.self.now.hall.now c.args.self.now.badge.now _ _ _ _ inputs _ _ c.args.event _ _ c.requires.going c.requires.begins c.step-sent.ensures (ap texts c.new.ensures.items)
     (λ o before u.
-    c.follow_up.ensures.settled o (inputs ++ input_in c.args.event) (asks_first c.args.self.now.trace.now c.step-sent.new.self _ (s.answered c.requires.going) c.step-sent.ensures.stands) before
-    (rw (c.as_slice.ensures.value, c.as_slice-2.ensures.value) u)) s
+    c.follow_up.ensures.settled o (inputs ++ input_in c.args.event) (asks_first c.args.self.now.trace.now c.step-sent.new.self _ (s.answered c.requires.going) c.step-sent.ensures.stands) before u) s

@@ -32,7 +32,7 @@ loop-next-preserved g c =
           let sent = c.loop-next.invariant.sent from inputs s in
           rw (c.send.ensures.hall, c.send.ensures.badge)
           (c.send.ensures.accounts from inputs [] [] _ _
-          (rw (c.ask-messages.ensures.sink, c.ask-messages.ensures.written, c.as_slice.ensures.value)
+          (rw (c.ask-messages.ensures.sink, c.ask-messages.ensures.written)
           (underway_nil g.H.Oracle.told g.H.Oracle.refused from _ inputs _ false (c.ask-messages.ensures.accounts from inputs _ _ _ (open_whole g.H.Oracle.told g.H.Oracle.refused from _ inputs [] sent going))))
           (λ _. refl)
           (rw c.ask-messages.ensures.sink (open_told g.H.Oracle.told g.H.Oracle.refused from _ inputs [] sent going)));

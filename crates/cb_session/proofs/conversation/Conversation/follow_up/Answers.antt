@@ -16,7 +16,7 @@ returns-then-is_closed-clause-settled g c =
     λ from inputs pends before u.
     rw (c.send.ensures.hall, c.send.ensures.badge)
     (record {
-      sent = c.send.ensures.accounts from inputs (texts c.args.sent.now) [] _ _ u (λ same. not_both _ (ap (λ (t : TraceView). is_closed t.session.state) same ∙ c.requires.going) closed) before;
+      sent = c.send.ensures.accounts from inputs (texts c.args.sent.items) [] _ _ u (λ same. not_both _ (ap (λ (t : TraceView). is_closed t.session.state) same ∙ c.requires.going) closed) before;
       answered = λ going. not_both _ going closed;
     })
 
@@ -42,11 +42,11 @@ pub returns-clause-settled : goal.returns-clause-settled
 returns-clause-settled g c =
     let going = ap is_closed (sym c.state.ensures) ∙ sym c.is_closed.ensures ∙ c.if-is_closed.false in
     λ from inputs pends before u.
-    let first = c.send.ensures.accounts from inputs (texts c.args.sent.now) (texts c.args.sent.now) c.args.self.now.hall.now c.args.self.now.badge.now u (λ _. refl) before in
+    let first = c.send.ensures.accounts from inputs (texts c.args.sent.items) (texts c.args.sent.items) c.args.self.now.hall.now c.args.self.now.badge.now u (λ _. refl) before in
     let between = progress c.send.new.self.trace.now c.args.self.now.hall.now c.args.self.now.badge.now (g.W.Sink.contents c.send.new.self.writer.now) (g.W.Sink.has_failed c.send.new.self.writer.now) c.send.new.self.written in
     let second = c.send-2.ensures.accounts from inputs [] [] c.args.self.now.hall.now c.args.self.now.badge.now
-    (underway_nil g.H.Oracle.told g.H.Oracle.refused from between inputs (texts c.args.sent.now) false (record { lost = false; accounts = open_whole g.H.Oracle.told g.H.Oracle.refused from between inputs (texts c.args.sent.now) first going })) (λ _. refl)
-    (open_told g.H.Oracle.told g.H.Oracle.refused from between inputs (texts c.args.sent.now) first going) in
+    (underway_nil g.H.Oracle.told g.H.Oracle.refused from between inputs (texts c.args.sent.items) false (record { lost = false; accounts = open_whole g.H.Oracle.told g.H.Oracle.refused from between inputs (texts c.args.sent.items) first going })) (λ _. refl)
+    (open_told g.H.Oracle.told g.H.Oracle.refused from between inputs (texts c.args.sent.items) first going) in
     c.converse.ensures.settled from inputs
     (pending_on c.args.self.now.trace.now c.send-2.new.self.trace.now _ (λ h. c.send-2.ensures.kept h ∙ c.send.ensures.kept going) pends)
     (rw (c.send-2.ensures.hall, c.send-2.ensures.badge, c.send.ensures.hall, c.send.ensures.badge) second)

@@ -15,23 +15,23 @@ returns-then-not-take_tick-clause-ticked g c =
     (ap (λ (w : WorkState _ _ _). is_over w) c.self.view_is ∙ c.requires) c.take_tick.ensures.looks
     (λ items ticks s. serves_flags g.H.Oracle.told g.H.Oracle.refused g.S.Sink.contents g.S.Sink.has_failed _ c.take_tick.new.self items ticks s) (each_unset c.take_tick.result _ c.if-not-take_tick.true) t)
 
-pub returns-then-not-make_room-clause-given : goal.returns-then-not-make_room-clause-given
-returns-then-not-make_room-clause-given g c =
-    rw (← c.self.view_is) (λ items given. (given.0, c.make_room.ensures.serves items given.0 (serves_flags g.H.Oracle.told g.H.Oracle.refused g.S.Sink.contents g.S.Sink.has_failed _ c.take_tick.new.self items given.0 given.1)))
+pub returns-then-not-prepare-clause-given : goal.returns-then-not-prepare-clause-given
+returns-then-not-prepare-clause-given g c =
+    rw (← c.self.view_is) (λ items given. (given.0, c.prepare.ensures.serves items given.0 (serves_flags g.H.Oracle.told g.H.Oracle.refused g.S.Sink.contents g.S.Sink.has_failed _ c.take_tick.new.self items given.0 given.1)))
 
-pub returns-then-not-make_room-clause-ticked : goal.returns-then-not-make_room-clause-ticked
-returns-then-not-make_room-clause-ticked g c =
+pub returns-then-not-prepare-clause-ticked : goal.returns-then-not-prepare-clause-ticked
+returns-then-not-prepare-clause-ticked g c =
     rw (← c.self.view_is) (λ items at given t.
     ticked_more g.H.Oracle.told g.H.Oracle.refused g.S.Sink.contents g.S.Sink.has_failed g.F.Flags.looks _ _ at (length items) c.take_tick.result (λ ticks. ticks)
-    (ap (λ (w : WorkState _ _ _). is_over w) c.self.view_is ∙ c.requires) (λ answers looked. c.make_room.ensures.same.looked _ (c.take_tick.ensures.looks answers looked))
-    (λ items ticks s. c.make_room.ensures.serves items ticks (serves_flags g.H.Oracle.told g.H.Oracle.refused g.S.Sink.contents g.S.Sink.has_failed _ c.take_tick.new.self items ticks s))
-    (each_refused c.take_tick.result _ c.if-not-take_tick.false (c.make_room.ensures.closed c.if-not-make_room.true)) t)
+    (ap (λ (w : WorkState _ _ _). is_over w) c.self.view_is ∙ c.requires) (λ answers looked. c.prepare.ensures.same.looked _ (c.take_tick.ensures.looks answers looked))
+    (λ items ticks s. c.prepare.ensures.serves items ticks (serves_flags g.H.Oracle.told g.H.Oracle.refused g.S.Sink.contents g.S.Sink.has_failed _ c.take_tick.new.self items ticks s))
+    (each_refused c.take_tick.result _ c.if-not-take_tick.false (c.prepare.ensures.closed c.if-not-prepare.true)) t)
 
 pub returns-clause-given : goal.returns-clause-given
 returns-clause-given g c =
     rw (← c.self.view_is) (λ items given. (
       given.0 + 1,
-      c.count.ensures.serves _ _ (c.begin.ensures.serves items given.0 (c.make_room.ensures.serves items given.0 (serves_flags g.H.Oracle.told g.H.Oracle.refused g.S.Sink.contents g.S.Sink.has_failed _ c.take_tick.new.self items given.0 given.1))),
+      c.count.ensures.serves _ _ (c.begin.ensures.serves items given.0 (c.prepare.ensures.serves items given.0 (serves_flags g.H.Oracle.told g.H.Oracle.refused g.S.Sink.contents g.S.Sink.has_failed _ c.take_tick.new.self items given.0 given.1))),
     ))
 
 pub returns-clause-ticked : goal.returns-clause-ticked
@@ -39,6 +39,6 @@ returns-clause-ticked g c =
     rw (← c.self.view_is) (λ items at given t.
     ticked_more g.H.Oracle.told g.H.Oracle.refused g.S.Sink.contents g.S.Sink.has_failed g.F.Flags.looks _ _ at (length items) c.take_tick.result (λ ticks. ticks + 1)
     (ap (λ (w : WorkState _ _ _). is_over w) c.self.view_is ∙ c.requires)
-    (λ answers looked. c.count.ensures.same.looked _ (c.begin.ensures.same.looked _ (c.make_room.ensures.same.looked _ (c.take_tick.ensures.looks answers looked))))
-    (λ items ticks s. c.count.ensures.serves _ _ (c.begin.ensures.serves items ticks (c.make_room.ensures.serves items ticks (serves_flags g.H.Oracle.told g.H.Oracle.refused g.S.Sink.contents g.S.Sink.has_failed _ c.take_tick.new.self items ticks s))))
+    (λ answers looked. c.count.ensures.same.looked _ (c.begin.ensures.same.looked _ (c.prepare.ensures.same.looked _ (c.take_tick.ensures.looks answers looked))))
+    (λ items ticks s. c.count.ensures.serves _ _ (c.begin.ensures.serves items ticks (c.prepare.ensures.serves items ticks (serves_flags g.H.Oracle.told g.H.Oracle.refused g.S.Sink.contents g.S.Sink.has_failed _ c.take_tick.new.self items ticks s))))
     (each_given c.take_tick.result _ c.if-not-take_tick.false) t)

@@ -1,6 +1,0 @@
-use Rattle.std.proofs.Common.{arith}
-use Rattle.std.proofs.lemmas.Grind.{common_steps}
-use Rattle.cb_io.proofs.writing.encode_all.Goals as goal
-
-pub loop-message-preserved : goal.loop-message-preserved
-loop-message-preserved c = grind (arith, common_steps)

@@ -1,0 +1,4 @@
+pub mod MessageQueue
+pub mod Outgoing
+pub mod Room
+pub mod Writing

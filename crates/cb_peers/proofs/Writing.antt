@@ -1,0 +1,36 @@
+-- What writes append to the known bytes of a writer.
+use Rattle.std.proofs.Common.{◌≡◌, ℕ, ◌-◌, List, [], ◌∷◌, ◌++◌, length, take, drop, Option, None, Result, Ok, Err, OnErr, refl, sym, ap, ◌∙◌, subst, append_assoc, take-append-drop}
+use Rattle.std.proofs.lemmas.List.{take_rest, take_at}
+use Rattle.std.proofs.lemmas.Grind.{flat_map-append}
+use Rattle.std.proofs.lemmas.List.{append-nil}
+use Rattle.std.specs.Io.KnownBytes.{Appends}
+use Rattle.cb_wire.specs.Envelope.{text}
+use Rattle.cb_wire.specs.Stream.{texts}
+use Rattle.cb_wire.specs.declared.message.Message.{Message}
+use Rattle.cb_outgoing.specs.Writing.{Wrote}
+
+-- Of a list some are gone and the rest is left; so it is after more of the rest are gone.
+pub gone_more : (all done rest : List ℕ) (n : ℕ) → all ≡ done ++ rest → all ≡ (done ++ take n rest) ++ take (length rest - n) (drop n rest)
+gone_more all done rest n e =
+    e ∙ ap (λ l. done ++ l) (sym (take-append-drop n rest)) ∙ sym (append_assoc done (take n rest) (drop n rest)) ∙ ap (λ l. (done ++ take n rest) ++ l) (sym (take_rest rest n))
+
+-- What is gone is a beginning.
+pub gone_part : (a b : Option (List ℕ)) (all done rest : List ℕ) → all ≡ done ++ rest → Appends a b done → (n : ℕ) × Appends a b (take n all)
+gone_part a b all done rest e appended =
+    let first : take (length done) all ≡ done = ap (take (length done)) e ∙ take_at done rest (length done) refl in
+    (length done, subst (Appends a b) (sym first) appended)
+
+-- What holds anyway holds after an error.
+pub on_err : {T E : Type 0} (r : Result T E) (P : Type 0) → P → OnErr r P
+on_err (Ok x) P p = tt
+on_err (Err e) P p = p
+
+-- One message more was spelled behind others.
+pub texts_more : (before after : List ℕ) (first : Message) (more : List Message) (message : Message) → before ≡ texts (first ∷ more) → after ≡ before ++ text message → after ≡ texts (first ∷ (more ++ message ∷ []))
+texts_more before after first more message spelled behind =
+    behind ∙ ap (λ (x : List ℕ). x ++ text message) spelled
+    ∙ sym (flat_map-append text (first ∷ more) (message ∷ []) ∙ ap (λ (x : List ℕ). texts (first ∷ more) ++ x) (append-nil (text message)))
+
+-- A sink that tells no bytes took a text.
+pub wrote_untold : (text : List ℕ) (written : ℕ) → Wrote None None text written []
+wrote_untold text written = record { sent = text; parts = sym (append-nil text); appended = tt; count = λ tells. absurd tells }

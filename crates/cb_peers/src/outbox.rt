@@ -1,0 +1,375 @@
+//! The outbox of a connection: the messages that its session sent and its socket hasn't taken yet,
+//! and how a thread spells and writes them. So a peer that reads slowly, or not at all, holds no
+//! handler up, and no more than one message is spelled for it at a time.
+ghost use Rattle.std.specs.Prelude.{◌≡◌, ◌↔◌, ◌+◌, ◌∷◌, ◌++◌, ◌<◌, ◌≤◌, ℕ, List, length, take, IfOk, IsErr, IsOk, IsOkUnless, OnErr, OnOk};
+ghost use Rattle.cb_base.specs.declared.fault.Fault.TheVariants.{Memory};
+ghost use Rattle.std.specs.Io.KnownBytes.{Appends, WriteAppends};
+ghost use Rattle.cb_wire.specs.Envelope.{text};
+ghost use Rattle.cb_wire.specs.Stream.{texts};
+ghost use Rattle.cb_wire.specs.declared.message.Message.{Message};
+
+use cb_base::{Fault, Shared};
+use cb_outgoing::{MESSAGE, MessageQueue, Outgoing, QueueFault, Room, Waiting};
+use cb_service::Sleeper;
+use cb_work::ConnectionStatus;
+use std::alloc::Global;
+use std::io::{ErrorKind, Write};
+use std::net::OpenStream;
+use std::sync::atomic::{AtomicBool, AtomicU64, Ordering};
+use std::sync::{Mutex, Wait};
+use std::time::Duration;
+
+/// So many writes in a row that took nothing are as long as a socket may be still. Each of them
+/// waits for so small a part of that time.
+const STILL_WRITES: u32 = 30;
+
+/// How many milliseconds a socket may be still that has no write timeout.
+const STILL_MILLIS: u64 = 30_000;
+
+/// Small messages are spelled together, up to so many bytes, and so many at most.
+const PIECE: usize = 65_536;
+
+const MOST_TOGETHER: u32 = 1_000;
+
+/// No message needs more room: none keeps more bytes for itself than its payload has, which are
+/// 4,000,000 at most.
+const MOST_NEEDED: u64 = 4_000_200;
+
+/// Why a thread writes no more to a socket.
+#[derive(Clone, Copy, Debug, PartialEq, Eq)]
+pub enum WriterEnd {
+    /// The outbox was closed, and what waited was written, or the socket took no more of it.
+    Closed,
+    /// The socket took nothing for as long as it may be still.
+    Still,
+    /// A write failed.
+    Failed,
+    /// Memory ran out for a message that was to be spelled.
+    Memory,
+}
+
+/// What waits to be written to a connection's socket. One thread writes it.
+///
+/// Nothing is taken before the outbox is opened, nor after it was closed, after a message that had
+/// no room, and after a failed write.
+#[derive(Drop)]
+pub struct Outbox {
+    alloc: Global,
+    queue: Mutex<MessageQueue>,
+    /// The room of all outboxes of the node. Whoever holds the queue's lock may take this one.
+    room: Shared<Mutex<Room>>,
+    /// Whether a thread was started that writes.
+    started: AtomicBool,
+    /// Where the thread that writes waits for messages.
+    writer: Sleeper,
+    /// 1 once the thread that writes is about to return.
+    done: AtomicU64,
+}
+
+/// What a thread that writes is to do next.
+#[derive(Drop)]
+enum Due {
+    /// It writes this message.
+    Message(Outgoing),
+    /// It waits for what comes.
+    Rest,
+    /// It writes no more.
+    End,
+}
+
+impl Outbox {
+    /// An outbox that isn't open yet. Fails only with `Fault::Memory`.
+    pub fn new(alloc: Global, room: Shared<Mutex<Room>>) -> Result<Outbox, Fault>
+        ensures { IsOkUnless result Memory }
+    {
+        Ok(Outbox {
+            alloc,
+            queue: Mutex::new(MessageQueue::new(alloc)),
+            room,
+            started: AtomicBool::new(false),
+            writer: Sleeper::new(alloc)?,
+            done: AtomicU64::new(0),
+        })
+    }
+
+    /// Takes messages from now on. A thread has to be started that writes them, and no other one
+    /// may be writing.
+    pub fn open<R: Wait>(&self, rt: &R) {
+        self.done.store(0, Ordering::SeqCst);
+        self.started.store(true, Ordering::SeqCst);
+        self.queue.lock(rt).open();
+    }
+
+    /// No thread could be started: it is as if it had never been opened.
+    pub fn cancel<R: Wait>(&self, rt: &R) {
+        self.clear(rt);
+        self.started.store(false, Ordering::SeqCst);
+    }
+
+    /// Takes no further messages. What waits is still written, while the socket takes it.
+    pub fn close<R: Wait>(&self, rt: &R) {
+        self.queue.lock(rt).close();
+        self.writer.wake();
+    }
+
+    /// Whether no thread writes any more.
+    pub fn is_done(&self) -> bool {
+        !self.started.load(Ordering::SeqCst) || self.done.load(Ordering::SeqCst) > 0
+    }
+
+    /// Waits until no thread writes any more. It must be closed.
+    pub fn wait<R: Wait>(&self, rt: &R) {
+        for _ in rt.forever() {
+            if self.is_done() {
+                return;
+            }
+            self.done.park(rt, 0);
+        }
+    }
+
+    /// Waits until no thread writes any more, for so many times so long at most. Returns how many
+    /// times are left. It must be closed.
+    pub fn wait_for<R: Wait>(&self, rt: &R, times: u32, time: Duration) -> u32
+        ensures { result ≤ times }
+    {
+        for waited in 0..times {
+            if self.is_done() {
+                return times - waited;
+            }
+            self.done.park_timeout(rt, 0, time);
+        }
+        0
+    }
+
+    /// Takes a message. Fails if the outbox isn't open, if the message has no room in it or in the
+    /// node's outboxes, or if memory runs out.
+    pub fn push<R: Wait>(&self, rt: &R, message: Outgoing) -> Result<(), QueueFault> {
+        let own = message.own_bytes();
+        let put = self.put(rt, Waiting { message, own });
+        self.writer.wake();
+        put
+    }
+
+    /// Puts a message into the queue, and takes its room.
+    fn put<R: Wait>(&self, rt: &R, one: Waiting) -> Result<(), QueueFault> {
+        let needed = one.own.saturating_add(MESSAGE);
+        let mut queue = self.queue.lock(rt);
+        if !self.take_room(rt, queue.held(), needed) {
+            queue.close();
+            drop(one);
+            return Err(QueueFault::Full);
+        }
+        let put = queue.put(one);
+        if put.is_err() {
+            self.room.lock(rt).give(needed);
+        }
+        put
+    }
+
+    /// Takes room for so many bytes more in an outbox that holds so many. Returns whether there is
+    /// so much.
+    fn take_room<R: Wait>(&self, rt: &R, held: u64, more: u64) -> bool
+        requires { held ≤ 28000000 }
+    {
+        more <= MOST_NEEDED && self.room.lock(rt).take(held, more)
+    }
+
+    /// Drops what waits, and gives its room back. Takes no further messages.
+    fn clear<R: Wait>(&self, rt: &R) {
+        let mut queue = self.queue.lock(rt);
+        let held = queue.held();
+        queue.clear();
+        self.room.lock(rt).give(held);
+    }
+
+    /// Writes what comes to a stream by its writer, until the outbox was closed and nothing waits,
+    /// or the stream takes nothing more. The stream's write timeout is how long it may be still.
+    /// What is written is counted. Afterwards the outbox is closed.
+    pub fn write_to<R: Wait, S: OpenStream, W: Write>(
+        &self,
+        rt: &R,
+        stream: &S,
+        writer: &mut W,
+        status: &ConnectionStatus,
+    ) -> WriterEnd {
+        let mut pace = Pace::new(stream);
+        for _ in rt.forever() {
+            let end = match self.due(rt) {
+                Due::Message(message) => {
+                    match self.write_from(rt, message, writer, &mut pace, status) {
+                        Ok(()) => continue,
+                        Err(end) => end,
+                    }
+                }
+                Due::Rest => {
+                    self.writer.sleep(rt);
+                    continue;
+                }
+                Due::End => WriterEnd::Closed,
+            };
+            self.close(rt);
+            return end;
+        }
+        unreachable!()
+    }
+
+    /// The thread that writes is about to return. What waits is dropped.
+    pub fn finish<R: Wait>(&self, rt: &R) {
+        self.clear(rt);
+        self.done.store(1, Ordering::SeqCst);
+        self.done.wake_all();
+    }
+
+    /// What is due. A message is taken off.
+    fn due<R: Wait>(&self, rt: &R) -> Due {
+        let mut queue = self.queue.lock(rt);
+        match self.take(rt, &mut queue) {
+            Some(message) => Due::Message(message),
+            None if queue.is_open() => Due::Rest,
+            None => Due::End,
+        }
+    }
+
+    /// Takes the first message off, and gives its room back.
+    fn take<R: Wait>(&self, rt: &R, queue: &mut MessageQueue) -> Option<Outgoing> {
+        let one = queue.take()?;
+        self.room.lock(rt).give(one.own.saturating_add(MESSAGE));
+        Some(one.message)
+    }
+
+    /// Spells a message, and small ones behind it, and writes them.
+    fn write_from<R: Wait, W: Write>(
+        &self,
+        rt: &R,
+        first: Outgoing,
+        writer: &mut W,
+        pace: &mut Pace,
+        status: &ConnectionStatus,
+    ) -> Result<(), WriterEnd> {
+        let text = self.spell_from(rt, first)?;
+        self.write_piece(rt, writer, text.as_slice(), pace, status)
+    }
+
+    /// The text of a message, and of those behind it while it is short.
+    fn spell_from<R: Wait>(&self, rt: &R, first: Outgoing) -> Result<Vec<u8>, WriterEnd>
+        ensures { IfOk result (λ spelled. (more : List Message)
+            × (spelled.items ≡ texts (first ∷ more))) }
+    {
+        let mut spelled = Vec::new(self.alloc);
+        spell(self.alloc, &mut spelled, first)?;
+        for _ in 1..MOST_TOGETHER {
+            if spelled.len() >= PIECE {
+                break;
+            }
+            let Some(message) = self.next(rt) else {
+                break;
+            };
+            spell(self.alloc, &mut spelled, message)?;
+        }
+        Ok(spelled)
+    }
+
+    /// The first message that waits, taken off; `None` if none does.
+    fn next<R: Wait>(&self, rt: &R) -> Option<Outgoing> {
+        let mut queue = self.queue.lock(rt);
+        self.take(rt, &mut queue)
+    }
+
+    /// Writes all of a piece, in as many writes as it needs. Otherwise a beginning of it was
+    /// written.
+    fn write_piece<R: Wait, W: Write>(
+        &self,
+        rt: &R,
+        writer: &mut W,
+        piece: &[u8],
+        pace: &mut Pace,
+        status: &ConnectionStatus,
+    ) -> Result<(), WriterEnd>
+        ensures whole { OnOk result
+            (Appends (W.contents writer.old) (W.contents writer.new) piece.now) }
+        ensures part { OnErr result ((taken : ℕ)
+            × Appends (W.contents writer.old) (W.contents writer.new) (take taken piece.now)) }
+    {
+        let mut rest = piece;
+        for _ in rt.forever() {
+            if rest.is_empty() {
+                return Ok(());
+            }
+            let taken = write_once(writer, rest)?;
+            status.add_written(taken as u64);
+            let is_open = self.queue.lock(rt).is_open();
+            pace.note(taken, is_open)?;
+            rest = &rest[taken..];
+        }
+        unreachable!()
+    }
+}
+
+/// What a thread that writes remembers of its writes.
+#[derive(Drop)]
+struct Pace {
+    /// How many writes in a row took nothing.
+    still: u32,
+}
+
+impl Pace {
+    /// No write was made to this stream yet. Each waits for a part of the stream's write timeout.
+    fn new<S: OpenStream>(stream: &S) -> Pace
+        ensures { result.still ≡ 0 }
+    {
+        let whole = match stream.write_timeout() {
+            Ok(Some(timeout)) => timeout,
+            Ok(None) | Err(_) => Duration::from_millis(STILL_MILLIS),
+        };
+        let _ = stream.set_write_timeout(whole.checked_div(STILL_WRITES));
+        Pace { still: 0 }
+    }
+
+    /// A write took so many bytes. Fails if as many in a row took nothing as may be.
+    fn note(&mut self, taken: usize, is_open: bool) -> Result<(), WriterEnd>
+        ensures moved { 0 < taken → (self.new.still ≡ 0) × IsOk result }
+        ensures still { taken ≡ 0 → (IsErr result ↔ (30 ≤ self.old.still + 1)) }
+        ensures counted { taken ≡ 0 → IsOk result → self.new.still ≡ self.old.still + 1 }
+    {
+        if taken > 0 {
+            self.still = 0;
+            return Ok(());
+        }
+        self.still = self.still.saturating_add(1);
+        if self.still < STILL_WRITES {
+            Ok(())
+        } else if is_open {
+            Err(WriterEnd::Still)
+        } else {
+            Err(WriterEnd::Closed)
+        }
+    }
+}
+
+/// Writes from the start of a piece that isn't empty. Returns how many bytes were taken: none if
+/// the writer waited in vain. Fails if a write fails.
+fn write_once<W: Write>(writer: &mut W, piece: &[u8]) -> Result<usize, WriterEnd>
+    ensures most { IfOk result (λ taken. taken ≤ length piece.now) }
+    ensures bytes { WriteAppends (W.contents writer.old) (W.contents writer.new) result piece.now }
+{
+    match writer.write(piece) {
+        Ok(0) => Err(WriterEnd::Failed),
+        Ok(taken) => Ok(taken),
+        Err(error) => match error.kind() {
+            ErrorKind::WouldBlock | ErrorKind::Interrupted => Ok(0),
+            _ => Err(WriterEnd::Failed),
+        },
+    }
+}
+
+/// Spells a message behind what was spelled, and lets it go.
+fn spell(alloc: Global, spelled: &mut Vec<u8>, message: Outgoing) -> Result<(), WriterEnd>
+    ensures { OnOk result (spelled.new.items ≡ spelled.old.items ++ text message) }
+{
+    let done = message.spell(alloc, spelled);
+    drop(message);
+    match done {
+        Ok(()) => Ok(()),
+        Err(_) => Err(WriterEnd::Memory),
+    }
+}
