@@ -1,7 +1,9 @@
 ghost use Rattle.std.specs.Prelude.{◌≡◌, ◌+◌, ℕ, Bool, false, ◌<◌, ◌≤◌, [], ◌∷◌, ◌++◌, length, set, slice_get, vec_len, vec_capacity, List, None, Some, option_map, option_copied, IfOk, IfSome, IsOk, IsOkUnless, IsSome, OnOk};
+ghost use Rattle.std.specs.HashMap.{spare};
+ghost use Rattle.std.specs.Map.{lookup};
 ghost use Rattle.cb_base.specs.declared.fault.Fault.TheVariants.{Memory};
 ghost use Rattle.cb_chain.specs.Calls.{marked_above};
-ghost use Rattle.cb_chain.specs.Entries.{entry_of, height_of};
+ghost use Rattle.cb_chain.specs.Entries.{entry_of, height_of, same};
 ghost use Rattle.cb_chain.specs.Keeping.{AreLinked, AreLinks, IsFirst, IsMarked, IsNode, IsTree, block_at, entry_from, marked_nodes, place_of, tree_of};
 ghost use Rattle.cb_chain.specs.Sides.{record_at};
 ghost use Rattle.cb_chain.specs.Marking.{Node, mark_at, marks_of, node_of};
@@ -186,14 +188,15 @@ impl Tree {
         ensures room { OnOk result (count ≤ self.new.room) }
         ensures memory { IsOkUnless result Memory }
     {
-        self.marks.reserve(count)?;
-        self.nodes.reserve(count)?;
-        self.newest.reserve(count)?;
-        self.elder.reserve(count)?;
-        self.undos.reserve(count)?;
-        self.found.reserve(self.marks.len() + count)?;
-        self.places.reserve(count)?;
-        Ok(())
+        reserve_lists(
+            &mut self.marks,
+            &mut self.newest,
+            &mut self.elder,
+            &mut self.undos,
+            &mut self.found,
+            count,
+        )?;
+        reserve_nodes(&mut self.nodes, &mut self.places, count)
     }
 
     /// Adds a node with its mark, and with its undo record if its block is connected. There must be
@@ -259,6 +262,54 @@ impl Tree {
             found,
         })
     }
+}
+
+/// Reserves room for `count` more items in each of a tree's lists, and for the places of all its
+/// nodes in `found`. Fails only with `Fault::Memory`; the items are unchanged in every case.
+fn reserve_lists(
+    marks: &mut Vec<bool>,
+    newest: &mut Vec<usize>,
+    elder: &mut Vec<usize>,
+    undos: &mut Vec<Option<Undo>>,
+    found: &mut Vec<usize>,
+    count: usize,
+) -> Result<(), Fault>
+    ensures marks { marks.new.items ≡ marks.old.items }
+    ensures newest { newest.new.items ≡ newest.old.items }
+    ensures elder { elder.new.items ≡ elder.old.items }
+    ensures undos { undos.new.items ≡ undos.old.items }
+    ensures found { vec_capacity found.old ≤ vec_capacity found.new }
+    ensures marks_room { OnOk result (vec_len marks.new + count ≤ vec_capacity marks.new) }
+    ensures newest_room { OnOk result (vec_len newest.new + count ≤ vec_capacity newest.new) }
+    ensures elder_room { OnOk result (vec_len elder.new + count ≤ vec_capacity elder.new) }
+    ensures undos_room { OnOk result (vec_len undos.new + count ≤ vec_capacity undos.new) }
+    ensures found_room { OnOk result (vec_len marks.new + count ≤ vec_capacity found.new) }
+    ensures memory { IsOkUnless result Memory }
+{
+    marks.reserve(count)?;
+    newest.reserve(count)?;
+    elder.reserve(count)?;
+    undos.reserve(count)?;
+    found.reserve(marks.len() + count)?;
+    Ok(())
+}
+
+/// Reserves room for `count` more nodes and their places. Fails only with `Fault::Memory`; both are
+/// unchanged in every case.
+fn reserve_nodes(
+    nodes: &mut NodeList,
+    places: &mut HashMap<Hash256, usize, Seed>,
+    count: usize,
+) -> Result<(), Fault>
+    ensures nodes { nodes.new.nodes ≡ nodes.old.nodes }
+    ensures places { (hash : Hash256) → lookup (same hash) places.new.entries ≡ lookup (same hash) places.old.entries }
+    ensures nodes_room { OnOk result (count ≤ nodes.new.room) }
+    ensures places_room { OnOk result (count ≤ spare places.new) }
+    ensures memory { IsOkUnless result Memory }
+{
+    nodes.reserve(count)?;
+    places.reserve(count)?;
+    Ok(())
 }
 
 /// If the node's block is kept, makes it the newest on its parent. Returns the place of the one
