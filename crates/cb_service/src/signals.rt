@@ -10,28 +10,39 @@ use std::sync::atomic::{AtomicBool, AtomicU64, Ordering};
 /// How many handlers a crew has at most.
 const MOST_HANDLERS: u64 = 16;
 
+/// In `Signals::resting` the bit of a handler that sleeps lies so many places above the one of a
+/// handler that lies down.
+const ASLEEP: u32 = 16;
+
 /// How the threads of a crew wait for each other. A handler sleeps while nothing is queued, and a
 /// reader while its inbox is full. No thread spins, and no sleep ends by itself.
 ///
-/// Who queues a mark or makes a tick due (1) does that, (2) loads `lying`, and (3) wakes each handler
-/// whose bit it saw. A handler that finds nothing to do (a) sets its bit, and then does by turns two
-/// things: (b) it makes as many turns as there are desks, and (c) it sleeps, unless it was woken since
-/// its last sleep. (d) It clears its bit once a turn served something.
+/// Who queues a mark or makes a tick due (1) does that, (2) loads `resting`, and (3) wakes each handler
+/// that it saw lie awake, and the first of those that it saw sleep whose bit of sleep it clears itself.
+/// So what is queued wakes one sleeper, however many there are. A handler that finds nothing to do
+/// (a) sets its first bit, and then does by turns two things: (b) it makes as many turns as there are
+/// desks, and (c) it sets its bit of sleep, sleeps, unless it was woken since its last sleep, and clears
+/// that bit. (d) It clears its first bit once a turn served something.
 ///
 /// No wake-up is lost: some turn claims the mark's desk after (1), before all handlers sleep. All
 /// these loads and stores, the ring's and the inboxes' are in one order (`SeqCst`).
 ///
-/// - A handler whose bit (2) saw is woken by (3). So it begins a (b) again before a sleep of it
-///   lasts. One whose bit (2) didn't see passes (a) after (2). So each handler makes all turns of a
+/// - A handler that (2) saw lie awake is woken by (3), so it begins a (b) again before a sleep of it
+///   lasts. One that (2) saw do neither passes (a) after (2). So each of these makes all turns of a
 ///   (b) after (1) before it sleeps for good.
+/// - If (2) saw some sleep, one of them begins a (b) after (2): the one whose bit (3) cleared, since
+///   (3) wakes it. If (3) cleared none, they were cleared since (2), by the handlers as they woke, or by
+///   others who wake them.
 /// - If the desk lies in the ring as such a (b) begins, a turn of it or of another handler claims
 ///   the desk: each claim moves it forward by a place, and none fails while it lies there.
-/// - If a handler holds the desk as (1) happens, that one gives it back before its own (b) begins.
+/// - If a handler holds the desk as (1) happens, it gives it back before it sleeps. Either that is
+///   before (2), so before each such (b) begins; or (2) saw it lie awake or do neither, and its own (b)
+///   begins afterwards.
 #[derive(Drop)]
 pub struct Signals {
     stopped: AtomicBool,
-    /// A bit for each handler that lies down or sleeps.
-    lying: AtomicU64,
+    /// A bit for each handler that lies down, and one more while it sleeps.
+    resting: AtomicU64,
     /// How many handlers have asked for a bed.
     beds: AtomicU64,
     /// Where each handler sleeps.
@@ -44,7 +55,7 @@ pub struct Signals {
 #[derive(Clone, Copy)]
 pub(crate) struct Bed {
     number: usize,
-    /// Its bit in `Signals::lying`.
+    /// Its first bit in `Signals::resting`.
     bit: u64,
 }
 
@@ -55,7 +66,7 @@ impl Signals {
     {
         Ok(Signals {
             stopped: AtomicBool::new(false),
-            lying: AtomicU64::new(0),
+            resting: AtomicU64::new(0),
             beds: AtomicU64::new(0),
             handlers: sleepers(alloc, handlers)?,
             readers: sleepers(alloc, peers)?,
@@ -74,19 +85,32 @@ impl Signals {
         self.stopped.load(Ordering::SeqCst)
     }
 
-    /// Wakes the handlers that lie down or sleep, after something was queued or a tick is due.
-    /// While all handlers work it looks at one number, and writes none.
+    /// Wakes a handler that sleeps, after something was queued or a tick is due, and has those look
+    /// again that lie awake. While all handlers work it looks at one number, and writes none.
     pub fn ring(&self) {
-        let mut lying = self.lying.load(Ordering::SeqCst);
-        if lying == 0 {
+        let resting = self.resting.load(Ordering::SeqCst);
+        if resting == 0 {
             return;
         }
+        let mut bit = 1;
+        let mut has_roused = false;
         for handler in self.handlers.as_slice() {
-            if lying % 2 == 1 {
+            if resting & (bit << ASLEEP) != 0 {
+                if !has_roused && self.clear_asleep(bit) {
+                    handler.wake();
+                    has_roused = true;
+                }
+            } else if resting & bit != 0 {
                 handler.wake();
             }
-            lying /= 2;
+            bit <<= 1;
         }
+    }
+
+    /// Clears the bit of sleep of the handler with this first bit. Returns whether it was set.
+    fn clear_asleep(&self, bit: u64) -> bool {
+        let asleep = bit << ASLEEP;
+        self.resting.fetch_and(!asleep, Ordering::SeqCst) & asleep != 0
     }
 
     /// A bed for one more handler; `None` if all were given out.
@@ -103,19 +127,21 @@ impl Signals {
 
     /// A handler lies down.
     pub(crate) fn lie_down(&self, bed: Bed) {
-        self.lying.fetch_or(bed.bit, Ordering::SeqCst);
+        self.resting.fetch_or(bed.bit, Ordering::SeqCst);
     }
 
     /// A handler that lay down gets up.
     pub(crate) fn get_up(&self, bed: Bed) {
-        self.lying.fetch_and(!bed.bit, Ordering::SeqCst);
+        self.resting.fetch_and(!bed.bit, Ordering::SeqCst);
     }
 
     /// A handler that lay down sleeps until it is woken. It doesn't sleep if it was woken since its
     /// last sleep.
     pub(crate) fn sleep<R: Wait>(&self, rt: &R, bed: Bed) {
         if let Some(handler) = self.handlers.get(bed.number) {
+            self.resting.fetch_or(bed.bit << ASLEEP, Ordering::SeqCst);
             handler.sleep(rt);
+            self.clear_asleep(bed.bit);
         }
     }
 
