@@ -15,9 +15,10 @@ use Rattle.cb_crew.specs.Crew.{AreHandlersOf, AreSidesOf, CrewState, HasPlace, i
 use Rattle.cb_service.specs.declared.promises.OfCrew.{OfCrew}
 use Rattle.cb_service.specs.Service.{HandBack}
 use Rattle.cb_slots.specs.declared.fault.NodeFault.{NodeFault}
-use Rattle.cb_slots.specs.Choosing.{IsLowest}
+use Rattle.cb_slots.specs.declared.fault.NodeFault.TheVariants.{NoSlot}
+use Rattle.cb_slots.specs.Choosing.{HasNone, IsChosen, IsLowest}
 use Rattle.cb_slots.specs.Slot.{AreAlike, AreAlikeBut, AreSlotsOf, AreThreadsOf, IsInboxOf, IsNew, SlotState, WaitsAt, attached, inboxes_of, names_in, new_slot, uses_of}
-use Rattle.cb_node.specs.Node.{NodeState, node_state, with_used}
+use Rattle.cb_node.specs.Node.{IsServed, NodeState, end_of, first_of as first_slot, node_state, with_used}
 
 -- ---- one slot changes
 
@@ -47,6 +48,12 @@ alike_set old new n d s is inbox used = record {
   inboxes = ap inboxes_of is ∙ map-set (λ (t : SlotState). t.inbox) old n s ∙ ap (λ i. set (inboxes_of old) n i) inbox ∙ sym (map-set (λ (t : SlotState). t.inbox) old n (get_or old n d)) ∙ ap inboxes_of (set-get_or old n d);
   uses = ap uses_of is ∙ map-set (λ (t : SlotState). t.used) old n s ∙ ap (λ u. set (uses_of old) n u) used ∙ sym (map-set (λ (t : SlotState). t.used) old n (get_or old n d)) ∙ ap uses_of (set-get_or old n d);
 }
+
+-- and so on from slots that are alike already
+pub alike_then : (old mid new : List SlotState) (n : ℕ) (d s : SlotState) → AreAlike old mid → new ≡ set mid n s → s.inbox ≡ (get_or mid n d).inbox → s.used ≡ (get_or mid n d).used → AreAlike old new
+alike_then old mid new n d s alike is inbox used =
+    let step = alike_set mid new n d s is inbox used in
+    record { inboxes = step.inboxes ∙ alike.inboxes; uses = step.uses ∙ alike.uses }
 
 -- or it got one
 pub attached_set : (old mid new : List SlotState) (n : ℕ) (d : SlotState) → AreAlike old mid → new ≡ set mid n (attached (get_or mid n d)) → AreAlikeBut n old new
@@ -97,6 +104,36 @@ pub same_then : (crew : CrewState) (inbound : ℕ) (listens : Option SocketAddr)
 same_then crew inbound listens old new node is alike =
     let here : node_state crew inbound listens new ≡ node_state crew inbound listens old = ap (seen crew inbound listens) alike.uses in
     here ∙ is
+
+-- each slot of a kind had a socket
+pub none_of : (kind : Bool) (node : NodeState) (used : List Bool) (first end : ℕ) → used ≡ node.used → first ≡ first_slot kind node → end ≡ end_of kind node → HasNone used false first end
+    → HasNone node.used false (first_slot kind node) (end_of kind node)
+none_of kind node used first end is from to none =
+    subst (λ k. HasNone node.used false k (end_of kind node)) from (subst (λ k. HasNone node.used false first k) to (subst (λ us. HasNone us false first end) is none))
+
+-- what a node answers whose slots served a connection by one of them, or refused it
+pub served : (kind : Bool) (crew : CrewState) (inbound : ℕ) (listens : Option SocketAddr) (old new : List SlotState) (first end : ℕ) (node : NodeState) (result : Result ℕ NodeFault)
+    → node_state crew inbound listens old ≡ node → first ≡ first_slot kind node → end ≡ end_of kind node
+    → IfOk result (IsChosen (uses_of old) first end) → IfOk result (λ n. AreAlikeBut n old new) → OnErr result (AreAlike old new) → (result ≡ Err NoSlot → HasNone (uses_of old) false first end)
+    → IsServed kind node (node_state crew inbound listens new) result
+served kind crew inbound listens old new first end node (Ok n) is from to chosen but alike none =
+    let used : uses_of old ≡ node.used = ap (λ (k : NodeState). k.used) is in
+    let here : IsChosen node.used first end n = subst (λ us. IsChosen us first end n) used chosen in
+    record {
+      chosen = subst (λ k. IsChosen node.used k (end_of kind node) n) from (subst (λ k. IsChosen node.used first k n) to here);
+      ok = used_then crew inbound listens old new n node is but;
+      err = tt;
+      no_slot = λ no. absurd (let same : Ok n ≡ Err NoSlot = no in cc);
+    }
+served kind crew inbound listens old new first end node (Err fault) is from to chosen but alike none =
+    let used : uses_of old ≡ node.used = ap (λ (k : NodeState). k.used) is in
+    record {
+      chosen = tt;
+      ok = tt;
+      err = same_then crew inbound listens old new node is alike;
+      no_slot = λ no.
+          subst (λ k. HasNone node.used false k (end_of kind node)) from (subst (λ k. HasNone node.used false first k) to (subst (λ us. HasNone us false first end) used (none no)));
+    }
 
 -- ---- a node that starts
 

@@ -1,97 +1,99 @@
-ghost use Rattle.std.specs.Prelude.{◌≡◌, [], None, IfErr, IfOk};
+//! What is made for a connection before it has a socket.
+ghost use Rattle.std.specs.Prelude.{◌≡◌, [], None, length, All, IfErr, IfOk};
 ghost use Rattle.cb_work.specs.Flags.{HasLooked};
 ghost use Rattle.cb_slots.specs.Slot.{IsNew};
+ghost use Rattle.cb_node.specs.Node.{session_settings};
 
+use crate::serving::Service;
+use crate::settings::session_settings;
 use cb_base::{Fault, Shared};
 use cb_crew::Fresh;
-use cb_hall::{Badge, Hall};
-use cb_peer::Settings;
+use cb_hall::Badge;
 use cb_peers::{Link, OutboxSink};
+use cb_slots::Next;
 use cb_state::Connection;
 use cb_work::{NotStarted, Outlet, PeerFlags, PeerWork, SharedHall};
-use std::alloc::{AllocError, Global};
 use std::marker::Copy;
-use std::sync::{Mutex, Wait};
+use std::sync::Wait;
 
 /// What serves a connection of a node.
 pub type NodeWork<R> = PeerWork<OutboxSink<R>, SharedHall<R>, PeerFlags>;
 
-/// A badge under which no work could be made.
-#[derive(Drop)]
-pub struct NotReady {
-    /// The badge.
-    pub badge: Badge,
-    /// `Fault::Memory`.
-    pub cause: Fault,
-}
-
-/// What a session writes to, asks, and tells.
+/// What a session writes to, asks, and tells, and what it shares with the node.
 #[derive(Drop)]
 struct Ends<R: Wait + Drop> {
     outlet: Outlet<OutboxSink<R>>,
     hall: SharedHall<R>,
     flags: PeerFlags,
+    link: Shared<Link>,
 }
 
-/// The ends of this connection's session. Fails only for lack of memory.
-fn ends_of<R: Wait + Copy + Drop>(
-    rt: R,
-    connection: Connection,
-    link: &Shared<Link>,
-    hall: &Shared<Mutex<Hall>>,
-) -> Result<Ends<R>, AllocError>
-    ensures slot { IfOk result (λ ends. ends.outlet.slot ≡ connection.peer) }
-    ensures sink { IfOk result (λ ends. ends.outlet.sink.failure ≡ None) }
-    ensures flags { IfOk result (λ ends. HasLooked ends.flags.looked ends.flags.found []) }
-{
-    let (one, status, hall) = (link.clone()?, link.status.clone()?, hall.clone()?);
-    Ok(Ends {
-        outlet: Outlet::new(connection.peer, OutboxSink::new(rt, one)),
-        hall: SharedHall::new(rt, hall, status.clone()?),
-        flags: PeerFlags::new(status),
-    })
-}
-
-/// The work of a connection that isn't made yet, under this badge. Nothing was asked under it.
-///
-/// Fails only with `Fault::Memory`, and gives the badge back.
-pub fn new_work<R: Wait + Copy + Drop>(
-    rt: R,
-    alloc: Global,
-    settings: Settings,
-    badge: Badge,
-    link: &Shared<Link>,
-    hall: &Shared<Mutex<Hall>>,
-) -> Result<Fresh<NodeWork<R>>, NotReady>
-    requires { IsNew badge }
-    ensures work { IfOk result
-        (λ work. (work.badge ≡ badge) × (work.trace.settings ≡ settings)) }
-    ensures back { IfErr result (λ back. back.badge ≡ badge) }
-{
-    let Ok(ends) = ends_of(rt, badge.connection(), link, hall) else {
-        return Err(NotReady {
-            badge,
-            cause: Fault::Memory,
-        });
-    };
-    let Ends {
-        outlet,
-        hall,
-        flags,
-    } = ends;
-    match PeerWork::new(alloc, settings, badge, outlet, hall, flags) {
-        Ok(work) => Ok(Fresh::new(work)),
-        Err(
-            NotStarted {
-                badge,
-                outlet,
-                hall,
-                flags,
-                cause,
-            },
-        ) => {
-            drop((outlet, hall, flags));
-            Err(NotReady { badge, cause })
+impl<R: Wait + Copy + Drop> Service<R> {
+    /// The first connections of slots, under these badges. Fails only with `Fault::Memory`.
+    pub fn firsts(&self, badges: Vec<Badge>) -> Result<Vec<Next<NodeWork<R>>>, Fault>
+        requires { All IsNew badges.items }
+        ensures { IfOk result (λ firsts. length firsts.items ≡ length badges.items) }
+    {
+        let mut firsts = Vec::with_capacity(self.alloc, badges.len())?;
+        for badge in badges {
+            match self.connection(badge) {
+                Ok(first) => firsts.push_reserved(first),
+                Err((_, fault)) => return Err(fault),
+            }
         }
+        Ok(firsts)
+    }
+
+    /// The connection of this badge, under which nothing was asked. Fails only with
+    /// `Fault::Memory`, and gives the badge back.
+    pub fn connection(&self, badge: Badge) -> Result<Next<NodeWork<R>>, (Badge, Fault)>
+        requires { IsNew badge }
+        ensures badge { IfOk result (λ next. next.work.badge ≡ badge) }
+        ensures settings { IfOk result (λ next. next.work.trace.settings
+            ≡ session_settings self.now.settings badge.connection.peer) }
+        ensures back { IfErr result (λ back. back.0 ≡ badge) }
+    {
+        let connection = badge.connection();
+        let ends = match self.ends(connection) {
+            Ok(ends) => ends,
+            Err(fault) => return Err((badge, fault)),
+        };
+        let Ends {
+            outlet,
+            hall,
+            flags,
+            link,
+        } = ends;
+        let settings = session_settings(&self.settings, connection.peer);
+        match PeerWork::new(self.alloc, settings, badge, outlet, hall, flags) {
+            Ok(work) => Ok(Next {
+                work: Fresh::new(work),
+                link,
+            }),
+            Err(refused) => {
+                // No session ends this link, so it would never leave its list.
+                link.status.stop();
+                let NotStarted { badge, cause, .. } = refused;
+                Err((badge, cause))
+            }
+        }
+    }
+
+    /// The ends of this connection's session. Fails only with `Fault::Memory`.
+    fn ends(&self, connection: Connection) -> Result<Ends<R>, Fault>
+        ensures slot { IfOk result (λ ends. ends.outlet.slot ≡ connection.peer) }
+        ensures sink { IfOk result (λ ends. ends.outlet.sink.failure ≡ None) }
+        ensures flags { IfOk result (λ ends. HasLooked ends.flags.looked ends.flags.found []) }
+    {
+        let link = self.links.link(self.alloc, connection.generation)?;
+        let (one, status) = (link.clone()?, link.status.clone()?);
+        let hall = SharedHall::new(self.rt, self.hall.clone()?, status.clone()?);
+        self.links.add(&self.rt, connection.peer, link.clone()?)?;
+        Ok(Ends {
+            outlet: Outlet::new(connection.peer, OutboxSink::new(self.rt, one)),
+            hall,
+            flags: PeerFlags::new(status),
+            link,
+        })
     }
 }

@@ -1,3 +1,6 @@
+ghost use Rattle.std.specs.Prelude.{◌≡◌};
+ghost use Rattle.cb_node.specs.Node.{session_settings};
+
 use cb_peer::Settings;
 
 /// What a node is started with.
@@ -19,7 +22,9 @@ pub struct NodeSettings {
 }
 
 /// With what the sessions of a slot begin.
-pub fn session_settings(settings: &NodeSettings, slot: u16) -> Settings {
+pub fn session_settings(settings: &NodeSettings, slot: u16) -> Settings
+    ensures { result ≡ session_settings settings.now slot }
+{
     Settings {
         inbound: slot < settings.inbound,
         nonce: settings.nonce,

@@ -22,10 +22,8 @@ pub fn lowest_unused<W: Work<Item = Input>>(slots: &[Slot<W>], first: u16, end: 
 /// Whether a slot from `first` to before `end` was left (`Slot::is_left`).
 pub fn has_left<W: Work<Item = Input>>(slots: &[Slot<W>], first: u16, end: u16) -> bool {
     for place in first..end {
-        if slots
-            .get(usize::from(place))
-            .is_some_and(|slot| slot.is_left())
-        {
+        let slot = slots.get(usize::from(place));
+        if slot.is_some_and(|slot| slot.is_left()) {
             return true;
         }
     }

@@ -4,7 +4,7 @@ ghost use Rattle.cb_crew.specs.Crew.{AreHandlersOf, AreOpeningSeats, HasPlace, i
 ghost use Rattle.cb_slots.specs.Slot.{AreSlotsOf, AreThreadsOf, names_in, new_slot};
 
 use crate::fault::NodeFault;
-use crate::slot::{Common, Slot};
+use crate::slot::{Common, Next, Slot};
 use cb_base::{Fault, Shared};
 use cb_crew::{Crew, Fresh, Handler, NewCrew, ReaderSide, Work};
 use cb_inbox::ReaderSeat;
@@ -55,34 +55,32 @@ pub fn shared<T: Drop>(alloc: Global, value: T) -> Result<Shared<T>, Fault>
     }
 }
 
-/// A crew with these works, and the slots of its peers with these links. Fails only with
+/// A crew, and the slots of its peers, whose first connections are these. Fails only with
 /// `Fault::Memory`.
 pub fn crew_slots<W: Work<Item = Input>, R: Wait>(
     rt: &R,
     alloc: Global,
-    works: Vec<Fresh<W>>,
-    of_slots: Vec<Shared<Link>>,
-    links: &Links,
+    firsts: Vec<Next<W>>,
     handlers: u16,
 ) -> Result<Crewed<W>, Fault>
-    requires works { (1 ≤ length works.items) × (length works.items ≤ 64) }
-    requires links { length of_slots.items ≡ length works.items }
+    requires firsts { (1 ≤ length firsts.items) × (length firsts.items ≤ 64) }
     requires handlers { (1 ≤ handlers) × (handlers ≤ 16) }
     ensures count { IfOk result
-        (λ crewed. length crewed.common.crew.inboxes ≡ length works.items) }
+        (λ crewed. length crewed.common.crew.inboxes ≡ length firsts.items) }
     ensures handlers { IfOk result
         (λ crewed. AreHandlersOf crewed.common.crew crewed.handlers.items
         × (crewed.common.crew.handlers ≡ handlers)) }
     ensures memory { IsOkUnless result Memory }
 {
+    let (made, links) = new_crew(rt, alloc, firsts, handlers)?;
     let NewCrew {
         crew,
         readers,
         handlers,
-    } = new_crew(rt, alloc, works, handlers)?;
+    } = made;
     let sides = Vec::with_capacity(alloc, readers.len())?;
     let back = Vec::with_capacity(alloc, handlers.len())?;
-    let slots = slots_of(rt, alloc, &crew, readers, of_slots, links)?;
+    let slots = slots_of(alloc, &crew, readers, links)?;
     Ok(Crewed {
         common: common_of(alloc, crew)?,
         slots,
@@ -92,27 +90,30 @@ pub fn crew_slots<W: Work<Item = Input>, R: Wait>(
     })
 }
 
-/// A crew with these works. Fails only with `Fault::Memory`.
+/// A crew with the works of these connections, and their links. Fails only with `Fault::Memory`.
 fn new_crew<W: Work, R: Wait>(
     rt: &R,
     alloc: Global,
-    fresh: Vec<Fresh<W>>,
+    firsts: Vec<Next<W>>,
     handlers: u16,
-) -> Result<NewCrew<W>, Fault>
-    requires works { (1 ≤ length fresh.items) × (length fresh.items ≤ 64) }
+) -> Result<(NewCrew<W>, Vec<Shared<Link>>), Fault>
+    requires firsts { (1 ≤ length firsts.items) × (length firsts.items ≤ 64) }
     requires handlers { (1 ≤ handlers) × (handlers ≤ 16) }
-    ensures crew { IfOk result (λ made. (length made.crew.inboxes ≡ length fresh.items)
-        × (made.crew.handlers ≡ handlers)) }
-    ensures seats { IfOk result (λ made. AreOpeningSeats made.crew made.readers.items) }
-    ensures handlers { IfOk result (λ made. AreHandlersOf made.crew made.handlers.items) }
+    ensures crew { IfOk result (λ made. (length made.0.crew.inboxes ≡ length firsts.items)
+        × (made.0.crew.handlers ≡ handlers)) }
+    ensures seats { IfOk result (λ made. AreOpeningSeats made.0.crew made.0.readers.items) }
+    ensures handlers { IfOk result (λ made. AreHandlersOf made.0.crew made.0.handlers.items) }
+    ensures links { IfOk result (λ made. length made.1.items ≡ length firsts.items) }
     ensures memory { IsOkUnless result Memory }
 {
     let mut works = Vec::new(alloc);
-    for one in fresh {
-        works.push(one.into_work())?;
+    let mut links = Vec::new(alloc);
+    for first in firsts {
+        works.push(first.work.into_work())?;
+        links.push(first.link)?;
     }
     match Crew::new(rt, alloc, works, handlers, CAPACITY) {
-        Ok(made) => Ok(made),
+        Ok(made) => Ok((made, links)),
         Err((_, fault)) => Err(fault),
     }
 }
@@ -132,13 +133,11 @@ fn common_of<W: Work>(alloc: Global, crew: Crew<W>) -> Result<Common<W>, Fault>
 
 #[tactic(auto, using(crate::proofs::Placing::placing_none))]
 /// The slots of a new crew with these seats, none of which ever had a socket.
-fn slots_of<W: Work<Item = Input>, R: Wait>(
-    rt: &R,
+fn slots_of<W: Work<Item = Input>>(
     alloc: Global,
     crew: &Crew<W>,
     seats: Vec<ReaderSeat<Input, Fresh<W>>>,
     links: Vec<Shared<Link>>,
-    all: &Links,
 ) -> Result<Vec<Slot<W>>, Fault>
     requires seats { AreOpeningSeats crew.now seats.items }
     requires links { length links.items ≡ length seats.items }
@@ -149,9 +148,8 @@ fn slots_of<W: Work<Item = Input>, R: Wait>(
     let mut slots = Vec::with_capacity(alloc, usize::from(crew.peers()))?;
     let mut number = 0u16;
     for (seat, link) in seats.into_iter().zip(links) {
-        all.add(rt, number, link.clone()?)?;
         let inbox = crew.inbox(number);
-        slots.push_reserved(Slot::new(alloc, inbox, seat, link));
+        slots.push_reserved(Slot::new(inbox, seat, link));
         number += 1;
     }
     Ok(slots)

@@ -12,4 +12,4 @@ pub use choosing::{has_left, lowest_unused};
 pub use crewing::{Crewed, crew_slots, shared, sides_of, start_handlers};
 pub use fault::NodeFault;
 pub use listening::Listening;
-pub use slot::{Common, Next, Report, Slot};
+pub use slot::{Common, Next, Slot};

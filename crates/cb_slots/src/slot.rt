@@ -13,7 +13,6 @@ use cb_inbox::{Inbox, ReaderSeat};
 use cb_peers::{Backlogs, Link, SocketReading, start_threads};
 use cb_reader::Input;
 use cb_service::{NoReader, Reading, Side, Signals, Unopened, join_reader, offer_open};
-use cb_work::Totals;
 use std::alloc::Global;
 use std::marker::{Copy, Model, Send};
 use std::mem;
@@ -54,17 +53,6 @@ pub struct Next<W: Work> {
     pub link: Shared<Link>,
 }
 
-/// What one connection moved.
-#[derive(Clone, Copy, Debug, PartialEq, Eq)]
-pub struct Report {
-    /// The connection's slot.
-    pub slot: u16,
-    /// The connection's generation among those of its slot; the first is 1.
-    pub generation: u64,
-    /// What it moved so far.
-    pub totals: Totals,
-}
-
 /// A slot: it serves one connection after another. Contracts see its inbox, whether it ever had a
 /// socket, and whether its latest connection waits for one.
 #[derive(Drop)]
@@ -77,8 +65,6 @@ pub struct Slot<W: Work> {
     waits: bool,
     /// The latest connection that was opened.
     latest: Shared<Link>,
-    /// The connections before it, in order.
-    past: Vec<Shared<Link>>,
     /// The badge of a connection that wasn't made ready, for another try.
     badge: Option<Badge>,
     /// A connection whose opening was refused, for another try.
@@ -100,7 +86,6 @@ impl<W: Work<Item = Input>> Slot<W> {
     /// The slot of an inbox in which nothing was queued. It never had a socket. The crew has the
     /// work of its first connection.
     pub fn new(
-        alloc: Global,
         inbox: &Inbox<Input, Fresh<W>>,
         seat: ReaderSeat<Input, Fresh<W>>,
         link: Shared<Link>,
@@ -115,7 +100,6 @@ impl<W: Work<Item = Input>> Slot<W> {
             used: false,
             waits: true,
             latest: link,
-            past: Vec::new(alloc),
             badge: None,
             next: None,
         }
@@ -144,12 +128,8 @@ impl<W: Work<Item = Input>> Slot<W> {
     /// Whether the slot had a socket, the reader of its latest connection has returned or says that it
     /// does, and that wasn't its last connection.
     pub fn is_left(&self) -> bool {
-        self.used && !self.is_spent() && (!self.is_lent() || self.latest.is_left())
-    }
-
-    /// Whether the thread of a connection's reader has the side.
-    fn is_lent(&self) -> bool {
-        matches!(&self.seating, Some(Seating::Lent(_)))
+        let is_lent = matches!(&self.seating, Some(Seating::Lent(_)));
+        self.used && !self.is_spent() && (!is_lent || self.latest.is_left())
     }
 
     /// Makes a tick of the latest connection due, if it has a socket.
@@ -174,19 +154,6 @@ impl<W: Work<Item = Input>> Slot<W> {
         ensures { result ≡ true → self.now.waits ≡ false }
     {
         self.latest.generation >= MOST_CONNECTIONS && !self.waits
-    }
-
-    /// Appends what each connection of this slot moved. Fails only with `Fault::Memory`.
-    pub fn report(&self, all: &mut Vec<Report>) -> Result<(), Fault>
-        ensures { IfErr result (λ fault. fault ≡ faults.Memory) }
-    {
-        for link in self.past.as_slice() {
-            all.push(report_of(self.number, link))?;
-        }
-        if !self.waits {
-            all.push(report_of(self.number, &self.latest))?;
-        }
-        Ok(())
     }
 
     /// Keeps the badge of a connection that wasn't made ready.
@@ -228,24 +195,14 @@ impl<W: Work<Item = Input>> Slot<W> {
     /// Opens the connection that stands ready. Returns whether it was opened: it waits for its socket
     /// then. It isn't opened if the latest one lasts, if the inbox has no room, or if the slot has
     /// had all its connections.
-    ///
-    /// Fails only with `Fault::Memory`.
-    pub fn open<R: Wait>(
-        &mut self,
-        rt: &R,
-        crew: &Crew<W>,
-        signals: &Signals,
-    ) -> Result<bool, Fault>
+    pub fn open<R: Wait>(&mut self, rt: &R, crew: &Crew<W>, signals: &Signals) -> bool
         requires slot { IsInboxOf crew.now self.old.inbox }
         requires lasts { self.old.waits ≡ false }
-        ensures opened { result ≡ Ok true → self.new ≡ reopened self.old }
-        ensures refused { result ≡ Ok false → self.new ≡ self.old }
-        ensures err { OnErr result (self.new ≡ self.old) }
-        ensures memory { IfErr result (λ fault. fault ≡ faults.Memory) }
+        ensures opened { result ≡ true → self.new ≡ reopened self.old }
+        ensures refused { result ≡ false → self.new ≡ self.old }
     {
-        self.past.reserve(1)?;
         let Some(next) = self.next.take() else {
-            return Ok(false);
+            return false;
         };
         match self.seating.take() {
             Some(Seating::Kept(side)) => {
@@ -253,10 +210,9 @@ impl<W: Work<Item = Input>> Slot<W> {
                 match offer_open(rt, inbox, side, signals, next.work) {
                     Ok(seat) => {
                         self.seating = Some(Seating::Kept(Side::live(seat)));
-                        self.past
-                            .push_reserved(mem::replace(&mut self.latest, next.link));
+                        drop(mem::replace(&mut self.latest, next.link));
                         self.waits = true;
-                        Ok(true)
+                        true
                     }
                     Err(Unopened { side, opening, .. }) => {
                         self.seating = Some(Seating::Kept(side));
@@ -264,14 +220,14 @@ impl<W: Work<Item = Input>> Slot<W> {
                             work: opening,
                             link: next.link,
                         });
-                        Ok(false)
+                        false
                     }
                 }
             }
             lent => {
                 self.seating = lent;
                 self.next = Some(next);
-                Ok(false)
+                false
             }
         }
     }
@@ -335,14 +291,5 @@ impl<W: Work<Item = Input>> Slot<W> {
             Some(Seating::Lent(thread)) => join_reader(rt, thread).into_side(),
             None => unreachable!(),
         }
-    }
-}
-
-/// What a connection moved.
-fn report_of(slot: u16, link: &Link) -> Report {
-    Report {
-        slot,
-        generation: link.generation,
-        totals: link.status.totals(),
     }
 }
