@@ -9,7 +9,7 @@ use Rattle.cb_wire.specs.Stream.{texts}
 use Rattle.cb_wire.specs.declared.message.Message.{Message}
 use Rattle.cb_outgoing.specs.declared.message_sink.WriteFault.{WriteFault}
 use Rattle.cb_outgoing.specs.declared.message_sink.WriteFault.TheVariants.{Io, Zero, Memory}
-use Rattle.cb_outgoing.specs.Writing.{IsTextOfLast, TellsBytes, Wrote, WrotePart, WroteUntil, counted}
+use Rattle.cb_outgoing.specs.Writing.{TellsBytes, Wrote, WrotePart, WroteUntil}
 
 -- a beginning of a text went out, and no more
 pub part_front : (old new : Option (List ℕ)) (piece text : List ℕ) (n : ℕ) → piece ≡ text → length piece < 2 ^ 64 → Appends old new (take n piece) → n < length piece → WrotePart old new text n

@@ -1,4 +1,5 @@
 pub mod MessageQueue
 pub mod Outgoing
 pub mod Room
+pub mod Taken
 pub mod Writing

@@ -1,5 +1,6 @@
 -- What waits to be written to a connection's socket.
-use Rattle.std.specs.Prelude.{ℕ, ◌+◌, ◌*◌, ◌<◌, ◌≤◌, Bool, true, false, List, [], ◌∷◌, ◌++◌, length, map, sum}
+use Rattle.std.specs.Prelude.{◌≡◌, ℕ, ◌+◌, ◌*◌, ◌<◌, ◌≤◌, Bool, true, false, List, [], ◌∷◌, ◌++◌, length, map, sum}
+use Rattle.cb_wire.specs.declared.message.Message.{Message}
 use Rattle.cb_outgoing.specs.declared.message_queue.Waiting.{Waiting}
 
 -- A queue of messages: those that wait, in order, each with how many bytes it keeps for itself, and
@@ -36,3 +37,13 @@ HasRoomFor queue own = (length queue.waiting < 100000) × (own_of queue.waiting 
 -- how many bytes a queue holds: 200 for each message, and what they keep for themselves
 abbrev pub held_by : QueueState → ℕ
 held_by queue = length queue.waiting * 200 + own_of queue.waiting
+
+-- the messages of those that wait
+abbrev pub messages_of : List Waiting → List Message
+messages_of waiting = map (λ one. one.message) waiting
+
+-- Of those that waited, these messages were taken off in their order, and the others wait still.
+pub record WereTaken (before : List Waiting) (messages : List Message) (after : List Waiting) : Type 0 where
+  pub first : List Waiting
+  pub parts : before ≡ first ++ after
+  pub taken : messages ≡ messages_of first

@@ -1,5 +1,5 @@
 -- A message that goes out, as it is kept.
-use Rattle.std.specs.Prelude.{◌≡◌, ◌⊎◌, ℕ, ◌*◌, length}
+use Rattle.std.specs.Prelude.{◌≡◌, ◌⊎◌, ℕ, ◌*◌, ◌≤◌, length}
 use Rattle.cb_block.specs.Blocks.{MeetsBlockRules}
 use Rattle.cb_rebuild.specs.Shortening.{shortened_of}
 use Rattle.cb_wire.specs.Grammar.{payload_text}
@@ -32,3 +32,7 @@ IsOwn (messages.Block block) own = own ≡ 0
 IsOwn (messages.BlockTxn txs) own = own ≡ length txs.txs * 8
 IsOwn (messages.CmpctBlock form) own = (own ≡ 0) ⊎ (own ≡ length (payload_text (messages.CmpctBlock form)))
 IsOwn other own = own ≡ length (payload_text other)
+
+-- a message whose payload has 1,000 bytes at most
+abbrev pub IsSmall : Message → Type 0
+IsSmall message = length (payload_text message) ≤ 1000

@@ -1,9 +1,11 @@
 //! What a connection's session sent and its socket hasn't taken yet.
-ghost use Rattle.std.specs.Prelude.{◌≡◌, ◌↔◌, ◌∷◌, ◌≤◌, true, false, [], None, IfSome, OnErr, OnOk, Ok, Err};
+ghost use Rattle.std.specs.Prelude.{◌≡◌, ◌↔◌, ◌∷◌, ◌⊎◌, ◌≤◌, true, false, [], None, All, IfOk, IfSome, Err, length, vec_capacity};
 ghost use Rattle.cb_outgoing.specs.declared.message_queue.QueueFault.TheVariants.{Closed, Full, Memory};
-ghost use Rattle.cb_outgoing.specs.MessageQueue.{HasRoomFor, closed_queue, held_by, idle_queue, opened_queue, with_message};
+ghost use Rattle.cb_outgoing.specs.MessageQueue.{HasRoomFor, WereTaken, closed_queue, held_by, idle_queue, opened_queue, with_message};
+ghost use Rattle.cb_outgoing.specs.Outgoing.{IsSmall};
 
 use crate::outgoing::Outgoing;
+use crate::taken::Taken;
 use std::alloc::{AllocError, Global};
 use std::collections::VecDeque;
 use std::marker::Model;
@@ -16,6 +18,9 @@ const MOST_OWN: u64 = 8_000_000;
 
 /// How many bytes a message takes that waits, beside what it keeps for itself.
 pub const MESSAGE: u64 = 200;
+
+/// How many messages are taken off together at most.
+pub const MOST_TOGETHER: usize = 64;
 
 /// Why a message wasn't taken.
 #[derive(Clone, Copy, Debug, PartialEq, Eq)]
@@ -122,8 +127,9 @@ impl MessageQueue {
 
     /// Puts a message behind those that wait. A message that has no room is dropped, and no further
     /// ones are taken. If memory runs out, it is dropped, and nothing changes.
-    pub fn put(&mut self, one: Waiting) -> Result<(), QueueFault>
-        ensures ok { OnOk result (self.new ≡ with_message self.old one) }
+    pub fn put(&mut self, one: Waiting) -> Result<Taken, QueueFault>
+        ensures ok { IfOk result (λ taken. (self.new ≡ with_message self.old one)
+            × (taken.message ≡ one.message) × (taken.written ≡ 0)) }
         ensures full { (result ≡ Err Full)
             ↔ ((self.old.takes ≡ true) × (¬ HasRoomFor self.old one.own)) }
         ensures refused { result ≡ Err Full → self.new ≡ closed_queue self.old }
@@ -139,9 +145,10 @@ impl MessageQueue {
             return Err(QueueFault::Full);
         }
         self.waiting.reserve(1)?;
+        let taken = Taken::new(&one.message, 0);
         self.own += one.own;
         self.waiting.push_back_reserved(one);
-        Ok(())
+        Ok(taken)
     }
 
     /// Takes the first message off; `None` if none waits.
@@ -153,5 +160,44 @@ impl MessageQueue {
         let one = self.waiting.pop_front()?;
         self.own -= one.own;
         Some(one)
+    }
+
+    /// Takes messages off in their order, into an empty list that has room for `MOST_TOGETHER`: the
+    /// first that waits, and if it is small, the small ones behind it (`Outgoing::is_small`).
+    pub fn take_together(&mut self, batch: &mut Vec<Outgoing>)
+        requires empty { batch.old.items ≡ [] }
+        requires room { 64 ≤ vec_capacity batch.old }
+        ensures taken { WereTaken self.old.waiting batch.new.items self.new.waiting }
+        ensures some { batch.new.items ≡ [] → self.old.waiting ≡ [] }
+        ensures small { (length batch.new.items ≤ 1) ⊎ All IsSmall batch.new.items }
+        ensures few { length batch.new.items ≤ 64 }
+        ensures room { 64 ≤ vec_capacity batch.new }
+        ensures takes { self.new.takes ≡ self.old.takes }
+    {
+        let Some(first) = self.take() else {
+            return;
+        };
+        let is_small = first.message.is_small();
+        batch.push_reserved(first.message);
+        while is_small && batch.len() < MOST_TOGETHER {
+            let Some(next) = self.take_if_small() else {
+                return;
+            };
+            batch.push_reserved(next.message);
+        }
+    }
+
+    /// Takes the first message off if it is small.
+    fn take_if_small(&mut self) -> Option<Waiting>
+        ensures first { IfSome result (λ one. (self.old.waiting ≡ one ∷ self.new.waiting)
+            × IsSmall one.message) }
+        ensures none { result ≡ None → self.new ≡ self.old }
+        ensures takes { self.new.takes ≡ self.old.takes }
+    {
+        if self.waiting.front()?.message.is_small() {
+            self.take()
+        } else {
+            None
+        }
     }
 }

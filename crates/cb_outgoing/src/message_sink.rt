@@ -6,6 +6,7 @@ ghost use Rattle.cb_wire.specs.Envelope.{text};
 ghost use Rattle.cb_outgoing.specs.Writing.{EndsBy, IsOfSink, Wrote, WrotePart};
 
 use crate::outgoing::Outgoing;
+use crate::taken::Taken;
 use cb_base::Fault;
 use cb_io::{Out, Sink, SinkFailure, write_all};
 use std::alloc::Global;
@@ -41,15 +42,16 @@ pub struct WriteEnd {
 /// A sink that takes bytes spells each message at once. Another one may keep messages, and spell each
 /// when its turn comes; it tells no bytes.
 pub trait MessageSink: Sink {
-    /// Writes the envelope of a message behind all earlier ones, and returns how many bytes were
-    /// written, as far as the sink can tell. A sink that keeps messages tells 0.
+    /// Writes the envelope of a message behind all earlier ones, and returns that it was taken, with
+    /// how many bytes were written, as far as the sink can tell. A sink that keeps messages tells 0.
     ///
     /// After an error, a beginning of the envelope was written. `WriteFault::Memory`: an allocation
     /// failed, nothing was written, and the sink is unchanged. `WriteFault::Io` and
     /// `WriteFault::Zero`: the sink has failed.
-    fn put(&mut self, alloc: Global, message: Outgoing) -> Result<u64, WriteEnd>
-        ensures ok { IfOk result (λ written. Wrote (Self.contents self.old) (Self.contents self.new)
-            (text message) written []) }
+    fn put(&mut self, alloc: Global, message: Outgoing) -> Result<Taken, WriteEnd>
+        ensures taken { IfOk result (λ taken. taken.message ≡ message) }
+        ensures ok { IfOk result (λ taken. Wrote (Self.contents self.old) (Self.contents self.new)
+            (text message) taken.written []) }
         ensures err { IfErr result (λ end. WrotePart (Self.contents self.old) (Self.contents self.new)
             (text message) end.written) }
         // A fault of the sink is its first failure, if it had none before. A fault of memory leaves
@@ -69,15 +71,20 @@ pub trait MessageSink: Sink {
 }
 
 impl<W: Write> MessageSink for Out<W> {
-    fn put(&mut self, alloc: Global, message: Outgoing) -> Result<u64, WriteEnd> {
+    fn put(&mut self, alloc: Global, message: Outgoing) -> Result<Taken, WriteEnd> {
         spell_to(alloc, self, &message)
     }
 }
 
 /// Spells a message and writes it to a sink of bytes, as `MessageSink::put` tells.
-pub fn spell_to<W: Sink>(alloc: Global, writer: &mut W, message: &Outgoing) -> Result<u64, WriteEnd>
-    ensures ok { IfOk result (λ written. Wrote (W.contents writer.old) (W.contents writer.new)
-        (text message.now) written []) }
+pub fn spell_to<W: Sink>(
+    alloc: Global,
+    writer: &mut W,
+    message: &Outgoing,
+) -> Result<Taken, WriteEnd>
+    ensures taken { IfOk result (λ taken. taken.message ≡ message.now) }
+    ensures ok { IfOk result (λ taken. Wrote (W.contents writer.old) (W.contents writer.new)
+        (text message.now) taken.written []) }
     ensures err { IfErr result (λ end. WrotePart (W.contents writer.old) (W.contents writer.new)
         (text message.now) end.written) }
     ensures cause { IfErr result
@@ -97,7 +104,7 @@ pub fn spell_to<W: Sink>(alloc: Global, writer: &mut W, message: &Outgoing) -> R
         });
     };
     match write_all(writer, text.as_slice()) {
-        Ok(()) => Ok(text.len() as u64),
+        Ok(()) => Ok(Taken::new(message, text.len() as u64)),
         Err(end) => Err(WriteEnd {
             written: end.taken as u64,
             fault: fault_of(end.failure),

@@ -1,11 +1,11 @@
-ghost use Rattle.std.specs.Prelude.{◌≡◌, ◌++◌, None, IfOk, IfSome, IsOkUnless, OnErr, OnOk};
+ghost use Rattle.std.specs.Prelude.{◌≡◌, ◌++◌, true, None, IfOk, IfSome, IsOkUnless, OnErr, OnOk};
 ghost use Rattle.cb_base.specs.declared.fault.Fault.TheVariants.{Memory};
 ghost use Rattle.cb_block.specs.Blocks.{MeetsBlockRules};
 ghost use Rattle.cb_rebuild.specs.Shortening.{shortened_of};
 ghost use Rattle.cb_wire.specs.Envelope.{text};
 ghost use Rattle.cb_wire.specs.Grammar.{IsWithinLimits};
 ghost use Rattle.cb_wire.specs.declared.message.Message.TheVariants.{CmpctBlock};
-ghost use Rattle.cb_outgoing.specs.Outgoing.{IsCompactBlock, IsOwn};
+ghost use Rattle.cb_outgoing.specs.Outgoing.{IsCompactBlock, IsOwn, IsSmall};
 
 use cb_base::Fault;
 use cb_block::SoundBlock;
@@ -16,6 +16,9 @@ use std::marker::Model;
 
 /// How many bytes an owner of a shared transaction takes.
 const OWNER: u64 = 8;
+
+/// How many bytes the payload of a small message has at most.
+const SMALL: u64 = 1_000;
 
 /// A message that goes out: one that stands there, or a compact block that is made when its turn
 /// comes. Its payload has at most 4,000,000 bytes. For the prover its value is the message.
@@ -122,6 +125,17 @@ impl Outgoing {
             Content::Short(_) => 0,
         }
     }
+
+    /// Whether its payload is known to have 1,000 bytes at most. It looks into no block, and into no
+    /// list of transactions.
+    pub fn is_small(&self) -> bool
+        ensures { result ≡ true → IsSmall self.now }
+    {
+        match &self.content {
+            Content::Made(message) => is_small(message),
+            Content::Short(_) => false,
+        }
+    }
 }
 
 impl ShortForm {
@@ -158,5 +172,15 @@ fn own_bytes(message: &BoundedMessage) -> u64
         Message::Tx(_) | Message::Block(_) => 0,
         Message::BlockTxn(txs) => (txs.txs.as_slice().len() as u64) * OWNER,
         _ => message.payload_len(),
+    }
+}
+
+/// Whether a message is known to be small.
+fn is_small(message: &BoundedMessage) -> bool
+    ensures { result ≡ true → IsSmall message.now }
+{
+    match message.message() {
+        Message::Block(_) | Message::BlockTxn(_) | Message::CmpctBlock(_) => false,
+        _ => message.payload_len() <= SMALL,
     }
 }

@@ -43,7 +43,7 @@ pub fn write_out<W: MessageSink>(
     let mut written = 0u64;
     for message in messages {
         match writer.put(alloc, message) {
-            Ok(more) => written = written.saturating_add(more),
+            Ok(taken) => written = written.saturating_add(taken.written()),
             Err(end) => {
                 return Err(WriteEnd {
                     written: written.saturating_add(end.written),

@@ -1,12 +1,8 @@
 -- What writes append to the known bytes of a writer.
 use Rattle.std.proofs.Common.{◌≡◌, ℕ, ◌-◌, List, [], ◌∷◌, ◌++◌, length, take, drop, Option, None, Result, Ok, Err, OnErr, refl, sym, ap, ◌∙◌, subst, append_assoc, take-append-drop}
 use Rattle.std.proofs.lemmas.List.{take_rest, take_at}
-use Rattle.std.proofs.lemmas.Grind.{flat_map-append}
 use Rattle.std.proofs.lemmas.List.{append-nil}
 use Rattle.std.specs.Io.KnownBytes.{Appends}
-use Rattle.cb_wire.specs.Envelope.{text}
-use Rattle.cb_wire.specs.Stream.{texts}
-use Rattle.cb_wire.specs.declared.message.Message.{Message}
 use Rattle.cb_outgoing.specs.Writing.{Wrote}
 
 -- Of a list some are gone and the rest is left; so it is after more of the rest are gone.
@@ -24,12 +20,6 @@ gone_part a b all done rest e appended =
 pub on_err : {T E : Type 0} (r : Result T E) (P : Type 0) → P → OnErr r P
 on_err (Ok x) P p = tt
 on_err (Err e) P p = p
-
--- One message more was spelled behind others.
-pub texts_more : (before after : List ℕ) (first : Message) (more : List Message) (message : Message) → before ≡ texts (first ∷ more) → after ≡ before ++ text message → after ≡ texts (first ∷ (more ++ message ∷ []))
-texts_more before after first more message spelled behind =
-    behind ∙ ap (λ (x : List ℕ). x ++ text message) spelled
-    ∙ sym (flat_map-append text (first ∷ more) (message ∷ []) ∙ ap (λ (x : List ℕ). texts (first ∷ more) ++ x) (append-nil (text message)))
 
 -- A sink that tells no bytes took a text.
 pub wrote_untold : (text : List ℕ) (written : ℕ) → Wrote None None text written []

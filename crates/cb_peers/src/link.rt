@@ -7,7 +7,7 @@ use crate::socket::Socket;
 use cb_base::{Fault, Shared};
 use cb_crew::Turn;
 use cb_io::{Sink, SinkFailure};
-use cb_outgoing::{MessageSink, Outgoing, QueueFault, Room, WriteEnd, WriteFault};
+use cb_outgoing::{MessageSink, Outgoing, QueueFault, Room, Taken, WriteEnd, WriteFault};
 use cb_service::AfterTurn;
 use cb_work::ConnectionStatus;
 use std::alloc::Global;
@@ -157,7 +157,7 @@ impl<R: Drop> Sink for OutboxSink<R> {
 }
 
 impl<R: Wait + Drop> MessageSink for OutboxSink<R> {
-    fn put(&mut self, _alloc: Global, message: Outgoing) -> Result<u64, WriteEnd> {
+    fn put(&mut self, _alloc: Global, message: Outgoing) -> Result<Taken, WriteEnd> {
         if self.failure.is_some() {
             drop(message);
             return Err(WriteEnd {
@@ -166,7 +166,7 @@ impl<R: Wait + Drop> MessageSink for OutboxSink<R> {
             });
         }
         match self.link.outbox.push(&self.rt, message) {
-            Ok(()) => Ok(0),
+            Ok(taken) => Ok(taken),
             Err(QueueFault::Memory) => Err(WriteEnd {
                 written: 0,
                 fault: WriteFault::Memory,

@@ -1,15 +1,17 @@
 //! The outbox of a connection: the messages that its session sent and its socket hasn't taken yet,
 //! and how a thread spells and writes them. So a peer that reads slowly, or not at all, holds no
-//! handler up, and no more than one message is spelled for it at a time.
-ghost use Rattle.std.specs.Prelude.{◌≡◌, ◌↔◌, ◌+◌, ◌∷◌, ◌++◌, ◌<◌, ◌≤◌, ℕ, List, length, take, IfOk, IsErr, IsOk, IsOkUnless, OnErr, OnOk};
+//! handler up, and no more than one message is spelled for it at a time, or a few small ones.
+ghost use Rattle.std.specs.Prelude.{◌≡◌, ◌≢◌, ◌↔◌, ◌+◌, ◌<◌, ◌≤◌, ℕ, List, [], length, take, vec_capacity, IfOk, IsErr, IsOk, IsOkUnless, OnErr, OnOk};
 ghost use Rattle.cb_base.specs.declared.fault.Fault.TheVariants.{Memory};
+ghost use Rattle.cb_peers.specs.declared.outbox.Due.TheVariants.{Messages};
 ghost use Rattle.std.specs.Io.KnownBytes.{Appends, WriteAppends};
-ghost use Rattle.cb_wire.specs.Envelope.{text};
 ghost use Rattle.cb_wire.specs.Stream.{texts};
 ghost use Rattle.cb_wire.specs.declared.message.Message.{Message};
 
 use cb_base::{Fault, Shared};
-use cb_outgoing::{MESSAGE, MessageQueue, Outgoing, QueueFault, Room, Waiting};
+use cb_outgoing::{
+    MESSAGE, MOST_TOGETHER, MessageQueue, Outgoing, QueueFault, Room, Taken, Waiting,
+};
 use cb_service::Sleeper;
 use cb_work::ConnectionStatus;
 use std::alloc::Global;
@@ -25,11 +27,6 @@ const STILL_WRITES: u32 = 30;
 
 /// How many milliseconds a socket may be still that has no write timeout.
 const STILL_MILLIS: u64 = 30_000;
-
-/// Small messages are spelled together, up to so many bytes, and so many at most.
-const PIECE: usize = 65_536;
-
-const MOST_TOGETHER: u32 = 1_000;
 
 /// No message needs more room: none keeps more bytes for itself than its payload has, which are
 /// 4,000,000 at most.
@@ -67,10 +64,9 @@ pub struct Outbox {
 }
 
 /// What a thread that writes is to do next.
-#[derive(Drop)]
 enum Due {
-    /// It writes this message.
-    Message(Outgoing),
+    /// It writes the messages that were taken.
+    Messages,
     /// It waits for what comes.
     Rest,
     /// It writes no more.
@@ -143,7 +139,9 @@ impl Outbox {
 
     /// Takes a message. Fails if the outbox isn't open, if the message has no room in it or in the
     /// node's outboxes, or if memory runs out.
-    pub fn push<R: Wait>(&self, rt: &R, message: Outgoing) -> Result<(), QueueFault> {
+    pub fn push<R: Wait>(&self, rt: &R, message: Outgoing) -> Result<Taken, QueueFault>
+        ensures { IfOk result (λ taken. (taken.message ≡ message) × (taken.written ≡ 0)) }
+    {
         let own = message.own_bytes();
         let put = self.put(rt, Waiting { message, own });
         self.writer.wake();
@@ -151,7 +149,9 @@ impl Outbox {
     }
 
     /// Puts a message into the queue, and takes its room.
-    fn put<R: Wait>(&self, rt: &R, one: Waiting) -> Result<(), QueueFault> {
+    fn put<R: Wait>(&self, rt: &R, one: Waiting) -> Result<Taken, QueueFault>
+        ensures { IfOk result (λ taken. (taken.message ≡ one.message) × (taken.written ≡ 0)) }
+    {
         let needed = one.own.saturating_add(MESSAGE);
         let mut queue = self.queue.lock(rt);
         if !self.take_room(rt, queue.held(), needed) {
@@ -184,19 +184,28 @@ impl Outbox {
 
     /// Writes what comes to a stream by its writer, until the outbox was closed and nothing waits,
     /// or the stream takes nothing more. The stream's write timeout is how long it may be still.
-    /// What is written is counted. Afterwards the outbox is closed.
+    /// What is written is a beginning of the text of the messages that were taken, and is counted.
+    /// Afterwards the outbox is closed.
     pub fn write_to<R: Wait, S: OpenStream, W: Write>(
         &self,
         rt: &R,
         stream: &S,
         writer: &mut W,
         status: &ConnectionStatus,
-    ) -> WriterEnd {
+    ) -> WriterEnd
+        ensures { (messages : List Message) × (taken : ℕ)
+            × Appends (W.contents writer.old) (W.contents writer.new)
+            (take taken (texts messages)) }
+    {
         let mut pace = Pace::new(stream);
+        let Ok(mut batch) = Vec::with_capacity(self.alloc, MOST_TOGETHER) else {
+            self.close(rt);
+            return WriterEnd::Memory;
+        };
         for _ in rt.forever() {
-            let end = match self.due(rt) {
-                Due::Message(message) => {
-                    match self.write_from(rt, message, writer, &mut pace, status) {
+            let end = match self.due(rt, &mut batch) {
+                Due::Messages => {
+                    match self.write_batch(rt, &mut batch, writer, &mut pace, status) {
                         Ok(()) => continue,
                         Err(end) => end,
                     }
@@ -220,59 +229,47 @@ impl Outbox {
         self.done.wake_all();
     }
 
-    /// What is due. A message is taken off.
-    fn due<R: Wait>(&self, rt: &R) -> Due {
+    /// What is due. The messages that are written next are taken off, into an empty list, and their
+    /// room is given back.
+    fn due<R: Wait>(&self, rt: &R, batch: &mut Vec<Outgoing>) -> Due
+        requires empty { batch.old.items ≡ [] }
+        requires room { 64 ≤ vec_capacity batch.old }
+        ensures room { 64 ≤ vec_capacity batch.new }
+        ensures none { result ≢ Messages → batch.new.items ≡ [] }
+    {
         let mut queue = self.queue.lock(rt);
-        match self.take(rt, &mut queue) {
-            Some(message) => Due::Message(message),
-            None if queue.is_open() => Due::Rest,
-            None => Due::End,
+        let held = queue.held();
+        queue.take_together(batch);
+        if batch.is_empty() {
+            return if queue.is_open() { Due::Rest } else { Due::End };
         }
+        let freed = held.saturating_sub(queue.held());
+        self.room.lock(rt).give(freed);
+        Due::Messages
     }
 
-    /// Takes the first message off, and gives its room back.
-    fn take<R: Wait>(&self, rt: &R, queue: &mut MessageQueue) -> Option<Outgoing> {
-        let one = queue.take()?;
-        self.room.lock(rt).give(one.own.saturating_add(MESSAGE));
-        Some(one.message)
-    }
-
-    /// Spells a message, and small ones behind it, and writes them.
-    fn write_from<R: Wait, W: Write>(
+    /// Spells the messages of a list, which is empty afterwards, and writes them. Otherwise a beginning
+    /// of their text was written.
+    fn write_batch<R: Wait, W: Write>(
         &self,
         rt: &R,
-        first: Outgoing,
+        batch: &mut Vec<Outgoing>,
         writer: &mut W,
         pace: &mut Pace,
         status: &ConnectionStatus,
-    ) -> Result<(), WriterEnd> {
-        let text = self.spell_from(rt, first)?;
-        self.write_piece(rt, writer, text.as_slice(), pace, status)
-    }
-
-    /// The text of a message, and of those behind it while it is short.
-    fn spell_from<R: Wait>(&self, rt: &R, first: Outgoing) -> Result<Vec<u8>, WriterEnd>
-        ensures { IfOk result (λ spelled. (more : List Message)
-            × (spelled.items ≡ texts (first ∷ more))) }
+    ) -> Result<(), WriterEnd>
+        requires { 64 ≤ vec_capacity batch.old }
+        ensures whole { OnOk result
+            (Appends (W.contents writer.old) (W.contents writer.new) (texts batch.old.items)) }
+        ensures part { OnErr result ((taken : ℕ)
+            × Appends (W.contents writer.old) (W.contents writer.new)
+            (take taken (texts batch.old.items))) }
+        ensures empty { batch.new.items ≡ [] }
+        ensures room { 64 ≤ vec_capacity batch.new }
     {
-        let mut spelled = Vec::new(self.alloc);
-        spell(self.alloc, &mut spelled, first)?;
-        for _ in 1..MOST_TOGETHER {
-            if spelled.len() >= PIECE {
-                break;
-            }
-            let Some(message) = self.next(rt) else {
-                break;
-            };
-            spell(self.alloc, &mut spelled, message)?;
-        }
-        Ok(spelled)
-    }
-
-    /// The first message that waits, taken off; `None` if none does.
-    fn next<R: Wait>(&self, rt: &R) -> Option<Outgoing> {
-        let mut queue = self.queue.lock(rt);
-        self.take(rt, &mut queue)
+        let spelled = spell_all(self.alloc, batch.as_slice());
+        batch.clear();
+        self.write_piece(rt, writer, spelled?.as_slice(), pace, status)
     }
 
     /// Writes all of a piece, in as many writes as it needs. Otherwise a beginning of it was
@@ -362,14 +359,15 @@ fn write_once<W: Write>(writer: &mut W, piece: &[u8]) -> Result<usize, WriterEnd
     }
 }
 
-/// Spells a message behind what was spelled, and lets it go.
-fn spell(alloc: Global, spelled: &mut Vec<u8>, message: Outgoing) -> Result<(), WriterEnd>
-    ensures { OnOk result (spelled.new.items ≡ spelled.old.items ++ text message) }
+/// The text of messages, one after another.
+fn spell_all(alloc: Global, messages: &[Outgoing]) -> Result<Vec<u8>, WriterEnd>
+    ensures { IfOk result (λ spelled. spelled.items ≡ texts messages.now) }
 {
-    let done = message.spell(alloc, spelled);
-    drop(message);
-    match done {
-        Ok(()) => Ok(()),
-        Err(_) => Err(WriterEnd::Memory),
+    let mut spelled = Vec::new(alloc);
+    for message in messages {
+        if message.spell(alloc, &mut spelled).is_err() {
+            return Err(WriterEnd::Memory);
+        }
     }
+    Ok(spelled)
 }

@@ -1,8 +1,8 @@
-use Rattle.std.proofs.Common.{◌∷◌, ◌++◌, ap, sym, subst, length, ◌∙◌, arith}
+use Rattle.std.proofs.Common.{ℕ, ◌+◌, ◌-◌, ◌^◌, min, ap, length, ◌∙◌, arith}
 use Rattle.std.proofs.lemmas.List.{length-append}
 use Rattle.std.specs.Vec.Iter.{into_iter_items}
 use Rattle.cb_io.proofs.Writes.{heeds_more}
-use Rattle.cb_outgoing.proofs.Writes.{wrote_nothing, written_all, written_more, written_none, written_until}
+use Rattle.cb_outgoing.proofs.Writes.{wrote_nothing, written_more, written_until}
 use Rattle.cb_outgoing.proofs.writing.write_out.Goals as goal
 
 pub loop-message-preserved : goal.loop-message-preserved
@@ -10,7 +10,7 @@ loop-message-preserved g c =
     let out = c.loop-message.invariant.out in
     let rest_is = c.in-Some.ensures.steps.0 in
     record {
-      out = written_more _ _ _ _ _ (into_iter_items c.next.new.self) c.in-Some.message c.loop-message.written c.in-Ok.more _ out rest_is c.in-Ok.ensures.ok c.saturating_add-written.ensures;
+      out = written_more _ _ _ _ _ (into_iter_items c.next.new.self) c.in-Some.message c.loop-message.written c.in-Ok.taken.written _ out rest_is c.in-Ok.ensures.ok (c.saturating_add-written.ensures ∙ ap (λ (more : ℕ). min (c.loop-message.written + more) (2 ^ 64 - 1)) c.written.ensures);
       same = c.in-Ok.ensures.unfailed ∙ c.loop-message.invariant.same;
       unmarked = c.in-Ok.ensures.unmarked ∙ c.loop-message.invariant.unmarked;
       heeds = heeds_more g.W.Sink.heeds_failure g.met.W.Sink.heeds_then _ _ _ _ _ c.loop-message.invariant.heeds c.loop-message.invariant.unmarked c.put.ensures.heeds;
