@@ -1,6 +1,11 @@
 pub mod Accounts
+pub mod FaultNumbers
 pub mod Journals
+pub mod Listing
 pub mod Numbers
 pub mod Orders
 pub mod Pairing
+pub mod Placed
+pub mod Searching
 pub mod Steps
+pub mod Uneven

@@ -1,6 +1,9 @@
+pub mod Answers
 pub mod Audit
 pub mod Comparing
 pub mod Counting
+pub mod Desks
+pub mod Faults
 pub mod Heard
 pub mod Order
 pub mod Turns

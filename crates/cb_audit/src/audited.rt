@@ -23,21 +23,21 @@ impl<'a> Model for Audited<'a> {
 
 impl<'a> Audited<'a> {
     /// A connection with its trace.
-    pub fn new(connection: Connection, trace: &'a Trace) -> Audited<'a>
+    pub(crate) fn new(connection: Connection, trace: &'a Trace) -> Audited<'a>
         ensures { result ≡ record { connection = connection; trace = trace.now } }
     {
         Audited { connection, trace }
     }
 
     /// The connection.
-    pub fn connection(&self) -> Connection
+    pub(crate) fn connection(&self) -> Connection
         ensures { result ≡ self.now.connection }
     {
         self.connection
     }
 
     /// Its trace.
-    pub fn trace(&self) -> &Trace
+    pub(crate) fn trace(&self) -> &Trace
         ensures { result.now ≡ self.now.trace }
     {
         self.trace

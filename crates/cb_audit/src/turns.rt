@@ -4,10 +4,11 @@ ghost use Rattle.cb_base.specs.declared.fault.Fault.TheVariants.{Memory};
 ghost use Rattle.cb_audit.specs.Turns.{answers_in, paired, turns_in};
 
 use crate::audited::Audited;
+use crate::same::Same;
+use crate::same_answers::same_answer;
 use cb_base::Fault;
 use cb_journal::{Answer, Question};
 use cb_peer::Event;
-use cb_same::{Same, same_answer};
 use cb_trace::{Trace, TraceEntry};
 use std::alloc::Global;
 use std::marker::Model;

@@ -1,11 +1,11 @@
 //! The audit of a node that has ended.
 ghost use Rattle.std.specs.Prelude.{◌≡◌, true};
-ghost use Rattle.cb_desks.specs.Desks.{traces_of};
+ghost use Rattle.cb_audit.specs.Desks.{traces_of};
 ghost use Rattle.cb_journal.specs.Journal.{JournalState};
 ghost use Rattle.cb_node_process.specs.Auditing.{TellsVerdict};
 
+use cb_audit::{Audited, Split, are_in_order, audit, traces};
 use cb_crew::Desk;
-use cb_desks::{Audited, Split, are_in_order, audit, traces};
 use cb_hall::Hall;
 use cb_node::{NodeEnd, NodeWork};
 use cb_operator::Verdict;

@@ -1,6 +1,6 @@
 use Rattle.std.proofs.Common.{List, subst, ap}
+use Rattle.cb_audit.specs.Desks.{traces_of}
 use Rattle.cb_audit.specs.Order.{AuditedTrace}
-use Rattle.cb_desks.specs.Desks.{traces_of}
 use Rattle.cb_node_process.specs.Auditing.{TellsVerdict}
 use Rattle.cb_node_process.proofs.auditing.verdict_of.Goals as goal
 

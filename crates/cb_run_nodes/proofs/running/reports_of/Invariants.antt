@@ -1,6 +1,6 @@
 use Rattle.std.proofs.Common.{◌≡◌, map, take}
 use Rattle.std.specs.List.{AllZip, range_with_len}
-use Rattle.cb_desks.specs.Desks.{traces_of}
+use Rattle.cb_audit.specs.Desks.{traces_of}
 use Rattle.cb_run_nodes.specs.Auditing.{ReportsHall}
 use Rattle.cb_run_nodes.proofs.running.reports_of.Given as goal
 

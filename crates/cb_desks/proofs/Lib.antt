@@ -1,4 +1,0 @@
-pub mod Listing
-pub mod Placed
-pub mod Searching
-pub mod Uneven

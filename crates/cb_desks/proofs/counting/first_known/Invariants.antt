@@ -1,6 +1,0 @@
-use Rattle.cb_audit.proofs.Numbers.{AreEvenBelow}
-use Rattle.cb_desks.specs.Desks.{traces_of}
-use Rattle.cb_desks.proofs.counting.first_known.Given as goal
-
-abbrev pub invariant-loop-peer : goal.invariant-loop-peer
-invariant-loop-peer g l = AreEvenBelow l.connections (traces_of l.desks) l.peer

@@ -1,6 +1,0 @@
-use Rattle.cb_audit.proofs.Numbers.{AreEvenUpTo}
-use Rattle.cb_desks.specs.Desks.{traces_of}
-use Rattle.cb_desks.proofs.counting.first_of_peer.Given as goal
-
-abbrev pub invariant-loop-earlier : goal.invariant-loop-earlier
-invariant-loop-earlier g l = AreEvenUpTo l.connections (traces_of l.desks) l.peer l.earlier

@@ -1,6 +1,0 @@
-use Rattle.std.proofs.Common.{◌≡◌, None, take}
-use Rattle.cb_desks.specs.Desks.{traces_of, uneven_in}
-use Rattle.cb_desks.proofs.counting.uneven_at.Given as goal
-
-abbrev pub invariant-loop-desk : goal.invariant-loop-desk
-invariant-loop-desk g l = uneven_in l.connections (traces_of (take l.desk-index l.desks)) ≡ None
