@@ -2,17 +2,17 @@
 use Rattle.std.proofs.Common.{◌≡◌, ◌⊎◌, ◌↔◌, ℕ, Bool, true, List, Option, Result, Ok, Err, IfOk, IfErr, OnOk, inl, inr}
 use Rattle.cb_run.specs.declared.ending.Halt.{Halt}
 use Rattle.cb_run.specs.declared.ending.Halt.TheVariants.{Memory, ReadFailed, WriteFailed}
-use Rattle.cb_operator.specs.declared.refusal.Verdict.{Verdict}
-use Rattle.cb_operator.specs.declared.refusal.Verdict.TheVariants as verdicts
-use Rattle.cb_operator.specs.declared.reply.Reply.TheVariants as replies
-use Rattle.cb_node_process.specs.Telling.{TellsAll, TellsOne, TellsOpening}
+use Rattle.cb_control.specs.declared.verdict.Verdict.{Verdict}
+use Rattle.cb_control.specs.declared.verdict.Verdict.TheVariants as verdicts
+use Rattle.cb_control.specs.declared.reply.Reply.TheVariants as replies
+use Rattle.cb_node_process.specs.Telling.{Tells, TellsAll, TellsOpening}
 use Rattle.cb_node_process.specs.declared.start_fault.StartFault.{StartFault}
 use Rattle.cb_node_process.proofs.Runs.{tells_all}
 
 -- the audit's answer is the last line
 pub told_all : {E : Type 0} (r : Result ℕ E) (a b c : Option (List ℕ)) (verdict : Verdict) (well served reached : Bool) → TellsOpening (served ≡ true) a b
     → (well ≡ true → (verdict ≡ verdicts.Yes) × ((reached ≡ true) × (served ≡ true)))
-    → IfOk r (λ status. TellsOne b c (replies.Audit verdict)) → IfOk r (λ status. (status ≡ 0) ↔ (well ≡ true)) → IfOk r (λ status. (status ≡ 0) ⊎ (status ≡ 3)) → IfOk r (TellsAll a c)
+    → IfOk r (λ status. Tells b c (replies.Audit verdict)) → IfOk r (λ status. (status ≡ 0) ↔ (well ≡ true)) → IfOk r (λ status. (status ≡ 0) ⊎ (status ≡ 3)) → IfOk r (TellsAll a c)
 told_all (Ok status) a b c verdict well served reached o says last full which =
     tells_all (served ≡ true) a b c verdict status (λ zero. (says (full.0 zero)).1.1) (λ zero. (says (full.0 zero)).0) o last which
 told_all (Err halt) a b c verdict well served reached o says last full which = tt

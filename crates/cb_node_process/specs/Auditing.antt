@@ -4,8 +4,8 @@ use Rattle.cb_journal.specs.Journal.{JournalState}
 use Rattle.cb_audit.specs.Audit.{Audits}
 use Rattle.cb_audit.specs.declared.auditing.Split.TheVariants.{Count, Differs}
 use Rattle.cb_audit.specs.Order.{AreInOrder, AuditedTrace}
-use Rattle.cb_operator.specs.declared.refusal.Verdict.{Verdict}
-use Rattle.cb_operator.specs.declared.refusal.Verdict.TheVariants as verdicts
+use Rattle.cb_control.specs.declared.verdict.Verdict.{Verdict}
+use Rattle.cb_control.specs.declared.verdict.Verdict.TheVariants as verdicts
 
 -- What each answer says of a journal and traces. Nothing is said of want of memory.
 abbrev pub TellsVerdict : JournalState → List AuditedTrace → Verdict → Type 0

@@ -5,10 +5,10 @@ ghost use Rattle.cb_journal.specs.Journal.{JournalState};
 ghost use Rattle.cb_node_process.specs.Auditing.{TellsVerdict};
 
 use cb_audit::{Audited, Split, are_in_order, audit, traces};
+use cb_control::Verdict;
 use cb_crew::Desk;
 use cb_hall::Hall;
 use cb_node::{NodeEnd, NodeWork};
-use cb_operator::Verdict;
 use std::alloc::Global;
 use std::sync::Wait;
 

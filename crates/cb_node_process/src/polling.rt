@@ -1,16 +1,17 @@
 //! What a process does between two lines: it notes connections that ended, accepts and dials peers,
 //! and ticks. Each is logged. Nothing of it fails: what can't be done now is tried again later.
 ghost use Rattle.std.specs.Prelude.{◌≢◌, ◌<◌, length, IfErr, IfSome};
-ghost use Rattle.cb_operator.specs.declared.refusal.Refusal.TheVariants.{Unreadable};
+ghost use Rattle.cb_control.specs.declared.refusal.Refusal.TheVariants.{Unreadable};
 
 use crate::host::ProcessHost;
-use crate::process::{Process, refusal_of};
+use crate::process::Process;
 use crate::watching::Watched;
 use cb_base::Hash256;
+use cb_control::Refusal;
 use cb_dialling::{Target, is_own, is_target};
 use cb_node::{CloseReason, NodeFault};
-use cb_operator::Refusal;
 use cb_pipes::{Pace, unix_time};
+use cb_run_nodes::refusal_of;
 use log::{Level, Log, debug, info, log_enabled, warn};
 use std::net::{SocketAddr, TcpStream};
 

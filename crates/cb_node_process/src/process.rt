@@ -1,6 +1,5 @@
 //! A node's process: its node, the connections that last, and the addresses that it dials.
 ghost use Rattle.std.specs.Prelude.{◌≡◌, ◌≤◌, true, IfOk};
-ghost use Rattle.cb_node_process.specs.Telling.{refusal_of};
 
 use crate::auditing::{is_well, verdict_of};
 use crate::host::ProcessHost;
@@ -9,9 +8,9 @@ use crate::start_fault::{StartFault, listen};
 use crate::stopwatch::Stopwatch;
 use crate::watching::Watched;
 use cb_base::{Hash256, Seed};
+use cb_control::{Moved, Refusal, Tip, Verdict};
 use cb_dialling::{Target, is_own, targets_of};
 use cb_node::{Node, NodeEnd, NodeFault, NodeSettings};
-use cb_operator::{Moved, Refusal, Tip, Verdict};
 use cb_pipes::{Pace, unix_time};
 use log::{Log, error, warn};
 use std::alloc::Global;
@@ -256,16 +255,4 @@ fn settings_of<R: RandomSource + Clock>(rt: &R, handlers: u16) -> Result<NodeSet
         outbound: OUTBOUND,
         handlers: handlers.clamp(1, 16),
     })
-}
-
-/// Why a call of the node was refused.
-pub fn refusal_of(fault: NodeFault) -> Refusal
-    ensures { result ≡ refusal_of fault }
-{
-    match fault {
-        NodeFault::Io => Refusal::Io,
-        NodeFault::NoSlot => Refusal::NoSlot,
-        NodeFault::Memory => Refusal::Memory,
-        NodeFault::Hall(fault) => Refusal::Fault(fault),
-    }
 }

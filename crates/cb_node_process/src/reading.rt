@@ -4,8 +4,8 @@ ghost use Rattle.cb_run.specs.declared.ending.Halt.TheVariants.{Memory, ReadFail
 
 use crate::host::ProcessHost;
 use cb_base::Shared;
+use cb_control::{Order, read_order};
 use cb_io::{In, Source};
-use cb_operator::{Line, read_line};
 use cb_pipes::Pipes;
 use cb_run::{Halt, LineReader};
 use crossbeam_channel::{Receiver, RecvTimeoutError, Sender, bounded};
@@ -50,10 +50,10 @@ impl Broken {
 
 /// What came from standard input.
 #[derive(Drop)]
-pub enum Order {
-    /// A line.
-    Line(Line),
-    /// A line that isn't of one of the forms of `Line`.
+pub enum Arrival {
+    /// A line that gives an order.
+    Order(Order),
+    /// A line that gives none.
     Unreadable,
     /// Memory ran out for a line.
     NoMemory,
@@ -63,12 +63,12 @@ pub enum Order {
     Broken(Broken),
 }
 
-impl Order {
+impl Arrival {
     /// Whether nothing is read after it.
     fn is_last(&self) -> bool {
         match self {
-            Order::Line(Line::Quit) | Order::End | Order::Broken(_) => true,
-            Order::Line(_) | Order::Unreadable | Order::NoMemory => false,
+            Arrival::Order(Order::Quit) | Arrival::End | Arrival::Broken(_) => true,
+            Arrival::Order(_) | Arrival::Unreadable | Arrival::NoMemory => false,
         }
     }
 }
@@ -76,14 +76,14 @@ impl Order {
 /// What came, and how many bytes its line has.
 #[derive(Drop)]
 struct Coming {
-    order: Order,
+    arrival: Arrival,
     bytes: u64,
 }
 
 /// The lines that come, and the thread that reads them. It returns once it has read `quit` or the
 /// end of input.
 #[derive(Drop)]
-pub struct Orders {
+pub struct Arrivals {
     /// What came and wasn't answered yet.
     coming: Receiver<Coming, Global>,
     /// How many bytes that has.
@@ -91,21 +91,21 @@ pub struct Orders {
     thread: JoinHandle<()>,
 }
 
-impl Orders {
+impl Arrivals {
     /// Waits so long for what comes next.
     pub fn next<R: Wait + Clock>(
         &self,
         rt: &R,
         pause: Duration,
-    ) -> Result<Order, RecvTimeoutError> {
-        let Coming { order, bytes } = self.coming.recv_timeout(rt, pause)?;
+    ) -> Result<Arrival, RecvTimeoutError> {
+        let Coming { arrival, bytes } = self.coming.recv_timeout(rt, pause)?;
         self.waiting.fetch_sub(bytes, Ordering::SeqCst);
-        Ok(order)
+        Ok(arrival)
     }
 
     /// Waits for the thread. It must have read `quit` or the end of input, or be about to.
     pub fn join<R: ProcessHost>(self, rt: &R) {
-        let Orders {
+        let Arrivals {
             coming,
             waiting,
             thread,
@@ -130,7 +130,7 @@ pub fn start_reading<R: ProcessHost>(
     rt: &R,
     alloc: Global,
     pipes: &Shared<Pipes>,
-) -> Result<Orders, Halt>
+) -> Result<Arrivals, Halt>
     ensures { IfErr result (λ halt. (halt ≡ Memory) ⊎ (halt ≡ ReadFailed)) }
 {
     let (desk, coming, waiting) = ways(alloc, pipes)?;
@@ -141,7 +141,7 @@ pub fn start_reading<R: ProcessHost>(
         desk.pipes.ask_end();
     });
     match started {
-        Ok(thread) => Ok(Orders {
+        Ok(thread) => Ok(Arrivals {
             coming,
             waiting,
             thread,
@@ -194,20 +194,20 @@ fn read_all<R: Wait + Clock + Input<Reader = StdinLock<'static>>>(
     let mut lines = match LineReader::new(alloc) {
         Ok(lines) => lines,
         Err(_) => {
-            let order = Order::Broken(Broken::Memory);
-            drop(desk.sender.send(rt, Coming { order, bytes: 0 }));
+            let arrival = Arrival::Broken(Broken::Memory);
+            drop(desk.sender.send(rt, Coming { arrival, bytes: 0 }));
             return;
         }
     };
     for _ in 0..u64::MAX {
         wait_for_room(rt, desk);
-        let order = next_order(alloc, &mut lines, &mut source);
-        let (last, bytes) = (order.is_last(), lines.line().len() as u64);
+        let arrival = next_arrival(alloc, &mut lines, &mut source);
+        let (last, bytes) = (arrival.is_last(), lines.line().len() as u64);
         if last {
             desk.pipes.ask_end();
         }
         desk.waiting.fetch_add(bytes, Ordering::SeqCst);
-        if desk.sender.send(rt, Coming { order, bytes }).is_err() || last {
+        if desk.sender.send(rt, Coming { arrival, bytes }).is_err() || last {
             return;
         }
     }
@@ -224,15 +224,15 @@ fn wait_for_room<R: Wait + Clock>(rt: &R, desk: &Desk) {
 }
 
 /// What the next line says.
-fn next_order<S: Source>(alloc: Global, lines: &mut LineReader, source: &mut S) -> Order {
+fn next_arrival<S: Source>(alloc: Global, lines: &mut LineReader, source: &mut S) -> Arrival {
     match lines.advance(source) {
-        Ok(true) => match read_line(alloc, lines.line()) {
-            Ok(Some(line)) => Order::Line(line),
-            Ok(None) => Order::Unreadable,
-            Err(_) => Order::NoMemory,
+        Ok(true) => match read_order(alloc, lines.line()) {
+            Ok(Some(order)) => Arrival::Order(order),
+            Ok(None) => Arrival::Unreadable,
+            Err(_) => Arrival::NoMemory,
         },
-        Ok(false) => Order::End,
-        Err(Halt::Memory) => Order::Broken(Broken::Memory),
-        Err(_) => Order::Broken(Broken::Read),
+        Ok(false) => Arrival::End,
+        Err(Halt::Memory) => Arrival::Broken(Broken::Memory),
+        Err(_) => Arrival::Broken(Broken::Read),
     }
 }

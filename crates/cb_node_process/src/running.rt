@@ -3,18 +3,18 @@ ghost use Rattle.std.specs.Prelude.{◌≡◌, ◌≢◌, ◌↔◌, ◌⊎◌, 
 ghost use Rattle.std.specs.Io.KnownBytes.{Appends};
 ghost use Rattle.cb_run.specs.declared.ending.Halt.TheVariants.{Memory, ReadFailed, WriteFailed};
 ghost use Rattle.cb_node_process.specs.declared.start_fault.StartFault.{StartFault};
-ghost use Rattle.cb_node_process.specs.Telling.{IsDialReply, TellsAll, TellsAnswers, TellsOne, TellsOpening, deaf_text};
+ghost use Rattle.cb_node_process.specs.Telling.{IsDialReply, Tells, TellsAll, TellsAnswers, TellsOpening, deaf_text};
 
-use crate::answering::{After, print};
+use crate::answering::Response;
 use crate::auditing::is_well;
 use crate::host::ProcessHost;
 use crate::orders::NodeOrders;
 use crate::process::Process;
-use crate::reading::{Broken, Order, Orders, start_reading};
+use crate::reading::{Arrival, Arrivals, Broken, start_reading};
 use crate::start_fault::StartFault;
 use cb_base::{Seed, Shared};
+use cb_control::{Order, Refusal, Reply, Verdict, write_reply};
 use cb_io::Sink;
-use cb_operator::{Line, Refusal, Reply, Verdict};
 use cb_pipes::{LogFault, LogLine, PipedLog, Pipes, start_log};
 use cb_run::{Halt, Status, write_all};
 use crossbeam_channel::{RecvTimeoutError, Sender};
@@ -167,21 +167,21 @@ fn run<R: ProcessHost, L: Log, W: Sink>(
         ⊎ ((halt ≡ WriteFailed) × (W.has_failed writer.new ≡ true)))) }
 {
     let mut process = process;
-    let orders = match start_reading(&rt, alloc, pipes) {
-        Ok(orders) => orders,
+    let arrivals = match start_reading(&rt, alloc, pipes) {
+        Ok(arrivals) => arrivals,
         Err(halt) => {
             drop(process.finish());
             return Err(halt);
         }
     };
-    let ended = serve(&rt, alloc, &mut process, &orders, pipes, log, writer);
+    let ended = serve(&rt, alloc, &mut process, &arrivals, pipes, log, writer);
     info!(log; "ending");
     process.note_all_ends(log);
     process.note_unreached(log);
     let (verdict, reached) = process.finish();
     match ended {
         Ok(served) => {
-            orders.join(&rt);
+            arrivals.join(&rt);
             let well = is_well(verdict, reached, served.well);
             tell_end(alloc, verdict, well, served.stop, writer)
         }
@@ -199,13 +199,13 @@ fn tell_end<W: Sink>(
     writer: &mut W,
 ) -> Result<u8, Halt>
     ensures told { IfOk result (λ status.
-        TellsOne (W.contents writer.old) (W.contents writer.new) (Reply.Audit verdict)) }
+        Tells (W.contents writer.old) (W.contents writer.new) (Reply.Audit verdict)) }
     ensures fully { IfOk result (λ status. (status ≡ 0) ↔ (well ≡ true)) }
     ensures status { IfOk result (λ status. (status ≡ 0) ⊎ (status ≡ 3)) }
     ensures halts { IfErr result (λ halt. (halt ≡ Memory) ⊎ ((halt ≡ ReadFailed)
         ⊎ ((halt ≡ WriteFailed) × (W.has_failed writer.new ≡ true)))) }
 {
-    print(alloc, &Reply::Audit(verdict), writer)?;
+    write_reply(alloc, &Reply::Audit(verdict), writer)?;
     match stop {
         Stop::Broken(broken) => Err(broken.halt()),
         Stop::Asked if well => Ok(Status::Success.code()),
@@ -218,7 +218,7 @@ fn serve<R: ProcessHost, L: Log, W: Sink>(
     rt: &R,
     alloc: Global,
     process: &mut Process<R>,
-    orders: &Orders,
+    arrivals: &Arrivals,
     pipes: &Pipes,
     log: &L,
     writer: &mut W,
@@ -230,11 +230,11 @@ fn serve<R: ProcessHost, L: Log, W: Sink>(
 {
     let address = process.address;
     info!(log; "listening at {address}");
-    print(alloc, &Reply::Listening(address), writer)?;
+    write_reply(alloc, &Reply::Listening(address), writer)?;
     let (mut dials, mut well) = (false, true);
     for _ in rt.forever() {
         process.poll(log);
-        match advance(rt, alloc, process, orders, pipes, dials, log, writer)? {
+        match advance(rt, alloc, process, arrivals, pipes, dials, log, writer)? {
             Next::Line(After::Next) => dials = false,
             Next::Line(After::Failed) => (dials, well) = (false, false),
             Next::Line(After::Dial) => dials = true,
@@ -255,6 +255,20 @@ fn serve<R: ProcessHost, L: Log, W: Sink>(
     unreachable!()
 }
 
+/// What comes after a line.
+#[derive(Clone, Copy)]
+enum After {
+    /// The next line is read.
+    Next,
+    /// The next line is read. An audit said no, or a node that was started anew lacks the chain, the
+    /// mempool or the address of the one before, which the exit status tells.
+    Failed,
+    /// No line is answered until the dial has ended that the line asked for.
+    Dial,
+    /// The process ends.
+    End,
+}
+
 /// What comes next.
 #[derive(Clone, Copy)]
 enum Next {
@@ -270,7 +284,7 @@ fn advance<R: ProcessHost, L: Log, W: Sink>(
     rt: &R,
     alloc: Global,
     process: &mut Process<R>,
-    orders: &Orders,
+    arrivals: &Arrivals,
     pipes: &Pipes,
     dials: bool,
     log: &L,
@@ -289,7 +303,7 @@ fn advance<R: ProcessHost, L: Log, W: Sink>(
     } else if dials {
         answer_dial(rt, alloc, process, writer)
     } else {
-        answer_next(rt, alloc, process, orders, log, writer)
+        answer_next(rt, alloc, process, arrivals, log, writer)
     }
 }
 
@@ -321,7 +335,9 @@ fn answer_dial<R: ProcessHost, W: Sink>(
     ensures marked { OnErr result (W.has_failed writer.new ≡ true) }
 {
     match process.outcome.take() {
-        Some((address, served)) => tell(alloc, dial_reply(address, served), writer),
+        Some((address, served)) => {
+            reply_with(alloc, dial_reply(address, served), After::Next, writer)
+        }
         None => {
             thread::sleep(rt, Duration::from_millis(PAUSE_MILLIS));
             Ok(Next::Line(After::Dial))
@@ -344,7 +360,7 @@ fn answer_next<R: ProcessHost, L: Log, W: Sink>(
     rt: &R,
     alloc: Global,
     process: &mut Process<R>,
-    orders: &Orders,
+    arrivals: &Arrivals,
     log: &L,
     writer: &mut W,
 ) -> Result<Next, Halt>
@@ -354,20 +370,22 @@ fn answer_next<R: ProcessHost, L: Log, W: Sink>(
     ensures marked { OnErr result (W.has_failed writer.new ≡ true) }
 {
     let pause = Duration::from_millis(PAUSE_MILLIS);
-    match orders.next(rt, pause) {
-        Ok(Order::Line(line)) => obey(process, line, log, writer),
-        Ok(Order::Unreadable) => tell(alloc, Reply::Refused(Refusal::Unreadable), writer),
-        Ok(Order::NoMemory) => tell(alloc, Reply::Refused(Refusal::Memory), writer),
-        Ok(Order::Broken(broken)) => Ok(Next::Broken(broken)),
+    match arrivals.next(rt, pause) {
+        Ok(Arrival::Order(order)) => obey(alloc, process, order, log, writer),
+        Ok(Arrival::Unreadable) => refuse_line(alloc, Refusal::Unreadable, writer),
+        Ok(Arrival::NoMemory) => refuse_line(alloc, Refusal::Memory, writer),
+        Ok(Arrival::Broken(broken)) => Ok(Next::Broken(broken)),
         Err(RecvTimeoutError::Timeout) => Ok(Next::Line(After::Next)),
-        Ok(Order::End) | Err(RecvTimeoutError::Disconnected) => Ok(Next::Line(After::End)),
+        Ok(Arrival::End) | Err(RecvTimeoutError::Disconnected) => Ok(Next::Line(After::End)),
     }
 }
 
-/// Answers a line. Fails only with `Halt::WriteFailed`.
+/// Does what an order says, and answers it if that is done at once. Fails only with
+/// `Halt::WriteFailed`.
 fn obey<R: ProcessHost, L: Log, W: Sink>(
+    alloc: Global,
     process: &mut Process<R>,
-    line: Line,
+    order: Order,
     log: &L,
     writer: &mut W,
 ) -> Result<Next, Halt>
@@ -376,16 +394,37 @@ fn obey<R: ProcessHost, L: Log, W: Sink>(
     ensures failed { IsOkUnless result WriteFailed }
     ensures marked { OnErr result (W.has_failed writer.new ≡ true) }
 {
-    Ok(Next::Line(process.answer(line, log, writer)?))
+    match process.obey(order, log) {
+        Response::Reply(reply) => reply_with(alloc, reply, After::Next, writer),
+        Response::Failed(reply) => reply_with(alloc, reply, After::Failed, writer),
+        Response::Dial => Ok(Next::Line(After::Dial)),
+        Response::End => Ok(Next::Line(After::End)),
+    }
 }
 
-/// Prints a line. Fails only with `Halt::WriteFailed`.
-fn tell<W: Sink>(alloc: Global, reply: Reply, writer: &mut W) -> Result<Next, Halt>
+/// Tells why a line gives no order. Fails only with `Halt::WriteFailed`.
+fn refuse_line<W: Sink>(alloc: Global, refusal: Refusal, writer: &mut W) -> Result<Next, Halt>
     ensures told { OnOk result
-        (TellsOne (W.contents writer.old) (W.contents writer.new) reply) }
+        (Tells (W.contents writer.old) (W.contents writer.new) (Reply.Refused refusal)) }
     ensures failed { IsOkUnless result WriteFailed }
     ensures marked { OnErr result (W.has_failed writer.new ≡ true) }
 {
-    print(alloc, &reply, writer)?;
-    Ok(Next::Line(After::Next))
+    reply_with(alloc, Reply::Refused(refusal), After::Next, writer)
+}
+
+/// Prints a reply, behind which this comes. Fails only with `Halt::WriteFailed`.
+fn reply_with<W: Sink>(
+    alloc: Global,
+    reply: Reply,
+    after: After,
+    writer: &mut W,
+) -> Result<Next, Halt>
+    ensures told { OnOk result
+        (Tells (W.contents writer.old) (W.contents writer.new) reply) }
+    ensures next { IfOk result (λ next. next ≡ Next.Line after) }
+    ensures failed { IsOkUnless result WriteFailed }
+    ensures marked { OnErr result (W.has_failed writer.new ≡ true) }
+{
+    write_reply(alloc, &reply, writer)?;
+    Ok(Next::Line(after))
 }

@@ -4,19 +4,20 @@ use Rattle.std.proofs.lemmas.List.{append-nil, length-append}
 use Rattle.std.specs.Io.KnownBytes.{prepend_known, Appends}
 use Rattle.std.specs.Str.Lines.{lines}
 use Rattle.cb_run.specs.Lines.{NextLine}
-use Rattle.cb_script.specs.declared.line.Line.{Line}
-use Rattle.cb_script.specs.declared.outcome.Outcome.{Outcome}
-use Rattle.cb_script.specs.declared.outcome.Tally.{Tally}
+use Rattle.cb_control.specs.declared.refusal.Refusal.{Refusal}
+use Rattle.cb_control.specs.declared.refusal.Refusal.TheVariants as refusals
+use Rattle.cb_control.specs.declared.script_line.ScriptOrder.{ScriptOrder}
+use Rattle.cb_control.specs.declared.script_text.Tally.{Tally}
 use Rattle.cb_run_nodes.specs.declared.playing.Played.TheVariants.{Whole, Unreadable}
-use Rattle.cb_script.specs.ScriptLine.{Reads}
+use Rattle.cb_control.specs.ScriptLine.{ReadsScript}
 use Rattle.cb_run_nodes.specs.Playing.{CanBecome, PlaysKnown, PlaysLines}
-use Rattle.cb_script.specs.Outcomes.{good, outcome_text, tally_after, unreadable_text}
+use Rattle.cb_control.specs.Outcomes.{good, outcome_text, tally_after}
 
 -- what becomes of a line
-pub record Becomes (nodes : ℕ) (text : List ℕ) (outcome : Outcome) : Type 0 where
-  pub line : Line
-  pub reads : Reads nodes text (Some line)
-  pub ends : CanBecome line outcome
+pub record Becomes (nodes : ℕ) (text : List ℕ) (outcome : Option Refusal) : Type 0 where
+  pub order : ScriptOrder
+  pub reads : ReadsScript nodes text (Some order)
+  pub ends : CanBecome order outcome
 
 one_more : (number before : ℕ) → number + suc before ≡ (number + 1) + before
 one_more number before = omega arith
@@ -25,13 +26,13 @@ nothing_more : (number : ℕ) → number + 0 ≡ number
 nothing_more number = omega arith
 
 -- these lines, and then one more
-plays-more : (nodes number last : ℕ) (before : List (List ℕ)) (old between : Tally) (printed text : List ℕ) (outcome : Outcome) → last ≡ number + length before
+plays-more : (nodes number last : ℕ) (before : List (List ℕ)) (old between : Tally) (printed text : List ℕ) (outcome : Option Refusal) → last ≡ number + length before
     → PlaysLines nodes number before old printed between → Becomes nodes text outcome
     → PlaysLines nodes number (before ++ text ∷ []) old (printed ++ outcome_text last outcome) (tally_after between outcome)
 plays-more nodes number last [] old between printed text outcome place plays becomes =
     let here : last ≡ number = place ∙ nothing_more number in
     let now : tally_after between outcome ≡ tally_after old outcome = ap (λ (t : Tally). tally_after t outcome) plays.1 in (
-      becomes.line,
+      becomes.order,
       outcome,
       [],
       becomes.reads,
@@ -82,7 +83,7 @@ going-start nodes (Some input) (Some held) ahead tally n e = record {
 next_number : (number : ℕ) (before : List (List ℕ)) (line : List ℕ) → number ≡ 1 + length before → number + 1 ≡ 1 + length (before ++ line ∷ [])
 next_number number before line is = let long : length (before ++ line ∷ []) ≡ length before + 1 = length-append before (line ∷ []) in omega (arith, is, long)
 
-going-line : (nodes : ℕ) (whole old r r' o o' : Option (List ℕ)) (tally : Tally) (number : ℕ) (line : List ℕ) (outcome : Outcome) → GoingKnown nodes whole old r o tally number
+going-line : (nodes : ℕ) (whole old r r' o o' : Option (List ℕ)) (tally : Tally) (number : ℕ) (line : List ℕ) (outcome : Option Refusal) → GoingKnown nodes whole old r o tally number
     → NextLine true r r' line → Becomes nodes line outcome → Appends o o' (outcome_text number outcome) → GoingKnown nodes whole old r' o' (tally_after tally outcome) (number + 1)
 going-line nodes None old r r' o o' tally number line outcome g n b w = tt
 going-line nodes (Some input) None r r' o o' tally number line outcome g n b w = tt
@@ -100,13 +101,13 @@ going-line nodes (Some input) (Some held) (Some xs) (Some xs') (Some ys) (Some y
 }
 
 -- a line that was played
-pub going-on : (nodes : ℕ) (whole old r r' o o' : Option (List ℕ)) (tally next : Tally) (number : ℕ) (found : Bool) (text : List ℕ) (line : Line) (read : Option Line) (outcome : Outcome)
-    → GoingKnown nodes whole old r o tally number → NextLine found r r' text → found ≡ true → Reads nodes text read → read ≡ Some line → CanBecome line outcome
+pub going-on : (nodes : ℕ) (whole old r r' o o' : Option (List ℕ)) (tally next : Tally) (number : ℕ) (found : Bool) (text : List ℕ) (order : ScriptOrder) (read : Option ScriptOrder) (outcome : Option Refusal)
+    → GoingKnown nodes whole old r o tally number → NextLine found r r' text → found ≡ true → ReadsScript nodes text read → read ≡ Some order → CanBecome order outcome
     → Appends o o' (outcome_text number outcome) → next ≡ tally_after tally outcome → GoingKnown nodes whole old r' o' next (number + 1)
-going-on nodes whole old r r' o o' tally next number found text line read outcome g n e reads some ends w is =
+going-on nodes whole old r r' o o' tally next number found text order read outcome g n e reads some ends w is =
     subst (λ (t : Tally). GoingKnown nodes whole old r' o' t (number + 1)) (sym is)
     (going-line nodes whole old r r' o o' tally number text outcome g (subst (λ (b : Bool). NextLine b r r' text) e n)
-    (record { line = line; reads = subst (λ (x : Option Line). Reads nodes text x) some reads; ends = ends }) w)
+    (record { order = order; reads = subst (λ (x : Option ScriptOrder). ReadsScript nodes text x) some reads; ends = ends }) w)
 
 ended : (nodes : ℕ) (whole old r r' o : Option (List ℕ)) (tally : Tally) (number : ℕ) (line : List ℕ) → GoingKnown nodes whole old r o tally number → NextLine false r r' line → PlaysKnown nodes whole old o (Whole tally)
 ended nodes None old r r' o tally number line g n = tt
@@ -129,8 +130,8 @@ going-end nodes whole old r r' o tally number found line g n e = ended nodes who
 behind : (number : ℕ) (before : List (List ℕ)) → number ≡ 1 + length before → number ≡ length before + 1
 behind number before is = omega (arith, is)
 
-stopped : (nodes : ℕ) (whole old r r' o o' : Option (List ℕ)) (tally : Tally) (number : ℕ) (line : List ℕ) → GoingKnown nodes whole old r o tally number → NextLine true r r' line → Reads nodes line None
-    → Appends o o' (unreadable_text number) → PlaysKnown nodes whole old o' Unreadable
+stopped : (nodes : ℕ) (whole old r r' o o' : Option (List ℕ)) (tally : Tally) (number : ℕ) (line : List ℕ) → GoingKnown nodes whole old r o tally number → NextLine true r r' line → ReadsScript nodes line None
+    → Appends o o' (outcome_text number (Some refusals.Unreadable)) → PlaysKnown nodes whole old o' Unreadable
 stopped nodes None old r r' o o' tally number line g n h w = tt
 stopped nodes (Some input) None r r' o o' tally number line g n h w = tt
 stopped nodes (Some input) (Some held) None r' o o' tally number line g n h w = absurd g
@@ -138,8 +139,8 @@ stopped nodes (Some input) (Some held) (Some xs) r' None o' tally number line g 
 stopped nodes (Some input) (Some held) (Some xs) None (Some ys) o' tally number line g n h w = absurd n
 stopped nodes (Some input) (Some held) (Some xs) (Some xs') (Some ys) None tally number line g n h w = absurd w
 stopped nodes (Some input) (Some held) (Some xs) (Some xs') (Some ys) (Some ys') tally number line g n h w = (
-  g.text ++ unreadable_text number,
-  w ∙ ap (λ (x : List ℕ). x ++ unreadable_text number) g.holds_is ∙ append_assoc held g.text (unreadable_text number),
+  g.text ++ outcome_text number (Some refusals.Unreadable),
+  w ∙ ap (λ (x : List ℕ). x ++ outcome_text number (Some refusals.Unreadable)) g.holds_is ∙ append_assoc held g.text (outcome_text number (Some refusals.Unreadable)),
   record {
     before = g.before;
     line = line;
@@ -149,12 +150,12 @@ stopped nodes (Some input) (Some held) (Some xs) (Some xs') (Some ys) (Some ys')
     lines_are = g.lines_are ∙ ap (λ (x : List (List ℕ)). g.before ++ x) n;
     plays = g.plays;
     unreadable = h;
-    out_is = ap (λ (x : ℕ). g.text ++ unreadable_text x) (behind number g.before g.number_is);
+    out_is = ap (λ (x : ℕ). g.text ++ outcome_text x (Some refusals.Unreadable)) (behind number g.before g.number_is);
   },
 )
 
 -- a line can't be read
-pub going-stop : (nodes : ℕ) (whole old r r' o o' : Option (List ℕ)) (tally : Tally) (number : ℕ) (found : Bool) (line : List ℕ) (read : Option Line) → GoingKnown nodes whole old r o tally number
-    → NextLine found r r' line → found ≡ true → Reads nodes line read → read ≡ None → Appends o o' (unreadable_text number) → PlaysKnown nodes whole old o' Unreadable
+pub going-stop : (nodes : ℕ) (whole old r r' o o' : Option (List ℕ)) (tally : Tally) (number : ℕ) (found : Bool) (line : List ℕ) (read : Option ScriptOrder) → GoingKnown nodes whole old r o tally number
+    → NextLine found r r' line → found ≡ true → ReadsScript nodes line read → read ≡ None → Appends o o' (outcome_text number (Some refusals.Unreadable)) → PlaysKnown nodes whole old o' Unreadable
 going-stop nodes whole old r r' o o' tally number found line read g n e h none w =
-    stopped nodes whole old r r' o o' tally number line g (subst (λ (b : Bool). NextLine b r r' line) e n) (subst (λ (x : Option Line). Reads nodes line x) none h) w
+    stopped nodes whole old r r' o o' tally number line g (subst (λ (b : Bool). NextLine b r r' line) e n) (subst (λ (x : Option ScriptOrder). ReadsScript nodes line x) none h) w

@@ -1,12 +1,12 @@
 -- A run in its parts: what was played, and what was printed at the end.
 use Rattle.std.proofs.Common.{◌≡◌, ℕ, Bool, false, List, [], ◌++◌, Option, Some, None, Result, Ok, Err, IfOk, refl, ap, subst, ◌∙◌, append_assoc, inl, inr}
 use Rattle.std.specs.Io.KnownBytes.{Appends}
-use Rattle.cb_script.specs.declared.outcome.Tally.{Tally}
+use Rattle.cb_control.specs.declared.script_text.Tally.{Tally}
 use Rattle.cb_run.specs.declared.ending.Halt.{Halt}
 use Rattle.cb_run_nodes.specs.declared.playing.Played.{Played}
 use Rattle.cb_run_nodes.specs.declared.playing.Played.TheVariants.{Whole, Unreadable}
 use Rattle.cb_run_nodes.specs.Playing.{PlaysKnown}
-use Rattle.cb_script.specs.Outcomes.{status_of}
+use Rattle.cb_control.specs.Outcomes.{status_of}
 use Rattle.cb_run_nodes.specs.declared.report.NodeReport.{NodeReport}
 use Rattle.cb_run_nodes.specs.Summary.{AreOfAll, RunsKnown, not_started_text, reports_text, tally_reported}
 

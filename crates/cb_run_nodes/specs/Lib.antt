@@ -1,3 +1,4 @@
 pub mod Auditing
 pub mod Playing
+pub mod Refusing
 pub mod Summary

@@ -4,10 +4,10 @@ use Rattle.std.specs.Fmt.{decimal}
 use Rattle.std.specs.List.{flat_map, list_all, range_with_len}
 use Rattle.std.specs.Str.Lines.{lines}
 use Rattle.hex.specs.Hex.{encode_lower}
-use Rattle.cb_script.specs.declared.outcome.Tally.{Tally}
+use Rattle.cb_control.specs.declared.script_text.Tally.{Tally}
 use Rattle.cb_run_nodes.specs.declared.report.NodeReport.{NodeReport}
 use Rattle.cb_run_nodes.specs.Playing.{PlaysLines, PlaysUpTo}
-use Rattle.cb_script.specs.Outcomes.{good, status_of, tally_audited}
+use Rattle.cb_control.specs.Outcomes.{good, status_of, tally_audited}
 
 abbrev pub verdict : Bool → List ℕ
 verdict agrees = if agrees then codes "yes" else codes "no"

@@ -1,17 +1,20 @@
 //! The nodes of a run, with their sockets and threads.
-ghost use Rattle.std.specs.Prelude.{◌≡◌, ◌≢◌, ◌↔◌, ◌≤◌, ◌<◌, length, All, Err, IfOk, OnOk, IsOkUnless, vec_capacity, vec_len};
+ghost use Rattle.std.specs.Prelude.{◌≡◌, ◌≢◌, ◌↔◌, ◌≤◌, ◌<◌, false, length, All, Err, IfOk, OnOk, IsOkUnless, Some, vec_capacity, vec_len};
 ghost use Rattle.std.specs.List.{AllZip};
 ghost use Rattle.cb_base.specs.declared.fault.Fault.TheVariants.{Memory};
 ghost use Rattle.cb_node.specs.Node.{HasFinished};
 ghost use Rattle.cb_slots.specs.declared.fault.NodeFault.TheVariants as faults;
-ghost use Rattle.cb_script.specs.ScriptLine.{IsAmong};
+ghost use Rattle.cb_control.specs.declared.refusal.Refusal.TheVariants as refusals;
+ghost use Rattle.cb_control.specs.Outcomes.{IsOfNode};
+ghost use Rattle.cb_control.specs.ScriptLine.{IsAmong};
 ghost use Rattle.cb_run_nodes.specs.Playing.{CanBecome, HasSlots};
 
+use crate::refusing::refusal_of;
 use cb_base::{Fault, Seed, Shared};
 use cb_block::{Block, sound};
+use cb_control::{Deed, Refusal, ScriptOrder};
 use cb_journal::{Answer, Local};
 use cb_node::{Node, NodeEnd, NodeFault, NodeSettings};
-use cb_script::{Line, Outcome};
 use std::alloc::Global;
 use std::marker::{Copy, Send};
 use std::net::{IpAddr, Ipv4Addr, Net, SocketAddr, TcpListener, TcpStream};
@@ -111,26 +114,21 @@ impl<R: Host> Nodes<R> {
         finish_all(list, ends)
     }
 
-    #[tactic(auto, using(crate::proofs::Obeying::becomes, crate::proofs::Obeying::becomes_kick))]
-    /// Does what a line says. Fails only with `Fault::Memory`.
-    pub fn obey(&mut self, line: Line) -> Result<Outcome, Fault>
-        requires among { IsAmong (vec_len self.old.list) line }
+    #[tactic(auto, using(crate::proofs::Obeying::links))]
+    /// Does what a line says. Returns why it was refused, or `None` if it was done. Fails only with
+    /// `Fault::Memory`.
+    pub fn obey(&mut self, order: ScriptOrder) -> Result<Option<Refusal>, Fault>
+        requires among { IsAmong (vec_len self.old.list) order }
         ensures count { vec_len self.new.list ≡ vec_len self.old.list }
-        ensures ends { IfOk result (λ outcome. CanBecome line outcome) }
+        ensures ends { IfOk result (λ outcome. CanBecome order outcome) }
         ensures memory { IsOkUnless result Memory }
     {
-        match line {
-            Line::Link(first, second) => outcome_of(self.link(first, second)),
-            Line::Tx(number, tx) => {
-                outcome_of(submit(&self.list[usize::from(number)], Local::Tx(tx)))
+        match order {
+            ScriptOrder::Link(first, second) => outcome_of(self.link(first, second)),
+            ScriptOrder::Wait => Ok(self.settle()),
+            ScriptOrder::Obey(number, deed) => {
+                obey(self.alloc, &self.list[usize::from(number)], number, deed)
             }
-            Line::Block(number, block) => {
-                give_block(self.alloc, &self.list[usize::from(number)], block)
-            }
-            Line::Mine(number) => { mine(&self.list[usize::from(number)], (number % 256) as u8) }
-            Line::Kick(number, slot) => kick(&self.list[usize::from(number)], slot),
-            Line::Wait => Ok(self.settle()),
-            Line::Checkpoint(number) => outcome_of(self.list[usize::from(number)].checkpoint()),
         }
     }
 
@@ -147,17 +145,17 @@ impl<R: Host> Nodes<R> {
     }
 
     /// Gives the nodes time until they have one tip.
-    fn settle(&self) -> Outcome
-        ensures { CanBecome Line.Wait result }
+    fn settle(&self) -> Option<Refusal>
+        ensures { CanBecome ScriptOrder.Wait result }
     {
         for _ in 0..ROUNDS {
             self.tick();
             thread::sleep(&self.rt, Duration::from_millis(PAUSE_MILLISECONDS));
             if self.agree() {
-                return Outcome::Done;
+                return None;
             }
         }
-        Outcome::NotSettled
+        Some(Refusal::NotSettled)
     }
 
     /// Makes a tick of each connection due.
@@ -300,6 +298,27 @@ fn finish_all<R: Host>(list: Vec<Node<R>>, ends: Vec<NodeEnd<R>>) -> Vec<NodeEnd
     all
 }
 
+#[tactic(auto, using(crate::proofs::Obeying::obeys, crate::proofs::Obeying::obeys_kick))]
+/// A node does something; its number is the mark of what it mines. Fails only with `Fault::Memory`.
+fn obey<R: Host>(
+    alloc: Global,
+    node: &Node<R>,
+    number: u16,
+    deed: Deed,
+) -> Result<Option<Refusal>, Fault>
+    requires { HasSlots node.now }
+    ensures ends { IfOk result (λ outcome. CanBecome (ScriptOrder.Obey number deed) outcome) }
+    ensures memory { IsOkUnless result Memory }
+{
+    match deed {
+        Deed::Tx(tx) => outcome_of(submit(node, Local::Tx(tx))),
+        Deed::Submit(block) => give_block(alloc, node, block),
+        Deed::Mine(count) => mine(node, count, (number % 256) as u8),
+        Deed::Kick(slot) => kick(node, slot),
+        Deed::Checkpoint => outcome_of(node.checkpoint()),
+    }
+}
+
 /// Gives a node a transaction or a block. Fails also if the hall refuses it.
 fn submit<R: Host>(node: &Node<R>, local: Local) -> Result<(), NodeFault> {
     match node.submit(local) {
@@ -324,8 +343,8 @@ fn give_block<R: Host>(
     alloc: Global,
     node: &Node<R>,
     block: Shared<Block>,
-) -> Result<Outcome, Fault>
-    ensures ends { IfOk result (λ outcome. outcome ≢ Outcome.NotSettled) }
+) -> Result<Option<Refusal>, Fault>
+    ensures ends { IfOk result (λ outcome. IsOfNode outcome) }
     ensures memory { IsOkUnless result Memory }
 {
     match sound(alloc, block) {
@@ -337,23 +356,29 @@ fn give_block<R: Host>(
     }
 }
 
-/// A node mines a block with this mark, and is given it. Fails only with `Fault::Memory`.
-fn mine<R: Host>(node: &Node<R>, mark: u8) -> Result<Outcome, Fault>
-    ensures ends { IfOk result (λ outcome. outcome ≢ Outcome.NotSettled) }
+/// A node mines so many blocks with this mark, and is given each. It stops at the first that is
+/// refused. Fails only with `Fault::Memory`.
+fn mine<R: Host>(node: &Node<R>, count: u16, mark: u8) -> Result<Option<Refusal>, Fault>
+    ensures ends { IfOk result (λ outcome. IsOfNode outcome) }
     ensures memory { IsOkUnless result Memory }
 {
-    match node.mine(mark) {
-        Ok(block) => outcome_of(submit(node, Local::Block(block))),
-        Err(fault) => outcome_of(Err(fault)),
+    outcome_of(mine_all(node, count, mark))
+}
+
+/// A node mines so many blocks with this mark, and is given each. Fails also if the hall refuses one.
+fn mine_all<R: Host>(node: &Node<R>, blocks: u16, mark: u8) -> Result<(), NodeFault> {
+    for _ in 0..blocks {
+        submit(node, Local::Block(node.mine(mark)?))?;
     }
+    Ok(())
 }
 
 #[tactic(auto, using(crate::proofs::Obeying::kick_told))]
 /// A node kicks the peer in a slot. Fails only with `Fault::Memory`.
-fn kick<R: Host>(node: &Node<R>, slot: u16) -> Result<Outcome, Fault>
+fn kick<R: Host>(node: &Node<R>, slot: u16) -> Result<Option<Refusal>, Fault>
     requires { HasSlots node.now }
-    ensures ends { IfOk result (λ outcome. outcome ≢ Outcome.NotSettled) }
-    ensures no_slot { IfOk result (λ outcome. (outcome ≡ Outcome.NoSlot) ↔ (64 ≤ slot)) }
+    ensures ends { IfOk result (λ outcome. IsOfNode outcome) }
+    ensures no_slot { IfOk result (λ outcome. (outcome ≡ Some refusals.NoSlot) ↔ (64 ≤ slot)) }
     ensures memory { IsOkUnless result Memory }
 {
     outcome_of(node.kick(slot))
@@ -374,20 +399,32 @@ fn settings_of(number: u16, handlers: u16) -> NodeSettings
     }
 }
 
+#[tactic(auto, using(crate::proofs::Obeying::of_node))]
 /// What became of a line by a node's answer. Fails only with `Fault::Memory`.
-fn outcome_of(done: Result<(), NodeFault>) -> Result<Outcome, Fault>
-    ensures ends { IfOk result (λ outcome. outcome ≢ Outcome.NotSettled) }
+fn outcome_of(done: Result<(), NodeFault>) -> Result<Option<Refusal>, Fault>
+    ensures ends { IfOk result (λ outcome. IsOfNode outcome) }
     ensures no_slot { IfOk result
-        (λ outcome. (outcome ≡ Outcome.NoSlot) ↔ (done ≡ Err faults.NoSlot)) }
+        (λ outcome. (outcome ≡ Some refusals.NoSlot) ↔ (done ≡ Err faults.NoSlot)) }
     ensures memory { IsOkUnless result Memory }
 {
     match done {
-        Ok(()) => Ok(Outcome::Done),
-        Err(NodeFault::Io) => Ok(Outcome::Io),
-        Err(NodeFault::NoSlot) => Ok(Outcome::NoSlot),
-        Err(NodeFault::Hall(Fault::Memory)) | Err(NodeFault::Memory) => Err(Fault::Memory),
-        Err(NodeFault::Hall(fault)) => Ok(Outcome::Refused(fault)),
+        Ok(()) => Ok(None),
+        Err(fault) => {
+            let refusal = refusal_of(fault);
+            if lacks_memory(refusal) {
+                Err(Fault::Memory)
+            } else {
+                Ok(Some(refusal))
+            }
+        }
     }
+}
+
+/// Whether memory ran out.
+fn lacks_memory(refusal: Refusal) -> bool
+    ensures { result ≡ false → refusal ≢ refusals.Memory }
+{
+    matches!(refusal, Refusal::Memory | Refusal::Fault(Fault::Memory))
 }
 
 /// Why a transaction or a block was refused; `None` if it was taken.

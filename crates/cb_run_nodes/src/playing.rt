@@ -2,13 +2,13 @@
 ghost use Rattle.std.specs.Prelude.{◌≡◌, IfOk, IfErr, IsOkUnless, vec_len};
 ghost use Rattle.cb_run.specs.declared.ending.Halt.TheVariants.{Memory};
 ghost use Rattle.cb_run.specs.Ending.{HasCause};
-ghost use Rattle.cb_script.specs.ScriptLine.{IsAmong};
+ghost use Rattle.cb_control.specs.ScriptLine.{IsAmong};
 ghost use Rattle.cb_run_nodes.specs.Playing.{CanBecome, PlaysKnown};
 
 use crate::nodes::{Host, Nodes};
+use cb_control::{Refusal, ScriptOrder, Tally, script_order_at, write_outcome};
 use cb_io::{Sink, Source};
 use cb_run::{Halt, LineReader};
-use cb_script::{Line, Outcome, Tally, line_at, print_outcome, print_unreadable};
 use std::alloc::Global;
 
 /// How the playing of a script ended.
@@ -47,15 +47,15 @@ pub fn play<N: Host, R: Source, W: Sink>(
         if !lines.advance(reader)? {
             return Ok(Played::Whole(tally));
         }
-        let read = line_at(alloc, &lines, count)?;
+        let read = script_order_at(alloc, &lines, count)?;
         match read {
-            Some(line) => {
-                let outcome = obeyed(nodes, line)?;
-                print_outcome(alloc, number, outcome, writer)?;
+            Some(order) => {
+                let outcome = obeyed(nodes, order)?;
+                write_outcome(alloc, number, outcome, writer)?;
                 tally = tally.after(outcome);
             }
             None => {
-                print_unreadable(alloc, number, writer)?;
+                write_outcome(alloc, number, Some(Refusal::Unreadable), writer)?;
                 return Ok(Played::Unreadable);
             }
         }
@@ -64,13 +64,13 @@ pub fn play<N: Host, R: Source, W: Sink>(
 }
 
 /// Does what a line says. Fails only with `Halt::Memory`.
-fn obeyed<N: Host>(nodes: &mut Nodes<N>, line: Line) -> Result<Outcome, Halt>
-    requires among { IsAmong (vec_len nodes.old.list) line }
+fn obeyed<N: Host>(nodes: &mut Nodes<N>, order: ScriptOrder) -> Result<Option<Refusal>, Halt>
+    requires among { IsAmong (vec_len nodes.old.list) order }
     ensures count { vec_len nodes.new.list ≡ vec_len nodes.old.list }
-    ensures ends { IfOk result (λ outcome. CanBecome line outcome) }
+    ensures ends { IfOk result (λ outcome. CanBecome order outcome) }
     ensures memory { IsOkUnless result Memory }
 {
-    match nodes.obey(line) {
+    match nodes.obey(order) {
         Ok(outcome) => Ok(outcome),
         Err(_) => Err(Halt::Memory),
     }

@@ -4,8 +4,8 @@ ghost use Rattle.cb_base.specs.declared.fault.Fault.TheVariants.{Memory};
 ghost use Rattle.cb_run_nodes.specs.Summary.{report_text, reports_text, tally_reported, verdict};
 
 use cb_base::Fault;
+use cb_control::Tally;
 use cb_hall::Look;
-use cb_script::Tally;
 use std::alloc::Global;
 
 /// What is printed of a node at the end of a run.

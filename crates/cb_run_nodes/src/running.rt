@@ -5,8 +5,8 @@ ghost use Rattle.std.specs.List.{AllZip};
 ghost use Rattle.cb_run.specs.declared.ending.Halt.TheVariants.{Memory, WriteFailed};
 ghost use Rattle.cb_run.specs.Ending.{HasCause};
 ghost use Rattle.cb_run_nodes.specs.declared.report.NodeReport.{NodeReport};
-ghost use Rattle.cb_script.specs.Outcomes.{status_of};
 ghost use Rattle.cb_audit.specs.Desks.{traces_of};
+ghost use Rattle.cb_control.specs.Outcomes.{status_of};
 ghost use Rattle.cb_run_nodes.specs.Auditing.{ReportsHall, TellsAudit};
 ghost use Rattle.cb_run_nodes.specs.Summary.{AreOfAll, RunsKnown, not_started_text, reports_text, tally_reported};
 
@@ -16,12 +16,12 @@ use crate::report::{NodeReport, print_reports, tally_reported};
 use crate::stats::print_stats;
 use cb_audit::{Audited, Split, are_in_order, audit, traces};
 use cb_base::Seed;
+use cb_control::Tally;
 use cb_crew::Desk;
 use cb_hall::Hall;
 use cb_io::{Sink, Source};
 use cb_node::{NodeEnd, NodeFault, NodeWork};
 use cb_run::{Halt, Status, write_all};
-use cb_script::Tally;
 use std::alloc::Global;
 use std::sync::Wait;
 

@@ -5,6 +5,7 @@ ghost use Rattle.cb_base.specs.declared.fault.Fault.TheVariants as faults;
 ghost use Rattle.cb_run.specs.declared.ending.Halt.TheVariants.{Memory, WriteFailed};
 
 use cb_base::Fault;
+use cb_control::Moved;
 use cb_crew::Desk;
 use cb_io::Sink;
 use cb_node::{NodeEnd, NodeWork};
@@ -97,15 +98,23 @@ fn print_totals(state: State, totals: &Totals, out: &mut String) -> Result<(), F
         State::Closed(reason) => reason.name(),
         State::Start | State::Greeted | State::Ready => "open",
     };
-    write!(
-        out,
-        "closed {reason} in {} messages {} payload bytes out {} messages {} bytes ",
-        totals.messages, totals.payload, totals.sent, totals.written
-    )?;
-    writeln!(
-        out,
-        "blocks full {} compact {} completed {} fallback {} saved {} bytes",
-        totals.full, totals.compact, totals.completed, totals.fallback, totals.saved
-    )?;
+    write!(out, "closed {reason} ")?;
+    moved_of(totals).print(out)?;
+    out.push('\n')?;
     Ok(())
+}
+
+/// What a connection moved.
+pub fn moved_of(totals: &Totals) -> Moved {
+    Moved {
+        messages: totals.messages,
+        payload: totals.payload,
+        sent: totals.sent,
+        written: totals.written,
+        full: totals.full,
+        compact: totals.compact,
+        completed: totals.completed,
+        fallback: totals.fallback,
+        saved: totals.saved,
+    }
 }

@@ -1,11 +1,11 @@
 use Rattle.std.proofs.Common.{◌≡◌, ◌≢◌, true, false}
-use Rattle.cb_node_process.specs.declared.answering.After.TheVariants as after
+use Rattle.cb_node_process.specs.declared.running.After.TheVariants as after
 use Rattle.cb_node_process.specs.declared.running.Next.TheVariants as next
 use Rattle.cb_node_process.proofs.Runs.{next_broken, next_line, opened, opened_more}
 use Rattle.cb_node_process.proofs.running.serve.Goals as goal
 
 pub loop-init : goal.loop-init
-loop-init g c = opened (true ≡ true) (g.W.Sink.contents c.args.writer.now) (g.W.Sink.contents c.print.new.writer) c.args.process.now.address c.in_ok-print.ensures.told
+loop-init g c = opened (true ≡ true) (g.W.Sink.contents c.args.writer.now) (g.W.Sink.contents c.write_reply.new.writer) c.args.process.now.address c.in_ok-write_reply.ensures.told
 
 pub loop-preserved-in-Line-Next : goal.loop-preserved-in-Line-Next
 loop-preserved-in-Line-Next g c =

@@ -1,0 +1,18 @@
+//! Why an order is refused, by why a node refuses a call.
+ghost use Rattle.std.specs.Prelude.{◌≡◌};
+ghost use Rattle.cb_run_nodes.specs.Refusing.{refusal_of};
+
+use cb_control::Refusal;
+use cb_node::NodeFault;
+
+/// Why a call of a node was refused.
+pub fn refusal_of(fault: NodeFault) -> Refusal
+    ensures { result ≡ refusal_of fault }
+{
+    match fault {
+        NodeFault::Io => Refusal::Io,
+        NodeFault::NoSlot => Refusal::NoSlot,
+        NodeFault::Memory => Refusal::Memory,
+        NodeFault::Hall(fault) => Refusal::Fault(fault),
+    }
+}
