@@ -120,6 +120,41 @@ fn plan_for(alloc: Global, tree: &Tree, active: &[usize], spot: Spot) -> Result<
     })
 }
 
+/// The plan that makes a block the tip, with room for the block in the tree and for the plan on the
+/// active chain. The block's parent must be kept. Fails only with `Fault::Memory`; the nodes,
+/// records and places are unchanged in every case.
+fn planned(
+    alloc: Global,
+    tree: &mut Tree,
+    active: &mut Vec<usize>,
+    spot: Spot,
+) -> Result<Plan, Fault>
+    requires active { active.old.items ≡ active_places (tree_of tree.old.nodes) }
+    requires spot { IsSpot spot spot.header (tree_of tree.old.nodes) }
+    requires kept { is_kept (tree_of tree.old.nodes) spot.header.prev ≡ true }
+    ensures same { tree.new.nodes ≡ tree.old.nodes }
+    ensures undos { tree.new.undos ≡ tree.old.undos }
+    ensures tree { IsTree tree.new.nodes }
+    ensures items { active.new.items ≡ active.old.items }
+    ensures fork { IfOk result
+        (λ plan. IsFork (tree_of tree.new.nodes) spot.header.prev plan.fork) }
+    ensures branch { IfOk result
+        (λ plan. plan.branch.items
+        ≡ map (λ step. step.place)
+        (drop plan.fork (climb (tree_of tree.new.nodes) spot.header.prev))) }
+    ensures change { IfOk result
+        (λ plan. plan.change ≡ change_at (tree_of tree.new.nodes) spot.header plan.fork) }
+    ensures room { OnOk result (0 < tree.new.room) }
+    ensures places { IfOk result
+        (λ plan. vec_len active.new + (vec_len plan.branch + 1) ≤ vec_capacity active.new) }
+    ensures memory { IsOkUnless result Memory }
+{
+    tree.reserve(1)?;
+    let plan = plan_for(alloc, tree, active.as_slice(), spot)?;
+    active.reserve(plan.branch.len() + 1)?;
+    Ok(plan)
+}
+
 /// Adds a block whose path can't be connected, and marks bad the first block that can't and all
 /// kept blocks above it. If the reason was `Fault::Memory`, nothing changes.
 fn mark_stop(tree: &mut Tree, node: BareNode, stop: Stop)
@@ -205,13 +240,11 @@ impl Chain {
             ⊎ ((Err fault, self.new) ≡ joined self.old kept)) }
         ensures unchanged { result ≡ Err Memory → self.new ≡ self.old }
     {
-        self.tree.reserve(1)?;
         let Plan {
             fork,
             branch,
             change,
-        } = plan_for(self.alloc, &self.tree, self.active.as_slice(), spot)?;
-        self.active.reserve(branch.len() + 1)?;
+        } = planned(self.alloc, &mut self.tree, &mut self.active, spot)?;
         let last = self.tree.len();
         let undo = match self.ledger.connect(kept.block()) {
             Ok(undo) => undo,

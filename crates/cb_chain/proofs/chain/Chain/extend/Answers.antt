@@ -7,79 +7,48 @@ use Rattle.cb_ledger.specs.Spend.{spend}
 use Rattle.cb_ledger.specs.Undo.{LeadsBack}
 use Rattle.cb_ledger.specs.Unspent.{Unspent}
 use Rattle.cb_chain.specs.History.{IsHistoric}
-use Rattle.cb_chain.specs.Keeping.{active_places, climb, tree_of}
+use Rattle.cb_chain.specs.Keeping.{climb, tree_of}
 use Rattle.cb_chain.specs.Plans.{Moved}
 use Rattle.cb_chain.specs.Sides.{IsChain}
 use Rattle.cb_chain.specs.declared.node.BareNode.{BareNode}
-use Rattle.cb_chain.specs.Marking.{Node, node_of}
+use Rattle.cb_chain.specs.Marking.{node_of}
 use Rattle.cb_chain.specs.declared.side_chain.Side.{Side}
 use Rattle.cb_chain.proofs.Ledgers.{rests_let_go, rests_still}
 use Rattle.cb_chain.proofs.Outcomes.{IsEnd, IsStopped, moves, ready, stop_place, stop_tip, stops, tops_tip, why}
 use Rattle.cb_chain.proofs.Starts.{chain_as, sides_low}
 use Rattle.cb_chain.proofs.chain.Chain.extend.Goals as goal
-use Rattle.cb_chain.proofs.chain.Chain.extend.Goals.{After-add, After-drop-branch-in-Err}
+use Rattle.cb_chain.proofs.chain.Chain.extend.Goals.{After-add, After-drop-branch}
 
 -- memory is wanting
 pub invariant_of-self : goal.invariant_of-self
 invariant_of-self c =
     let was = c.self.inside in
-    let path = was.active.items in
     let unspent = was.ledger.unspent in (
-      chain_as c.reserve.new.self.nodes was.tree.nodes path path was.tree.undos c.reserve.new.self.undos unspent unspent was.side was.side c.reserve.ensures.same refl c.reserve.ensures.undos refl refl c.self.invariant.0,
-      subst IsHistoric (sym (ap tree_of c.reserve.ensures.same)) c.self.invariant.1,
-    )
-
-pub returns-in_err-reserve-clause-err : goal.returns-in_err-reserve-clause-err
-returns-in_err-reserve-clause-err c =
-    let p = err_from_is_err_and c.from_residual.result c.from_residual.ensures.1 in rw (p.1, p.2) (inl (c.in_err-reserve.ensures.memory, ap tree_of c.reserve.ensures.same ∙ c.self.view_is))
-
-pub returns-in_err-reserve-clause-unchanged : goal.returns-in_err-reserve-clause-unchanged
-returns-in_err-reserve-clause-unchanged c = λ _. ap tree_of c.reserve.ensures.same ∙ c.self.view_is
-
-pub plan_for-requires-clause-active : goal.plan_for-requires-clause-active
-plan_for-requires-clause-active c = c.as_slice.ensures.value ∙ c.self.invariant.0.places ∙ ap (λ (ns : List Node). active_places (tree_of ns)) (sym c.reserve.ensures.same)
-
-pub invariant_of-self-in_err-fork : goal.invariant_of-self-in_err-fork
-invariant_of-self-in_err-fork c =
-    let was = c.self.inside in
-    let path = was.active.items in
-    let unspent = was.ledger.unspent in (
-      chain_as c.reserve.new.self.nodes was.tree.nodes path path was.tree.undos c.reserve.new.self.undos unspent unspent was.side was.side c.reserve.ensures.same refl c.reserve.ensures.undos refl refl c.self.invariant.0,
-      subst IsHistoric (sym (ap tree_of c.reserve.ensures.same)) c.self.invariant.1,
+      chain_as c.planned.new.tree.nodes was.tree.nodes was.active.items c.planned.new.active.items was.tree.undos c.planned.new.tree.undos unspent unspent was.side was.side c.planned.ensures.same c.planned.ensures.items c.planned.ensures.undos refl refl
+          c.self.invariant.0,
+      subst IsHistoric (sym (ap tree_of c.planned.ensures.same)) c.self.invariant.1,
     )
 
 pub returns-in_err-fork-clause-err : goal.returns-in_err-fork-clause-err
 returns-in_err-fork-clause-err c =
-    let p = err_from_is_err_and c.from_residual-in_err-fork.result c.from_residual-in_err-fork.ensures.1 in
-    rw (p.1, p.2) (inl (c.in_err-fork.ensures.memory, ap tree_of c.reserve.ensures.same ∙ c.self.view_is))
+    let p = err_from_is_err_and c.from_residual.result c.from_residual.ensures.1 in
+    rw (p.1, p.2) (inl (c.in_err-fork.ensures.memory, ap tree_of c.planned.ensures.same ∙ c.self.view_is))
 
 pub returns-in_err-fork-clause-unchanged : goal.returns-in_err-fork-clause-unchanged
-returns-in_err-fork-clause-unchanged c = λ _. ap tree_of c.reserve.ensures.same ∙ c.self.view_is
-
-pub invariant_of-self-in_err-reserve-2 : goal.invariant_of-self-in_err-reserve-2
-invariant_of-self-in_err-reserve-2 c =
-    let was = c.self.inside in
-    let unspent = was.ledger.unspent in (
-      chain_as c.reserve.new.self.nodes was.tree.nodes was.active.items c.reserve-2.new.self.items was.tree.undos c.reserve.new.self.undos unspent unspent was.side was.side c.reserve.ensures.same c.reserve-2.ensures.items c.reserve.ensures.undos refl refl
-          c.self.invariant.0,
-      subst IsHistoric (sym (ap tree_of c.reserve.ensures.same)) c.self.invariant.1,
-    )
-
-pub returns-in_err-reserve-2-clause-unchanged : goal.returns-in_err-reserve-2-clause-unchanged
-returns-in_err-reserve-2-clause-unchanged c = λ _. ap tree_of c.reserve.ensures.same ∙ c.self.view_is
+returns-in_err-fork-clause-unchanged c = λ _. ap tree_of c.planned.ensures.same ∙ c.self.view_is
 
 -- the block is the tip
 ended : (c : After-add) → IsEnd c.args.self.now (tree_of c.add.new.self.nodes) c.args.kept c.in_ok-fork.field-0.change c.put_on.new.active.items c.add.new.self.undos c.connect.new.self.unspent c.rest_on.result
 ended c =
     let was = c.self.inside in
-    let nodes = c.reserve.new.self.nodes in
-    let undos = c.reserve.new.self.undos in
-    let path = c.reserve-2.new.self.items in
+    let nodes = c.planned.new.tree.nodes in
+    let undos = c.planned.new.tree.undos in
+    let path = c.planned.new.active.items in
     let unspent = was.ledger.unspent in
     let node = node_of c.node-2.result false in
     let is =
-    ready c.args.self.now was.tree.nodes nodes c.args.spot c.args.kept node was.active.items path was.tree.undos undos unspent was.side c.self.view_is c.reserve.ensures.same c.reserve.ensures.tree c.self.invariant.0
-    c.in_ok-reserve-2.ensures.items c.reserve.ensures.undos c.requires.spot c.requires.none c.requires.higher (ap (λ (b : BareNode). node_of b false) c.node-2.ensures) in
+    ready c.args.self.now was.tree.nodes nodes c.args.spot c.args.kept node was.active.items path was.tree.undos undos unspent was.side c.self.view_is c.planned.ensures.same c.planned.ensures.tree c.self.invariant.0
+    c.planned.ensures.items c.planned.ensures.undos c.requires.spot c.requires.none c.requires.higher (ap (λ (b : BareNode). node_of b false) c.node-2.ensures) in
     let plan = c.in_ok-fork.field-0 in
     let after = c.connect.new.self.unspent in
     let leads : LeadsBack c.in-Ok.undo c.args.kept.txs unspent after = subst (λ (b : Block). LeadsBack c.in-Ok.undo b.txs unspent after) c.block.ensures.same c.in-Ok.ensures.undo in
@@ -110,23 +79,23 @@ returns-clause-moves c = (ended c).over
 pub not_far_below-side-requires-clause-side : goal.not_far_below-side-requires-clause-side
 not_far_below-side-requires-clause-side c =
     let was = c.self.inside in
-    let nodes = c.reserve.new.self.nodes in
-    let undos = c.reserve.new.self.undos in
+    let nodes = c.planned.new.tree.nodes in
+    let undos = c.planned.new.tree.undos in
     let chain =
-    chain_as nodes was.tree.nodes was.active.items was.active.items was.tree.undos undos was.ledger.unspent was.ledger.unspent was.side was.side c.reserve.ensures.same refl c.reserve.ensures.undos refl refl c.self.invariant.0 in
-    subst (λ (o : Option Side). IfSome o (λ (side : Side). side.end < length nodes)) (sym c.take.ensures.value) (sides_low nodes undos was.ledger.unspent was.side c.reserve.ensures.tree chain.side_is)
+    chain_as nodes was.tree.nodes was.active.items was.active.items was.tree.undos undos was.ledger.unspent was.ledger.unspent was.side was.side c.planned.ensures.same refl c.planned.ensures.undos refl refl c.self.invariant.0 in
+    subst (λ (o : Option Side). IfSome o (λ (side : Side). side.end < length nodes)) (sym c.take.ensures.value) (sides_low nodes undos was.ledger.unspent was.side c.planned.ensures.tree chain.side_is)
 
 pub mark_stop-requires-clause-place : goal.mark_stop-requires-clause-place
 mark_stop-requires-clause-place c =
     let was = c.self.inside in
-    let nodes = c.reserve.new.self.nodes in
-    let undos = c.reserve.new.self.undos in
-    let path = c.reserve-2.new.self.items in
+    let nodes = c.planned.new.tree.nodes in
+    let undos = c.planned.new.tree.undos in
+    let path = c.planned.new.active.items in
     let unspent = was.ledger.unspent in
     let node = node_of c.node.result false in
     let is =
-    ready c.args.self.now was.tree.nodes nodes c.args.spot c.args.kept node was.active.items path was.tree.undos undos unspent was.side c.self.view_is c.reserve.ensures.same c.reserve.ensures.tree c.self.invariant.0
-    c.in_ok-reserve-2.ensures.items c.reserve.ensures.undos c.requires.spot c.requires.none c.requires.higher (ap (λ (b : BareNode). node_of b false) c.node.ensures) in
+    ready c.args.self.now was.tree.nodes nodes c.args.spot c.args.kept node was.active.items path was.tree.undos undos unspent was.side c.self.view_is c.planned.ensures.same c.planned.ensures.tree c.self.invariant.0
+    c.planned.ensures.items c.planned.ensures.undos c.requires.spot c.requires.none c.requires.higher (ap (λ (b : BareNode). node_of b false) c.node.ensures) in
     let fault = c.in-Err.fault in
     let last = c.len-last.result in
     let told : (fault ≡ Memory) ⊎ (spend unspent c.args.kept.txs ≡ Err fault) = subst (λ (b : Block). (fault ≡ Memory) ⊎ (spend unspent b.txs ≡ Err fault)) c.block.ensures.same c.in-Err.ensures.exact in
@@ -134,17 +103,17 @@ mark_stop-requires-clause-place c =
     stop_place nodes c.args.kept node last fault (why c.args.self.now nodes c.args.spot c.args.kept node path undos unspent was.side last fault is stop)
 
 -- it can't be spent
-stopped : (c : After-drop-branch-in-Err) → IsStopped c.args.self.now (tree_of c.mark_stop.new.tree.nodes) c.args.kept c.in-Err.fault c.reserve-2.new.self.items c.mark_stop.new.tree.undos c.self.inside.ledger.unspent c.self.inside.side
+stopped : (c : After-drop-branch) → IsStopped c.args.self.now (tree_of c.mark_stop.new.tree.nodes) c.args.kept c.in-Err.fault c.planned.new.active.items c.mark_stop.new.tree.undos c.self.inside.ledger.unspent c.self.inside.side
 stopped c =
     let was = c.self.inside in
-    let nodes = c.reserve.new.self.nodes in
-    let undos = c.reserve.new.self.undos in
-    let path = c.reserve-2.new.self.items in
+    let nodes = c.planned.new.tree.nodes in
+    let undos = c.planned.new.tree.undos in
+    let path = c.planned.new.active.items in
     let unspent = was.ledger.unspent in
     let node = node_of c.node.result false in
     let is =
-    ready c.args.self.now was.tree.nodes nodes c.args.spot c.args.kept node was.active.items path was.tree.undos undos unspent was.side c.self.view_is c.reserve.ensures.same c.reserve.ensures.tree c.self.invariant.0
-    c.in_ok-reserve-2.ensures.items c.reserve.ensures.undos c.requires.spot c.requires.none c.requires.higher (ap (λ (b : BareNode). node_of b false) c.node.ensures) in
+    ready c.args.self.now was.tree.nodes nodes c.args.spot c.args.kept node was.active.items path was.tree.undos undos unspent was.side c.self.view_is c.planned.ensures.same c.planned.ensures.tree c.self.invariant.0
+    c.planned.ensures.items c.planned.ensures.undos c.requires.spot c.requires.none c.requires.higher (ap (λ (b : BareNode). node_of b false) c.node.ensures) in
     let fault = c.in-Err.fault in
     let last = c.len-last.result in
     let told : (fault ≡ Memory) ⊎ (spend unspent c.args.kept.txs ≡ Err fault) = subst (λ (b : Block). (fault ≡ Memory) ⊎ (spend unspent b.txs ≡ Err fault)) c.block.ensures.same c.in-Err.ensures.exact in
@@ -154,7 +123,7 @@ stopped c =
 pub invariant_of-self-in-Err : goal.invariant_of-self-in-Err
 invariant_of-self-in-Err c =
     let end = stopped c in
-    (subst (λ (u : Unspent). IsChain (tree_of c.mark_stop.new.tree.nodes) c.reserve-2.new.self.items c.mark_stop.new.tree.undos u c.self.inside.side) (sym c.in-Err.ensures.err) end.chain, end.historic)
+    (subst (λ (u : Unspent). IsChain (tree_of c.mark_stop.new.tree.nodes) c.planned.new.active.items c.mark_stop.new.tree.undos u c.self.inside.side) (sym c.in-Err.ensures.err) end.chain, end.historic)
 
 pub returns-in-Err-clause-err : goal.returns-in-Err-clause-err
 returns-in-Err-clause-err c = (stopped c).answer
@@ -163,6 +132,6 @@ pub returns-in-Err-clause-unchanged : goal.returns-in-Err-clause-unchanged
 returns-in-Err-clause-unchanged c = λ e.
     let memory : c.in-Err.fault ≡ Memory = cc in
     elim c.mark_stop.ensures [
-      | inl same ↦ ap tree_of (same.1 ∙ c.reserve.ensures.same) ∙ c.self.view_is
+      | inl same ↦ ap tree_of (same.1 ∙ c.planned.ensures.same) ∙ c.self.view_is
       | inr marked ↦ absurd (marked.0 memory)
     ]
