@@ -1,13 +1,14 @@
-ghost use Rattle.std.specs.Prelude.{◌≡◌, ◌≢◌, ◌⊎◌, ◌∷◌, [], List, map, reverse, true, None, Some, Ok, Err, IfErr, IfOk, MatchResult, OnOk};
+ghost use Rattle.std.specs.Prelude.{◌≡◌, ◌≢◌, ◌⊎◌, ◌∷◌, ◌++◌, [], List, map, reverse, true, None, Some, Ok, Err, IfErr, IfOk, MatchResult, OnOk};
 ghost use Rattle.cb_base.specs.declared.fault.Fault.TheVariants.{Memory};
 ghost use Rattle.cb_block.specs.Work.{HasWork};
 ghost use Rattle.cb_chain.specs.Best.{best};
 ghost use Rattle.cb_chain.specs.Calls.{AcceptsBlock, AcceptsHeader, block_fault, header_fault, joined};
 ghost use Rattle.cb_chain.specs.Entries.{block_hash, is_kept};
 ghost use Rattle.cb_chain.specs.History.{BlockCall, Call, HeaderCall, IsHistoric, IsHistory};
-ghost use Rattle.cb_chain.specs.Keeping.{IsSpot, IsTree, parent_fault, tree_of};
+ghost use Rattle.cb_chain.specs.Keeping.{IsNode, IsSpot, IsTree, parent_fault, tree_of};
 ghost use Rattle.cb_chain.specs.Following.{headers_above};
 ghost use Rattle.cb_chain.specs.Laws.{LeadsOver, MayLead, Stays, active_hashes};
+ghost use Rattle.cb_chain.specs.Marking.{node_of};
 ghost use Rattle.cb_chain.specs.Spots.{placed_on};
 
 use crate::chain::Chain;
@@ -93,6 +94,27 @@ impl Tree {
         }
         self.spot_on_parent(header, hash, false)
     }
+}
+
+/// Adds a header that is marked bad, and returns the reason. If that is `Fault::Memory` or memory
+/// doesn't suffice, returns `Fault::Memory`, and nothing changes.
+fn mark_header(tree: &mut Tree, node: BareNode, fault: Fault) -> Fault
+    requires { IsNode (node_of node true) (tree_of tree.old.nodes) }
+    ensures added { ((result ≡ Memory) × (tree.new.nodes ≡ tree.old.nodes)
+        × (tree.new.undos ≡ tree.old.undos))
+        ⊎ ((result ≡ fault) × (fault ≢ Memory)
+        × (tree.new.nodes ≡ tree.old.nodes ++ node_of node true ∷ [])
+        × (tree.new.undos ≡ tree.old.undos ++ None ∷ [])) }
+    ensures tree { IsTree tree.old.nodes }
+{
+    if let Err(lacking) = tree.reserve(1) {
+        return lacking;
+    }
+    if fault == Fault::Memory {
+        return fault;
+    }
+    tree.add(node, true, None);
+    fault
 }
 
 impl Chain {
@@ -197,11 +219,9 @@ impl Chain {
         let spot = self.block_spot(header, hash)?;
         match check_block(self.alloc, &block) {
             Ok(()) => self.join(spot, Kept::new(block)),
-            Err(fault) if fault == Fault::Memory => Err(fault),
             Err(fault) => {
-                self.tree.reserve(1)?;
-                self.tree.add(spot.node(None), true, None);
-                Err(fault)
+                drop(block);
+                Err(mark_header(&mut self.tree, spot.node(None), fault))
             }
         }
     }
