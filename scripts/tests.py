@@ -6,6 +6,7 @@ build that stops at a bad access and an overflow. With names, as `row_4` or `mes
 
 Each test has a line, `passed NAME` or `failed NAME`, behind it what the run said of it; the last line is `N passed, M failed`. The
 tests are those that the sources have, and each row of ROWS is among them: what is missing, didn't run or ended otherwise has failed.
+The line `// EXAMPLE OF docs/NAME.md` of a source stands for the first code of that document.
 The status is 0 only if all passed and the run itself ended well.
 """
 
@@ -13,6 +14,7 @@ import re
 import signal
 import subprocess
 import sys
+import textwrap
 from pathlib import Path
 
 from apart import laid_out
@@ -51,6 +53,9 @@ ENDING = ".rt.in"
 TEST = re.compile(r"#\[test\]\s*fn (\w+)")
 # a test with what is said of it, up to the bracket that ends it
 WHOLE_TEST = re.compile(r"^(?:///.*\n)*#\[test\]\nfn (\w+)(?:.*\n)*?\}\n", re.MULTILINE)
+# where a document's example belongs, and the first code of a document
+EXAMPLE = re.compile(r"^// EXAMPLE OF (\S+)\n", re.MULTILINE)
+CODE = re.compile(r"^ {4}\S.*\n(?:(?: {4}.*)?\n)*", re.MULTILINE)
 # a line of the run: a test and how it ended, and how many it had in all
 ENDED = re.compile(r"test (\S+) \.\.\. (ok|FAILED)$")
 SUMMARY = re.compile(r"test result: (?:ok|FAILED)\. (\d+) passed; (\d+) failed; (\d+) ignored; (\d+) filtered out$")
@@ -63,6 +68,16 @@ def tests_there():
         for path in sorted((FOLDER / "src").glob(f"*{ENDING}"))
         for name in TEST.findall(path.read_text(encoding="utf-8"))
     ]
+
+
+def write_examples(sources):
+    """Puts the first code of a document in the place of the line that names it, in a copy of the sources."""
+    for path in sources.glob("*.rt"):
+        def code(found):
+            document = (ROOT / found[1]).read_text(encoding="utf-8")
+            return textwrap.dedent(CODE.search(document)[0]).strip() + "\n"
+
+        path.write_text(EXAMPLE.sub(code, path.read_text(encoding="utf-8")), encoding="utf-8")
 
 
 def leave_only(chosen, sources):
@@ -119,6 +134,7 @@ def main():
     rows = [f"{module}::{name}" for module, names in ROWS.items() for name in names.split()]
     with laid_out(Repository(ROOT), FOLDER) as top:
         crate = top / "crates" / FOLDER.name
+        write_examples(crate / "src")
         if words:
             leave_only(set(chosen), crate / "src")
         ended, summary, status = run(crate)

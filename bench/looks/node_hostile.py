@@ -9,7 +9,9 @@ it grew by are told.
 - 64 connections at once: 48 peers dial the node, and it dials 16. One more of each is turned away. A block is told to all.
 - A peer that sends a byte a second: it says a ping so, in part only without --whole.
 - Peers that ask for many blocks: one never reads, one reads a byte each second, with --whole each 20 seconds, and one reads all, but late. The
-  first two connections end with WriteFault once their sockets were still. One that asks for more than an outbox holds ends with it at once.
+  first two connections end with WriteFault once their sockets were still.
+- Peers that ask for more blocks than an outbox holds, and for 2,000 headers again and again, and don't wait for answers: one that reads gets
+  all, one that doesn't ends with WriteFault.
 - Peers that ask 50,000 times for a block of 1,000,000 bytes in one message and don't read: two by two handlers, eight by eight, and two that
   ask for it as a compact block. A peer beside them gets each answer within a second, and the memory stays below 300 MB.
 - A peer that asks 500 times for such a block in one message gets all, though it reads slowly, or closed its side behind the message.
@@ -49,6 +51,8 @@ SOON = 5
 # A block of this size is asked for so often that a socket can't take it, and one of this size in so many messages of 50,000 entries that an
 # outbox can't.
 LARGE, MANY, SMALL, TOO_MANY = 900_000, 20, 250, 3
+# So many headers of this size are asked for, in so many messages.
+HEADERS, HEADER, REQUESTS = 2_000, 81, 300
 # A block of this size is asked for so often in one message, as often as one may ask, and so often that all is read.
 FULL, ENTRIES, ALL = 1_000_000, 50_000, 500
 # In how many seconds a peer beside that has each answer, for how many seconds it asks, and how much memory the node may take then.
@@ -187,13 +191,36 @@ class Hostile(ProcessLooks):
         time.sleep(LATE)
         self.look("whether all comes to the late one", read_all(peer, MANY * LARGE), True)
 
-    def a_full_outbox(self):
-        """A peer that asks for more than may wait for it."""
+    def more_than_an_outbox_holds(self):
+        """A peer that asks for more than may wait for it gets all of it once it reads."""
+        with self.pair("--handlers", "1") as (node, other, port), small(port, 65_536) as peer:
+            sent_aside(peer, HELLO, *[self.large_block(node, other, ENTRIES, SMALL)] * TOO_MANY)
+            time.sleep(LATE)
+            self.look("whether all comes", read_all(peer, TOO_MANY * ENTRIES * SMALL), True)
+            self.look("its end", self.end(node, 1), None)
+            self.block_in_time(node, other)
+
+    def headers_again_and_again(self):
+        """A peer that asks for headers again and again, and doesn't wait for them, gets all of them once it reads."""
+        with self.pair() as (node, other, port), small(port, 65_536) as peer:
+            for _ in range(HEADERS // 1_000):
+                node.say("mine 1000")
+            self.comes("the chain", other, lambda: other.tip() == node.tip())
+            peer.send(HELLO, wire.getheaders([GENESIS]) * REQUESTS)
+            time.sleep(LATE)
+            self.look("whether all come", read_all(peer, REQUESTS * HEADERS * HEADER), True)
+            self.look("its end", self.end(node, 1), None)
+            most = node.memory("VmHWM")
+            self.look(f"whether {most:,} bytes aren't more than {MEMORY:,}", most <= MEMORY, True)
+            self.block_in_time(node, other)
+
+    def more_than_an_outbox_holds_unread(self):
+        """A peer that asks for more than may wait for it and doesn't read."""
         with self.pair("--handlers", "1") as (node, other, port), small(port, 4_096) as peer:
-            peer.send(HELLO, *[self.large_block(node, other, ENTRIES, SMALL)] * TOO_MANY)
+            sent_aside(peer, HELLO, *[self.large_block(node, other, ENTRIES, SMALL)] * TOO_MANY)
             watch = Stopwatch(node, other)
             self.look("its end", self.ended(node, 1), "WriteFault")
-            self.look("whether it ends before a still socket does", watch.seconds() < STILL, True)
+            self.look("whether it ends in time", watch.seconds() < ENDED, True)
             self.block_in_time(node, other)
 
     def large_block(self, node, other, count, size=LARGE, kind=BLOCK):
@@ -381,6 +408,17 @@ def read_all(peer, count, pause=0):
     return True
 
 
+def sent_aside(peer, *messages):
+    """Sends messages by a thread of its own: the node may read on only once its answers are read."""
+    def send():
+        try:
+            peer.send(*messages)
+        except OSError:
+            return
+
+    threading.Thread(target=send, daemon=True).start()
+
+
 def flood(peer, message, end, sent, place):
     """Sends a message again and again."""
     while time.monotonic() < end:
@@ -394,7 +432,8 @@ def main():
     words.add_argument("--only", help="the name of the look to make alone")
     given = words.parse_args()
     looks = Hostile(built(given.program, "cbrelay"), given.whole)
-    for look in (looks.sixty_four_at_once, looks.a_byte_a_second, looks.slow_readers, looks.a_full_outbox,
+    for look in (looks.sixty_four_at_once, looks.a_byte_a_second, looks.slow_readers, looks.more_than_an_outbox_holds,
+                 looks.more_than_an_outbox_holds_unread, looks.headers_again_and_again,
                  looks.many_answers, looks.many_answers_at_eight, looks.many_short_answers, looks.slow_but_all, looks.half_closed, looks.huge_messages,
                  looks.unreadable_messages, looks.open_and_close, *[looks.all_slots_used_up] * given.whole):
         if given.only in (None, look.__name__):

@@ -38,6 +38,8 @@ CONNECTIONS = 400
 SOON, LATEST = 1, 10
 # For how many seconds a flood of connections lasts, and how many lines of the log a second are about them at the most.
 FLOOD, MOST = 4, 20
+# What the log tells of lines that it had no room for.
+DROPPED = "lines of the log were dropped"
 # A line that is answered at length, and how many of them fill a pipe and leave some unanswered.
 LONG, FULL = "block " + "11" * 32, 6_000
 # How many bytes of addresses are too few for a node, though enough for its first threads.
@@ -181,16 +183,22 @@ class Pipes(ProcessLooks):
         """A log that is read late: a line tells how many were dropped before it."""
         with NodeProcess(self.program, "--log", "debug", reads_errors=False) as node:
             node.port()
-            for _ in range(3_000):
+            mined = 3_000
+            for _ in range(mined):
                 node.say("mine")
             node.read_errors()
+            # while the log's thread hasn't read on, the next lines are dropped too
+            while not node.found(DROPPED) and mined < 3_100:
+                node.say("mine")
+                mined += 1
+                time.sleep(0.1)
+            self.logs(node, rf"\[WARN  cbrelay\] [1-9]\d* {DROPPED}$")
             node.say("mine")
-            self.logs(node, r"\[WARN  cbrelay\] [1-9]\d* lines of the log were dropped$")
-            node.say("mine")
-            self.logs(node, " tip 3002 ")
+            mined += 1
+            self.logs(node, f" tip {mined} ")
             tips = len(node.found(r"\] tip \d+ "))
-            lost = sum(int(line.split()[3]) for line in node.found("lines of the log were dropped"))
-            self.look("tips that were told and lines that were dropped", tips + lost, 3_002)
+            lost = sum(int(line.split()[3]) for line in node.found(DROPPED))
+            self.look("tips that were told and lines that were dropped", tips + lost, mined)
             self.ends(node)
 
     # ---- words

@@ -7,5 +7,6 @@ use Rattle.cb_service.specs.declared.promises.OfReader.{OfReader}
 use Rattle.cb_service.specs.Service.{inbox_for}
 
 -- the names of the inboxes whose readers' threads these are
-abbrev pub names_for : {W M : Type 0} → List (PromisedHandle (ReaderSide M W) (OfReader W M)) → List TableId
+abbrev pub names_for : {W M : Type 0} → List (PromisedHandle (ReaderSide M W) (OfReader W M))
+    → List TableId
 names_for threads = map (λ thread. (inbox_for thread).name) threads

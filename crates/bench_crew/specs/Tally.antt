@@ -31,7 +31,10 @@ pub record Kept : Type 0 where
 
 -- what a work keeps after it was given this too
 abbrev pub told : ℕ → Kept → Given ℕ → Kept
-told rounds kept (given.Item item) = record { tally = added rounds kept.tally item; ended = kept.ended }
+told rounds kept (given.Item item) = record {
+  tally = added rounds kept.tally item;
+  ended = kept.ended;
+}
 told rounds kept given.End = record { tally = kept.tally; ended = true }
 
 -- what a work keeps after it was given all these, and nothing before

@@ -20,7 +20,7 @@ use crate::tally::Served;
 use crate::work::HashWork;
 use cb_base::Fault;
 use cb_crew::{Crew, Desk};
-use cb_service::Refusal;
+use cb_service::ThreadFault;
 use std::alloc::Global;
 use std::io::{ErrorKind, Read};
 use std::marker::{Copy, Send, Sync};
@@ -34,7 +34,7 @@ fn run_crew<R: Threads + Wait + Copy + Send + Drop + 'static>(
     rt: &R,
     alloc: Global,
     settings: &Settings,
-) -> Result<Vec<Served>, Refusal>
+) -> Result<Vec<Served>, ThreadFault>
     requires { IsWithin settings.now }
 {
     let works = HashWork::first(alloc, settings.peers, settings.rounds)?;
@@ -43,7 +43,7 @@ fn run_crew<R: Threads + Wait + Copy + Send + Drop + 'static>(
             Ok(desks) => Ok(tallies_of(alloc, desks.as_slice())?),
             Err(refusal) => Err(refusal),
         },
-        Err(_) => Err(Refusal::Memory),
+        Err(_) => Err(ThreadFault::Memory),
     }
 }
 
@@ -108,7 +108,7 @@ fn run<R: Threads + Wait + Copy + Send + Sync + Drop + 'static>(
     rt: &R,
     alloc: Global,
     settings: &Settings,
-) -> Result<Vec<Served>, Refusal>
+) -> Result<Vec<Served>, ThreadFault>
     requires { IsWithin settings.now }
 {
     match settings.mode {
@@ -125,7 +125,7 @@ fn do_line<R: Threads + Wait + Clock + Copy + Send + Sync + Drop + 'static>(
     alloc: Global,
     line: &str,
     out: &mut String,
-) -> Result<Option<(u64, bool)>, Refusal> {
+) -> Result<Option<(u64, bool)>, ThreadFault> {
     let Some(settings) = read_settings(line) else {
         return Ok(None);
     };
@@ -168,8 +168,8 @@ fn main(rt: HostRuntime) -> ExitCode {
                 let _ = println!(rt; "{number} unreadable");
                 return ExitCode::from(3);
             }
-            Err(Refusal::Memory) => return ExitCode::from(4),
-            Err(Refusal::Thread) => {
+            Err(ThreadFault::Memory) => return ExitCode::from(4),
+            Err(ThreadFault::Thread) => {
                 let _ = println!(rt; "{number} no thread");
                 return ExitCode::from(4);
             }

@@ -1,5 +1,5 @@
-//! A service over the threads of a crew: it starts them, waits until all readers have returned, tells
-//! the handlers to, and finishes the crew.
+//! A service over the threads of a crew: it starts them, waits until all readers have returned,
+//! tells the handlers to, and finishes the crew.
 ghost use Rattle.std.specs.Prelude.{◌≡◌, ◌≤◌, ◌<◌, ◌^◌, [], length, map, vec_capacity, All, IfOk};
 ghost use Rattle.cb_crew.specs.Crew.{AreHandlersOf, AreOpeningSeats, AreSidesOf, HasPlace, inbox_of, names_of};
 ghost use Rattle.cb_service.specs.Service.{IsInboxAt, inbox_for};
@@ -13,8 +13,8 @@ use cb_base::{Fault, Shared};
 use cb_crew::{Crew, Desk, Fresh, NewCrew, ReaderSide};
 use cb_inbox::ReaderSeat;
 use cb_service::{
-    Nothing, Orders, Reading, Refusal, Signals, join_handlers, join_reader, start_handlers,
-    start_reader,
+    HandlerSetup, Nothing, Reading, Signals, ThreadFault, join_handlers, join_reader,
+    start_handlers, start_reader,
 };
 use std::alloc::Global;
 use std::marker::{Copy, Send};
@@ -55,7 +55,7 @@ pub fn serve<R: Threads + Wait + Copy + Send + Drop + 'static>(
     alloc: Global,
     settings: &Settings,
     made: NewCrew<HashWork>,
-) -> Result<Vec<Desk<HashWork>>, Refusal>
+) -> Result<Vec<Desk<HashWork>>, ThreadFault>
     requires settings { IsWithin settings.now }
     requires seats { AreOpeningSeats made.crew made.readers.items }
     requires handlers { AreHandlersOf made.crew made.handlers.items }
@@ -67,12 +67,12 @@ pub fn serve<R: Threads + Wait + Copy + Send + Drop + 'static>(
     } = made;
     let common = common_of(alloc, settings, crew)?;
     let back = Vec::with_capacity(alloc, handlers.len())?;
-    let orders = Orders {
+    let setup = HandlerSetup {
         budget: settings.budget,
         hook: Nothing,
     };
     let Common { crew, signals } = &common;
-    let handling = start_handlers(rt, alloc, crew, signals, &orders, handlers)?;
+    let handling = start_handlers(rt, alloc, crew, signals, &setup, handlers)?;
     let sides = read_all(rt, alloc, settings, &common, readers);
     signals.stop();
     let handlers = join_handlers(rt, handling, back);
@@ -86,7 +86,7 @@ fn read_all<R: Threads + Wait + Copy + Send + Drop + 'static>(
     settings: &Settings,
     common: &Common,
     seats: Vec<ReaderSeat<u64, Fresh<HashWork>>>,
-) -> Result<Vec<ReaderSide<u64, Fresh<HashWork>>>, Refusal>
+) -> Result<Vec<ReaderSide<u64, Fresh<HashWork>>>, ThreadFault>
     requires { AreOpeningSeats common.now.crew seats.items }
     ensures { IfOk result (λ sides. AreSidesOf common.now.crew sides.items) }
 {
@@ -103,7 +103,7 @@ fn start_readers<R: Threads + Wait + Copy + Send + Drop + 'static>(
     settings: &Settings,
     common: &Common,
     seats: Vec<ReaderSeat<u64, Fresh<HashWork>>>,
-) -> Result<Vec<Reading<HashWork>>, Refusal>
+) -> Result<Vec<Reading<HashWork>>, ThreadFault>
     requires { AreOpeningSeats common.now.crew seats.items }
     ensures { IfOk result (λ threads. names_for threads.items ≡ names_of common.now.crew) }
 {
@@ -130,7 +130,7 @@ fn start_one<R: Threads + Wait + Copy + Send + Drop + 'static>(
     common: &Common,
     peer: u16,
     seat: ReaderSeat<u64, Fresh<HashWork>>,
-) -> Result<Reading<HashWork>, Refusal>
+) -> Result<Reading<HashWork>, ThreadFault>
     requires peer { peer < length common.now.crew.inboxes }
     requires inbox { IsInboxAt common.now.crew peer seat.inbox }
     requires place { length seat.queued < 2 ^ 48 }
@@ -145,7 +145,7 @@ fn start_one<R: Threads + Wait + Copy + Send + Drop + 'static>(
 }
 
 /// Waits until these threads return. Returns the given cause.
-fn joined<R: Threads>(rt: &R, threads: Vec<Reading<HashWork>>, cause: Refusal) -> Refusal {
+fn joined<R: Threads>(rt: &R, threads: Vec<Reading<HashWork>>, cause: ThreadFault) -> ThreadFault {
     for thread in threads {
         drop(join_reader(rt, thread));
     }

@@ -1,5 +1,5 @@
--- Whether a hall's journal and the traces of its connections tell one history. The hall is the state
--- that all peers share; the journal is the log of its calls.
+-- Whether a hall's journal and the traces of its connections tell one history. The hall is the
+-- state that all peers share; the journal is the log of its calls.
 use Rattle.std.specs.Prelude.{List, Result, Ok, Err}
 use Rattle.cb_state.specs.declared.connection.Connection.{Connection}
 use Rattle.cb_journal.specs.declared.answer.Answer.{Answer}
@@ -15,12 +15,19 @@ use Rattle.cb_audit.specs.Turns.{turns_of}
 -- The hall's answers to the questions of the journal, and what holds of each connection's questions
 -- with these answers.
 abbrev pub Answered : JournalState → (Seen → Type 0) → Type 0
-Answered hall Holds = (answers : List Answer) × Leads hall.base hall.entries answers hall.latest × Holds (λ connection. turns_of connection hall.entries answers)
+Answered hall Holds =
+    (answers : List Answer) × Leads hall.base hall.entries answers hall.latest
+    × Holds (λ connection. turns_of connection hall.entries answers)
 
 -- What an audit tells. The numbers of all connections come first, then questions and answers.
 abbrev pub Audits : JournalState → List AuditedTrace → Result (Unit {0}) Split → Type 0
-Audits hall audited (Ok done) = AreEven hall.latest.connections audited × Answered hall (λ seen. (connection : Connection) → Agrees hall.base.connections audited seen connection)
+Audits hall audited (Ok done) =
+    AreEven hall.latest.connections audited
+    × Answered hall
+    (λ seen. (connection : Connection) → Agrees hall.base.connections audited seen connection)
 Audits hall audited (Err Memory) = AreEven hall.latest.connections audited
-Audits hall audited (Err (Count connection)) = IsFirstUneven hall.latest.connections audited connection
+Audits hall audited (Err (Count connection)) =
+    IsFirstUneven hall.latest.connections audited connection
 Audits hall audited (Err (Differs connection place)) =
-    AreEven hall.latest.connections audited × Answered hall (λ seen. SplitsFirst hall.base.connections audited seen connection place)
+    AreEven hall.latest.connections audited
+    × Answered hall (λ seen. SplitsFirst hall.base.connections audited seen connection place)

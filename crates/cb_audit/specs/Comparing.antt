@@ -24,15 +24,21 @@ first_place kept connection trace = max (granted kept connection) (told_before t
 
 -- The connection's turns from that place on: by the journal, and by the trace.
 abbrev pub journal_turns : Slots → List AuditedTrace → Seen → Connection → List Turn
-journal_turns kept audited seen connection = drop (first_place kept connection (trace_of audited connection) - granted kept connection) (seen connection)
+journal_turns kept audited seen connection =
+    drop (first_place kept connection (trace_of audited connection) - granted kept connection)
+    (seen connection)
 
 abbrev pub trace_turns : Slots → List AuditedTrace → Connection → List Turn
 trace_turns kept audited connection =
-    drop (first_place kept connection (trace_of audited connection) - told_before (trace_of audited connection)) (turns_by (trace_of audited connection))
+    drop
+    (first_place kept connection (trace_of audited connection)
+    - told_before (trace_of audited connection))
+    (turns_by (trace_of audited connection))
 
 -- Each question and each answer is the same in both.
 abbrev pub Agrees : Slots → List AuditedTrace → Seen → Connection → Type 0
-Agrees kept audited seen connection = journal_turns kept audited seen connection ≡ trace_turns kept audited connection
+Agrees kept audited seen connection =
+    journal_turns kept audited seen connection ≡ trace_turns kept audited connection
 
 -- The lists are equal before this place, and differ there.
 pub record PartsAt (ours theirs : List Turn) (place : ℕ) : Type 0 where
@@ -40,27 +46,35 @@ pub record PartsAt (ours theirs : List Turn) (place : ℕ) : Type 0 where
   pub here : slice_get ours place ≢ slice_get theirs place
 
 -- The question or the answer of this place differs, and none before it.
-pub record SplitsAt (kept : Slots) (audited : List AuditedTrace) (seen : Seen) (connection : Connection) (place : ℕ) : Type 0 where
+pub record SplitsAt (kept : Slots) (audited : List AuditedTrace) (seen : Seen)
+    (connection : Connection) (place : ℕ) : Type 0 where
   pub index : ℕ
   pub is : place ≡ first_place kept connection (trace_of audited connection) + index
-  pub parts : PartsAt (journal_turns kept audited seen connection) (trace_turns kept audited connection) index
+  pub parts : PartsAt (journal_turns kept audited seen connection)
+      (trace_turns kept audited connection) index
 
 -- Each connection before this one agrees.
-pub record SplitsFirst (kept : Slots) (audited : List AuditedTrace) (seen : Seen) (connection : Connection) (place : ℕ) : Type 0 where
+pub record SplitsFirst (kept : Slots) (audited : List AuditedTrace) (seen : Seen)
+    (connection : Connection) (place : ℕ) : Type 0 where
   pub earlier : (other : Connection) → IsBefore other connection → Agrees kept audited seen other
   pub here : SplitsAt kept audited seen connection place
 
 -- ---- how the code compares
 
--- How far the comparison is. `skip` turns of the journal are still passed over. `next` is the place,
--- in the trace, of the next turn to compare. `differs` is the first place that differs, if one does.
+-- How far the comparison is. `skip` turns of the journal are still passed over. `next` is the
+-- place, in the trace, of the next turn to compare. `differs` is the first place that differs, if
+-- one does.
 abbrev pub IsCome : ℕ → List Turn → List Turn → ℕ → Option ℕ → Type 0
-IsCome start theirs ours next None = (next ≡ start + length ours) × (ours ≡ take (length ours) (drop start theirs))
-IsCome start theirs ours next (Some differs) = (place : ℕ) × (differs ≡ start + place) × (place < length ours) × PartsAt ours (drop start theirs) place
+IsCome start theirs ours next None =
+    (next ≡ start + length ours) × (ours ≡ take (length ours) (drop start theirs))
+IsCome start theirs ours next (Some differs) =
+    (place : ℕ) × (differs ≡ start + place) × (place < length ours)
+    × PartsAt ours (drop start theirs) place
 
 -- The comparison of what was seen of the journal, but for the first `skip`, with the trace from
 -- `start` on.
-pub record HasCome (start skip : ℕ) (theirs seen : List Turn) (left next : ℕ) (differs : Option ℕ) : Type 0 where
+pub record HasCome (start skip : ℕ) (theirs seen : List Turn) (left next : ℕ) (differs : Option ℕ)
+    : Type 0 where
   pub remaining : left ≡ skip - length seen
   pub come : IsCome start theirs (drop skip seen) next differs
 

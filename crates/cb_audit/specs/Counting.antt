@@ -9,7 +9,8 @@ use Rattle.cb_audit.specs.Order.{AuditedTrace, IsBefore, IsTraceAt, trace_of}
 
 -- How many questions of a connection were granted; 0 if there is no such connection.
 abbrev pub granted : Slots → Connection → ℕ
-granted slots connection = option_map_or (λ connected. connected.count) (connected_of slots connection) 0
+granted slots connection =
+    option_map_or (λ connected. connected.count) (connected_of slots connection) 0
 
 -- How many answers a trace has, with those that it dropped. Where there is no trace there is none.
 abbrev pub told_by : Option TraceView → ℕ
@@ -24,7 +25,8 @@ abbrev pub AreEven : Slots → List AuditedTrace → Type 0
 AreEven slots audited = (connection : Connection) → IsEven slots audited connection
 
 -- The numbers differ, and those of each connection before it are equal.
-pub record IsFirstUneven (slots : Slots) (audited : List AuditedTrace) (connection : Connection) : Type 0 where
+pub record IsFirstUneven (slots : Slots) (audited : List AuditedTrace) (connection : Connection)
+    : Type 0 where
   pub uneven : granted slots connection ≢ told_by (trace_of audited connection)
   pub earlier : (other : Connection) → IsBefore other connection → IsEven slots audited other
 
@@ -36,27 +38,36 @@ HasTrace audited connection = (place : ℕ) × IsTraceAt audited connection plac
 
 -- The hall knows the connection: it is one of its peer's.
 abbrev pub IsOfPeer : Slots → ℕ → Connection → Type 0
-IsOfPeer slots peer connection = (connection.peer ≡ peer) × (0 < connection.generation) × (connection.generation ≤ latest_of slots peer)
+IsOfPeer slots peer connection =
+    (connection.peer ≡ peer) × (0 < connection.generation)
+    × (connection.generation ≤ latest_of slots peer)
 
 -- It is one of the first peers'.
 abbrev pub IsOfPeers : Slots → ℕ → Connection → Type 0
-IsOfPeers slots peers connection = (connection.peer < peers) × IsOfPeer slots connection.peer connection
+IsOfPeers slots peers connection =
+    (connection.peer < peers) × IsOfPeer slots connection.peer connection
 
 -- Only the 64 peers' connections were granted anything.
 abbrev pub AreOf64 : Slots → Type 0
-AreOf64 slots = (connection : Connection) → 0 < granted slots connection → IsOfPeers slots 64 connection
+AreOf64 slots =
+    (connection : Connection) → 0 < granted slots connection → IsOfPeers slots 64 connection
 
 -- The numbers differ, and those of each earlier connection of a kind are equal.
-pub record IsFirstAmong (slots : Slots) (audited : List AuditedTrace) (Kind : Connection → Type 0) (connection : Connection) : Type 0 where
+pub record IsFirstAmong (slots : Slots) (audited : List AuditedTrace) (Kind : Connection → Type 0)
+    (connection : Connection) : Type 0 where
   pub uneven : granted slots connection ≢ told_by (trace_of audited connection)
-  pub earlier : (other : Connection) → IsBefore other connection → Kind other → IsEven slots audited other
+  pub earlier : (other : Connection) → IsBefore other connection → Kind other
+      → IsEven slots audited other
 
 -- The first connection of a kind whose numbers differ, if there is one.
-abbrev pub IsFoundAmong : Slots → List AuditedTrace → (Connection → Type 0) → Option Connection → Type 0
-IsFoundAmong slots audited Kind None = (other : Connection) → Kind other → IsEven slots audited other
+abbrev pub IsFoundAmong : Slots → List AuditedTrace → (Connection → Type 0) → Option Connection
+    → Type 0
+IsFoundAmong slots audited Kind None =
+    (other : Connection) → Kind other → IsEven slots audited other
 IsFoundAmong slots audited Kind (Some connection) = IsFirstAmong slots audited Kind connection
 
 -- Of two connections the earlier one, if there is one.
 pub record IsEarlier (one other : Option Connection) (found : Connection) : Type 0 where
   pub is : (one ≡ Some found) ⊎ (other ≡ Some found)
-  pub not_behind : (connection : Connection) → ((one ≡ Some connection) ⊎ (other ≡ Some connection)) → IsBefore connection found → ⊥
+  pub not_behind : (connection : Connection) → ((one ≡ Some connection) ⊎ (other ≡ Some connection))
+      → IsBefore connection found → ⊥

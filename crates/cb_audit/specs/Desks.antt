@@ -25,9 +25,15 @@ traces_of desks = flat_map traces_of_desk desks
 -- How many answers the trace of a connection has, if it has one.
 abbrev pub told_in : List AuditedTrace → Connection → Option ℕ
 told_in [] connection = None
-told_in (one ∷ others) connection = if same_connection one.connection connection then Some one.trace.total.told else told_in others connection
+told_in (one ∷ others) connection =
+    if same_connection one.connection connection
+    then Some one.trace.total.told
+    else told_in others connection
 
 -- The first connection that was granted another number of questions than its trace has answers.
 abbrev pub uneven_in : Slots → List AuditedTrace → Option Connection
 uneven_in slots [] = None
-uneven_in slots (one ∷ others) = if granted slots one.connection == one.trace.total.told then uneven_in slots others else Some one.connection
+uneven_in slots (one ∷ others) =
+    if granted slots one.connection == one.trace.total.told
+    then uneven_in slots others
+    else Some one.connection

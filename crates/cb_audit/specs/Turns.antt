@@ -1,5 +1,5 @@
--- A connection's questions and answers: as the hall's journal tells them, and as its trace does. The
--- journal is the log of the hall's calls, the trace that of a connection's events.
+-- A connection's questions and answers: as the hall's journal tells them, and as its trace does.
+-- The journal is the log of the hall's calls, the trace that of a connection's events.
 use Rattle.std.specs.Prelude.{List, [], ◌∷◌, ◌++◌, Option, None, Some, if◌then◌else◌}
 use Rattle.cb_state.specs.declared.connection.Connection.{Connection}
 use Rattle.cb_state.specs.Announcers.{same_connection}
@@ -20,14 +20,18 @@ pub record Turn : Type 0 where
 -- ---- by the journal
 
 abbrev pub turn_of : Connection → Connection → Question → Answer → List Turn
-turn_of connection other question answer = if same_connection other connection then record { question = Some question; answer = answer } ∷ [] else []
+turn_of connection other question answer =
+    if same_connection other connection
+    then record { question = Some question; answer = answer } ∷ []
+    else []
 
--- The questions of a connection among the entries, in order, each with its answer. `answers` are the
--- answers to all questions among them.
+-- The questions of a connection among the entries, in order, each with its answer. `answers` are
+-- the answers to all questions among them.
 abbrev pub turns_of : Connection → List Entry → List Answer → List Turn
 turns_of connection [] answers = []
 turns_of connection (Asked other question ∷ entries) [] = []
-turns_of connection (Asked other question ∷ entries) (answer ∷ answers) = turn_of connection other question answer ++ turns_of connection entries answers
+turns_of connection (Asked other question ∷ entries) (answer ∷ answers) =
+    turn_of connection other question answer ++ turns_of connection entries answers
 turns_of connection (entry ∷ entries) answers = turns_of connection entries answers
 
 -- ---- by the trace
@@ -45,7 +49,8 @@ answers_in (entry ∷ entries) = answer_in entry.event ++ answers_in entries
 abbrev pub paired : List (Option Question) → List Answer → List Turn
 paired [] answers = []
 paired (question ∷ questions) [] = []
-paired (question ∷ questions) (answer ∷ answers) = record { question = question; answer = answer } ∷ paired questions answers
+paired (question ∷ questions) (answer ∷ answers) =
+    record { question = question; answer = answer } ∷ paired questions answers
 
 -- The answers since a trace's base, in order, each with the question that was open before it. There
 -- are as many questions as answers (`each_answer_has_its_question`).

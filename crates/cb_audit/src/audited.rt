@@ -18,7 +18,8 @@ impl<'a> Model for Audited<'a> {
 
     ghost Value = { AuditedTrace };
 
-    ghost view = { λ audited. record { connection = audited.connection; trace = audited.trace.now } };
+    ghost view = { λ audited.
+        record { connection = audited.connection; trace = audited.trace.now } };
 }
 
 impl<'a> Audited<'a> {

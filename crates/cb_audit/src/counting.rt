@@ -56,7 +56,8 @@ fn first_with_trace(connections: &Connections, audited: &[Audited]) -> Option<Co
 #[tactic(auto, using(crate::proofs::Numbers::even_up_none, crate::proofs::Numbers::even_next, crate::proofs::Numbers::first_up, crate::proofs::Numbers::even_up_all))]
 fn first_of_peer(connections: &Connections, audited: &[Audited], peer: u16) -> Option<Connection>
     requires order { AreInOrder audited.now }
-    ensures found { IsFoundAmong connections.now audited.now (IsOfPeer connections.now peer) result }
+    ensures found { IsFoundAmong connections.now audited.now (IsOfPeer connections.now peer)
+        result }
     ensures peer { IfSome result (λ connection. connection.peer ≡ peer) }
 {
     for earlier in 0..connections.latest(peer) {

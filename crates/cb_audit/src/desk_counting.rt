@@ -8,8 +8,8 @@ ghost use Rattle.cb_audit.specs.Order.{AreInOrder};
 use crate::counting::{earlier, granted};
 use cb_crew::Desk;
 use cb_journal::{Connections, Journal, PEERS};
-use cb_outgoing::MessageSink;
 use cb_state::Connection;
+use cb_talk::MessageSink;
 use cb_trace::Oracle;
 use cb_work::{Flags, PeerWork};
 
@@ -85,8 +85,8 @@ fn told_at_place<S: MessageSink + Drop, H: Oracle + Drop, F: Flags>(
     told_by_work(work, connection)
 }
 
-/// How many answers the work of a connection was told, if a desk has one. It looks at all works only
-/// if the connection's doesn't stand where it normally does.
+/// How many answers the work of a connection was told, if a desk has one. It looks at all works
+/// only if the connection's doesn't stand where it normally does.
 fn told_at<S: MessageSink + Drop, H: Oracle + Drop, F: Flags>(
     desks: &[Desk<PeerWork<S, H, F>>],
     connection: Connection,
@@ -163,7 +163,8 @@ fn first_of_peer_at_desks<S: MessageSink + Drop, H: Oracle + Drop, F: Flags>(
     peer: u16,
 ) -> Option<Connection>
     requires order { AreInOrder (traces_of desks.now) }
-    ensures found { IsFoundAmong connections.now (traces_of desks.now) (IsOfPeer connections.now peer) result }
+    ensures found { IsFoundAmong connections.now (traces_of desks.now)
+        (IsOfPeer connections.now peer) result }
     ensures peer { IfSome result (λ connection. connection.peer ≡ peer) }
 {
     for earlier in 0..connections.latest(peer) {
@@ -185,7 +186,8 @@ fn first_known_at_desks<S: MessageSink + Drop, H: Oracle + Drop, F: Flags>(
     desks: &[Desk<PeerWork<S, H, F>>],
 ) -> Option<Connection>
     requires order { AreInOrder (traces_of desks.now) }
-    ensures { IsFoundAmong connections.now (traces_of desks.now) (IsOfPeers connections.now 64) result }
+    ensures { IsFoundAmong connections.now (traces_of desks.now) (IsOfPeers connections.now 64)
+        result }
 {
     for peer in 0..PEERS {
         if let Some(connection) = first_of_peer_at_desks(connections, desks, peer) {

@@ -133,7 +133,8 @@ fn compared(one: &Audited, turns: &[Turn], place: Place) -> Option<Difference>
         place.differs →
         granted kept one.now.connection ≤ 2 ^ 62 → one.now.trace.total.told ≤ 2 ^ 62 →
         length seen ≤ 2 ^ 62 →
-        MatchOption result (drop (skip_of kept one.now) seen ≡ drop (start_of kept one.now) turns.now)
+        MatchOption result
+        (drop (skip_of kept one.now) seen ≡ drop (start_of kept one.now) turns.now)
         (IsDifference kept one.now turns.now seen) }
 {
     let index = place.end(turns)?;

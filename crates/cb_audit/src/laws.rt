@@ -7,5 +7,6 @@ ghost use Rattle.cb_audit.specs.Turns.{answers_in, turns_in};
 pub fn each_answer_has_its_question()
     ensures asked { (trace : TraceView) → length (asked_from (base_account trace) trace.entries)
         ≡ length (answers_in trace.entries) }
-    ensures turns { (trace : TraceView) → length (turns_in trace) ≡ length (answers_in trace.entries) }
+    ensures turns { (trace : TraceView)
+        → length (turns_in trace) ≡ length (answers_in trace.entries) }
 {}

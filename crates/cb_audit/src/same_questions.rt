@@ -1,9 +1,9 @@
 //! Equality of questions.
 use crate::same::Same;
-use cb_journal::{Given, Question, Request, Sought, Told};
+use cb_journal::{GivenBlock, Question, Request, Sought, Told};
 
-impl Same for Given {
-    fn same(&self, other: &Given) -> bool {
+impl Same for GivenBlock {
+    fn same(&self, other: &GivenBlock) -> bool {
         self.capable == other.capable && self.block.same(&other.block)
     }
 }

@@ -84,4 +84,5 @@ fault_detail other = []
 
 -- the printed form: `F10 BadCoinbase`, `F5 BadTx 3`
 abbrev pub fault_text : Fault → List ℕ
-fault_text fault = codes "F" ++ decimal (fault_number fault) ++ codes " " ++ fault_name fault ++ fault_detail fault
+fault_text fault =
+    codes "F" ++ decimal (fault_number fault) ++ codes " " ++ fault_name fault ++ fault_detail fault

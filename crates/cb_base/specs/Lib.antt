@@ -1,3 +1,4 @@
+pub mod Bytes
 pub mod CompactSize
 pub mod DoubleHash
 pub mod Fault

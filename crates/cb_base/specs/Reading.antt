@@ -17,19 +17,29 @@ Err e >>= f = Err e
 
 -- the first n bytes
 abbrev pub bytes_at : ℕ → List ℕ → Read (List ℕ)
-bytes_at n bytes = if nat_lt (length bytes) n then Err Truncated else Ok (take n bytes, drop n bytes)
+bytes_at n bytes =
+    if nat_lt (length bytes) n then Err Truncated else Ok (take n bytes, drop n bytes)
 
 -- an unsigned little-endian number
 abbrev pub number_at : Width → List ℕ → Read ℕ
-number_at w bytes = if nat_lt (length bytes) (byte_len w) then Err Truncated else Ok (from_le_bytes w (take (byte_len w) bytes), drop (byte_len w) bytes)
+number_at w bytes =
+    if nat_lt (length bytes) (byte_len w)
+    then Err Truncated
+    else Ok (from_le_bytes w (take (byte_len w) bytes), drop (byte_len w) bytes)
 
 -- the port of a network address: a big-endian number of two bytes
 abbrev pub port_at : List ℕ → Read ℕ
-port_at bytes = if nat_lt (length bytes) 2 then Err Truncated else Ok (from_be_bytes w16 (take 2 bytes), drop 2 bytes)
+port_at bytes =
+    if nat_lt (length bytes) 2
+    then Err Truncated
+    else Ok (from_be_bytes w16 (take 2 bytes), drop 2 bytes)
 
 -- a signed little-endian number in two's complement
 abbrev pub signed_at : Width → List ℕ → Read ℤ
-signed_at w bytes = if nat_lt (length bytes) (byte_len w) then Err Truncated else Ok (cast_signed w (from_le_bytes w (take (byte_len w) bytes)), drop (byte_len w) bytes)
+signed_at w bytes =
+    if nat_lt (length bytes) (byte_len w)
+    then Err Truncated
+    else Ok (cast_signed w (from_le_bytes w (take (byte_len w) bytes)), drop (byte_len w) bytes)
 
 -- A reader returned what the definition (read) says, where view shows its value. Before, the bytes
 -- old were left to read; now the bytes new are. After a fault they are the same.

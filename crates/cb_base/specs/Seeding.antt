@@ -14,8 +14,8 @@ fixed_seed = initial
 unfoldable pub seed_of : List ℕ → FoldHasher
 seed_of bytes = write initial bytes
 
--- The one that keys make: that of their SHA-256 (FIPS 180-4). The text is the bytes of the keys, one
--- key after the other.
+-- The one that keys make: that of their SHA-256 (FIPS 180-4). The text is the bytes of the keys,
+-- one key after the other.
 unfoldable pub seed_of_keys : List ℕ → FoldHasher
 seed_of_keys text = seed_of (sha256 text)
 

@@ -12,7 +12,12 @@ sum_of_words x y = (x + y) % 2 ^ 64
 
 -- the initial state under the key words k0 and k1
 unfoldable pub sip_start : ℕ → ℕ → SipState
-sip_start k0 k1 = record { v0 = bit_xor k0 0x736f_6d65_7073_6575; v1 = bit_xor k1 0x646f_7261_6e64_6f6d; v2 = bit_xor k0 0x6c79_6765_6e65_7261; v3 = bit_xor k1 0x7465_6462_7974_6573 }
+sip_start k0 k1 = record {
+  v0 = bit_xor k0 0x736f_6d65_7073_6575;
+  v1 = bit_xor k1 0x646f_7261_6e64_6f6d;
+  v2 = bit_xor k0 0x6c79_6765_6e65_7261;
+  v3 = bit_xor k1 0x7465_6462_7974_6573;
+}
 
 -- one SipRound: two halves, each of two sums, rotations and exclusive ors
 unfoldable pub sip_round : SipState → SipState
@@ -38,11 +43,13 @@ with_word s m =
 abbrev pub last_word : List ℕ → ℕ
 last_word bytes =
     let whole = length bytes / 8 * 8 in
-    from_le_bytes w64 (drop whole bytes ++ replicate (7 - length bytes % 8) 0 ++ (length bytes % 256) ∷ [])
+    from_le_bytes w64
+    (drop whole bytes ++ replicate (7 - length bytes % 8) 0 ++ (length bytes % 256) ∷ [])
 
 -- the words of a message, little-endian, eight bytes each
 abbrev pub message_words : List ℕ → List ℕ
-message_words bytes = map (from_le_bytes w64) (first_chunks 8 (length bytes / 8) bytes) ++ last_word bytes ∷ []
+message_words bytes =
+    map (from_le_bytes w64) (first_chunks 8 (length bytes / 8) bytes) ++ last_word bytes ∷ []
 
 -- the hash from the last state: four rounds, then the exclusive or of the four words
 unfoldable pub sip_end : SipState → ℕ

@@ -24,8 +24,12 @@ IsSoundBlock b = IsSound b.header.root (texts b.txs)
 abbrev pub IsUnsound : Block → Fault → Type 0
 IsUnsound b Empty = length b.txs ≡ 0
 IsUnsound b Size64 = Any (λ tx. length (tx_text tx) ≡ 64) b.txs
-IsUnsound b Mutated = (0 < length b.txs) × All (λ tx. length (tx_text tx) ≢ 64) b.txs × IsMutated (names (texts b.txs))
-IsUnsound b BadRoot = (0 < length b.txs) × All (λ tx. length (tx_text tx) ≢ 64) b.txs × (¬ IsMutated (names (texts b.txs))) × (¬ IsRoot (names (texts b.txs)) b.header.root)
+IsUnsound b Mutated =
+    (0 < length b.txs) × All (λ tx. length (tx_text tx) ≢ 64) b.txs
+    × IsMutated (names (texts b.txs))
+IsUnsound b BadRoot =
+    (0 < length b.txs) × All (λ tx. length (tx_text tx) ≢ 64) b.txs
+    × (¬ IsMutated (names (texts b.txs))) × (¬ IsRoot (names (texts b.txs)) b.header.root)
 IsUnsound b other = ⊥
 
 -- the first transaction is a coinbase, and no other is
@@ -35,12 +39,16 @@ HasOneCoinbase (first ∷ others) = IsCoinbase first × All (λ tx. ¬ IsCoinbas
 
 -- the rule is the first that the first bad transaction breaks
 abbrev pub BreaksFirst : List Tx → TxRule → Type 0
-BreaksFirst txs rule = (k : ℕ) × (tx : Tx) × (slice_get txs k ≡ Some tx) × IsLeastBroken tx rule × All MeetsRules (take k txs)
+BreaksFirst txs rule =
+    (k : ℕ) × (tx : Tx) × (slice_get txs k ≡ Some tx) × IsLeastBroken tx rule
+    × All MeetsRules (take k txs)
 
 -- Checking the rules can allocate: some transaction has two inputs or more and meets the first five
 -- rules, and all transactions before it meet all of their rules.
 abbrev pub AsksMemory : List Tx → Type 0
-AsksMemory txs = (k : ℕ) × (tx : Tx) × (slice_get txs k ≡ Some tx) × (2 ≤ length tx.inputs) × MeetsFirst tx × All MeetsRules (take k txs)
+AsksMemory txs =
+    (k : ℕ) × (tx : Tx) × (slice_get txs k ≡ Some tx) × (2 ≤ length tx.inputs) × MeetsFirst tx
+    × All MeetsRules (take k txs)
 
 -- at most 1,000,000 bytes, one coinbase, which is first, and transactions that meet their rules
 pub record MeetsBlockRules (b : Block) : Type 0 where
@@ -52,5 +60,6 @@ pub record MeetsBlockRules (b : Block) : Type 0 where
 abbrev pub IsRefused : Block → Fault → Type 0
 IsRefused b Oversize = 1000000 < length (block_text b)
 IsRefused b BadCoinbase = (length (block_text b) ≤ 1000000) × (¬ HasOneCoinbase b.txs)
-IsRefused b (BadTx rule) = (length (block_text b) ≤ 1000000) × HasOneCoinbase b.txs × BreaksFirst b.txs rule
+IsRefused b (BadTx rule) =
+    (length (block_text b) ≤ 1000000) × HasOneCoinbase b.txs × BreaksFirst b.txs rule
 IsRefused b other = ⊥

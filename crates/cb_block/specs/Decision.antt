@@ -32,7 +32,8 @@ has_no_size_64 strings = list_all (λ string. not (length string == 64)) strings
 -- header. Each level is half as long as the one below, rounded up, so as many steps as there are
 -- transactions are enough.
 unfoldable pub is_sound_block : Block → Bool
-is_sound_block b = has_no_size_64 (texts b.txs) && rises_to b.header.root (length b.txs) (names (texts b.txs))
+is_sound_block b =
+    has_no_size_64 (texts b.txs) && rises_to b.header.root (length b.txs) (names (texts b.txs))
 
 -- Whether hashes decide: the block has transactions, and none of 64 bytes.
 abbrev pub is_hashed : Block → Bool

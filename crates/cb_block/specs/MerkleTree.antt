@@ -18,7 +18,8 @@ up level = map double_hash (pair_texts level)
 -- The levels of the tree: the leaves, and above each level with two hashes or more the next one.
 pub data IsLevel (leaves : List Hash256) : List Hash256 → Type 0 where
   itself : {level : List Hash256} → level ≡ leaves → IsLevel leaves level
-  above : {level : List Hash256} (below : List Hash256) → IsLevel leaves below → 2 ≤ length below → level ≡ up below → IsLevel leaves level
+  above : {level : List Hash256} (below : List Hash256) → IsLevel leaves below → 2 ≤ length below
+      → level ≡ up below → IsLevel leaves level
 
 -- the root is the only hash of the top level
 abbrev pub IsRoot : List Hash256 → Hash256 → Type 0

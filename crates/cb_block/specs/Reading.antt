@@ -16,7 +16,17 @@ header_at bytes = do
   time ← number_at w32 root.1
   bits ← number_at w32 time.1
   nonce ← number_at w32 bits.1
-  Ok (record { version = version.0; prev = prev.0; root = root.0; time = time.0; bits = bits.0; nonce = nonce.0 }, nonce.1)
+  Ok (
+    record {
+      version = version.0;
+      prev = prev.0;
+      root = root.0;
+      time = time.0;
+      bits = bits.0;
+      nonce = nonce.0;
+    },
+    nonce.1,
+  )
 
 -- a header in `headers`, where a count of transactions other than 0 is refused
 unfoldable pub listed_header_at : List ℕ → Read Header

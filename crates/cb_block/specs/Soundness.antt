@@ -19,8 +19,13 @@ pub record IsSound (root : Hash256) (texts : List (List ℕ)) : Type 0 where
 -- The string is hashed for the tree over the texts: it is one of them, or two hashes of a level,
 -- joined.
 abbrev pub IsMet : List (List ℕ) → List ℕ → Type 0
-IsMet texts string = Contains texts string ⊎ ((level : List Hash256) × IsLevel (names texts) level × (2 ≤ length level) × Contains (pair_texts level) string)
+IsMet texts string =
+    Contains texts string
+    ⊎ ((level : List Hash256) × IsLevel (names texts) level × (2 ≤ length level)
+    × Contains (pair_texts level) string)
 
 -- no hash collides: no two different strings that are hashed for either tree have the same hash
 abbrev pub AreApart : List (List ℕ) → List (List ℕ) → Type 0
-AreApart texts others = (x y : List ℕ) → (IsMet texts x ⊎ IsMet others x) → (IsMet texts y ⊎ IsMet others y) → double_hash x ≡ double_hash y → x ≡ y
+AreApart texts others =
+    (x y : List ℕ) → (IsMet texts x ⊎ IsMet others x) → (IsMet texts y ⊎ IsMet others y)
+    → double_hash x ≡ double_hash y → x ≡ y

@@ -8,7 +8,11 @@ use Rattle.cb_block.specs.declared.block.Block.{Block}
 
 -- a header's 80 bytes
 unfoldable pub header_text : Header → List ℕ
-header_text h = to_le_bytes w32 (cast_unsigned w32 h.version) ++ (h.prev.0 ++ (h.root.0 ++ (to_le_bytes w32 h.time ++ (to_le_bytes w32 h.bits ++ to_le_bytes w32 h.nonce))))
+header_text h =
+    to_le_bytes w32 (cast_unsigned w32 h.version)
+    ++ (h.prev.0
+    ++ (h.root.0
+    ++ (to_le_bytes w32 h.time ++ (to_le_bytes w32 h.bits ++ to_le_bytes w32 h.nonce))))
 
 -- a header in `headers`: its 80 bytes, and a count of transactions that is 0
 unfoldable pub listed_header_text : Header → List ℕ

@@ -12,4 +12,5 @@ little_endian (byte ∷ bytes) = byte + 256 * little_endian bytes
 -- the header has the bits 207fffff, and its hash is at most their target: 7fffff followed by 29
 -- zero bytes
 abbrev pub HasWork : Header → Type 0
-HasWork h = (h.bits ≡ 545259519) × (little_endian (double_hash (header_text h)).0 ≤ 8388607 * 256 ^ 29)
+HasWork h =
+    (h.bits ≡ 545259519) × (little_endian (double_hash (header_text h)).0 ≤ 8388607 * 256 ^ 29)

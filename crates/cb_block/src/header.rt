@@ -61,8 +61,8 @@ impl Header {
     }
 }
 
-/// The block hashes of four headers, hashed side by side. That takes less than half the instructions
-/// of four calls of `Header::hash`.
+/// The block hashes of four headers, hashed side by side. That takes less than half the
+/// instructions of four calls of `Header::hash`.
 pub fn hashes_of_four(
     first: &Header,
     second: &Header,
@@ -153,8 +153,8 @@ fn meets_target(hash: &[u8]) -> bool
     high < 0x7f_ffff
 }
 
-/// Checks the proof of work of a header whose hash is known. Fails with `Fault::BadWork` if the bits
-/// aren't those of regtest (`BITS`) or if the hash is above their target.
+/// Checks the proof of work of a header whose hash is known. Fails with `Fault::BadWork` if the
+/// bits aren't those of regtest (`BITS`) or if the hash is above their target.
 pub fn check_hashed_header(header: &Header, hash: &Hash256) -> Result<(), Fault>
     requires { hash.now ≡ double_hash (header_text header.now) }
     ensures { MatchResult result (λ _. HasWork header.now)

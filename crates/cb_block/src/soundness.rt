@@ -38,7 +38,8 @@ impl Model for SoundBlock {
 
     ghost view = { λ sound. sound.block };
 
-    ghost invariant = { λ sound. IsSoundBlock sound.block × (sound.txids.items ≡ names (texts sound.block.txs)) };
+    ghost invariant = { λ sound. IsSoundBlock sound.block
+        × (sound.txids.items ≡ names (texts sound.block.txs)) };
 }
 
 impl SoundBlock {

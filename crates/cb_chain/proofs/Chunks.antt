@@ -1,10 +1,10 @@
--- The nodes of a list that is stored in chunks, by their places.
+-- The block indexes of a list that is stored in chunks, by their places.
 use Rattle.std.proofs.Common.{◌≡◌, ℕ, zero, suc, ◌+◌, ◌*◌, ◌/◌, ◌%◌, ◌<◌, ◌≤◌, List, [], ◌∷◌, ◌++◌, All, length, length-append, append_assoc, get_or, Some, refl, sym, ap, ◌∙◌, arith}
 use Rattle.std.specs.Prelude.{slice_get}
 use Rattle.std.proofs.Math.Nat.{mod-lt}
 use Rattle.std.proofs.lemmas.List.Elements.{All-head, All-tail}
 use Rattle.std.proofs.lemmas.Nat.{div-add-mod'}
-use Rattle.cb_chain.specs.declared.node.BareNode.{BareNode}
+use Rattle.cb_chain.specs.declared.block_index.BareIndex.{BareIndex}
 use Rattle.cb_chain.specs.Listing.{listed}
 
 -- ---- lists
@@ -27,25 +27,25 @@ get_read (y ∷ xs) (suc i) x lt e = get_read xs i x (omega (arith, lt)) e
 
 -- ---- chunks
 
-abbrev pub IsWhole : List BareNode → Type 0
+abbrev pub IsWhole : List BareIndex → Type 0
 IsWhole chunk = length chunk ≡ 256
 
-pub listed_more : (chunks : List (List BareNode)) (last : List BareNode) (node : BareNode) → listed chunks (last ++ node ∷ []) ≡ listed chunks last ++ node ∷ []
-listed_more [] last node = refl
-listed_more (chunk ∷ chunks) last node = ap (λ (ns : List BareNode). chunk ++ ns) (listed_more chunks last node) ∙ sym (append_assoc chunk (listed chunks last) (node ∷ []))
+pub listed_more : (chunks : List (List BareIndex)) (last : List BareIndex) (block_index : BareIndex) → listed chunks (last ++ block_index ∷ []) ≡ listed chunks last ++ block_index ∷ []
+listed_more [] last block_index = refl
+listed_more (chunk ∷ chunks) last block_index = ap (λ (ns : List BareIndex). chunk ++ ns) (listed_more chunks last block_index) ∙ sym (append_assoc chunk (listed chunks last) (block_index ∷ []))
 
 -- one more chunk is full
-pub listed_closed : (chunks : List (List BareNode)) (chunk last : List BareNode) → listed (chunks ++ chunk ∷ []) last ≡ listed chunks (chunk ++ last)
+pub listed_closed : (chunks : List (List BareIndex)) (chunk last : List BareIndex) → listed (chunks ++ chunk ∷ []) last ≡ listed chunks (chunk ++ last)
 listed_closed [] chunk last = refl
-listed_closed (first ∷ chunks) chunk last = ap (λ (ns : List BareNode). first ++ ns) (listed_closed chunks chunk last)
+listed_closed (first ∷ chunks) chunk last = ap (λ (ns : List BareIndex). first ++ ns) (listed_closed chunks chunk last)
 
-length_listed : (chunks : List (List BareNode)) (last : List BareNode) → All IsWhole chunks → length (listed chunks last) ≡ length chunks * 256 + length last
+length_listed : (chunks : List (List BareIndex)) (last : List BareIndex) → All IsWhole chunks → length (listed chunks last) ≡ length chunks * 256 + length last
 length_listed [] last all = omega arith
 length_listed (chunk ∷ chunks) last all =
     let long : length chunk ≡ 256 = All-head IsWhole chunk chunks all in
     omega (arith, long, length-append chunk (listed chunks last), length_listed chunks last (All-tail IsWhole chunk chunks all))
 
-get_full : (chunks : List (List BareNode)) (last read : List BareNode) (chunk within place : ℕ) → All IsWhole chunks → chunk < length chunks → within < 256 → place ≡ chunk * 256 + within
+get_full : (chunks : List (List BareIndex)) (last read : List BareIndex) (chunk within place : ℕ) → All IsWhole chunks → chunk < length chunks → within < 256 → place ≡ chunk * 256 + within
     → slice_get (listed chunks last) place ≡ slice_get (get_or chunks chunk read) within
 get_full [] last read chunk within place all low lt e = absurd (omega (arith, low))
 get_full (first ∷ chunks) last read zero within place all low lt e =
@@ -58,7 +58,7 @@ get_full (first ∷ chunks) last read (suc chunk) within place all low lt e =
     get_right first (listed chunks last) (chunk * 256 + within) place next
     ∙ get_full chunks last read chunk within (chunk * 256 + within) (All-tail IsWhole first chunks all) (omega (arith, low)) lt refl
 
-get_last : (chunks : List (List BareNode)) (last : List BareNode) (within place : ℕ) → All IsWhole chunks → place ≡ length chunks * 256 + within → slice_get (listed chunks last) place ≡ slice_get last within
+get_last : (chunks : List (List BareIndex)) (last : List BareIndex) (within place : ℕ) → All IsWhole chunks → place ≡ length chunks * 256 + within → slice_get (listed chunks last) place ≡ slice_get last within
 get_last [] last within place all e = let same : place ≡ within = omega (arith, e) in ap (slice_get last) same
 get_last (first ∷ chunks) last within place all e =
     let long : length first ≡ 256 = All-head IsWhole first chunks all in
@@ -67,13 +67,13 @@ get_last (first ∷ chunks) last within place all e =
     ∙ get_last chunks last within (length chunks * 256 + within) (All-tail IsWhole first chunks all) refl
 
 -- the chunk of a place, if that is full
-pub in_chunk : (chunks : List (List BareNode)) (last read : List BareNode) (place : ℕ) → All IsWhole chunks → place / 256 < length chunks → read ≡ get_or chunks (place / 256) read
+pub in_chunk : (chunks : List (List BareIndex)) (last read : List BareIndex) (place : ℕ) → All IsWhole chunks → place / 256 < length chunks → read ≡ get_or chunks (place / 256) read
     → slice_get (listed chunks last) place ≡ slice_get read (place % 256)
 in_chunk chunks last read place all low e =
-    get_full chunks last read (place / 256) (place % 256) place all low (mod-lt place (omega arith)) (sym (div-add-mod' place 256)) ∙ ap (λ (ns : List BareNode). slice_get ns (place % 256)) (sym e)
+    get_full chunks last read (place / 256) (place % 256) place all low (mod-lt place (omega arith)) (sym (div-add-mod' place 256)) ∙ ap (λ (ns : List BareIndex). slice_get ns (place % 256)) (sym e)
 
 -- the place in the last one
-pub last_within : (chunks : List (List BareNode)) (last : List BareNode) (place : ℕ) → All IsWhole chunks → length last ≤ 256 → place < length (listed chunks last) → length chunks ≤ place / 256
+pub last_within : (chunks : List (List BareIndex)) (last : List BareIndex) (place : ℕ) → All IsWhole chunks → length last ≤ 256 → place < length (listed chunks last) → length chunks ≤ place / 256
     → (place ≡ length chunks * 256 + place % 256) × (place % 256 < length last)
 last_within chunks last place all short low high =
     let long = length_listed chunks last all in
@@ -84,8 +84,8 @@ last_within chunks last place all short low high =
       omega (arith, long, split, here, low),
     )
 
-pub in_last : (chunks : List (List BareNode)) (last : List BareNode) (place : ℕ) (node : BareNode) → All IsWhole chunks → length last ≤ 256 → place < length (listed chunks last) → length chunks ≤ place / 256
-    → node ≡ get_or last (place % 256) node → slice_get (listed chunks last) place ≡ Some node
-in_last chunks last place node all short low high e =
+pub in_last : (chunks : List (List BareIndex)) (last : List BareIndex) (place : ℕ) (block_index : BareIndex) → All IsWhole chunks → length last ≤ 256 → place < length (listed chunks last) → length chunks ≤ place / 256
+    → block_index ≡ get_or last (place % 256) block_index → slice_get (listed chunks last) place ≡ Some block_index
+in_last chunks last place block_index all short low high e =
     let is = last_within chunks last place all short low high in
-    get_last chunks last (place % 256) place all is.0 ∙ get_read last (place % 256) node is.1 e
+    get_last chunks last (place % 256) place all is.0 ∙ get_read last (place % 256) block_index is.1 e

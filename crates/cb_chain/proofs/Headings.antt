@@ -9,50 +9,50 @@ use Rattle.cb_block.specs.Work.{HasWork}
 use Rattle.cb_ledger.specs.Unspent.{Unspent}
 use Rattle.cb_ledger.specs.declared.undo.CoinChange.{CoinChange}
 use Rattle.cb_chain.specs.declared.accepting.Spot.{Spot}
-use Rattle.cb_chain.specs.Marking.{Node}
-use Rattle.cb_chain.specs.declared.side_chain.Side.{Side}
+use Rattle.cb_chain.specs.Marking.{BlockIndex}
+use Rattle.cb_chain.specs.declared.side_branch.SideBranch.{SideBranch}
 use Rattle.cb_chain.specs.Calls.{AcceptsHeader, header_entry, header_fault}
 use Rattle.cb_chain.specs.Entries.{Entry, Tree, block_hash}
 use Rattle.cb_chain.specs.Headers.{HasFour, Meets, TakesHeaders, goes_on}
 use Rattle.cb_chain.specs.History.{IsHistoric}
-use Rattle.cb_chain.specs.Keeping.{Grown, IsNode, IsSpot, IsTree, entry_from, node_on, tree_of}
+use Rattle.cb_chain.specs.Keeping.{Grown, IsIndex, IsSpot, IsTree, entry_from, index_on, tree_of}
 use Rattle.cb_chain.specs.Laws.{Stays}
-use Rattle.cb_chain.specs.Sides.{IsChain, KeepsChains}
+use Rattle.cb_chain.specs.SideBranches.{IsChain, KeepsChains}
 use Rattle.cb_chain.proofs.Histories.{historic_header}
 use Rattle.cb_chain.proofs.Reached.{planted_after}
-use Rattle.cb_chain.proofs.SideNodes.{Grows, bare_best, bare_node, bare_on, grows_tree, header_free}
+use Rattle.cb_chain.proofs.SideBranchIndexes.{Grows, bare_best, bare_index, bare_on, grows_tree, header_free}
 use Rattle.cb_chain.proofs.Stays.{header_stays, stays_same, stays_then}
 use Rattle.cb_chain.proofs.Undos.{grows_chain}
 
 -- ---- one header
 
--- a header that nothing speaks against, and the node that it will be
-pub record IsHeading (nodes : List Node) (header : Header) (spot : Spot) (node : Node) : Type 0 where
-  pub is : IsTree nodes
+-- a header that nothing speaks against, and the block index that it will be
+pub record IsHeading (block_indexes : List BlockIndex) (header : Header) (spot : Spot) (block_index : BlockIndex) : Type 0 where
+  pub is : IsTree block_indexes
   pub work : HasWork header
-  pub none : header_fault (tree_of nodes) header ≡ None
-  pub spot_is : IsSpot spot header (tree_of nodes)
-  pub node_is : node ≡ node_on spot None false
+  pub none : header_fault (tree_of block_indexes) header ≡ None
+  pub spot_is : IsSpot spot header (tree_of block_indexes)
+  pub index_is : block_index ≡ index_on spot None false
 
-pub heading_node : (nodes : List Node) (header : Header) (spot : Spot) (node : Node) → IsHeading nodes header spot node → IsNode node (tree_of nodes)
-heading_node nodes header spot node h =
-    subst (λ (n : Node). IsNode n (tree_of nodes)) (sym h.node_is) (bare_node spot header (tree_of nodes) false h.spot_is (header_free (tree_of nodes) header h.none))
+pub heading_index : (block_indexes : List BlockIndex) (header : Header) (spot : Spot) (block_index : BlockIndex) → IsHeading block_indexes header spot block_index → IsIndex block_index (tree_of block_indexes)
+heading_index block_indexes header spot block_index h =
+    subst (λ (n : BlockIndex). IsIndex n (tree_of block_indexes)) (sym h.index_is) (bare_index spot header (tree_of block_indexes) false h.spot_is (header_free (tree_of block_indexes) header h.none))
 
-heading_grows : (nodes : List Node) (header : Header) (spot : Spot) (node : Node) → IsHeading nodes header spot node → Grows nodes nodes (tree_of nodes) node
-heading_grows nodes header spot node h = record { is = h.is; same = refl; view = refl; one = heading_node nodes header spot node h }
+heading_grows : (block_indexes : List BlockIndex) (header : Header) (spot : Spot) (block_index : BlockIndex) → IsHeading block_indexes header spot block_index → Grows block_indexes block_indexes (tree_of block_indexes) block_index
+heading_grows block_indexes header spot block_index h = record { is = h.is; same = refl; view = refl; one = heading_index block_indexes header spot block_index h }
 
 -- it is kept
-pub heading_met : (nodes more : List Node) (header : Header) (spot : Spot) (node : Node) → IsHeading nodes header spot node → more ≡ nodes ++ node ∷ [] → Meets (tree_of nodes) header (tree_of more)
-heading_met nodes more header spot node h grown =
-    let entry : entry_from node ≡ header_entry header = ap entry_from h.node_is ∙ bare_on spot header h.spot_is.header in
-    let tree : tree_of more ≡ header_entry header ∷ tree_of nodes =
-    grows_tree nodes nodes more (tree_of nodes) node (heading_grows nodes header spot node h) grown ∙ ap (λ (e : Entry). e ∷ tree_of nodes) entry in
+pub heading_met : (block_indexes more : List BlockIndex) (header : Header) (spot : Spot) (block_index : BlockIndex) → IsHeading block_indexes header spot block_index → more ≡ block_indexes ++ block_index ∷ [] → Meets (tree_of block_indexes) header (tree_of more)
+heading_met block_indexes more header spot block_index h grown =
+    let entry : entry_from block_index ≡ header_entry header = ap entry_from h.index_is ∙ bare_on spot header h.spot_is.header in
+    let tree : tree_of more ≡ header_entry header ∷ tree_of block_indexes =
+    grows_tree block_indexes block_indexes more (tree_of block_indexes) block_index (heading_grows block_indexes header spot block_index h) grown ∙ ap (λ (e : Entry). e ∷ tree_of block_indexes) entry in
     (None, refl, AcceptsHeader.kept h.work h.none refl tree)
 
-pub heading_chains : (old new : Grown) (header : Header) (spot : Spot) (node : Node) → IsHeading old.nodes header spot node → new.nodes ≡ old.nodes ++ node ∷ [] → new.undos ≡ old.undos ++ None ∷ [] → KeepsChains old new
-heading_chains old new header spot node h grown noted path unspent side chain =
-    grows_chain old.nodes old.nodes new.nodes (tree_of old.nodes) node path old.undos old.undos new.undos unspent side (heading_grows old.nodes header spot node h) grown refl noted
-    (bare_best (entry_from node) (tree_of old.nodes) (ap (λ (n : Node). n.kept) h.node_is)) chain
+pub heading_chains : (old new : Grown) (header : Header) (spot : Spot) (block_index : BlockIndex) → IsHeading old.block_indexes header spot block_index → new.block_indexes ≡ old.block_indexes ++ block_index ∷ [] → new.undos ≡ old.undos ++ None ∷ [] → KeepsChains old new
+heading_chains old new header spot block_index h grown noted path unspent side_branch chain =
+    grows_chain old.block_indexes old.block_indexes new.block_indexes (tree_of old.block_indexes) block_index path old.undos old.undos new.undos unspent side_branch (heading_grows old.block_indexes header spot block_index h) grown refl noted
+    (bare_best (entry_from block_index) (tree_of old.block_indexes) (ap (λ (n : BlockIndex). n.kept) h.index_is)) chain
 
 -- ---- one after another
 
@@ -110,17 +110,17 @@ headers_stay (header ∷ headers) old against met new is (inr t) = header_stays 
 
 -- ---- a chain that is given headers: what is in hand, once there is room for them, and what they leave
 
-pub headers_chain : (old reserved new : Grown) (headers : List Header) (against : Option Fault) (met : List Hash256) (path : List ℕ) (unspent : Unspent) (side : Option Side) → reserved.nodes ≡ old.nodes → reserved.undos ≡ old.undos
-    → TakesHeaders (tree_of reserved.nodes) headers against met (tree_of new.nodes) → KeepsChains reserved new → IsChain (tree_of old.nodes) path old.undos unspent side × IsHistoric (tree_of old.nodes)
-    → IsChain (tree_of new.nodes) path new.undos unspent side × IsHistoric (tree_of new.nodes)
-headers_chain old reserved new headers against met path unspent side nodes undos takes keeps is =
-    let kept : IsChain (tree_of reserved.nodes) path old.undos unspent side = subst (λ (ns : List Node). IsChain (tree_of ns) path old.undos unspent side) (sym nodes) is.0 in
-    let chain : IsChain (tree_of reserved.nodes) path reserved.undos unspent side = subst (λ (us : List (Option (List CoinChange))). IsChain (tree_of reserved.nodes) path us unspent side) (sym undos) kept in
-    let past : IsHistoric (tree_of reserved.nodes) = subst (λ (ns : List Node). IsHistoric (tree_of ns)) (sym nodes) is.1 in
-    (keeps path unspent side chain, headers_historic headers (tree_of reserved.nodes) against met (tree_of new.nodes) past takes)
+pub headers_chain : (old reserved new : Grown) (headers : List Header) (against : Option Fault) (met : List Hash256) (path : List ℕ) (unspent : Unspent) (side_branch : Option SideBranch) → reserved.block_indexes ≡ old.block_indexes → reserved.undos ≡ old.undos
+    → TakesHeaders (tree_of reserved.block_indexes) headers against met (tree_of new.block_indexes) → KeepsChains reserved new → IsChain (tree_of old.block_indexes) path old.undos unspent side_branch × IsHistoric (tree_of old.block_indexes)
+    → IsChain (tree_of new.block_indexes) path new.undos unspent side_branch × IsHistoric (tree_of new.block_indexes)
+headers_chain old reserved new headers against met path unspent side_branch block_indexes undos takes keeps is =
+    let kept : IsChain (tree_of reserved.block_indexes) path old.undos unspent side_branch = subst (λ (ns : List BlockIndex). IsChain (tree_of ns) path old.undos unspent side_branch) (sym block_indexes) is.0 in
+    let chain : IsChain (tree_of reserved.block_indexes) path reserved.undos unspent side_branch = subst (λ (us : List (Option (List CoinChange))). IsChain (tree_of reserved.block_indexes) path us unspent side_branch) (sym undos) kept in
+    let past : IsHistoric (tree_of reserved.block_indexes) = subst (λ (ns : List BlockIndex). IsHistoric (tree_of ns)) (sym block_indexes) is.1 in
+    (keeps path unspent side_branch chain, headers_historic headers (tree_of reserved.block_indexes) against met (tree_of new.block_indexes) past takes)
 
-pub headers_leave : (old reserved new : Grown) (tree : Tree) (headers : List Header) (against : Option Fault) (met : List Hash256) → reserved.nodes ≡ old.nodes → tree_of old.nodes ≡ tree → IsHistoric (tree_of old.nodes)
-    → TakesHeaders (tree_of reserved.nodes) headers against met (tree_of new.nodes) → Stays tree (tree_of new.nodes)
-headers_leave old reserved new tree headers against met nodes view is takes =
-    let same : tree_of reserved.nodes ≡ tree = ap tree_of nodes ∙ view in
-    headers_stay headers tree against met (tree_of new.nodes) (subst IsHistoric view is) (subst (λ (t : Tree). TakesHeaders t headers against met (tree_of new.nodes)) same takes)
+pub headers_leave : (old reserved new : Grown) (tree : Tree) (headers : List Header) (against : Option Fault) (met : List Hash256) → reserved.block_indexes ≡ old.block_indexes → tree_of old.block_indexes ≡ tree → IsHistoric (tree_of old.block_indexes)
+    → TakesHeaders (tree_of reserved.block_indexes) headers against met (tree_of new.block_indexes) → Stays tree (tree_of new.block_indexes)
+headers_leave old reserved new tree headers against met block_indexes view is takes =
+    let same : tree_of reserved.block_indexes ≡ tree = ap tree_of block_indexes ∙ view in
+    headers_stay headers tree against met (tree_of new.block_indexes) (subst IsHistoric view is) (subst (λ (t : Tree). TakesHeaders t headers against met (tree_of new.block_indexes)) same takes)

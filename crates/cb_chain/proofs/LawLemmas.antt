@@ -18,7 +18,7 @@ use Rattle.cb_chain.specs.Entries.{Entry, Tree, block_hash, genesis_hash, same, 
 use Rattle.cb_chain.specs.Best.{Stop, faulty, missing, active, best, branch, is_higher, spend_block, stopped_at, then_spend, unspent_after}
 use Rattle.cb_chain.specs.History.{IsHistoric}
 use Rattle.cb_chain.specs.Laws.{AreBlocksOf, AreLinked, ComesAfter, IsLeftBy, IsMarkedFor, ReachesUp, height_in, kept_under, txs_of}
-use Rattle.cb_chain.proofs.Nodes.{same-true, same-refl, reverse_cons}
+use Rattle.cb_chain.proofs.BlockIndexes.{same-true, same-refl, reverse_cons}
 use Rattle.cb_chain.proofs.Reached.{ArePlanted, IsPlanted, kept_apart, kept_known, marked_err, marked_stop, nothing_missing, planted_after, spent_kept, stop_is, stop_leads}
 use Rattle.cb_chain.proofs.Roots.{known_behind, known_first}
 

@@ -11,7 +11,7 @@ pub mod Links
 pub mod Locators
 pub mod Marks
 pub mod NewTip
-pub mod Nodes
+pub mod BlockIndexes
 pub mod Once
 pub mod Outcomes
 pub mod Pairs
@@ -23,7 +23,7 @@ pub mod Planning
 pub mod Reached
 pub mod Reasons
 pub mod Roots
-pub mod SideNodes
+pub mod SideBranchIndexes
 pub mod Starts
 pub mod Stays
 pub mod Steps

@@ -8,7 +8,7 @@ use Rattle.std.proofs.lemmas.Nat.{pow_pos}
 use Rattle.std.proofs.lemmas.Option.{same_Some, slice_get_read}
 use Rattle.cb_base.specs.declared.hash.Hash256.{Hash256}
 use Rattle.cb_block.specs.declared.header.Header.{Header}
-use Rattle.cb_chain.specs.Marking.{Node}
+use Rattle.cb_chain.specs.Marking.{BlockIndex}
 use Rattle.cb_chain.specs.Entries.{Tree, block_hash}
 use Rattle.cb_chain.specs.Best.{active}
 use Rattle.cb_chain.specs.Keeping.{IsTree, active_places, tree_of}
@@ -138,23 +138,23 @@ locates_all headers tip hashes height step hash is none first =
 
 -- ---- the active chain
 
-hash_at : (nodes : List Node) (path : List ℕ) (height place : ℕ) (node : Node) → IsTree nodes → path ≡ active_places (tree_of nodes) → height < length path → place ≡ get_or path height place → slice_get nodes place ≡ Some node
-    → hash_of (active (tree_of nodes)) height ≡ Some node.hash
-hash_at nodes path height place node is are lt e at =
+hash_at : (block_indexes : List BlockIndex) (path : List ℕ) (height place : ℕ) (block_index : BlockIndex) → IsTree block_indexes → path ≡ active_places (tree_of block_indexes) → height < length path → place ≡ get_or path height place → slice_get block_indexes place ≡ Some block_index
+    → hash_of (active (tree_of block_indexes)) height ≡ Some block_index.hash
+hash_at block_indexes path height place block_index is are lt e at =
     let slot = subst (λ (ps : List ℕ). slice_get ps height ≡ Some place) are (slice_get_read path (length path) height place refl lt e) in
-    let there = active_slot nodes height place is slot in
-    let one : there.0.node ≡ node = same_Some there.0.node node (sym there.0.at ∙ ap (slice_get nodes) there.1 ∙ at) in
-    ap (option_map block_hash) there.0.header ∙ ap Some (sym there.0.hash) ∙ ap (λ (n : Node). Some n.hash) one
+    let there = active_slot block_indexes height place is slot in
+    let one : there.0.block_index ≡ block_index = same_Some there.0.block_index block_index (sym there.0.at ∙ ap (slice_get block_indexes) there.1 ∙ at) in
+    ap (option_map block_hash) there.0.header ∙ ap Some (sym there.0.hash) ∙ ap (λ (n : BlockIndex). Some n.hash) one
 
-pub found_hash : (nodes : List Node) (tree : Tree) (path : List ℕ) (height place : ℕ) (node : Node) → IsTree nodes → tree_of nodes ≡ tree → path ≡ active_places (tree_of nodes) → height < length path
-    → place ≡ get_or path height place → slice_get nodes place ≡ Some node → hash_of (active tree) height ≡ Some node.hash
-found_hash nodes tree path height place node is view are lt e at =
-    subst (λ (t : Tree). hash_of (active t) height ≡ Some node.hash) view (hash_at nodes path height place node is are lt e at)
+pub found_hash : (block_indexes : List BlockIndex) (tree : Tree) (path : List ℕ) (height place : ℕ) (block_index : BlockIndex) → IsTree block_indexes → tree_of block_indexes ≡ tree → path ≡ active_places (tree_of block_indexes) → height < length path
+    → place ≡ get_or path height place → slice_get block_indexes place ≡ Some block_index → hash_of (active tree) height ≡ Some block_index.hash
+found_hash block_indexes tree path height place block_index is view are lt e at =
+    subst (λ (t : Tree). hash_of (active t) height ≡ Some block_index.hash) view (hash_at block_indexes path height place block_index is are lt e at)
 
-pub located : (nodes : List Node) (tree : Tree) (path : List ℕ) → IsTree nodes → tree_of nodes ≡ tree → path ≡ active_places (tree_of nodes) → hashes_of (active tree) (locator_heights (length path - 1)) ≡ locator_of tree
-located nodes tree path is view are =
+pub located : (block_indexes : List BlockIndex) (tree : Tree) (path : List ℕ) → IsTree block_indexes → tree_of block_indexes ≡ tree → path ≡ active_places (tree_of block_indexes) → hashes_of (active tree) (locator_heights (length path - 1)) ≡ locator_of tree
+located block_indexes tree path is view are =
     let long : length path ≡ length (active tree) =
-    ap length are ∙ length_places (tree_of nodes) ∙ sym (length_active nodes is) ∙ ap (λ (t : Tree). length (active t)) view
+    ap length are ∙ length_places (tree_of block_indexes) ∙ sym (length_active block_indexes is) ∙ ap (λ (t : Tree). length (active t)) view
     in
     ap (λ (n : ℕ). hashes_of (active tree) (locator_heights (n - 1))) long
 

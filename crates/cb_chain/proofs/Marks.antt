@@ -9,9 +9,9 @@ use Rattle.cb_ledger.specs.Unspent.{Unspent}
 use Rattle.cb_chain.specs.Entries.{Entry, Tree, block_hash, same, entry_of, has_block, height_of, is_known, is_kept, is_marked}
 use Rattle.cb_chain.specs.Best.{Stop, best, branch, leads_through, then_spend, unspent_after}
 use Rattle.cb_chain.specs.Calls.{marked_above}
-use Rattle.cb_chain.specs.Marking.{Node}
-use Rattle.cb_chain.specs.Keeping.{Step, IsNode, AreNodes, IsTree, IsPlaced, active_places, block_at, climb, entry_from, mark_node, mark_nodes, marked_nodes, place_of, tree_of, way}
-use Rattle.cb_chain.proofs.Nodes.{map_reverse, same-refl, same-true}
+use Rattle.cb_chain.specs.Marking.{BlockIndex}
+use Rattle.cb_chain.specs.Keeping.{Step, IsIndex, AreIndexes, IsTree, IsPlaced, active_places, block_at, climb, entry_from, mark_index, mark_indexes, marked_indexes, place_of, tree_of, way}
+use Rattle.cb_chain.proofs.BlockIndexes.{map_reverse, same-refl, same-true}
 
 -- ---- what an entry becomes
 
@@ -169,37 +169,37 @@ pub marks_keep_active_places : (first : Hash256) (tree : Tree) → active_places
 marks_keep_active_places first tree =
     ap (λ (ps : List ℕ). 0 ∷ ps) (marks_keep_climb first tree (best (marked_above first tree)) ∙ ap (λ (h : Hash256). map place_at (climb tree h)) (marks_keep_best first tree))
 
--- ---- nodes that are marked
+-- ---- block indexes that are marked
 
 pub leads_none : (first hash : Hash256) → leads_through [] first hash ≡ false
 unfolding leads_through
 leads_none first hash = refl
 
-pub length_marks : (first : Hash256) (above : List Node) → length (mark_nodes first above) ≡ length above
+pub length_marks : (first : Hash256) (above : List BlockIndex) → length (mark_indexes first above) ≡ length above
 length_marks first [] = refl
-length_marks first (node ∷ older) = ap suc (length_marks first older)
+length_marks first (block_index ∷ older) = ap suc (length_marks first older)
 
-abbrev pub marked_as : Bool → Node → Node
-marked_as b node = cond b (record { header = node.header; hash = node.hash; height = node.height; parent = node.parent; kept = node.kept; marked = true }) node
+abbrev pub marked_as : Bool → BlockIndex → BlockIndex
+marked_as b block_index = cond b (record { header = block_index.header; hash = block_index.hash; height = block_index.height; parent = block_index.parent; kept = block_index.kept; marked = true }) block_index
 
-entry_as : (b : Bool) (node : Node) → entry_from (marked_as b node) ≡ with_mark b (entry_from node)
-entry_as true node = refl
-entry_as false node = refl
+entry_as : (b : Bool) (block_index : BlockIndex) → entry_from (marked_as b block_index) ≡ with_mark b (entry_from block_index)
+entry_as true block_index = refl
+entry_as false block_index = refl
 
-marked_entries : (first : Hash256) (above : List Node) → map entry_from (mark_nodes first above) ≡ marked_above first (map entry_from above)
+marked_entries : (first : Hash256) (above : List BlockIndex) → map entry_from (mark_indexes first above) ≡ marked_above first (map entry_from above)
 marked_entries first [] = refl
-marked_entries first (node ∷ older) =
-    ap (λ (e : Entry). e ∷ map entry_from (mark_nodes first older)) (entry_as (marks first (entry_from node) (map entry_from older)) node)
-    ∙ ap (λ (es : Tree). with_mark (marks first (entry_from node) (map entry_from older)) (entry_from node) ∷ es) (marked_entries first older)
+marked_entries first (block_index ∷ older) =
+    ap (λ (e : Entry). e ∷ map entry_from (mark_indexes first older)) (entry_as (marks first (entry_from block_index) (map entry_from older)) block_index)
+    ∙ ap (λ (es : Tree). with_mark (marks first (entry_from block_index) (map entry_from older)) (entry_from block_index) ∷ es) (marked_entries first older)
 
-pub tree_marked : (first : Hash256) (nodes : List Node) → tree_of (marked_nodes first nodes) ≡ marked_above first (tree_of nodes)
+pub tree_marked : (first : Hash256) (block_indexes : List BlockIndex) → tree_of (marked_indexes first block_indexes) ≡ marked_above first (tree_of block_indexes)
 tree_marked first [] = refl
-tree_marked first (lowest ∷ others) = ap (map entry_from) (reverse-reverse (mark_nodes first (reverse others))) ∙ marked_entries first (reverse others)
+tree_marked first (lowest ∷ others) = ap (map entry_from) (reverse-reverse (mark_indexes first (reverse others))) ∙ marked_entries first (reverse others)
 
-pub length_marked : (first : Hash256) (nodes : List Node) → length (marked_nodes first nodes) ≡ length nodes
+pub length_marked : (first : Hash256) (block_indexes : List BlockIndex) → length (marked_indexes first block_indexes) ≡ length block_indexes
 length_marked first [] = refl
 length_marked first (lowest ∷ others) =
-    ap suc (length-reverse (mark_nodes first (reverse others)) ∙ length_marks first (reverse others) ∙ length-reverse others)
+    ap suc (length-reverse (mark_indexes first (reverse others)) ∙ length_marks first (reverse others) ∙ length-reverse others)
 
 -- ---- the entries under a hash
 
@@ -216,17 +216,17 @@ pub leads_under : (entry : Entry) (older : Tree) (first hash : Hash256) (b : Boo
 unfolding leads_through
 leads_under entry older first hash b e = rw e refl
 
-pub kept_beyond : (node : Node) (older : Tree) (hash : Hash256) → IsNode node older → is_kept older hash ≡ true → is_kept (entry_from node ∷ older) hash ≡ true
-kept_beyond node older hash is e =
-    elim (kept_under (entry_from node) older hash) [
-      | inl w ↦ absurd (false≢true (sym is.once ∙ subst (λ (h : Hash256). is_kept older h ≡ true) (same-true hash (block_hash node.header) w.0 ∙ sym is.hash) e))
+pub kept_beyond : (block_index : BlockIndex) (older : Tree) (hash : Hash256) → IsIndex block_index older → is_kept older hash ≡ true → is_kept (entry_from block_index ∷ older) hash ≡ true
+kept_beyond block_index older hash is e =
+    elim (kept_under (entry_from block_index) older hash) [
+      | inl w ↦ absurd (false≢true (sym is.once ∙ subst (λ (h : Hash256). is_kept older h ≡ true) (same-true hash (block_hash block_index.header) w.0 ∙ sym is.hash) e))
       | inr w ↦ w.1 ∙ e
     ]
 
-pub kept_itself : (node : Node) (older : Tree) → is_some node.kept ≡ true → is_kept (entry_from node ∷ older) (block_hash node.header) ≡ true
-kept_itself node older kept = rw (same-refl (block_hash node.header)) kept
+pub kept_itself : (block_index : BlockIndex) (older : Tree) → is_some block_index.kept ≡ true → is_kept (entry_from block_index ∷ older) (block_hash block_index.header) ≡ true
+kept_itself block_index older kept = rw (same-refl (block_hash block_index.header)) kept
 
--- whether a kept node is marked
+-- whether a kept block index is marked
 marks_is : (entry : Entry) (older : Tree) (first : Hash256) → is_some entry.block ≡ true → marks first entry older ≡ cond (same (block_hash entry.header) first) true (leads_through older first entry.header.prev)
 marks_is entry older first kept =
     ap (λ (b : Bool). b && leads_through (entry ∷ older) first (block_hash entry.header)) kept
@@ -242,7 +242,7 @@ mark_as : (b : Bool) (entry : Entry) → (with_mark b entry).marked ≡ cond b t
 mark_as true entry = refl
 mark_as false entry = refl
 
--- a kept node is marked where it was, or where it leads through the first
+-- a kept block index is marked where it was, or where it leads through the first
 pub marked_is : (tree : Tree) (first hash : Hash256) → is_kept tree hash ≡ true → is_marked (marked_above first tree) hash ≡ is_marked tree hash || leads_through tree first hash
 marked_is [] first hash kept = or_either (is_marked [] hash) false ∙ ap (λ (b : Bool). is_marked [] hash || b) (sym (leads_none first hash))
 marked_is (entry ∷ older) first hash kept =
@@ -262,82 +262,82 @@ marked_is (entry ∷ older) first hash kept =
           ∙ ap (λ (x : Bool). is_marked (entry ∷ older) hash || x) (sym (leads_under entry older first hash false w.0))
     ]
 
--- ---- a tree of marked nodes
+-- ---- a tree of marked block indexes
 
-like_node : (b : Bool) (node : Node) (older newer : Tree) → IsNode node older → ((h : Hash256) → place_of newer h ≡ place_of older h) → ((h : Hash256) → height_of newer h ≡ height_of older h)
-    → ((h : Hash256) → is_kept newer h ≡ is_kept older h) → (is_some node.kept ≡ true → is_marked newer node.header.prev ≡ true → (marked_as b node).marked ≡ true) → IsNode (marked_as b node) newer
-like_node true node older newer is places heights kept told =
+like_index : (b : Bool) (block_index : BlockIndex) (older newer : Tree) → IsIndex block_index older → ((h : Hash256) → place_of newer h ≡ place_of older h) → ((h : Hash256) → height_of newer h ≡ height_of older h)
+    → ((h : Hash256) → is_kept newer h ≡ is_kept older h) → (is_some block_index.kept ≡ true → is_marked newer block_index.header.prev ≡ true → (marked_as b block_index).marked ≡ true) → IsIndex (marked_as b block_index) newer
+like_index true block_index older newer is places heights kept told =
     record {
       hash = is.hash;
-      parent = places node.header.prev ∙ is.parent;
-      height = ap (option_map suc) (heights node.header.prev) ∙ is.height;
+      parent = places block_index.header.prev ∙ is.parent;
+      height = ap (option_map suc) (heights block_index.header.prev) ∙ is.height;
       low = is.low;
-      once = kept node.hash ∙ is.once;
-      under = λ k. kept node.header.prev ∙ is.under k;
+      once = kept block_index.hash ∙ is.once;
+      under = λ k. kept block_index.header.prev ∙ is.under k;
       marks = told;
     }
-like_node false node older newer is places heights kept told =
+like_index false block_index older newer is places heights kept told =
     record {
       hash = is.hash;
-      parent = places node.header.prev ∙ is.parent;
-      height = ap (option_map suc) (heights node.header.prev) ∙ is.height;
+      parent = places block_index.header.prev ∙ is.parent;
+      height = ap (option_map suc) (heights block_index.header.prev) ∙ is.height;
       low = is.low;
-      once = kept node.hash ∙ is.once;
-      under = λ k. kept node.header.prev ∙ is.under k;
+      once = kept block_index.hash ∙ is.once;
+      under = λ k. kept block_index.header.prev ∙ is.under k;
       marks = told;
     }
 
-told_by : (s m l : Bool) (node : Node) → (m ≡ true → node.marked ≡ true) → m || l ≡ true → (marked_as (cond s true l) node).marked ≡ true
-told_by true m l node was e = refl
-told_by false m true node was e = refl
-told_by false true false node was e = was refl
-told_by false false false node was e = absurd (false≢true e)
+told_by : (s m l : Bool) (block_index : BlockIndex) → (m ≡ true → block_index.marked ≡ true) → m || l ≡ true → (marked_as (cond s true l) block_index).marked ≡ true
+told_by true m l block_index was e = refl
+told_by false m true block_index was e = refl
+told_by false true false block_index was e = was refl
+told_by false false false block_index was e = absurd (false≢true e)
 
-one_marked : (first : Hash256) (node : Node) (older : Tree) → IsNode node older → IsNode (mark_node first older node) (marked_above first older)
-one_marked first node older is =
-    like_node (marks first (entry_from node) older) node older (marked_above first older) is (marks_keep_place first older) (marks_keep_height first older) (marks_keep_kept first older)
+one_marked : (first : Hash256) (block_index : BlockIndex) (older : Tree) → IsIndex block_index older → IsIndex (mark_index first older block_index) (marked_above first older)
+one_marked first block_index older is =
+    like_index (marks first (entry_from block_index) older) block_index older (marked_above first older) is (marks_keep_place first older) (marks_keep_height first older) (marks_keep_kept first older)
     (λ kept told.
-    let prev = node.header.prev in
-    subst (λ (b : Bool). (marked_as b node).marked ≡ true) (sym (marks_is (entry_from node) older first kept))
-    (told_by (same (block_hash node.header) first) (is_marked older prev) (leads_through older first prev) node (is.marks kept) (sym (marked_is older first prev (is.under kept)) ∙ told)))
+    let prev = block_index.header.prev in
+    subst (λ (b : Bool). (marked_as b block_index).marked ≡ true) (sym (marks_is (entry_from block_index) older first kept))
+    (told_by (same (block_hash block_index.header) first) (is_marked older prev) (leads_through older first prev) block_index (is.marks kept) (sym (marked_is older first prev (is.under kept)) ∙ told)))
 
-are_marked : (first : Hash256) (above : List Node) → AreNodes above → AreNodes (mark_nodes first above)
+are_marked : (first : Hash256) (above : List BlockIndex) → AreIndexes above → AreIndexes (mark_indexes first above)
 are_marked first [] are = tt
-are_marked first (node ∷ older) are =
-    (subst (IsNode (mark_node first (map entry_from older) node)) (sym (marked_entries first older)) (one_marked first node (map entry_from older) are.0), are_marked first older are.1)
+are_marked first (block_index ∷ older) are =
+    (subst (IsIndex (mark_index first (map entry_from older) block_index)) (sym (marked_entries first older)) (one_marked first block_index (map entry_from older) are.0), are_marked first older are.1)
 
-pub is_marked_tree : (first : Hash256) (nodes : List Node) → IsTree nodes → IsTree (marked_nodes first nodes)
+pub is_marked_tree : (first : Hash256) (block_indexes : List BlockIndex) → IsTree block_indexes → IsTree (marked_indexes first block_indexes)
 is_marked_tree first [] is = absurd is
 is_marked_tree first (lowest ∷ others) is =
-    (is.0, subst AreNodes (sym (reverse-reverse (mark_nodes first (reverse others)))) (are_marked first (reverse others) is.1))
+    (is.0, subst AreIndexes (sym (reverse-reverse (mark_indexes first (reverse others)))) (are_marked first (reverse others) is.1))
 
-pub placed_marked : (first : Hash256) (nodes : List Node) (es : List (Hash256 × ℕ)) → IsPlaced nodes es → IsPlaced (marked_nodes first nodes) es
-placed_marked first nodes es is =
+pub placed_marked : (first : Hash256) (block_indexes : List BlockIndex) (es : List (Hash256 × ℕ)) → IsPlaced block_indexes es → IsPlaced (marked_indexes first block_indexes) es
+placed_marked first block_indexes es is =
     record {
-      tree = is_marked_tree first nodes is.tree;
-      places = λ hash. is.places hash ∙ sym (ap (λ (t : Tree). place_of t hash) (tree_marked first nodes) ∙ marks_keep_place first (tree_of nodes) hash);
+      tree = is_marked_tree first block_indexes is.tree;
+      places = λ hash. is.places hash ∙ sym (ap (λ (t : Tree). place_of t hash) (tree_marked first block_indexes) ∙ marks_keep_place first (tree_of block_indexes) hash);
     }
 
--- ---- nodes by their places
+-- ---- block indexes by their places
 
-pub one_node : (nodes : List Node) (i j : ℕ) (node other : Node) → slice_get nodes i ≡ Some node → slice_get nodes j ≡ Some other → i ≡ j → node ≡ other
-one_node nodes i j node other at there e = cc
+pub one_index : (block_indexes : List BlockIndex) (i j : ℕ) (block_index other : BlockIndex) → slice_get block_indexes i ≡ Some block_index → slice_get block_indexes j ≡ Some other → i ≡ j → block_index ≡ other
+one_index block_indexes i j block_index other at there e = cc
 
-target_of : (o : Option Node) → IsSome (option_and_then (λ node. node.kept) o) → (target : Node) × (o ≡ Some target) × (is_some target.kept ≡ true)
+target_of : (o : Option BlockIndex) → IsSome (option_and_then (λ block_index. block_index.kept) o) → (target : BlockIndex) × (o ≡ Some target) × (is_some target.kept ≡ true)
 target_of None is = absurd (false≢true is)
-target_of (Some node) is = (node, refl, is)
+target_of (Some block_index) is = (block_index, refl, is)
 
-pub target_at : (nodes : List Node) (first : ℕ) → IsSome (block_at nodes first) → (target : Node) × (slice_get nodes first ≡ Some target) × (is_some target.kept ≡ true)
-target_at nodes first is = target_of (slice_get nodes first) is
+pub target_at : (block_indexes : List BlockIndex) (first : ℕ) → IsSome (block_at block_indexes first) → (target : BlockIndex) × (slice_get block_indexes first ≡ Some target) × (is_some target.kept ≡ true)
+target_at block_indexes first is = target_of (slice_get block_indexes first) is
 
-pub node_at : (nodes : List Node) (place : ℕ) → place < length nodes → (node : Node) × (slice_get nodes place ≡ Some node)
-node_at [] place within = absurd (omega arith)
-node_at (node ∷ nodes) zero within = (node, refl)
-node_at (node ∷ nodes) (suc place) within = node_at nodes place (omega arith)
+pub index_at : (block_indexes : List BlockIndex) (place : ℕ) → place < length block_indexes → (block_index : BlockIndex) × (slice_get block_indexes place ≡ Some block_index)
+index_at [] place within = absurd (omega arith)
+index_at (block_index ∷ block_indexes) zero within = (block_index, refl)
+index_at (block_index ∷ block_indexes) (suc place) within = index_at block_indexes place (omega arith)
 
 -- a list that is lent whole and comes back marked
-pub lent_back : (first : ℕ) (target : Node) (old lent new : List Node) (count : ℕ) → lent ≡ old → count ≡ length old → slice_get old first ≡ Some target
-    → ((node : Node) → slice_get lent first ≡ Some node → new ≡ marked_nodes node.hash lent) → take count (new ++ drop (length new) old) ≡ marked_nodes target.hash old
+pub lent_back : (first : ℕ) (target : BlockIndex) (old lent new : List BlockIndex) (count : ℕ) → lent ≡ old → count ≡ length old → slice_get old first ≡ Some target
+    → ((block_index : BlockIndex) → slice_get lent first ≡ Some block_index → new ≡ marked_indexes block_index.hash lent) → take count (new ++ drop (length new) old) ≡ marked_indexes target.hash old
 lent_back first target old lent new count same_list long at marks_are =
-    let new_is : new ≡ marked_nodes target.hash old = marks_are target (ap (λ (ns : List Node). slice_get ns first) same_list ∙ at) ∙ ap (marked_nodes target.hash) same_list in
+    let new_is : new ≡ marked_indexes target.hash old = marks_are target (ap (λ (ns : List BlockIndex). slice_get ns first) same_list ∙ at) ∙ ap (marked_indexes target.hash) same_list in
     take_at new (drop (length new) old) count (ap length new_is ∙ length_marked target.hash old ∙ sym long) ∙ new_is

@@ -9,7 +9,7 @@ use Rattle.cb_block.specs.declared.block.Block.{Block}
 use Rattle.cb_block.specs.declared.header.Header.{Header}
 use Rattle.cb_block.specs.Genesis.{genesis_header}
 use Rattle.cb_ledger.specs.Unspent.{Unspent}
-use Rattle.cb_chain.specs.Marking.{Node}
+use Rattle.cb_chain.specs.Marking.{BlockIndex}
 use Rattle.cb_chain.specs.Entries.{Entry, Tree, block_hash, same, height_of, is_kept}
 use Rattle.cb_chain.specs.Best.{Stop, active, best, branch, faulty, is_higher, unspent_after}
 use Rattle.cb_chain.specs.Calls.{block_entry, change_of, joined, marked_above}
@@ -17,7 +17,7 @@ use Rattle.cb_chain.specs.Following.{above_branch}
 use Rattle.cb_chain.specs.Keeping.{IsFork, IsTree, Step, active_places, climb, place_of, tree_of, way}
 use Rattle.cb_chain.specs.Laws.{LeadsOver, PartAtOnce, active_hashes}
 use Rattle.cb_chain.specs.Plans.{Moved, change_at}
-use Rattle.cb_chain.proofs.Nodes.{length_tree, reverse_cons, reverse_push, same-refl, same-true}
+use Rattle.cb_chain.proofs.BlockIndexes.{length_tree, reverse_cons, reverse_push, same-refl, same-true}
 use Rattle.cb_chain.proofs.Partings.{agree, fork_back, fork_parts}
 use Rattle.cb_chain.proofs.Planning.{Answer, changes_same, map_map}
 use Rattle.cb_chain.proofs.Steps.{branch_climb, height_climb}
@@ -73,35 +73,35 @@ apart tree one other higher =
 -- ---- a block on its branch
 
 -- a block that stands on a kept one is higher than the tip
-pub record IsAbove (nodes : List Node) (block : Block) (path : List ℕ) : Type 0 where
-  pub tree : IsTree nodes
-  pub places : path ≡ active_places (tree_of nodes)
+pub record IsAbove (block_indexes : List BlockIndex) (block : Block) (path : List ℕ) : Type 0 where
+  pub tree : IsTree block_indexes
+  pub places : path ≡ active_places (tree_of block_indexes)
   pub parent : ℕ
-  pub known : place_of (tree_of nodes) block.header.prev ≡ Some parent
-  pub kept : is_kept (tree_of nodes) block.header.prev ≡ true
-  pub once : is_kept (tree_of nodes) (block_hash block.header) ≡ false
-  pub higher : is_higher (block_entry block ∷ tree_of nodes) (block_hash block.header) (best (tree_of nodes)) ≡ true
+  pub known : place_of (tree_of block_indexes) block.header.prev ≡ Some parent
+  pub kept : is_kept (tree_of block_indexes) block.header.prev ≡ true
+  pub once : is_kept (tree_of block_indexes) (block_hash block.header) ≡ false
+  pub higher : is_higher (block_entry block ∷ tree_of block_indexes) (block_hash block.header) (best (tree_of block_indexes)) ≡ true
 
 -- the active places with it
-path_is : (nodes : List Node) (block : Block) (path : List ℕ) (fork : ℕ) → IsAbove nodes block path → IsFork (tree_of nodes) block.header.prev fork
-    → best (block_entry block ∷ tree_of nodes) ≡ block_hash block.header
-    → take (fork + 1) path ++ map (λ (s : Step). s.place) (drop fork (climb (tree_of nodes) block.header.prev)) ++ length nodes ∷ [] ≡ active_places (block_entry block ∷ tree_of nodes)
-path_is nodes block path fork is fork_is tip =
-    let tree = tree_of nodes in
+path_is : (block_indexes : List BlockIndex) (block : Block) (path : List ℕ) (fork : ℕ) → IsAbove block_indexes block path → IsFork (tree_of block_indexes) block.header.prev fork
+    → best (block_entry block ∷ tree_of block_indexes) ≡ block_hash block.header
+    → take (fork + 1) path ++ map (λ (s : Step). s.place) (drop fork (climb (tree_of block_indexes) block.header.prev)) ++ length block_indexes ∷ [] ≡ active_places (block_entry block ∷ tree_of block_indexes)
+path_is block_indexes block path fork is fork_is tip =
+    let tree = tree_of block_indexes in
     let below = climb tree block.header.prev in
     let old = climb tree (best tree) in
     let last : Step = record { place = suc (length tree); entry = block_entry block } in
     let place : Step → ℕ = λ s. s.place in
-    let long : length nodes ≡ suc (length tree) = length_tree nodes is.tree in
+    let long : length block_indexes ≡ suc (length tree) = length_tree block_indexes is.tree in
     let one : suc fork ≡ fork + 1 = omega arith in
     let low : take (fork + 1) path ≡ 0 ∷ map place (take fork below) =
     ap (take (fork + 1)) is.places ∙ ap (λ (n : ℕ). take n (0 ∷ map place old)) (sym one) ∙ ap (λ (ps : List ℕ). 0 ∷ ps) (take-map place fork old ∙ ap (map place) (sym (fork_is.below is.kept))) in
     let whole : climb (block_entry block ∷ tree) (best (block_entry block ∷ tree)) ≡ (take fork below ++ drop fork below) ++ last ∷ [] =
     ap (climb (block_entry block ∷ tree)) tip ∙ climb_new (block_entry block) tree ∙ ap (λ (xs : List Step). xs ++ last ∷ []) (sym (take-append-drop fork below)) in
-    let places : map place ((take fork below ++ drop fork below) ++ last ∷ []) ≡ map place (take fork below) ++ map place (drop fork below) ++ length nodes ∷ [] =
+    let places : map place ((take fork below ++ drop fork below) ++ last ∷ []) ≡ map place (take fork below) ++ map place (drop fork below) ++ length block_indexes ∷ [] =
     map-append place (take fork below ++ drop fork below) (last ∷ []) ∙ ap (λ (ps : List ℕ). ps ++ suc (length tree) ∷ []) (map-append place (take fork below) (drop fork below))
     ∙ ap (λ (n : ℕ). map place (take fork below) ++ map place (drop fork below) ++ n ∷ []) (sym long) in
-    ap (λ (ps : List ℕ). ps ++ map place (drop fork below) ++ length nodes ∷ []) low ∙ ap (λ (ps : List ℕ). 0 ∷ ps) (sym places) ∙ ap (λ (ss : List Step). 0 ∷ map place ss) (sym whole)
+    ap (λ (ps : List ℕ). ps ++ map place (drop fork below) ++ length block_indexes ∷ []) low ∙ ap (λ (ps : List ℕ). 0 ∷ ps) (sym places) ∙ ap (λ (ss : List Step). 0 ∷ map place ss) (sym whole)
 
 pub joined_ok : (old : Tree) (block : Block) (u : Unspent) → is_higher (block_entry block ∷ old) (block_hash block.header) (best old) ≡ true → unspent_after (block_entry block ∷ old) (block_hash block.header) ≡ Ok u
     → joined old block ≡ (Ok (change_of old (block_entry block ∷ old)), block_entry block ∷ old)
@@ -125,20 +125,20 @@ on_hashes tree prev header ones fork ones_is =
     ∙ ap (λ (hs : List Hash256). hs ++ block_hash header ∷ []) (map_map block_hash name (drop fork (climb tree prev)))
 
 -- the branch of its parent and the active chain, from the first block's header up
-record Beside (nodes : List Node) (block : Block) (fork : ℕ) (ones others : List Header) : Type 0 where
-  ones_is : ones ≡ genesis_header ∷ map (λ (s : Step). s.entry.header) (climb (tree_of nodes) block.header.prev)
-  others_is : others ≡ genesis_header ∷ map (λ (s : Step). s.entry.header) (climb (tree_of nodes) (best (tree_of nodes)))
+record Beside (block_indexes : List BlockIndex) (block : Block) (fork : ℕ) (ones others : List Header) : Type 0 where
+  ones_is : ones ≡ genesis_header ∷ map (λ (s : Step). s.entry.header) (climb (tree_of block_indexes) block.header.prev)
+  others_is : others ≡ genesis_header ∷ map (λ (s : Step). s.entry.header) (climb (tree_of block_indexes) (best (tree_of block_indexes)))
   first : agree ones others 0 ≡ true
   some : 0 < length ones
   low : fork < length others
   short : length others ≤ length ones
   above : above_branch (reverse ones) others ≡ drop (suc fork) others
-  new_is : best (block_entry block ∷ tree_of nodes) ≡ block_hash block.header → active (block_entry block ∷ tree_of nodes) ≡ ones ++ block.header ∷ []
+  new_is : best (block_entry block ∷ tree_of block_indexes) ≡ block_hash block.header → active (block_entry block ∷ tree_of block_indexes) ≡ ones ++ block.header ∷ []
 
-beside : (nodes : List Node) (block : Block) (path : List ℕ) (fork : ℕ) → IsAbove nodes block path → IsFork (tree_of nodes) block.header.prev fork
-    → Beside nodes block fork (branch_up (tree_of nodes) block.header.prev) (active (tree_of nodes))
-beside nodes block path fork is fork_is =
-    let tree = tree_of nodes in
+beside : (block_indexes : List BlockIndex) (block : Block) (path : List ℕ) (fork : ℕ) → IsAbove block_indexes block path → IsFork (tree_of block_indexes) block.header.prev fork
+    → Beside block_indexes block fork (branch_up (tree_of block_indexes) block.header.prev) (active (tree_of block_indexes))
+beside block_indexes block path fork is fork_is =
+    let tree = tree_of block_indexes in
     let new = block_entry block ∷ tree in
     let header = block.header in
     let prev = header.prev in
@@ -146,11 +146,11 @@ beside nodes block path fork is fork_is =
     let name : Step → Header = λ s. s.entry.header in
     let ones = branch_up tree prev in
     let others = active tree in
-    let ones_is : ones ≡ genesis_header ∷ map name (climb tree prev) = branch_climb nodes prev is.parent is.tree is.known in
-    let others_is : others ≡ genesis_header ∷ map name (climb tree (best tree)) = active_way nodes is.tree in
+    let ones_is : ones ≡ genesis_header ∷ map name (climb tree prev) = branch_climb block_indexes prev is.parent is.tree is.known in
+    let others_is : others ≡ genesis_header ∷ map name (climb tree (best tree)) = active_way block_indexes is.tree in
     let apart_is = apart new (block_hash header) (best tree) is.higher in
-    let height_one : height_of new (block_hash header) ≡ Some (suc (length (climb tree prev))) = height_new (block_entry block) tree ∙ ap (option_map suc) (height_climb nodes prev is.parent is.tree is.known) in
-    let height_tip : height_of new (best tree) ≡ Some (length (climb tree (best tree))) = height_other (block_entry block) tree (best tree) apart_is ∙ height_climb nodes (best tree) known.0 is.tree known.1 in
+    let height_one : height_of new (block_hash header) ≡ Some (suc (length (climb tree prev))) = height_new (block_entry block) tree ∙ ap (option_map suc) (height_climb block_indexes prev is.parent is.tree is.known) in
+    let height_tip : height_of new (best tree) ≡ Some (length (climb tree (best tree))) = height_other (block_entry block) tree (best tree) apart_is ∙ height_climb block_indexes (best tree) known.0 is.tree known.1 in
     let test : nat_lt (length (climb tree (best tree))) (suc (length (climb tree prev))) ≡ true =
     sym (ap (λ (o : Option ℕ). nat_lt (unwrap_or o 0) (suc (length (climb tree prev)))) height_tip) ∙ sym (ap (λ (o : Option ℕ). nat_lt (unwrap_or (height_of new (best tree)) 0) (unwrap_or o 0)) height_one) ∙ is.higher in
     let lower = ltb-true (length (climb tree (best tree))) (suc (length (climb tree prev))) test in
@@ -171,16 +171,16 @@ beside nodes block path fork is fork_is =
     }
 
 -- what it changes
-change_is : (nodes : List Node) (block : Block) (path : List ℕ) (fork : ℕ) → IsAbove nodes block path → IsFork (tree_of nodes) block.header.prev fork
-    → best (block_entry block ∷ tree_of nodes) ≡ block_hash block.header → change_of (tree_of nodes) (block_entry block ∷ tree_of nodes) ≡ change_at (tree_of nodes) block.header fork
-change_is nodes block path fork is fork_is tip =
-    let tree = tree_of nodes in
+change_is : (block_indexes : List BlockIndex) (block : Block) (path : List ℕ) (fork : ℕ) → IsAbove block_indexes block path → IsFork (tree_of block_indexes) block.header.prev fork
+    → best (block_entry block ∷ tree_of block_indexes) ≡ block_hash block.header → change_of (tree_of block_indexes) (block_entry block ∷ tree_of block_indexes) ≡ change_at (tree_of block_indexes) block.header fork
+change_is block_indexes block path fork is fork_is tip =
+    let tree = tree_of block_indexes in
     let new = block_entry block ∷ tree in
     let header = block.header in
     let prev = header.prev in
     let ones = branch_up tree prev in
     let others = active tree in
-    let b = beside nodes block path fork is fork_is in
+    let b = beside block_indexes block path fork is fork_is in
     let both = fork_back ones others fork header b.first b.some b.low b.short b.above in
     let active_is : active new ≡ ones ++ header ∷ [] = b.new_is tip in
     let branch_is : branch new (best new) ≡ header ∷ reverse ones = sym (reverse-reverse (branch new (best new))) ∙ ap reverse active_is ∙ reverse_push ones header in
@@ -192,18 +192,18 @@ change_is nodes block path fork is fork_is tip =
     changes_same off on
 
 -- both chains begin alike, and part where the branch leaves
-over_is : (nodes : List Node) (block : Block) (path : List ℕ) (fork : ℕ) → IsAbove nodes block path → IsFork (tree_of nodes) block.header.prev fork
-    → best (block_entry block ∷ tree_of nodes) ≡ block_hash block.header
-    → LeadsOver (active_hashes (tree_of nodes)) (change_at (tree_of nodes) block.header fork) (active_hashes (block_entry block ∷ tree_of nodes))
-over_is nodes block path fork is fork_is tip =
-    let tree = tree_of nodes in
+over_is : (block_indexes : List BlockIndex) (block : Block) (path : List ℕ) (fork : ℕ) → IsAbove block_indexes block path → IsFork (tree_of block_indexes) block.header.prev fork
+    → best (block_entry block ∷ tree_of block_indexes) ≡ block_hash block.header
+    → LeadsOver (active_hashes (tree_of block_indexes)) (change_at (tree_of block_indexes) block.header fork) (active_hashes (block_entry block ∷ tree_of block_indexes))
+over_is block_indexes block path fork is fork_is tip =
+    let tree = tree_of block_indexes in
     let header = block.header in
     let below = climb tree header.prev in
     let old = climb tree (best tree) in
     let name : Step → Header = λ s. s.entry.header in
     let ones = branch_up tree header.prev in
     let others = active tree in
-    let b = beside nodes block path fork is fork_is in
+    let b = beside block_indexes block path fork is fork_is in
     let come = on_hashes tree header.prev header ones fork b.ones_is in
     let low = take (suc fork) others in
     let high = drop (suc fork) others in
@@ -234,15 +234,15 @@ pub record IsLed (old : Tree) (block : Block) (change : Answer) (path : List ℕ
 abbrev kept_ok : Tree → Answer → Result Answer Fault × Tree
 kept_ok tree change = (Ok change, tree)
 
-pub led : (nodes : List Node) (block : Block) (path now : List ℕ) (after : Unspent) (change : Answer) → IsAbove nodes block path → unspent_after (block_entry block ∷ tree_of nodes) (block_hash block.header) ≡ Ok after
-    → Moved (tree_of nodes) block.header path (length nodes) now change → IsLed (tree_of nodes) block change now
-led nodes block path now after change is ok moved =
-    let tree = tree_of nodes in
+pub led : (block_indexes : List BlockIndex) (block : Block) (path now : List ℕ) (after : Unspent) (change : Answer) → IsAbove block_indexes block path → unspent_after (block_entry block ∷ tree_of block_indexes) (block_hash block.header) ≡ Ok after
+    → Moved (tree_of block_indexes) block.header path (length block_indexes) now change → IsLed (tree_of block_indexes) block change now
+led block_indexes block path now after change is ok moved =
+    let tree = tree_of block_indexes in
     let new = block_entry block ∷ tree in
     let tip : best new ≡ block_hash block.header = best_new (block_entry block) tree after ok is.higher in
     record {
-      places = moved.now_is ∙ path_is nodes block path moved.fork is moved.fork_is tip;
+      places = moved.now_is ∙ path_is block_indexes block path moved.fork is moved.fork_is tip;
       tip = tip;
-      answer = sym (joined_ok tree block after is.higher ok ∙ ap (kept_ok new) (change_is nodes block path moved.fork is moved.fork_is tip ∙ sym moved.change_is));
-      over = subst (λ (c : Answer). LeadsOver (active_hashes tree) c (active_hashes new)) (sym moved.change_is) (over_is nodes block path moved.fork is moved.fork_is tip);
+      answer = sym (joined_ok tree block after is.higher ok ∙ ap (kept_ok new) (change_is block_indexes block path moved.fork is moved.fork_is tip ∙ sym moved.change_is));
+      over = subst (λ (c : Answer). LeadsOver (active_hashes tree) c (active_hashes new)) (sym moved.change_is) (over_is block_indexes block path moved.fork is moved.fork_is tip);
     }

@@ -9,7 +9,7 @@ use Rattle.cb_block.specs.declared.header.Header.{Header}
 use Rattle.cb_chain.specs.Entries.{block_hash, same}
 use Rattle.cb_chain.specs.Following.{above_branch, stands_at}
 use Rattle.cb_chain.specs.Laws.{PartAtOnce}
-use Rattle.cb_chain.proofs.Nodes.{get_last, reverse_cons, same-refl, same-symm}
+use Rattle.cb_chain.proofs.BlockIndexes.{get_last, reverse_cons, same-refl, same-symm}
 
 -- the greatest number below this one that passes
 abbrev pub top : ℕ → (ℕ → Bool) → Option ℕ

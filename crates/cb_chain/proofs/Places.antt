@@ -6,10 +6,10 @@ use Rattle.std.proofs.lemmas.List.{length-reverse}
 use Rattle.std.proofs.lemmas.Option.{same_Some}
 use Rattle.std.proofs.Math.ListN.{set}
 use Rattle.cb_base.specs.declared.hash.Hash256.{Hash256}
-use Rattle.cb_chain.specs.Marking.{Node}
+use Rattle.cb_chain.specs.Marking.{BlockIndex}
 use Rattle.cb_chain.specs.Entries.{Tree, block_hash, genesis_hash, same}
 use Rattle.cb_chain.specs.Keeping.{place_of}
-use Rattle.cb_chain.proofs.Nodes.{chosen, reverse_cons}
+use Rattle.cb_chain.proofs.BlockIndexes.{chosen, reverse_cons}
 
 -- ---- numbers
 
@@ -52,11 +52,11 @@ same_each (x ∷ xs) (y ∷ ys) each =
     let one : x ≡ y = same_Some x y (each 0) in
     ap (λ (z : _). z ∷ xs) one ∙ ap (λ (zs : List _). y ∷ zs) (same_each xs ys (λ p. each (suc p)))
 
-pub node_snoc : (first node : Node) (older : List Node) (p : ℕ)
-    → slice_get (first ∷ reverse (node ∷ older)) p ≡ cond (nat_eq p (suc (length older))) (Some node) (slice_get (first ∷ reverse older) p)
-node_snoc first node older p =
-    ap (λ (ns : List Node). slice_get (first ∷ ns) p) (reverse_cons older node) ∙ get_snoc (first ∷ reverse older) node p
-    ∙ ap (λ (n : ℕ). cond (nat_eq p (suc n)) (Some node) (slice_get (first ∷ reverse older) p)) (length-reverse older)
+pub index_snoc : (first block_index : BlockIndex) (older : List BlockIndex) (p : ℕ)
+    → slice_get (first ∷ reverse (block_index ∷ older)) p ≡ cond (nat_eq p (suc (length older))) (Some block_index) (slice_get (first ∷ reverse older) p)
+index_snoc first block_index older p =
+    ap (λ (ns : List BlockIndex). slice_get (first ∷ ns) p) (reverse_cons older block_index) ∙ get_snoc (first ∷ reverse older) block_index p
+    ∙ ap (λ (n : ℕ). cond (nat_eq p (suc n)) (Some block_index) (slice_get (first ∷ reverse older) p)) (length-reverse older)
 
 pub place_low : (tree : Tree) (hash : Hash256) (p : ℕ) → place_of tree hash ≡ Some p → p < suc (length tree)
 place_low [] hash p e =

@@ -17,9 +17,9 @@ use Rattle.cb_chain.specs.Best.{Stop, faulty, missing, best, is_higher, leads_th
 use Rattle.cb_chain.specs.Calls.{AcceptsBlock, AcceptsHeader, bad_entry, block_entry, block_fault, header_entry, header_fault, is_full_under, joined, marked_above, settled}
 use Rattle.cb_chain.specs.History.{BlockCall, Call, HeaderCall, IsHistoric, IsHistory, IsStep}
 use Rattle.cb_chain.specs.Laws.{CannotConnect}
-use Rattle.cb_chain.proofs.SideNodes.{bare_err, block_free, known_is_kept, none_first, not_false}
+use Rattle.cb_chain.proofs.SideBranchIndexes.{bare_err, block_free, known_is_kept, none_first, not_false}
 use Rattle.cb_chain.proofs.Marks.{leads_none, mark_header, marked_is, marks, with_mark, marks_keep_kept, marks_keep_known, marks_keep_unspent}
-use Rattle.cb_chain.proofs.Nodes.{same-refl, same-true}
+use Rattle.cb_chain.proofs.BlockIndexes.{same-refl, same-true}
 use Rattle.cb_chain.proofs.Roots.{AreRooted}
 
 -- ---- how an entry stands on those behind it

@@ -15,7 +15,7 @@ use Rattle.cb_chain.specs.Entries.{Entry, Tree, block_hash, same, is_kept, is_ma
 use Rattle.cb_chain.specs.History.{BlockCall, Call, HeaderCall, IsHistory, IsStep}
 use Rattle.cb_chain.specs.Laws.{BrokeRule}
 use Rattle.cb_chain.proofs.Marks.{marks_keep_kept}
-use Rattle.cb_chain.proofs.Nodes.{same-true}
+use Rattle.cb_chain.proofs.BlockIndexes.{same-true}
 use Rattle.cb_chain.proofs.Reached.{first_unmarked, kept_behind, kept_own, marked_behind, marked_own, marked_then}
 
 abbrev AreRefused : List Call → Tree → Type 0

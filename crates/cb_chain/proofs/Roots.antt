@@ -3,10 +3,10 @@ use Rattle.std.proofs.Common.{◌≡◌, ℕ, suc, true, false, List, [], ◌∷
 use Rattle.std.specs.Prelude.{⊤}
 use Rattle.std.proofs.lemmas.Bool.{cases_Bool, false≢true}
 use Rattle.cb_base.specs.declared.hash.Hash256.{Hash256}
-use Rattle.cb_chain.specs.Marking.{Node}
+use Rattle.cb_chain.specs.Marking.{BlockIndex}
 use Rattle.cb_chain.specs.Entries.{Entry, Tree, block_hash, genesis_hash, same, is_known}
-use Rattle.cb_chain.specs.Keeping.{AreNodes, entry_from, place_of}
-use Rattle.cb_chain.proofs.Nodes.{chosen}
+use Rattle.cb_chain.specs.Keeping.{AreIndexes, entry_from, place_of}
+use Rattle.cb_chain.proofs.BlockIndexes.{chosen}
 
 -- the parents of all are known among those behind them
 abbrev pub AreRooted : Tree → Type 0
@@ -37,6 +37,6 @@ known_placed (entry ∷ older) hash p e =
       | inr w ↦ rw w.0 (known_placed older hash p w.1)
     ]
 
-rooted_above : (above : List Node) → AreNodes above → AreRooted (map entry_from above)
+rooted_above : (above : List BlockIndex) → AreIndexes above → AreRooted (map entry_from above)
 rooted_above [] are = tt
-rooted_above (node ∷ older) are = (known_placed (map entry_from older) node.header.prev node.parent are.0.parent, rooted_above older are.1)
+rooted_above (block_index ∷ older) are = (known_placed (map entry_from older) block_index.header.prev block_index.parent are.0.parent, rooted_above older are.1)

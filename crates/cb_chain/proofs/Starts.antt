@@ -5,16 +5,16 @@ use Rattle.std.proofs.lemmas.Option.{same_Some}
 use Rattle.cb_base.specs.declared.hash.Hash256.{Hash256}
 use Rattle.cb_ledger.specs.declared.undo.CoinChange.{CoinChange}
 use Rattle.cb_ledger.specs.Unspent.{Unspent}
-use Rattle.cb_chain.specs.Marking.{Node}
-use Rattle.cb_chain.specs.declared.side_chain.Side.{Side}
+use Rattle.cb_chain.specs.Marking.{BlockIndex}
+use Rattle.cb_chain.specs.declared.side_branch.SideBranch.{SideBranch}
 use Rattle.cb_chain.specs.Best.{best}
 use Rattle.cb_chain.specs.Entries.{Tree}
 use Rattle.cb_chain.specs.Keeping.{IsTree, active_places, place_of, tree_of}
-use Rattle.cb_chain.specs.Sides.{AreUndos, IsChain, IsSide, KeepRecords, WasConnected}
+use Rattle.cb_chain.specs.SideBranches.{AreUndos, IsChain, IsSideBranch, KeepRecords, WasConnected}
 use Rattle.cb_chain.proofs.Ledgers.{nothing_over}
-use Rattle.cb_chain.proofs.Nodes.{length_tree}
+use Rattle.cb_chain.proofs.BlockIndexes.{length_tree}
 use Rattle.cb_chain.proofs.Tips.{tip_last}
-use Rattle.cb_chain.proofs.Tries.{side_low}
+use Rattle.cb_chain.proofs.Tries.{side_branch_low}
 
 -- ---- the tip's place
 
@@ -25,24 +25,24 @@ tip_at tree path i p places last at =
 
 -- ---- where it starts
 
-at_tip : (tree : Tree) (path : List ℕ) (undos : List (Option (List CoinChange))) (unspent : Unspent) (old : Option Side) (side : Side) (tip : ℕ) → IsChain tree path undos unspent old → place_of tree (best tree) ≡ Some tip
-    → side ≡ record { end = tip; overlay = [] } → IsSide tree undos unspent side
-at_tip tree path undos unspent old side tip is there side_is =
+at_tip : (tree : Tree) (path : List ℕ) (undos : List (Option (List CoinChange))) (unspent : Unspent) (old : Option SideBranch) (side_branch : SideBranch) (tip : ℕ) → IsChain tree path undos unspent old → place_of tree (best tree) ≡ Some tip
+    → side_branch ≡ record { end = tip; overlay = [] } → IsSideBranch tree undos unspent side_branch
+at_tip tree path undos unspent old side_branch tip is there side_branch_is =
     record {
       hash = best tree;
       connected = is.tip;
-      end = same_Some is.tip.place tip (sym is.tip.at ∙ there) ∙ sym (ap (λ (s : Side). s.end) side_is);
-      after = is.ledger ∙ ap Ok (sym (nothing_over unspent side.overlay (ap (λ (s : Side). s.overlay) side_is)));
+      end = same_Some is.tip.place tip (sym is.tip.at ∙ there) ∙ sym (ap (λ (s : SideBranch). s.end) side_branch_is);
+      after = is.ledger ∙ ap Ok (sym (nothing_over unspent side_branch.overlay (ap (λ (s : SideBranch). s.overlay) side_branch_is)));
     }
 
-pub starts : (tree : Tree) (path : List ℕ) (undos : List (Option (List CoinChange))) (unspent : Unspent) (old : Option Side) (side : Side) (tip : ℕ) → IsChain tree path undos unspent old → place_of tree (best tree) ≡ Some tip
-    → (side ≡ record { end = tip; overlay = [] }) ⊎ (old ≡ Some side) → IsSide tree undos unspent side
-starts tree path undos unspent old side tip is there (inl fresh) = at_tip tree path undos unspent old side tip is there fresh
-starts tree path undos unspent old side tip is there (inr last) = subst (λ (o : Option Side). IfSome o (IsSide tree undos unspent)) last is.side_is
+pub starts : (tree : Tree) (path : List ℕ) (undos : List (Option (List CoinChange))) (unspent : Unspent) (old : Option SideBranch) (side_branch : SideBranch) (tip : ℕ) → IsChain tree path undos unspent old → place_of tree (best tree) ≡ Some tip
+    → (side_branch ≡ record { end = tip; overlay = [] }) ⊎ (old ≡ Some side_branch) → IsSideBranch tree undos unspent side_branch
+starts tree path undos unspent old side_branch tip is there (inl fresh) = at_tip tree path undos unspent old side_branch tip is there fresh
+starts tree path undos unspent old side_branch tip is there (inr last) = subst (λ (o : Option SideBranch). IfSome o (IsSideBranch tree undos unspent)) last is.side_branch_is
 
-pub sides_low : (nodes : List Node) (undos : List (Option (List CoinChange))) (unspent : Unspent) (side : Option Side) → IsTree nodes → IfSome side (IsSide (tree_of nodes) undos unspent) → IfSome side (λ (s : Side). s.end < length nodes)
-sides_low nodes undos unspent None tree is = tt
-sides_low nodes undos unspent (Some side) tree is = let low = side_low (tree_of nodes) undos unspent side is in omega (arith, low, length_tree nodes tree)
+pub side_branches_low : (block_indexes : List BlockIndex) (undos : List (Option (List CoinChange))) (unspent : Unspent) (side_branch : Option SideBranch) → IsTree block_indexes → IfSome side_branch (IsSideBranch (tree_of block_indexes) undos unspent) → IfSome side_branch (λ (s : SideBranch). s.end < length block_indexes)
+side_branches_low block_indexes undos unspent None tree is = tt
+side_branches_low block_indexes undos unspent (Some side_branch) tree is = let low = side_branch_low (tree_of block_indexes) undos unspent side_branch is in omega (arith, low, length_tree block_indexes tree)
 
 -- ---- once it was tried
 
@@ -50,44 +50,44 @@ connected_keeps : (tree : Tree) (undos tried : List (Option (List CoinChange))) 
 connected_keeps tree undos tried hash keep is =
     record { place = is.place; at = is.at; kept = is.kept; has = elim is.has [ inl first ↦ inl first | inr has ↦ inr (keep is.place has) ] }
 
-side_keeps : (tree : Tree) (undos tried : List (Option (List CoinChange))) (unspent : Unspent) (side : Side) → KeepRecords undos tried → IsSide tree undos unspent side → IsSide tree tried unspent side
+side_branch_keeps : (tree : Tree) (undos tried : List (Option (List CoinChange))) (unspent : Unspent) (side_branch : SideBranch) → KeepRecords undos tried → IsSideBranch tree undos unspent side_branch → IsSideBranch tree tried unspent side_branch
 unfolding connected_keeps
-side_keeps tree undos tried unspent side keep is = record { hash = is.hash; connected = connected_keeps tree undos tried is.hash keep is.connected; end = is.end; after = is.after }
+side_branch_keeps tree undos tried unspent side_branch keep is = record { hash = is.hash; connected = connected_keeps tree undos tried is.hash keep is.connected; end = is.end; after = is.after }
 
 -- the branch that was left aside
-pub sides_keep : (tree : Tree) (undos tried : List (Option (List CoinChange))) (unspent : Unspent) (old last : Option Side) → KeepRecords undos tried → IfSome old (IsSide tree undos unspent) → (last ≡ None) ⊎ (last ≡ old)
-    → IfSome last (IsSide tree tried unspent)
-sides_keep tree undos tried unspent old None keep is same = tt
-sides_keep tree undos tried unspent old (Some side) keep is (inl none) = absurd (let clash : Some side ≡ None = none in cc)
-sides_keep tree undos tried unspent old (Some side) keep is (inr same) = side_keeps tree undos tried unspent side keep (subst (λ (o : Option Side). IfSome o (IsSide tree undos unspent)) (sym same) is)
+pub side_branches_keep : (tree : Tree) (undos tried : List (Option (List CoinChange))) (unspent : Unspent) (old last : Option SideBranch) → KeepRecords undos tried → IfSome old (IsSideBranch tree undos unspent) → (last ≡ None) ⊎ (last ≡ old)
+    → IfSome last (IsSideBranch tree tried unspent)
+side_branches_keep tree undos tried unspent old None keep is same = tt
+side_branches_keep tree undos tried unspent old (Some side_branch) keep is (inl none) = absurd (let clash : Some side_branch ≡ None = none in cc)
+side_branches_keep tree undos tried unspent old (Some side_branch) keep is (inr same) = side_branch_keeps tree undos tried unspent side_branch keep (subst (λ (o : Option SideBranch). IfSome o (IsSideBranch tree undos unspent)) (sym same) is)
 
 -- the one that is kept
-pub sides_kept : (tree : Tree) (tried : List (Option (List CoinChange))) (unspent : Unspent) (last now : Option Side) (side : Side) → IfSome last (IsSide tree tried unspent) → IsSide tree tried unspent side → (now ≡ Some side) ⊎ (now ≡ last)
-    → IfSome now (IsSide tree tried unspent)
-sides_kept tree tried unspent last now side before is (inl this) = subst (λ (o : Option Side). IfSome o (IsSide tree tried unspent)) (sym this) is
-sides_kept tree tried unspent last now side before is (inr stays) = subst (λ (o : Option Side). IfSome o (IsSide tree tried unspent)) (sym stays) before
+pub side_branches_kept : (tree : Tree) (tried : List (Option (List CoinChange))) (unspent : Unspent) (last now : Option SideBranch) (side_branch : SideBranch) → IfSome last (IsSideBranch tree tried unspent) → IsSideBranch tree tried unspent side_branch → (now ≡ Some side_branch) ⊎ (now ≡ last)
+    → IfSome now (IsSideBranch tree tried unspent)
+side_branches_kept tree tried unspent last now side_branch before is (inl this) = subst (λ (o : Option SideBranch). IfSome o (IsSideBranch tree tried unspent)) (sym this) is
+side_branches_kept tree tried unspent last now side_branch before is (inr stays) = subst (λ (o : Option SideBranch). IfSome o (IsSideBranch tree tried unspent)) (sym stays) before
 
 -- the chain is the same, with more records
-pub chain_tried : (tree : Tree) (path : List ℕ) (undos tried : List (Option (List CoinChange))) (unspent : Unspent) (old last : Option Side) → IsChain tree path undos unspent old → AreUndos tree tried → KeepRecords undos tried
-    → IfSome last (IsSide tree tried unspent) → IsChain tree path tried unspent last
-chain_tried tree path undos tried unspent old last is are keep side =
-    record { places = is.places; ledger = is.ledger; undos_are = are; tip = connected_keeps tree undos tried (best tree) keep is.tip; side_is = side }
+pub chain_tried : (tree : Tree) (path : List ℕ) (undos tried : List (Option (List CoinChange))) (unspent : Unspent) (old last : Option SideBranch) → IsChain tree path undos unspent old → AreUndos tree tried → KeepRecords undos tried
+    → IfSome last (IsSideBranch tree tried unspent) → IsChain tree path tried unspent last
+chain_tried tree path undos tried unspent old last is are keep side_branch =
+    record { places = is.places; ledger = is.ledger; undos_are = are; tip = connected_keeps tree undos tried (best tree) keep is.tip; side_branch_is = side_branch }
 
--- the same of what the code has in hand: the nodes are as they were, and a branch was tried
-pub tried_chain : (nodes now_nodes : List Node) (path : List ℕ) (undos tried : List (Option (List CoinChange))) (unspent : Unspent) (old last : Option Side) → IsChain (tree_of nodes) path undos unspent old → now_nodes ≡ nodes
-    → AreUndos (tree_of now_nodes) tried → KeepRecords undos tried → (last ≡ None) ⊎ (last ≡ old) → IsChain (tree_of nodes) path tried unspent last
-tried_chain nodes now_nodes path undos tried unspent old last is same are keep aside =
-    let undos_are : AreUndos (tree_of nodes) tried = subst (λ (ns : List Node). AreUndos (tree_of ns) tried) same are in
-    chain_tried (tree_of nodes) path undos tried unspent old last is undos_are keep (sides_keep (tree_of nodes) undos tried unspent old last keep is.side_is aside)
+-- the same of what the code has in hand: the block indexes are as they were, and a branch was tried
+pub tried_chain : (block_indexes now_indexes : List BlockIndex) (path : List ℕ) (undos tried : List (Option (List CoinChange))) (unspent : Unspent) (old last : Option SideBranch) → IsChain (tree_of block_indexes) path undos unspent old → now_indexes ≡ block_indexes
+    → AreUndos (tree_of now_indexes) tried → KeepRecords undos tried → (last ≡ None) ⊎ (last ≡ old) → IsChain (tree_of block_indexes) path tried unspent last
+tried_chain block_indexes now_indexes path undos tried unspent old last is same are keep aside =
+    let undos_are : AreUndos (tree_of block_indexes) tried = subst (λ (ns : List BlockIndex). AreUndos (tree_of ns) tried) same are in
+    chain_tried (tree_of block_indexes) path undos tried unspent old last is undos_are keep (side_branches_keep (tree_of block_indexes) undos tried unspent old last keep is.side_branch_is aside)
 
 -- and the one that was tried is kept
-pub kept_chain : (nodes now_nodes : List Node) (path : List ℕ) (tried : List (Option (List CoinChange))) (unspent : Unspent) (last now : Option Side) (side : Side) → IsChain (tree_of nodes) path tried unspent last → now_nodes ≡ nodes
-    → IsSide (tree_of now_nodes) tried unspent side → (now ≡ Some side) ⊎ (now ≡ last) → IsChain (tree_of nodes) path tried unspent now
-kept_chain nodes now_nodes path tried unspent last now side is same side_is kept =
-    let there : IsSide (tree_of nodes) tried unspent side = subst (λ (ns : List Node). IsSide (tree_of ns) tried unspent side) same side_is in
-    record { places = is.places; ledger = is.ledger; undos_are = is.undos_are; tip = is.tip; side_is = sides_kept (tree_of nodes) tried unspent last now side is.side_is there kept }
+pub kept_chain : (block_indexes now_indexes : List BlockIndex) (path : List ℕ) (tried : List (Option (List CoinChange))) (unspent : Unspent) (last now : Option SideBranch) (side_branch : SideBranch) → IsChain (tree_of block_indexes) path tried unspent last → now_indexes ≡ block_indexes
+    → IsSideBranch (tree_of now_indexes) tried unspent side_branch → (now ≡ Some side_branch) ⊎ (now ≡ last) → IsChain (tree_of block_indexes) path tried unspent now
+kept_chain block_indexes now_indexes path tried unspent last now side_branch is same side_branch_is kept =
+    let there : IsSideBranch (tree_of block_indexes) tried unspent side_branch = subst (λ (ns : List BlockIndex). IsSideBranch (tree_of ns) tried unspent side_branch) same side_branch_is in
+    record { places = is.places; ledger = is.ledger; undos_are = is.undos_are; tip = is.tip; side_branch_is = side_branches_kept (tree_of block_indexes) tried unspent last now side_branch is.side_branch_is there kept }
 
 -- a chain by equal parts
-pub chain_as : (nodes before : List Node) (path now_path : List ℕ) (undos now_undos : List (Option (List CoinChange))) (unspent now_unspent : Unspent) (side now_side : Option Side) → nodes ≡ before → now_path ≡ path → now_undos ≡ undos
-    → now_unspent ≡ unspent → now_side ≡ side → IsChain (tree_of before) path undos unspent side → IsChain (tree_of nodes) now_path now_undos now_unspent now_side
-chain_as nodes before path now_path undos now_undos unspent now_unspent side now_side same path_is undos_are unspent_is side_is is = rw (same, path_is, undos_are, unspent_is, side_is) is
+pub chain_as : (block_indexes before : List BlockIndex) (path now_path : List ℕ) (undos now_undos : List (Option (List CoinChange))) (unspent now_unspent : Unspent) (side_branch now_side_branch : Option SideBranch) → block_indexes ≡ before → now_path ≡ path → now_undos ≡ undos
+    → now_unspent ≡ unspent → now_side_branch ≡ side_branch → IsChain (tree_of before) path undos unspent side_branch → IsChain (tree_of block_indexes) now_path now_undos now_unspent now_side_branch
+chain_as block_indexes before path now_path undos now_undos unspent now_unspent side_branch now_side_branch same path_is undos_are unspent_is side_branch_is is = rw (same, path_is, undos_are, unspent_is, side_branch_is) is

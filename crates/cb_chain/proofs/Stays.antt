@@ -24,7 +24,7 @@ use Rattle.cb_chain.proofs.Roots.{AreRooted, known_behind, known_first}
 use Rattle.cb_chain.proofs.Marks.{marks_keep_best, marks_keep_branch, marks_keep_unspent}
 use Rattle.cb_chain.proofs.NewTip.{best_new, best_other, branch_new, height_new, height_other, joined_err, joined_ok}
 use Rattle.cb_chain.proofs.Reached.{ArePlanted, kept_known, rooted_planted}
-use Rattle.cb_chain.proofs.SideNodes.{active_aside, bare_best, block_free, header_free, kept_other, low_best}
+use Rattle.cb_chain.proofs.SideBranchIndexes.{active_aside, bare_best, block_free, header_free, kept_other, low_best}
 
 -- ---- the active chain stays
 

@@ -12,9 +12,9 @@ use Rattle.cb_ledger.specs.Unspent.{Unspent}
 use Rattle.cb_chain.specs.Entries.{Entry, Tree, block_hash, genesis_hash, height_of, same}
 use Rattle.cb_chain.specs.Best.{best, is_higher, unspent_after}
 use Rattle.cb_chain.specs.Keeping.{IsTree, Step, active_places, climb, place_of, tree_of, way}
-use Rattle.cb_chain.specs.Sides.{IsChain, record_at}
-use Rattle.cb_chain.specs.Marking.{Node}
-use Rattle.cb_chain.proofs.Nodes.{same-refl, chosen, found, length_tree, reverse_cons}
+use Rattle.cb_chain.specs.SideBranches.{IsChain, record_at}
+use Rattle.cb_chain.specs.Marking.{BlockIndex}
+use Rattle.cb_chain.proofs.BlockIndexes.{same-refl, chosen, found, length_tree, reverse_cons}
 
 -- ---- a new chain
 
@@ -32,7 +32,7 @@ alone =
       ledger = rw own refl;
       undos_are = record { long = refl; each = λ hash place changes at has. absurd (no_record place changes has) };
       tip = record { place = 0; at = rw own refl; kept = rw own refl; has = inl refl };
-      side_is = tt;
+      side_branch_is = tt;
     }
 
 pub chain_first : (tree : Tree) (path : List ℕ) (undos : List (Option (List CoinChange))) (unspent : Unspent) → tree ≡ [] → path ≡ 0 ∷ [] → undos ≡ None ∷ [] → unspent ≡ finite.empty → IsChain tree path undos unspent None
@@ -93,7 +93,7 @@ tip_last tree path is =
       last = λ d. ap (λ (xs : List ℕ). get_or xs (length path - 1) d) ends ∙ get_or_push down.0 known.0 d (length path - 1) (omega (arith, long));
     }
 
--- ---- the places of a way are places among the nodes
+-- ---- the places of a way are places among the block indexes
 
 abbrev Low : ℕ → Step → Type 0
 Low n step = step.place < n
@@ -116,35 +116,35 @@ low_back n (step ∷ steps) all =
     rw (reverse_cons steps step) (All-append (Low n) (reverse steps) (step ∷ []) (low_back n steps others) (All-cons (Low n) step [] here (All-nil (Low n))))
 
 -- all active places are
-pub active_low : (nodes : List Node) → IsTree nodes → All (λ p. p < length nodes) (active_places (tree_of nodes))
-active_low nodes is =
-    let n = length nodes in
-    let tree = tree_of nodes in
-    let long : length nodes ≡ suc (length tree) = length_tree nodes is in
+pub active_low : (block_indexes : List BlockIndex) → IsTree block_indexes → All (λ p. p < length block_indexes) (active_places (tree_of block_indexes))
+active_low block_indexes is =
+    let n = length block_indexes in
+    let tree = tree_of block_indexes in
+    let long : length block_indexes ≡ suc (length tree) = length_tree block_indexes is in
     let steps = low_back n (way tree (best tree)) (way_low tree (best tree) n (omega (arith, long))) in
     All-cons (λ p. p < n) 0 (map (λ step. step.place) (climb tree (best tree))) (omega (arith, long)) (All-map (λ p. p < n) (λ (step : Step). step.place) (climb tree (best tree)) steps)
 
-pub low_at : (nodes : List Node) (path : List ℕ) (i p : ℕ) → path ≡ active_places (tree_of nodes) → i < length path → p ≡ get_or path i p → IsTree nodes → p < length nodes
-low_at nodes path i p places lt at is =
-    let low : All (λ q. q < length nodes) path = subst (All (λ q. q < length nodes)) (sym places) (active_low nodes is) in
-    let there : get_or path i p < length nodes = low i p lt in
+pub low_at : (block_indexes : List BlockIndex) (path : List ℕ) (i p : ℕ) → path ≡ active_places (tree_of block_indexes) → i < length path → p ≡ get_or path i p → IsTree block_indexes → p < length block_indexes
+low_at block_indexes path i p places lt at is =
+    let low : All (λ q. q < length block_indexes) path = subst (All (λ q. q < length block_indexes)) (sym places) (active_low block_indexes is) in
+    let there : get_or path i p < length block_indexes = low i p lt in
     omega (arith, there, at)
 
--- ---- the tip's node
+-- ---- the tip's block index
 
-pub record IsTipNode (tree : Tree) (node : Node) : Type 0 where
-  pub hash : node.hash ≡ best tree
-  pub height : height_of tree (best tree) ≡ Some node.height
+pub record IsTipIndex (tree : Tree) (block_index : BlockIndex) : Type 0 where
+  pub hash : block_index.hash ≡ best tree
+  pub height : height_of tree (best tree) ≡ Some block_index.height
 
-pub tip_node : (nodes : List Node) (path : List ℕ) (i p : ℕ) (node : Node) → path ≡ active_places (tree_of nodes) → i ≡ length path - 1 → p ≡ get_or path i p → slice_get nodes p ≡ Some node → IsTree nodes
-    → IsTipNode (tree_of nodes) node
-tip_node nodes path i p node places end at there is =
-    let tree = tree_of nodes in
+pub tip_index : (block_indexes : List BlockIndex) (path : List ℕ) (i p : ℕ) (block_index : BlockIndex) → path ≡ active_places (tree_of block_indexes) → i ≡ length path - 1 → p ≡ get_or path i p → slice_get block_indexes p ≡ Some block_index → IsTree block_indexes
+    → IsTipIndex (tree_of block_indexes) block_index
+tip_index block_indexes path i p block_index places end at there is =
+    let tree = tree_of block_indexes in
     let tip = tip_last tree path places in
     let last : p ≡ tip.place = at ∙ ap (λ (j : ℕ). get_or path j p) end ∙ tip.last p in
-    let one = found nodes (best tree) tip.place is tip.known in
-    let same_node : one.node ≡ node = ap (λ (o : Option Node). unwrap_or o node) (sym one.at ∙ ap (slice_get nodes) (sym last) ∙ there) in
+    let one = found block_indexes (best tree) tip.place is tip.known in
+    let same_index : one.block_index ≡ block_index = ap (λ (o : Option BlockIndex). unwrap_or o block_index) (sym one.at ∙ ap (slice_get block_indexes) (sym last) ∙ there) in
     record {
-      hash = ap (λ (n : Node). n.hash) (sym same_node) ∙ one.name;
-      height = one.height ∙ ap (λ (n : Node). Some n.height) same_node;
+      hash = ap (λ (n : BlockIndex). n.hash) (sym same_index) ∙ one.name;
+      height = one.height ∙ ap (λ (n : BlockIndex). Some n.height) same_index;
     }

@@ -14,13 +14,13 @@ use Rattle.cb_chain.specs.Best.{best, leads_through, unspent_after}
 use Rattle.cb_chain.specs.Calls.{marked_above}
 use Rattle.cb_chain.specs.Entries.{Entry, Tree, block_hash, entry_of, genesis_hash, is_kept, same}
 use Rattle.cb_chain.specs.Keeping.{Step, active_places, entry_from, place_of, tree_of}
-use Rattle.cb_chain.specs.Sides.{AreUndos, HasRecord, IsChain, IsSide, IsUndo, WasConnected, prev_of, record_at}
-use Rattle.cb_chain.specs.Marking.{Node}
-use Rattle.cb_chain.specs.declared.side_chain.Side.{Side}
-use Rattle.cb_chain.proofs.SideNodes.{Grows, climb_aside, grows_tree}
+use Rattle.cb_chain.specs.SideBranches.{AreUndos, HasRecord, IsChain, IsSideBranch, IsUndo, WasConnected, prev_of, record_at}
+use Rattle.cb_chain.specs.Marking.{BlockIndex}
+use Rattle.cb_chain.specs.declared.side_branch.SideBranch.{SideBranch}
+use Rattle.cb_chain.proofs.SideBranchIndexes.{Grows, climb_aside, grows_tree}
 use Rattle.cb_chain.proofs.Places.{eq_true, get_set, place_low}
 use Rattle.cb_chain.proofs.Marks.{mark_header, marks_keep_active_places, marks_keep_best, marks_keep_kept, marks_keep_length, marks_keep_place, marks_keep_unspent, with_mark}
-use Rattle.cb_chain.proofs.Nodes.{chosen, same-true}
+use Rattle.cb_chain.proofs.BlockIndexes.{chosen, same-true}
 use Rattle.cb_chain.proofs.Tips.{tip_last}
 use Rattle.cb_chain.proofs.Parents.{kept_more, named_once, other, place_more, spent_more}
 
@@ -82,9 +82,9 @@ module _ (entry : Entry) (older : Tree) (once : is_kept older (block_hash entry.
         ];
       }
 
-  pub side_more : (undos : List (Option (List CoinChange))) (undo : Option (List CoinChange)) (unspent : Unspent) (side : Side) → IsSide older undos unspent side → IsSide (entry ∷ older) (undos ++ undo ∷ []) unspent side
+  pub side_branch_more : (undos : List (Option (List CoinChange))) (undo : Option (List CoinChange)) (unspent : Unspent) (side_branch : SideBranch) → IsSideBranch older undos unspent side_branch → IsSideBranch (entry ∷ older) (undos ++ undo ∷ []) unspent side_branch
   unfolding connected_more
-  side_more undos undo unspent side is =
+  side_branch_more undos undo unspent side_branch is =
       record {
         hash = is.hash;
         connected = connected_more undos undo is.hash is.connected;
@@ -93,10 +93,10 @@ module _ (entry : Entry) (older : Tree) (once : is_kept older (block_hash entry.
       }
 
   -- the branch that was tried last stays over another ledger, or the tip that was left is that branch
-  pub stays_side : (undos : List (Option (List CoinChange))) (undo : Option (List CoinChange)) (before after : Unspent) (side new : Side) → IsSide older undos before side → new.end ≡ side.end → changed after new.overlay ≡ changed before side.overlay
-      → IsSide (entry ∷ older) (undos ++ undo ∷ []) after new
+  pub stays_side_branch : (undos : List (Option (List CoinChange))) (undo : Option (List CoinChange)) (before after : Unspent) (side_branch new : SideBranch) → IsSideBranch older undos before side_branch → new.end ≡ side_branch.end → changed after new.overlay ≡ changed before side_branch.overlay
+      → IsSideBranch (entry ∷ older) (undos ++ undo ∷ []) after new
   unfolding connected_more
-  stays_side undos undo before after side new is end over =
+  stays_side_branch undos undo before after side_branch new is end over =
       record {
         hash = is.hash;
         connected = connected_more undos undo is.hash is.connected;
@@ -104,10 +104,10 @@ module _ (entry : Entry) (older : Tree) (once : is_kept older (block_hash entry.
         after = spent_more entry older once is.hash is.connected.kept ∙ is.after ∙ ap Ok (sym over);
       }
 
-  pub left_side : (path : List ℕ) (undos : List (Option (List CoinChange))) (undo : Option (List CoinChange)) (before after : Unspent) (new : Side) → path ≡ active_places older → unspent_after older (best older) ≡ Ok before
-      → WasConnected older undos (best older) → slice_get path (length path - 1) ≡ Some new.end → changed after new.overlay ≡ before → IsSide (entry ∷ older) (undos ++ undo ∷ []) after new
+  pub left_side_branch : (path : List ℕ) (undos : List (Option (List CoinChange))) (undo : Option (List CoinChange)) (before after : Unspent) (new : SideBranch) → path ≡ active_places older → unspent_after older (best older) ≡ Ok before
+      → WasConnected older undos (best older) → slice_get path (length path - 1) ≡ Some new.end → changed after new.overlay ≡ before → IsSideBranch (entry ∷ older) (undos ++ undo ∷ []) after new
   unfolding connected_more
-  left_side path undos undo before after new places spent tip end over =
+  left_side_branch path undos undo before after new places spent tip end over =
       let last = tip_last older path places in
       let here : last.place ≡ tip.place = same_Some last.place tip.place (sym last.known ∙ tip.at) in
       record {
@@ -117,19 +117,19 @@ module _ (entry : Entry) (older : Tree) (once : is_kept older (block_hash entry.
         after = spent_more entry older once (best older) tip.kept ∙ spent ∙ ap Ok (sym over);
       }
 
-sides_more : (entry : Entry) (older : Tree) (undos : List (Option (List CoinChange))) (undo : Option (List CoinChange)) (unspent : Unspent) (side : Option Side) → is_kept older (block_hash entry.header) ≡ false
-    → IfSome side (IsSide older undos unspent) → IfSome side (IsSide (entry ∷ older) (undos ++ undo ∷ []) unspent)
-sides_more entry older undos undo unspent None once is = tt
-sides_more entry older undos undo unspent (Some side) once is = side_more entry older once undos undo unspent side is
+side_branches_more : (entry : Entry) (older : Tree) (undos : List (Option (List CoinChange))) (undo : Option (List CoinChange)) (unspent : Unspent) (side_branch : Option SideBranch) → is_kept older (block_hash entry.header) ≡ false
+    → IfSome side_branch (IsSideBranch older undos unspent) → IfSome side_branch (IsSideBranch (entry ∷ older) (undos ++ undo ∷ []) unspent)
+side_branches_more entry older undos undo unspent None once is = tt
+side_branches_more entry older undos undo unspent (Some side_branch) once is = side_branch_more entry older once undos undo unspent side_branch is
 
 no_record : (entry : Entry) (older : Tree) (undos : List (Option (List CoinChange))) (undo : Option (List CoinChange)) → undo ≡ None
     → (changes : List CoinChange) → undo ≡ Some changes → IsUndo (entry ∷ older) (undos ++ undo ∷ []) (block_hash entry.header) changes
 no_record entry older undos undo none changes is = absurd (let clash : None ≡ Some changes = sym none ∙ is in cc)
 
 -- the tip stays, and the entry has no record
-pub chain_aside : (entry : Entry) (older : Tree) (path : List ℕ) (undos : List (Option (List CoinChange))) (unspent : Unspent) (side : Option Side) → is_kept older (block_hash entry.header) ≡ false
-    → best (entry ∷ older) ≡ best older → IsChain older path undos unspent side → IsChain (entry ∷ older) path (undos ++ None ∷ []) unspent side
-chain_aside entry older path undos unspent side once stays is =
+pub chain_aside : (entry : Entry) (older : Tree) (path : List ℕ) (undos : List (Option (List CoinChange))) (unspent : Unspent) (side_branch : Option SideBranch) → is_kept older (block_hash entry.header) ≡ false
+    → best (entry ∷ older) ≡ best older → IsChain older path undos unspent side_branch → IsChain (entry ∷ older) path (undos ++ None ∷ []) unspent side_branch
+chain_aside entry older path undos unspent side_branch once stays is =
     let tip = best older in
     let steps = sym (climb_aside entry older stays (other entry older once tip is.tip.kept)) in
     record {
@@ -137,20 +137,20 @@ chain_aside entry older path undos unspent side once stays is =
       ledger = ap (unspent_after (entry ∷ older)) stays ∙ spent_more entry older once tip is.tip.kept ∙ is.ledger;
       undos_are = undos_more entry older once undos None is.undos_are (no_record entry older undos None refl);
       tip = subst (WasConnected (entry ∷ older) (undos ++ None ∷ [])) (sym stays) (connected_more entry older once undos None tip is.tip);
-      side_is = sides_more entry older undos None unspent side once is.side_is;
+      side_branch_is = side_branches_more entry older undos None unspent side_branch once is.side_branch_is;
     }
 
--- a chain at rest with one node more, whose room was made before
-pub grows_chain : (nodes roomy more : List Node) (tree : Tree) (node : Node) (path : List ℕ) (undos roomy_undos more_undos : List (Option (List CoinChange))) (unspent : Unspent) (side : Option Side) → Grows nodes roomy tree node
-    → more ≡ roomy ++ node ∷ [] → roomy_undos ≡ undos → more_undos ≡ roomy_undos ++ None ∷ [] → best (entry_from node ∷ tree) ≡ best tree
-    → IsChain (tree_of nodes) path undos unspent side → IsChain (tree_of more) path more_undos unspent side
-grows_chain nodes roomy more tree node path undos roomy_undos more_undos unspent side g grown same_undos grown_undos stays chain =
-    let here : IsChain tree path undos unspent side = subst (λ (t : Tree). IsChain t path undos unspent side) g.view chain in
-    let once : is_kept tree (block_hash node.header) ≡ false = named_once node tree g.one in
-    let next : IsChain (entry_from node ∷ tree) path (undos ++ None ∷ []) unspent side = chain_aside (entry_from node) tree path undos unspent side once stays here in
+-- a chain at rest with one block index more, whose room was made before
+pub grows_chain : (block_indexes roomy more : List BlockIndex) (tree : Tree) (block_index : BlockIndex) (path : List ℕ) (undos roomy_undos more_undos : List (Option (List CoinChange))) (unspent : Unspent) (side_branch : Option SideBranch) → Grows block_indexes roomy tree block_index
+    → more ≡ roomy ++ block_index ∷ [] → roomy_undos ≡ undos → more_undos ≡ roomy_undos ++ None ∷ [] → best (entry_from block_index ∷ tree) ≡ best tree
+    → IsChain (tree_of block_indexes) path undos unspent side_branch → IsChain (tree_of more) path more_undos unspent side_branch
+grows_chain block_indexes roomy more tree block_index path undos roomy_undos more_undos unspent side_branch g grown same_undos grown_undos stays chain =
+    let here : IsChain tree path undos unspent side_branch = subst (λ (t : Tree). IsChain t path undos unspent side_branch) g.view chain in
+    let once : is_kept tree (block_hash block_index.header) ≡ false = named_once block_index tree g.one in
+    let next : IsChain (entry_from block_index ∷ tree) path (undos ++ None ∷ []) unspent side_branch = chain_aside (entry_from block_index) tree path undos unspent side_branch once stays here in
     let undos_are : undos ++ None ∷ [] ≡ more_undos = sym (grown_undos ∙ ap (λ (us : List (Option (List CoinChange))). us ++ None ∷ []) same_undos) in
-    subst (λ (t : Tree). IsChain t path more_undos unspent side) (sym (grows_tree nodes roomy more tree node g grown))
-    (subst (λ (us : List (Option (List CoinChange))). IsChain (entry_from node ∷ tree) path us unspent side) undos_are next)
+    subst (λ (t : Tree). IsChain t path more_undos unspent side_branch) (sym (grows_tree block_indexes roomy more tree block_index g grown))
+    (subst (λ (us : List (Option (List CoinChange))). IsChain (entry_from block_index ∷ tree) path us unspent side_branch) undos_are next)
 
 -- ---- marks
 
@@ -187,26 +187,26 @@ undos_marked first tree undos are =
           };
     }
 
-pub side_marked : (first : Hash256) (tree : Tree) (undos : List (Option (List CoinChange))) (unspent : Unspent) (side : Side) → IsSide tree undos unspent side → IsSide (marked_above first tree) undos unspent side
+pub side_branch_marked : (first : Hash256) (tree : Tree) (undos : List (Option (List CoinChange))) (unspent : Unspent) (side_branch : SideBranch) → IsSideBranch tree undos unspent side_branch → IsSideBranch (marked_above first tree) undos unspent side_branch
 unfolding connected_marked
-side_marked first tree undos unspent side is =
+side_branch_marked first tree undos unspent side_branch is =
     record { hash = is.hash; connected = connected_marked first tree undos is.hash is.connected; end = is.end; after = marks_keep_unspent first tree is.hash ∙ is.after }
 
-sides_marked : (first : Hash256) (tree : Tree) (undos : List (Option (List CoinChange))) (unspent : Unspent) (side : Option Side) → IfSome side (IsSide tree undos unspent) → IfSome side (IsSide (marked_above first tree) undos unspent)
-sides_marked first tree undos unspent None is = tt
-sides_marked first tree undos unspent (Some side) is = side_marked first tree undos unspent side is
+side_branches_marked : (first : Hash256) (tree : Tree) (undos : List (Option (List CoinChange))) (unspent : Unspent) (side_branch : Option SideBranch) → IfSome side_branch (IsSideBranch tree undos unspent) → IfSome side_branch (IsSideBranch (marked_above first tree) undos unspent)
+side_branches_marked first tree undos unspent None is = tt
+side_branches_marked first tree undos unspent (Some side_branch) is = side_branch_marked first tree undos unspent side_branch is
 
 -- a chain whose blocks are marked
-pub chain_marked : (first : Hash256) (tree : Tree) (path : List ℕ) (undos : List (Option (List CoinChange))) (unspent : Unspent) (side : Option Side) → IsChain tree path undos unspent side
-    → IsChain (marked_above first tree) path undos unspent side
-chain_marked first tree path undos unspent side is =
+pub chain_marked : (first : Hash256) (tree : Tree) (path : List ℕ) (undos : List (Option (List CoinChange))) (unspent : Unspent) (side_branch : Option SideBranch) → IsChain tree path undos unspent side_branch
+    → IsChain (marked_above first tree) path undos unspent side_branch
+chain_marked first tree path undos unspent side_branch is =
     let tip = marks_keep_best first tree in
     record {
       places = is.places ∙ sym (marks_keep_active_places first tree);
       ledger = ap (unspent_after (marked_above first tree)) tip ∙ marks_keep_unspent first tree (best tree) ∙ is.ledger;
       undos_are = undos_marked first tree undos is.undos_are;
       tip = subst (WasConnected (marked_above first tree) undos) (sym tip) (connected_marked first tree undos (best tree) is.tip);
-      side_is = sides_marked first tree undos unspent side is.side_is;
+      side_branch_is = side_branches_marked first tree undos unspent side_branch is.side_branch_is;
     }
 
 -- ---- one record more

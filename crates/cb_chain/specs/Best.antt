@@ -36,23 +36,32 @@ then_spend entry (Err stop) = Err stop
 -- that hash. The outputs of the genesis block aren't unspent.
 unfoldable pub unspent_after : Tree → Hash256 → Result Unspent Stop
 unspent_after [] hash = if same hash genesis_hash then Ok map.empty else Err (missing hash)
-unspent_after (entry ∷ older) hash = if same hash (block_hash entry.header) then then_spend entry (unspent_after older entry.header.prev) else unspent_after older hash
+unspent_after (entry ∷ older) hash =
+    if same hash (block_hash entry.header)
+    then then_spend entry (unspent_after older entry.header.prev)
+    else unspent_after older hash
 
 -- one known header is higher than another
 abbrev pub is_higher : Tree → Hash256 → Hash256 → Bool
-is_higher tree one other = nat_lt (unwrap_or (height_of tree other) 0) (unwrap_or (height_of tree one) 0)
+is_higher tree one other =
+    nat_lt (unwrap_or (height_of tree other) 0) (unwrap_or (height_of tree one) 0)
 
 -- the tip: a newer block replaces it only if it is higher
 unfoldable pub best : Tree → Hash256
 best [] = genesis_hash
 best (entry ∷ older) =
     let hash = block_hash entry.header in
-    if is_ok (unspent_after (entry ∷ older) hash) && is_higher (entry ∷ older) hash (best older) then hash else best older
+    if is_ok (unspent_after (entry ∷ older) hash) && is_higher (entry ∷ older) hash (best older)
+    then hash
+    else best older
 
 -- the headers from a known one down to the genesis block's
 unfoldable pub branch : Tree → Hash256 → List Header
 branch [] hash = if same hash genesis_hash then genesis_header ∷ [] else []
-branch (entry ∷ older) hash = if same hash (block_hash entry.header) then entry.header ∷ branch older entry.header.prev else branch older hash
+branch (entry ∷ older) hash =
+    if same hash (block_hash entry.header)
+    then entry.header ∷ branch older entry.header.prev
+    else branch older hash
 
 -- the active chain: the headers from the genesis block's up to the tip's, each at the place of its
 -- height
@@ -63,4 +72,6 @@ active tree = reverse (branch tree (best tree))
 unfoldable pub leads_through : Tree → Hash256 → Hash256 → Bool
 leads_through [] first hash = false
 leads_through (entry ∷ older) first hash =
-    if same hash (block_hash entry.header) then (if same hash first then true else leads_through older first entry.header.prev) else leads_through older first hash
+    if same hash (block_hash entry.header)
+    then (if same hash first then true else leads_through older first entry.header.prev)
+    else leads_through older first hash

@@ -53,7 +53,9 @@ block_entry block = record { header = block.header; block = Some block; marked =
 abbrev pub marked_above : Hash256 → Tree → Tree
 marked_above first [] = []
 marked_above first (entry ∷ older) =
-    (if is_some entry.block && leads_through (entry ∷ older) first (block_hash entry.header) then record { header = entry.header; block = entry.block; marked = true } else entry)
+    (if is_some entry.block && leads_through (entry ∷ older) first (block_hash entry.header)
+    then record { header = entry.header; block = entry.block; marked = true }
+    else entry)
     ∷ marked_above first older
 
 -- The change from the active chain of one tree to that of another: what leaves, from the tip down,
@@ -81,17 +83,29 @@ abbrev pub joined : Tree → Block → Result Change Fault × Tree
 joined old block =
     let new = block_entry block ∷ old in
     let hash = block_hash block.header in
-    if is_higher new hash (best old) then settled old new (unspent_after new hash) else (Ok no_change, new)
+    if is_higher new hash (best old)
+    then settled old new (unspent_after new hash)
+    else (Ok no_change, new)
 
 -- the answer to a header, and the tree after it
-pub data AcceptsHeader (old : Tree) (header : Header) (answer : Option Fault) (new : Tree) : Type 0 where
-  without_work : ¬ HasWork header → answer ≡ Some BadWork → new ≡ old → AcceptsHeader old header answer new
-  refused : HasWork header → (fault : Fault) → header_fault old header ≡ Some fault → answer ≡ Some fault → new ≡ old → AcceptsHeader old header answer new
-  kept : HasWork header → header_fault old header ≡ None → answer ≡ None → new ≡ header_entry header ∷ old → AcceptsHeader old header answer new
+pub data AcceptsHeader (old : Tree) (header : Header) (answer : Option Fault) (new : Tree)
+    : Type 0 where
+  without_work : ¬ HasWork header → answer ≡ Some BadWork → new ≡ old
+      → AcceptsHeader old header answer new
+  refused : HasWork header → (fault : Fault) → header_fault old header ≡ Some fault
+      → answer ≡ Some fault → new ≡ old → AcceptsHeader old header answer new
+  kept : HasWork header → header_fault old header ≡ None → answer ≡ None
+      → new ≡ header_entry header ∷ old → AcceptsHeader old header answer new
 
 -- the answer to a block, and the tree after it
-pub data AcceptsBlock (old : Tree) (block : Block) (answer : Result Change Fault) (new : Tree) : Type 0 where
-  without_work : ¬ HasWork block.header → answer ≡ Err BadWork → new ≡ old → AcceptsBlock old block answer new
-  refused : HasWork block.header → (fault : Fault) → block_fault old block.header ≡ Some fault → answer ≡ Err fault → new ≡ old → AcceptsBlock old block answer new
-  breaks_rule : HasWork block.header → block_fault old block.header ≡ None → (fault : Fault) → IsRefused block fault → answer ≡ Err fault → new ≡ bad_entry block.header ∷ old → AcceptsBlock old block answer new
-  meets_rules : HasWork block.header → block_fault old block.header ≡ None → MeetsBlockRules block → (answer, new) ≡ joined old block → AcceptsBlock old block answer new
+pub data AcceptsBlock (old : Tree) (block : Block) (answer : Result Change Fault) (new : Tree)
+    : Type 0 where
+  without_work : ¬ HasWork block.header → answer ≡ Err BadWork → new ≡ old
+      → AcceptsBlock old block answer new
+  refused : HasWork block.header → (fault : Fault) → block_fault old block.header ≡ Some fault
+      → answer ≡ Err fault → new ≡ old → AcceptsBlock old block answer new
+  breaks_rule : HasWork block.header → block_fault old block.header ≡ None → (fault : Fault)
+      → IsRefused block fault → answer ≡ Err fault → new ≡ bad_entry block.header ∷ old
+      → AcceptsBlock old block answer new
+  meets_rules : HasWork block.header → block_fault old block.header ≡ None → MeetsBlockRules block
+      → (answer, new) ≡ joined old block → AcceptsBlock old block answer new

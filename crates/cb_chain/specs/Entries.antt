@@ -37,12 +37,16 @@ first_entry = record { header = genesis_header; block = Some genesis_block; mark
 -- the entry of a hash
 abbrev pub entry_of : Tree → Hash256 → Option Entry
 entry_of [] hash = if same hash genesis_hash then Some first_entry else None
-entry_of (entry ∷ older) hash = if same hash (block_hash entry.header) then Some entry else entry_of older hash
+entry_of (entry ∷ older) hash =
+    if same hash (block_hash entry.header) then Some entry else entry_of older hash
 
 -- The height of a known header: one more than that of its parent, which was known before it.
 abbrev pub height_of : Tree → Hash256 → Option ℕ
 height_of [] hash = if same hash genesis_hash then Some 0 else None
-height_of (entry ∷ older) hash = if same hash (block_hash entry.header) then option_map suc (height_of older entry.header.prev) else height_of older hash
+height_of (entry ∷ older) hash =
+    if same hash (block_hash entry.header)
+    then option_map suc (height_of older entry.header.prev)
+    else height_of older hash
 
 abbrev pub has_mark : Option Entry → Bool
 has_mark None = false

@@ -15,7 +15,8 @@ pub data Call : Type 0 where
 -- what one call leads to, whatever its answer; a block that a call gives is sound
 abbrev pub IsStep : Tree → Call → Tree → Type 0
 IsStep old (HeaderCall header) new = (answer : Option Fault) × AcceptsHeader old header answer new
-IsStep old (BlockCall block) new = IsSoundBlock block × (answer : Result Change Fault) × AcceptsBlock old block answer new
+IsStep old (BlockCall block) new =
+    IsSoundBlock block × (answer : Result Change Fault) × AcceptsBlock old block answer new
 
 -- The tree is what these calls lead to, the newest of them first. A new chain has had none.
 abbrev pub IsHistory : List Call → Tree → Type 0

@@ -20,7 +20,8 @@ use Rattle.cb_chain.specs.History.{BlockCall, Call}
 -- the last one has the hash `top`.
 abbrev pub AreLinked : Hash256 → List Header → Hash256 → Type 0
 AreLinked below [] top = below ≡ top
-AreLinked below (header ∷ headers) top = (header.prev ≡ below) × AreLinked (block_hash header) headers top
+AreLinked below (header ∷ headers) top =
+    (header.prev ≡ below) × AreLinked (block_hash header) headers top
 
 -- headers from the genesis block's up to the one with the hash `top`
 abbrev pub ReachesUp : List Header → Hash256 → Type 0
@@ -33,7 +34,8 @@ kept_under tree hash = option_and_then (λ entry. entry.block) (entry_of tree ha
 
 -- the blocks that are kept under the hashes of headers, in order
 abbrev pub AreBlocksOf : Tree → List Header → List Block → Type 0
-AreBlocksOf tree headers blocks = map (λ header. kept_under tree (block_hash header)) headers ≡ map Some blocks
+AreBlocksOf tree headers blocks =
+    map (λ header. kept_under tree (block_hash header)) headers ≡ map Some blocks
 
 -- all transactions of the blocks, in order
 abbrev pub txs_of : List Block → List Tx
@@ -43,7 +45,9 @@ txs_of (block ∷ blocks) = block.txs ++ txs_of blocks
 -- The active chain's blocks above the genesis block are kept, and the UTXO set is what their
 -- transactions leave, spent in order from the empty set without a fault.
 abbrev pub IsLeftBy : Tree → Unspent → Type 0
-IsLeftBy tree unspent = (blocks : List Block) × AreBlocksOf tree (drop 1 (active tree)) blocks × (spend finite.empty (txs_of blocks) ≡ Ok unspent)
+IsLeftBy tree unspent =
+    (blocks : List Block) × AreBlocksOf tree (drop 1 (active tree)) blocks
+    × (spend finite.empty (txs_of blocks) ≡ Ok unspent)
 
 -- a kept block can't be connected: it can't be spent over the UTXO set after its parent, for this
 -- fault
@@ -65,7 +69,9 @@ pub record IsMarkedFor (tree : Tree) (hash : Hash256) : Type 0 where
 
 -- a call gave a block with this hash that breaks a block rule
 abbrev pub BrokeRule : List Call → Hash256 → Type 0
-BrokeRule calls hash = (block : Block) × (fault : Fault) × Contains calls (BlockCall block) × (block_hash block.header ≡ hash) × IsRefused block fault
+BrokeRule calls hash =
+    (block : Block) × (fault : Fault) × Contains calls (BlockCall block)
+    × (block_hash block.header ≡ hash) × IsRefused block fault
 
 -- the height of a known header
 abbrev pub height_in : Tree → Hash256 → ℕ
@@ -77,7 +83,8 @@ abbrev pub ComesAfter : Tree → Entry → Tree → Type 0
 ComesAfter tree entry older =
     let hash = block_hash entry.header in
     (height_in (entry ∷ older) hash ≤ height_in tree (best tree))
-    × (height_in (entry ∷ older) hash ≡ height_in tree (best tree) → (best tree ≡ hash) ⊎ (is_kept older (best tree) ≡ true))
+    × (height_in (entry ∷ older) hash ≡ height_in tree (best tree)
+    → (best tree ≡ hash) ⊎ (is_kept older (best tree) ≡ true))
 
 -- the hashes of the active chain, from the genesis block's up to the tip's
 abbrev pub active_hashes : Tree → List Hash256
@@ -99,8 +106,10 @@ pub record LeadsOver (old : List Hash256) (change : Change) (new : List Hash256)
 
 -- The active chain stays, and so does the UTXO set after it.
 abbrev pub Stays : Tree → Tree → Type 0
-Stays old new = (active new ≡ active old) × (unspent_after new (best new) ≡ unspent_after old (best old))
+Stays old new =
+    (active new ≡ active old) × (unspent_after new (best new) ≡ unspent_after old (best old))
 
 -- A block on top of this parent would be higher than the tip.
 abbrev pub MayLead : Tree → Hash256 → Type 0
-MayLead tree parent = (height : ℕ) × (height_of tree parent ≡ Some height) × (height_in tree (best tree) ≤ height)
+MayLead tree parent =
+    (height : ℕ) × (height_of tree parent ≡ Some height) × (height_in tree (best tree) ≤ height)

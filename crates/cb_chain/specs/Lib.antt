@@ -10,5 +10,5 @@ pub mod Listing
 pub mod Locator
 pub mod Marking
 pub mod Plans
-pub mod Sides
+pub mod SideBranches
 pub mod Spots

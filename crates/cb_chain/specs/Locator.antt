@@ -13,7 +13,8 @@ depth_of k = if nat_lt k 12 then k else 9 + 2 ^ (k - 10)
 -- The heights from the k-th on, at most `more` and the last one, which is 0 and comes once.
 abbrev pub heights_from : ℕ → ℕ → ℕ → List ℕ
 heights_from tip k zero = 0 ∷ []
-heights_from tip k (suc more) = if nat_lt (depth_of k) tip then (tip - depth_of k) ∷ heights_from tip (suc k) more else 0 ∷ []
+heights_from tip k (suc more) =
+    if nat_lt (depth_of k) tip then (tip - depth_of k) ∷ heights_from tip (suc k) more else 0 ∷ []
 
 abbrev pub locator_heights : ℕ → List ℕ
 locator_heights tip = heights_from tip 0 tip
@@ -21,4 +22,5 @@ locator_heights tip = heights_from tip 0 tip
 abbrev pub locator_of : Tree → List Hash256
 locator_of tree =
     let headers = active tree in
-    filter_map (λ height. option_map block_hash (slice_get headers height)) (locator_heights (length headers - 1))
+    filter_map (λ height. option_map block_hash (slice_get headers height))
+    (locator_heights (length headers - 1))

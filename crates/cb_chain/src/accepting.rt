@@ -1,18 +1,19 @@
-ghost use Rattle.std.specs.Prelude.{◌≡◌, ◌≢◌, ◌⊎◌, ◌∷◌, [], List, map, reverse, true, None, Some, Ok, Err, IfErr, IfOk, MatchResult, OnOk};
+ghost use Rattle.std.specs.Prelude.{◌≡◌, ◌≢◌, ◌⊎◌, ◌∷◌, ◌++◌, [], List, map, reverse, true, None, Some, Ok, Err, IfErr, IfOk, MatchResult, OnOk};
 ghost use Rattle.cb_base.specs.declared.fault.Fault.TheVariants.{Memory};
 ghost use Rattle.cb_block.specs.Work.{HasWork};
 ghost use Rattle.cb_chain.specs.Best.{best};
 ghost use Rattle.cb_chain.specs.Calls.{AcceptsBlock, AcceptsHeader, block_fault, header_fault, joined};
 ghost use Rattle.cb_chain.specs.Entries.{block_hash, is_kept};
 ghost use Rattle.cb_chain.specs.History.{BlockCall, Call, HeaderCall, IsHistoric, IsHistory};
-ghost use Rattle.cb_chain.specs.Keeping.{IsSpot, IsTree, parent_fault, tree_of};
+ghost use Rattle.cb_chain.specs.Keeping.{IsIndex, IsSpot, IsTree, parent_fault, tree_of};
 ghost use Rattle.cb_chain.specs.Following.{headers_above};
 ghost use Rattle.cb_chain.specs.Laws.{LeadsOver, MayLead, Stays, active_hashes};
+ghost use Rattle.cb_chain.specs.Marking.{index_of};
 ghost use Rattle.cb_chain.specs.Spots.{placed_on};
 
+use crate::block_index::{BareIndex, Kept};
 use crate::chain::Chain;
 use crate::change::{Change, Hashes};
-use crate::node::{BareNode, Kept};
 use crate::tree::Tree;
 use cb_base::{Fault, Hash256};
 use cb_block::{Header, SoundBlock, check_block, hash_with_work};
@@ -30,11 +31,11 @@ pub(crate) struct Spot {
 }
 
 impl Spot {
-    /// The tree node of the header, with its block if that is kept.
-    pub(crate) fn node(self, kept: Option<Kept>) -> BareNode
+    /// The block index of the header, with its block if that is kept.
+    pub(crate) fn block_index(self, kept: Option<Kept>) -> BareIndex
         ensures { result ≡ placed_on self kept }
     {
-        BareNode {
+        BareIndex {
             header: self.header,
             hash: self.hash,
             height: self.height,
@@ -49,41 +50,42 @@ impl Tree {
     /// parent's block must be kept, too.
     fn spot_on_parent(&self, header: Header, hash: Hash256, block: bool) -> Result<Spot, Fault>
         requires { hash ≡ block_hash header }
-        ensures ok { IfOk result (λ spot. IsSpot spot header (tree_of self.now.nodes)) }
+        ensures ok { IfOk result (λ spot. IsSpot spot header (tree_of self.now.block_indexes)) }
         ensures none { OnOk result
-            (parent_fault (tree_of self.now.nodes) header.prev block ≡ None) }
+            (parent_fault (tree_of self.now.block_indexes) header.prev block ≡ None) }
         ensures err { IfErr result
-            (λ fault. parent_fault (tree_of self.now.nodes) header.prev block ≡ Some fault) }
+            (λ fault. parent_fault (tree_of self.now.block_indexes) header.prev block
+            ≡ Some fault) }
     {
         let Some(parent) = self.place(&header.prev) else {
             return Err(Fault::NoParent);
         };
-        let node = self.node(parent);
+        let block_index = self.block_index(parent);
         if self.is_bad(parent) {
             return Err(Fault::BadParent);
         }
-        if block && node.kept.is_none() {
+        if block && block_index.kept.is_none() {
             return Err(Fault::NoParent);
         }
-        if node.height >= MOST_HEIGHT {
+        if block_index.height >= MOST_HEIGHT {
             return Err(Fault::TooMany);
         }
         Ok(Spot {
             header,
             hash,
             parent,
-            height: node.height + 1,
+            height: block_index.height + 1,
         })
     }
 
     /// Where a header goes, or the first reason against it.
     pub(crate) fn header_spot(&self, header: Header, hash: Hash256) -> Result<Spot, Fault>
         requires { hash ≡ block_hash header }
-        ensures ok { IfOk result (λ spot. IsSpot spot header (tree_of self.now.nodes)) }
-        ensures none { OnOk result (header_fault (tree_of self.now.nodes) header ≡ None) }
+        ensures ok { IfOk result (λ spot. IsSpot spot header (tree_of self.now.block_indexes)) }
+        ensures none { OnOk result (header_fault (tree_of self.now.block_indexes) header ≡ None) }
         ensures err { IfErr result
-            (λ fault. header_fault (tree_of self.now.nodes) header ≡ Some fault) }
-        ensures tree { IsTree self.now.nodes }
+            (λ fault. header_fault (tree_of self.now.block_indexes) header ≡ Some fault) }
+        ensures tree { IsTree self.now.block_indexes }
     {
         if let Some(place) = self.place(&hash) {
             if self.is_bad(place) {
@@ -93,6 +95,27 @@ impl Tree {
         }
         self.spot_on_parent(header, hash, false)
     }
+}
+
+/// Adds a header that is marked bad, and returns the reason. If that is `Fault::Memory` or memory
+/// doesn't suffice, returns `Fault::Memory`, and nothing changes.
+fn mark_header(tree: &mut Tree, block_index: BareIndex, fault: Fault) -> Fault
+    requires { IsIndex (index_of block_index true) (tree_of tree.old.block_indexes) }
+    ensures added { ((result ≡ Memory) × (tree.new.block_indexes ≡ tree.old.block_indexes)
+        × (tree.new.undos ≡ tree.old.undos))
+        ⊎ ((result ≡ fault) × (fault ≢ Memory)
+        × (tree.new.block_indexes ≡ tree.old.block_indexes ++ index_of block_index true ∷ [])
+        × (tree.new.undos ≡ tree.old.undos ++ None ∷ [])) }
+    ensures tree { IsTree tree.old.block_indexes }
+{
+    if let Err(lacking) = tree.reserve(1) {
+        return lacking;
+    }
+    if fault == Fault::Memory {
+        return fault;
+    }
+    tree.add(block_index, true, None);
+    fault
 }
 
 impl Chain {
@@ -105,11 +128,11 @@ impl Chain {
         ensures tip { is_kept self.now (best self.now) ≡ true }
     {
         if let Some(place) = self.tree.place(&hash) {
-            let node = self.tree.node(place);
+            let block_index = self.tree.block_index(place);
             if self.tree.is_bad(place) {
                 return Err(Fault::BadParent);
             }
-            if node.kept.is_some() {
+            if block_index.kept.is_some() {
                 return Err(Fault::Known);
             }
         }
@@ -144,7 +167,7 @@ impl Chain {
         let hash = hash_with_work(&header)?;
         let spot = self.tree.header_spot(header, hash)?;
         self.tree.reserve(1)?;
-        self.tree.add(spot.node(None), false, None);
+        self.tree.add(spot.block_index(None), false, None);
         Ok(())
     }
 
@@ -197,11 +220,9 @@ impl Chain {
         let spot = self.block_spot(header, hash)?;
         match check_block(self.alloc, &block) {
             Ok(()) => self.join(spot, Kept::new(block)),
-            Err(fault) if fault == Fault::Memory => Err(fault),
             Err(fault) => {
-                self.tree.reserve(1)?;
-                self.tree.add(spot.node(None), true, None);
-                Err(fault)
+                drop(block);
+                Err(mark_header(&mut self.tree, spot.block_index(None), fault))
             }
         }
     }
@@ -225,7 +246,7 @@ impl Chain {
             return self.lead(spot, kept);
         }
         self.tree.reserve(1)?;
-        self.tree.add(spot.node(Some(kept)), false, None);
+        self.tree.add(spot.block_index(Some(kept)), false, None);
         Ok(Change {
             off: Hashes::new(Vec::new(self.alloc)),
             on: Hashes::new(Vec::new(self.alloc)),

@@ -3,10 +3,10 @@ ghost use Rattle.cb_base.specs.declared.fault.Fault.TheVariants.{Memory};
 ghost use Rattle.cb_chain.specs.Best.{best, unspent_after};
 ghost use Rattle.cb_chain.specs.Entries.{block_of, entry_of, height_of, is_lacking, sound_block};
 ghost use Rattle.cb_chain.specs.Keeping.{entry_from};
-ghost use Rattle.cb_chain.specs.Marking.{node_of};
+ghost use Rattle.cb_chain.specs.Marking.{index_of};
 
-use crate::node::BareNode;
-use crate::side_chain::Side;
+use crate::block_index::BareIndex;
+use crate::side_branch::SideBranch;
 use crate::tree::Tree;
 use cb_base::{Fault, Hash256, Seed};
 use cb_block::{Header, SoundBlock};
@@ -24,12 +24,12 @@ use std::marker::Model;
 pub struct Chain {
     pub(crate) alloc: Global,
     pub(crate) tree: Tree,
-    // The places in the tree of the active chain's nodes, by height.
+    // The places in the tree of the active chain's block indexes, by height.
     pub(crate) active: Vec<usize>,
     // The UTXO set after the tip.
     pub(crate) ledger: Ledger,
     // The branch beside the active chain that was tried last.
-    pub(crate) side: Option<Side>,
+    pub(crate) side_branch: Option<SideBranch>,
 }
 
 impl Model for Chain {
@@ -40,12 +40,13 @@ impl Model for Chain {
 
     ghost use Rattle.cb_chain.specs.History.{IsHistoric};
     ghost use Rattle.cb_chain.specs.Keeping.{tree_of};
-    ghost use Rattle.cb_chain.specs.Sides.{IsChain};
+    ghost use Rattle.cb_chain.specs.SideBranches.{IsChain};
 
-    ghost view = { λ chain. tree_of chain.tree.nodes };
+    ghost view = { λ chain. tree_of chain.tree.block_indexes };
 
-    ghost invariant = { λ chain. IsChain (tree_of chain.tree.nodes) chain.active.items chain.tree.undos chain.ledger.unspent chain.side
-        × IsHistoric (tree_of chain.tree.nodes) };
+    ghost invariant = { λ chain. IsChain (tree_of chain.tree.block_indexes) chain.active.items
+        chain.tree.undos chain.ledger.unspent chain.side_branch
+        × IsHistoric (tree_of chain.tree.block_indexes) };
 }
 
 impl Chain {
@@ -73,30 +74,30 @@ impl Chain {
             tree,
             active,
             ledger,
-            side: None,
+            side_branch: None,
         })
     }
 
-    /// The tree node of the tip.
-    fn tip_node(&self) -> &BareNode
+    /// The block index of the tip.
+    fn tip_index(&self) -> &BareIndex
         ensures hash { result.now.hash ≡ best self.now }
         ensures height { height_of self.now (best self.now) ≡ Some result.now.height }
     {
-        self.tree.node(self.active[self.active.len() - 1])
+        self.tree.block_index(self.active[self.active.len() - 1])
     }
 
     /// The hash of the tip: the last block of the active chain.
     pub fn tip(&self) -> Hash256
         ensures { result ≡ best self.now }
     {
-        self.tip_node().hash
+        self.tip_index().hash
     }
 
     /// The height of the tip. The genesis block has height 0.
     pub fn tip_height(&self) -> u32
         ensures { height_of self.now (best self.now) ≡ Some result }
     {
-        self.tip_node().height
+        self.tip_index().height
     }
 
     /// The height of a header, if it is known.
@@ -104,7 +105,7 @@ impl Chain {
         ensures { result ≡ height_of self.now hash.now }
     {
         match self.tree.find(hash) {
-            Some((node, _)) => Some(node.height),
+            Some((block_index, _)) => Some(block_index.height),
             None => None,
         }
     }
@@ -115,7 +116,7 @@ impl Chain {
             ≡ option_map (λ entry. entry.header) (entry_of self.now hash.now) }
     {
         match self.tree.find(hash) {
-            Some((node, _)) => Some(&node.header),
+            Some((block_index, _)) => Some(&block_index.header),
             None => None,
         }
     }
@@ -125,7 +126,7 @@ impl Chain {
         ensures { option_copied result ≡ block_of self.now hash.now }
     {
         match self.tree.find(hash) {
-            Some((node, marked)) => shown_block(node, marked),
+            Some((block_index, marked)) => shown_block(block_index, marked),
             None => None,
         }
     }
@@ -135,7 +136,7 @@ impl Chain {
         ensures { result ≡ is_lacking self.now hash.now }
     {
         match self.tree.find(hash) {
-            Some((node, marked)) => node.kept.is_none() && !marked,
+            Some((block_index, marked)) => block_index.kept.is_none() && !marked,
             None => true,
         }
     }
@@ -160,19 +161,19 @@ impl Chain {
             tree,
             active,
             ledger,
-            side: None,
+            side_branch: None,
         })
     }
 }
 
-/// The node's block, if it is kept and not marked bad.
-fn shown_block(node: &BareNode, marked: bool) -> Option<&SoundBlock>
-    ensures { option_copied result ≡ sound_block (entry_from (node_of node.now marked)) }
+/// The block index's block, if it is kept and not marked bad.
+fn shown_block(block_index: &BareIndex, marked: bool) -> Option<&SoundBlock>
+    ensures { option_copied result ≡ sound_block (entry_from (index_of block_index.now marked)) }
 {
     if marked {
         return None;
     }
-    match &node.kept {
+    match &block_index.kept {
         Some(kept) => Some(kept.block()),
         None => None,
     }

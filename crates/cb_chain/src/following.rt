@@ -15,25 +15,25 @@ use std::alloc::Global;
 /// The largest number of headers that `Chain::after` returns, as in a `headers` message.
 pub const MOST_HEADERS: usize = 2_000;
 
-/// The headers of the active chain above a height. `places` has the active chain's nodes by height.
-/// Fails only with `Fault::Memory`, and never if there are no such headers.
+/// The headers of the active chain above a height. `places` has the active chain's block indexes by
+/// height. Fails only with `Fault::Memory`, and never if there are no such headers.
 fn headers_from(
     alloc: Global,
     tree: &Tree,
     places: &[usize],
     height: usize,
 ) -> Result<Vec<Header>, Fault>
-    requires tree { IsTree tree.now.nodes }
-    requires places { places.now ≡ active_places (tree_of tree.now.nodes) }
+    requires tree { IsTree tree.now.block_indexes }
+    requires places { places.now ≡ active_places (tree_of tree.now.block_indexes) }
     requires height { height < length places.now }
     ensures exact { IfOk result
-        (λ headers. headers.items ≡ drop (suc height) (active (tree_of tree.now.nodes))) }
-    ensures none { drop (suc height) (active (tree_of tree.now.nodes)) ≡ [] → IsOk result }
+        (λ headers. headers.items ≡ drop (suc height) (active (tree_of tree.now.block_indexes))) }
+    ensures none { drop (suc height) (active (tree_of tree.now.block_indexes)) ≡ [] → IsOk result }
     ensures memory { IsOkUnless result Memory }
 {
     let mut headers = Vec::with_capacity(alloc, places.len() - height - 1)?;
     for place in &places[height + 1..] {
-        headers.push(tree.node(*place).header)?;
+        headers.push(tree.block_index(*place).header)?;
     }
     Ok(headers)
 }
@@ -47,13 +47,15 @@ fn headers_to(
     height: usize,
     stop: &Hash256,
 ) -> Result<Vec<Header>, Fault>
-    requires tree { IsTree tree.now.nodes }
-    requires places { places.now ≡ active_places (tree_of tree.now.nodes) }
+    requires tree { IsTree tree.now.block_indexes }
+    requires places { places.now ≡ active_places (tree_of tree.now.block_indexes) }
     requires height { height < length places.now }
     ensures exact { IfOk result
         (λ headers. headers.items
-        ≡ take 2000 (up_to stop.now (drop (suc height) (active (tree_of tree.now.nodes))))) }
-    ensures none { take 2000 (up_to stop.now (drop (suc height) (active (tree_of tree.now.nodes))))
+        ≡ take 2000
+        (up_to stop.now (drop (suc height) (active (tree_of tree.now.block_indexes))))) }
+    ensures none { take 2000
+        (up_to stop.now (drop (suc height) (active (tree_of tree.now.block_indexes))))
         ≡ [] → IsOk result }
     ensures memory { IsOkUnless result Memory }
 {
@@ -62,9 +64,9 @@ fn headers_to(
         if headers.len() == MOST_HEADERS {
             break;
         }
-        let node = tree.node(*place);
-        headers.push(node.header)?;
-        if node.hash == *stop {
+        let block_index = tree.block_index(*place);
+        headers.push(block_index.header)?;
+        if block_index.hash == *stop {
             break;
         }
     }
@@ -78,7 +80,7 @@ impl Chain {
         ensures low { IfSome result (λ height. height < length (active_places self.now)) }
     {
         let place = self.tree.place(hash)?;
-        let height = self.tree.node(place).height as usize;
+        let height = self.tree.block_index(place).height as usize;
         match self.active.get(height) {
             Some(other) if *other == place => Some(height),
             _ => None,
@@ -109,7 +111,7 @@ impl Chain {
         ensures none { headers_after self.now locator.now stop.now ≡ [] → IsOk result }
         ensures memory { IsOkUnless result Memory }
     {
-        let start = self.tree.node(self.active[self.start(locator)]);
+        let start = self.tree.block_index(self.active[self.start(locator)]);
         headers_to(
             self.alloc,
             &self.tree,
@@ -145,13 +147,13 @@ impl Chain {
         let mut height = self.active.len() - 1;
         let mut step = 1usize;
         while height > 0 {
-            hashes.push(self.tree.node(self.active[height]).hash)?;
+            hashes.push(self.tree.block_index(self.active[height]).hash)?;
             if hashes.len() >= 12 {
                 step *= 2;
             }
             height = height.saturating_sub(step);
         }
-        hashes.push(self.tree.node(self.active[0]).hash)?;
+        hashes.push(self.tree.block_index(self.active[0]).hash)?;
         Ok(hashes)
     }
 }

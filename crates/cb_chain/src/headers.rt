@@ -6,7 +6,7 @@ ghost use Rattle.cb_chain.specs.Entries.{block_hash};
 ghost use Rattle.cb_chain.specs.Headers.{HasFour, Meets, TakesHeaders, goes_on};
 ghost use Rattle.cb_chain.specs.Keeping.{tree_of};
 ghost use Rattle.cb_chain.specs.Laws.{Stays};
-ghost use Rattle.cb_chain.specs.Sides.{KeepsChains};
+ghost use Rattle.cb_chain.specs.SideBranches.{KeepsChains};
 
 use crate::chain::Chain;
 use crate::change::Hashes;
@@ -52,18 +52,19 @@ fn hash_at(headers: &[Header], i: usize, four: &mut [Hash256; 4]) -> Hash256
 fn meet_header(tree: &mut Tree, header: Header, hash: Hash256) -> Result<(), Fault>
     requires room { 0 < tree.old.room }
     requires hash { hash ≡ block_hash header }
-    ensures ok { OnOk result (Meets (tree_of tree.old.nodes) header (tree_of tree.new.nodes)) }
+    ensures ok { OnOk result
+        (Meets (tree_of tree.old.block_indexes) header (tree_of tree.new.block_indexes)) }
     ensures against { IfErr result (λ fault. goes_on (Some fault) ≡ false) }
     ensures err { IfErr result
-        (λ fault. AcceptsHeader (tree_of tree.old.nodes) header (Some fault)
-        (tree_of tree.new.nodes)) }
+        (λ fault. AcceptsHeader (tree_of tree.old.block_indexes) header (Some fault)
+        (tree_of tree.new.block_indexes)) }
     ensures chains { KeepsChains tree.old tree.new }
     ensures room { tree.old.room ≤ tree.new.room + 1 }
 {
     check_hashed_header(&header, &hash)?;
     match tree.header_spot(header, hash) {
         Ok(spot) => {
-            tree.add(spot.node(None), false, None);
+            tree.add(spot.block_index(None), false, None);
             Ok(())
         }
         Err(fault) if fault == Fault::Known => Ok(()),
@@ -77,8 +78,8 @@ fn meet_headers(tree: &mut Tree, headers: &[Header], met: &mut Vec<Hash256>) -> 
     requires room { length headers.now ≤ tree.old.room }
     requires none { met.old.items ≡ [] }
     requires capacity { length headers.now ≤ vec_capacity met.old }
-    ensures takes { TakesHeaders (tree_of tree.old.nodes) headers.now result met.new.items
-        (tree_of tree.new.nodes) }
+    ensures takes { TakesHeaders (tree_of tree.old.block_indexes) headers.now result met.new.items
+        (tree_of tree.new.block_indexes) }
     ensures chains { KeepsChains tree.old tree.new }
 {
     let mut four = [Hash256([0; 32]); 4];
@@ -95,7 +96,8 @@ fn meet_headers(tree: &mut Tree, headers: &[Header], met: &mut Vec<Hash256>) -> 
 impl Chain {
     /// Adds headers in order, as `accept_header` does. A known header is skipped. The first header
     /// that is refused for another reason ends it: the reason is in `Accepted::refused`, the
-    /// headers before it stay added, and none after it is added. Up to three of these may be hashed.
+    /// headers before it stay added, and none after it is added. Up to three of these may be
+    /// hashed.
     ///
     /// The active chain stays. Fails only with `Fault::Memory`; nothing has then changed, and none
     /// of the headers is added.

@@ -37,7 +37,8 @@ pub fn one_tree()
         answer ≡ again }
     ensures block { (old one other : Tree) (block : Block) (answer again : Result Change Fault)
         → AcceptsBlock old block answer one → AcceptsBlock old block again other → answer ≡ again }
-    ensures headers { (old one other : Tree) (headers : List Header) (against again : Option Fault) (met others : List Hash256)
+    ensures headers { (old one other : Tree) (headers : List Header) (against again : Option Fault)
+        (met others : List Hash256)
         → TakesHeaders old headers against met one → TakesHeaders old headers again others other →
         (against ≡ again) × (met ≡ others) × (one ≡ other) }
 {}

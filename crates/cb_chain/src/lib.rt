@@ -4,17 +4,17 @@
 #![tactic(auto)]
 
 mod accepting;
+mod block_index;
 mod branch;
 mod chain;
 mod change;
 mod chunk;
 mod following;
 mod headers;
+mod index_list;
 mod laws;
-mod node;
-mod node_list;
 mod reorganising;
-mod side_chain;
+mod side_branch;
 mod tree;
 
 pub use accepting::MOST_HEIGHT;

@@ -5,18 +5,18 @@ ghost use Rattle.cb_chain.specs.Best.{best, is_higher};
 ghost use Rattle.cb_chain.specs.Calls.{block_entry, block_fault, joined, marked_above};
 ghost use Rattle.cb_chain.specs.Entries.{block_hash, is_kept};
 ghost use Rattle.cb_chain.specs.History.{IsHistoric};
-ghost use Rattle.cb_chain.specs.Keeping.{IsFork, IsNode, IsSpot, IsTree, active_places, block_at, climb, tree_of};
+ghost use Rattle.cb_chain.specs.Keeping.{IsFork, IsIndex, IsSpot, IsTree, active_places, block_at, climb, tree_of};
 ghost use Rattle.cb_chain.specs.Laws.{LeadsOver, active_hashes};
 ghost use Rattle.cb_chain.specs.Plans.{Moved, change_at, hash_at};
-ghost use Rattle.cb_chain.specs.Sides.{RestsOn};
-ghost use Rattle.cb_chain.specs.Marking.{Node, node_of};
+ghost use Rattle.cb_chain.specs.SideBranches.{RestsOn};
+ghost use Rattle.cb_chain.specs.Marking.{BlockIndex, index_of};
 
 use crate::accepting::Spot;
+use crate::block_index::{BareIndex, Kept};
 use crate::branch::{branch_above, fork_of};
 use crate::chain::Chain;
 use crate::change::{Change, Hashes};
-use crate::node::{BareNode, Kept};
-use crate::side_chain::{Side, Stop, keep_side, not_far_below, rest_on, starts_from};
+use crate::side_branch::{SideBranch, Stop, keep_side_branch, not_far_below, rest_on, starts_from};
 use crate::tree::Tree;
 use cb_base::{Fault, Hash256};
 use cb_ledger::Ledger;
@@ -27,13 +27,13 @@ use std::alloc::Global;
 struct Plan {
     // The fork's height: where the block's branch leaves the active chain.
     fork: usize,
-    // The nodes of the branch above the fork, without the block's own.
+    // The block indexes of the branch above the fork, without the block's own.
     branch: Vec<usize>,
     change: Change,
 }
 
-/// Replaces what is above the height `fork` on the active chain by a branch and the node `last`.
-/// There must be room.
+/// Replaces what is above the height `fork` on the active chain by a branch and the block index
+/// `last`. There must be room.
 fn put_on(active: &mut Vec<usize>, fork: usize, branch: Vec<usize>, last: usize)
     requires fork { fork < length active.old.items }
     requires places { vec_len active.old + (vec_len branch + 1) ≤ vec_capacity active.old }
@@ -46,22 +46,23 @@ fn put_on(active: &mut Vec<usize>, fork: usize, branch: Vec<usize>, last: usize)
     active.push(last).unwrap();
 }
 
-/// The hashes of the nodes at these places. Fails only with `Fault::Memory`.
+/// The hashes of the block indexes at these places. Fails only with `Fault::Memory`.
 fn hashes_at(alloc: Global, tree: &Tree, places: &[usize]) -> Result<Vec<Hash256>, Fault>
-    requires { All (λ place. place < length tree.now.nodes) places.now }
+    requires { All (λ place. place < length tree.now.block_indexes) places.now }
     ensures hashes { IfOk result
-        (λ hashes. hashes.items ≡ map (hash_at tree.now.nodes) places.now) }
+        (λ hashes. hashes.items ≡ map (hash_at tree.now.block_indexes) places.now) }
     ensures memory { IsOkUnless result Memory }
 {
     let mut hashes = Vec::with_capacity(alloc, places.len())?;
     for place in places {
-        hashes.push(tree.node(*place).hash)?;
+        hashes.push(tree.block_index(*place).hash)?;
     }
     Ok(hashes)
 }
 
-/// The change of the active chain if the nodes `off` leave it, and the nodes `branch` and then the
-/// block join it. Both lists are given from the lowest up. Fails only with `Fault::Memory`.
+/// The change of the active chain if the block indexes `off` leave it, and the block indexes
+/// `branch` and then the block join it. Both lists are given from the lowest up. Fails only with
+/// `Fault::Memory`.
 fn change_to(
     alloc: Global,
     tree: &Tree,
@@ -69,12 +70,12 @@ fn change_to(
     branch: &[usize],
     hash: Hash256,
 ) -> Result<Change, Fault>
-    requires off { All (λ place. place < length tree.now.nodes) off.now }
-    requires branch { All (λ place. place < length tree.now.nodes) branch.now }
+    requires off { All (λ place. place < length tree.now.block_indexes) off.now }
+    requires branch { All (λ place. place < length tree.now.block_indexes) branch.now }
     ensures off { IfOk result
-        (λ change. change.off ≡ reverse (map (hash_at tree.now.nodes) off.now)) }
+        (λ change. change.off ≡ reverse (map (hash_at tree.now.block_indexes) off.now)) }
     ensures on { IfOk result
-        (λ change. change.on ≡ map (hash_at tree.now.nodes) branch.now ++ hash ∷ []) }
+        (λ change. change.on ≡ map (hash_at tree.now.block_indexes) branch.now ++ hash ∷ []) }
     ensures memory { IsOkUnless result Memory }
 {
     let mut off = hashes_at(alloc, tree, off)?;
@@ -90,18 +91,18 @@ fn change_to(
 /// The plan that makes a block the tip. The block's parent must be kept. Fails only with
 /// `Fault::Memory`.
 fn plan_for(alloc: Global, tree: &Tree, active: &[usize], spot: Spot) -> Result<Plan, Fault>
-    requires tree { IsTree tree.now.nodes }
-    requires active { active.now ≡ active_places (tree_of tree.now.nodes) }
-    requires spot { IsSpot spot spot.header (tree_of tree.now.nodes) }
-    requires kept { is_kept (tree_of tree.now.nodes) spot.header.prev ≡ true }
+    requires tree { IsTree tree.now.block_indexes }
+    requires active { active.now ≡ active_places (tree_of tree.now.block_indexes) }
+    requires spot { IsSpot spot spot.header (tree_of tree.now.block_indexes) }
+    requires kept { is_kept (tree_of tree.now.block_indexes) spot.header.prev ≡ true }
     ensures fork { IfOk result
-        (λ plan. IsFork (tree_of tree.now.nodes) spot.header.prev plan.fork) }
+        (λ plan. IsFork (tree_of tree.now.block_indexes) spot.header.prev plan.fork) }
     ensures branch { IfOk result
         (λ plan. plan.branch.items
         ≡ map (λ step. step.place)
-        (drop plan.fork (climb (tree_of tree.now.nodes) spot.header.prev))) }
+        (drop plan.fork (climb (tree_of tree.now.block_indexes) spot.header.prev))) }
     ensures change { IfOk result
-        (λ plan. plan.change ≡ change_at (tree_of tree.now.nodes) spot.header plan.fork) }
+        (λ plan. plan.change ≡ change_at (tree_of tree.now.block_indexes) spot.header plan.fork) }
     ensures memory { IsOkUnless result Memory }
 {
     let fork = fork_of(tree, active, spot.parent);
@@ -121,29 +122,29 @@ fn plan_for(alloc: Global, tree: &Tree, active: &[usize], spot: Spot) -> Result<
 }
 
 /// The plan that makes a block the tip, with room for the block in the tree and for the plan on the
-/// active chain. The block's parent must be kept. Fails only with `Fault::Memory`; the nodes,
-/// records and places are unchanged in every case.
+/// active chain. The block's parent must be kept. Fails only with `Fault::Memory`; the block
+/// indexes, records and places are unchanged in every case.
 fn planned(
     alloc: Global,
     tree: &mut Tree,
     active: &mut Vec<usize>,
     spot: Spot,
 ) -> Result<Plan, Fault>
-    requires active { active.old.items ≡ active_places (tree_of tree.old.nodes) }
-    requires spot { IsSpot spot spot.header (tree_of tree.old.nodes) }
-    requires kept { is_kept (tree_of tree.old.nodes) spot.header.prev ≡ true }
-    ensures same { tree.new.nodes ≡ tree.old.nodes }
+    requires active { active.old.items ≡ active_places (tree_of tree.old.block_indexes) }
+    requires spot { IsSpot spot spot.header (tree_of tree.old.block_indexes) }
+    requires kept { is_kept (tree_of tree.old.block_indexes) spot.header.prev ≡ true }
+    ensures same { tree.new.block_indexes ≡ tree.old.block_indexes }
     ensures undos { tree.new.undos ≡ tree.old.undos }
-    ensures tree { IsTree tree.new.nodes }
+    ensures tree { IsTree tree.new.block_indexes }
     ensures items { active.new.items ≡ active.old.items }
     ensures fork { IfOk result
-        (λ plan. IsFork (tree_of tree.new.nodes) spot.header.prev plan.fork) }
+        (λ plan. IsFork (tree_of tree.new.block_indexes) spot.header.prev plan.fork) }
     ensures branch { IfOk result
         (λ plan. plan.branch.items
         ≡ map (λ step. step.place)
-        (drop plan.fork (climb (tree_of tree.new.nodes) spot.header.prev))) }
+        (drop plan.fork (climb (tree_of tree.new.block_indexes) spot.header.prev))) }
     ensures change { IfOk result
-        (λ plan. plan.change ≡ change_at (tree_of tree.new.nodes) spot.header plan.fork) }
+        (λ plan. plan.change ≡ change_at (tree_of tree.new.block_indexes) spot.header plan.fork) }
     ensures room { OnOk result (0 < tree.new.room) }
     ensures places { IfOk result
         (λ plan. vec_len active.new + (vec_len plan.branch + 1) ≤ vec_capacity active.new) }
@@ -157,52 +158,57 @@ fn planned(
 
 /// Adds a block whose path can't be connected, and marks bad the first block that can't and all
 /// kept blocks above it. If the reason was `Fault::Memory`, nothing changes.
-fn mark_stop(tree: &mut Tree, node: BareNode, stop: Stop)
+fn mark_stop(tree: &mut Tree, block_index: BareIndex, stop: Stop)
     requires room { 0 < tree.old.room }
-    requires node { IsNode (node_of node false) (tree_of tree.old.nodes) }
+    requires block_index { IsIndex (index_of block_index false) (tree_of tree.old.block_indexes) }
     requires place { (stop.fault ≡ Memory)
-        ⊎ ((0 < stop.place) × IsSome (block_at (tree.old.nodes ++ node_of node false ∷ []) stop.place)) }
-    ensures { ((stop.fault ≡ Memory) × (tree.new.nodes ≡ tree.old.nodes)
+        ⊎ ((0 < stop.place)
+        × IsSome
+        (block_at (tree.old.block_indexes ++ index_of block_index false ∷ []) stop.place)) }
+    ensures { ((stop.fault ≡ Memory) × (tree.new.block_indexes ≡ tree.old.block_indexes)
         × (tree.new.undos ≡ tree.old.undos))
         ⊎ ((stop.fault ≢ Memory) × (tree.new.undos ≡ tree.old.undos ++ None ∷ [])
-        × ((first : Node) → slice_get (tree.old.nodes ++ node_of node false ∷ []) stop.place ≡ Some first
-        → tree_of tree.new.nodes
-        ≡ marked_above first.hash (tree_of (tree.old.nodes ++ node_of node false ∷ [])))) }
+        × ((first : BlockIndex)
+        → slice_get (tree.old.block_indexes ++ index_of block_index false ∷ []) stop.place
+        ≡ Some first
+        → tree_of tree.new.block_indexes
+        ≡ marked_above first.hash
+        (tree_of (tree.old.block_indexes ++ index_of block_index false ∷ [])))) }
 {
     if stop.fault == Fault::Memory {
         return;
     }
-    tree.add(node, false, None);
+    tree.add(block_index, false, None);
     tree.mark_above(stop.place);
 }
 
 /// Reorganises the chain to a branch that was tried and a block on top of it. Fails only with
-/// `Fault::Memory`; the active chain, the ledger and `side` are then unchanged. After it, `side` is
-/// the branch that was tried last, adapted to the new ledger, or, if there was none, the branch of
-/// the old tip. If memory doesn't suffice for that, it is none.
+/// `Fault::Memory`; the active chain, the ledger and `side_branch` are then unchanged. After it,
+/// `side_branch` is the branch that was tried last, adapted to the new ledger, or, if there was
+/// none, the branch of the old tip. If memory doesn't suffice for that, it is none.
 fn switch(
     alloc: Global,
     tree: &Tree,
     active: &mut Vec<usize>,
     ledger: &mut Ledger,
-    side: &mut Option<Side>,
+    side_branch: &mut Option<SideBranch>,
     spot: Spot,
-    tried: Side,
+    tried: SideBranch,
 ) -> Result<Change, Fault>
-    requires tree { IsTree tree.now.nodes }
-    requires active { active.old.items ≡ active_places (tree_of tree.now.nodes) }
-    requires spot { IsSpot spot spot.header (tree_of tree.now.nodes) }
-    requires kept { is_kept (tree_of tree.now.nodes) spot.header.prev ≡ true }
+    requires tree { IsTree tree.now.block_indexes }
+    requires active { active.old.items ≡ active_places (tree_of tree.now.block_indexes) }
+    requires spot { IsSpot spot spot.header (tree_of tree.now.block_indexes) }
+    requires kept { is_kept (tree_of tree.now.block_indexes) spot.header.prev ≡ true }
     ensures moved { IfOk result
-        (λ change. Moved (tree_of tree.now.nodes) spot.header active.old.items
-        (length tree.now.nodes) active.new.items change) }
+        (λ change. Moved (tree_of tree.now.block_indexes) spot.header active.old.items
+        (length tree.now.block_indexes) active.new.items change) }
     ensures ledger { OnOk result (ledger.new.unspent ≡ changed ledger.old.unspent tried.overlay) }
-    ensures side { OnOk result
-        (IfSome side.new
-        (RestsOn active.old.items ledger.old.unspent ledger.new.unspent side.old)) }
+    ensures side_branch { OnOk result
+        (IfSome side_branch.new
+        (RestsOn active.old.items ledger.old.unspent ledger.new.unspent side_branch.old)) }
     ensures same { OnErr result
         ((active.new.items ≡ active.old.items) × (ledger.new.unspent ≡ ledger.old.unspent)
-        × (side.new ≡ side.old)) }
+        × (side_branch.new ≡ side_branch.old)) }
     ensures memory { IsOkUnless result Memory }
 {
     let mut back = tried.into_changes(alloc)?;
@@ -215,9 +221,9 @@ fn switch(
     active.reserve(branch.len() + 1)?;
     ledger.exchange(&mut back);
     let tip = active[active.len() - 1];
-    let fresh = Side::at(alloc, ledger.seed(), tip);
-    let last = side.take().unwrap_or(fresh);
-    *side = rest_on(Some(last), &back);
+    let fresh = SideBranch::at(alloc, ledger.seed(), tip);
+    let last = side_branch.take().unwrap_or(fresh);
+    *side_branch = rest_on(Some(last), &back);
     put_on(active, fork, branch, tree.len());
     Ok(change)
 }
@@ -250,14 +256,15 @@ impl Chain {
             Ok(undo) => undo,
             Err(fault) => {
                 let stop = Stop { place: last, fault };
-                mark_stop(&mut self.tree, spot.node(Some(kept)), stop);
+                mark_stop(&mut self.tree, spot.block_index(Some(kept)), stop);
                 return Err(fault);
             }
         };
-        let side = not_far_below(&self.tree, self.side.take(), spot.height);
-        self.side = rest_on(side, &undo);
+        let side_branch = not_far_below(&self.tree, self.side_branch.take(), spot.height);
+        self.side_branch = rest_on(side_branch, &undo);
         put_on(&mut self.active, fork, branch, last);
-        self.tree.add(spot.node(Some(kept)), false, Some(undo));
+        self.tree
+            .add(spot.block_index(Some(kept)), false, Some(undo));
         Ok(change)
     }
 
@@ -280,20 +287,26 @@ impl Chain {
         self.tree.reserve(1)?;
         let tip = self.active[self.active.len() - 1];
         let seed = self.ledger.seed();
-        let mut side = starts_from(
+        let mut side_branch = starts_from(
             self.alloc,
             seed,
             &self.tree,
             tip,
-            &mut self.side,
+            &mut self.side_branch,
             spot.parent,
         );
-        let tried = side.try_on(self.alloc, &self.ledger, &mut self.tree, spot.parent, &kept);
+        let tried = side_branch.try_on(
+            self.alloc,
+            &self.ledger,
+            &mut self.tree,
+            spot.parent,
+            &kept,
+        );
         let undo = match tried {
             Ok(undo) => undo,
             Err(stop) => {
-                keep_side(&mut self.side, side);
-                mark_stop(&mut self.tree, spot.node(Some(kept)), stop);
+                keep_side_branch(&mut self.side_branch, side_branch);
+                mark_stop(&mut self.tree, spot.block_index(Some(kept)), stop);
                 return Err(stop.fault);
             }
         };
@@ -302,11 +315,12 @@ impl Chain {
             &self.tree,
             &mut self.active,
             &mut self.ledger,
-            &mut self.side,
+            &mut self.side_branch,
             spot,
-            side,
+            side_branch,
         )?;
-        self.tree.add(spot.node(Some(kept)), false, Some(undo));
+        self.tree
+            .add(spot.block_index(Some(kept)), false, Some(undo));
         Ok(change)
     }
 

@@ -1,15 +1,13 @@
 ghost use Rattle.std.specs.Prelude.{◌≡◌, ◌+◌, ℕ, Bool, false, ◌<◌, ◌≤◌, [], ◌∷◌, ◌++◌, length, set, slice_get, vec_len, vec_capacity, List, None, Some, option_map, option_copied, IfOk, IfSome, IsOk, IsOkUnless, IsSome, OnOk};
-ghost use Rattle.std.specs.HashMap.{spare};
-ghost use Rattle.std.specs.Map.{lookup};
 ghost use Rattle.cb_base.specs.declared.fault.Fault.TheVariants.{Memory};
 ghost use Rattle.cb_chain.specs.Calls.{marked_above};
-ghost use Rattle.cb_chain.specs.Entries.{entry_of, height_of, same};
-ghost use Rattle.cb_chain.specs.Keeping.{AreLinked, AreLinks, IsFirst, IsMarked, IsNode, IsTree, block_at, entry_from, marked_nodes, place_of, tree_of};
-ghost use Rattle.cb_chain.specs.Sides.{record_at};
-ghost use Rattle.cb_chain.specs.Marking.{Node, mark_at, marks_of, node_of};
+ghost use Rattle.cb_chain.specs.Entries.{entry_of, height_of};
+ghost use Rattle.cb_chain.specs.Keeping.{AreLinked, AreLinks, IsFirst, IsMarked, IsIndex, IsTree, block_at, entry_from, marked_indexes, place_of, tree_of};
+ghost use Rattle.cb_chain.specs.SideBranches.{record_at};
+ghost use Rattle.cb_chain.specs.Marking.{BlockIndex, mark_at, marks_of, index_of};
 
-use crate::node::{BareNode, Kept};
-use crate::node_list::NodeList;
+use crate::block_index::{BareIndex, Kept};
+use crate::index_list::IndexList;
 use cb_base::{Fault, Hash256, Seed};
 use cb_block::genesis;
 use cb_ledger::Undo;
@@ -18,25 +16,26 @@ use std::collections::HashMap;
 use std::marker::Model;
 
 /// The headers and blocks in the order in which they were added, so a header comes before its
-/// children. Contracts see the list of the nodes, the undo records at their places, and for how
-/// many more nodes there is room.
+/// children. Contracts see the list of the block indexes, the undo records at their places, and for
+/// how many more block indexes there is room.
 #[derive(Drop)]
 pub(crate) struct Tree {
     alloc: Global,
-    // The nodes without their marks. Copies share them.
-    nodes: NodeList,
-    // For each node, whether it is marked bad.
+    // The block indexes without their marks. Copies share them.
+    block_indexes: IndexList,
+    // For each block index, whether it is marked bad.
     marks: Vec<bool>,
-    // The place of each hash's newest node.
+    // The place of each hash's newest block index.
     places: HashMap<Hash256, usize, Seed>,
-    // For each node, the place of the newest kept block on top of it, or 0 if there is none.
+    // For each block index, the place of the newest kept block on top of it, or 0 if there is none.
     newest: Vec<usize>,
     // For each kept block, the place of the one before it on the same parent, or 0 if there is
     // none.
     elder: Vec<usize>,
     // The undo record of each block that was connected once, at the block's place.
     undos: Vec<Option<Undo>>,
-    // The places that were marked last. It has room for all nodes, so that marking needs no memory.
+    // The places that were marked last. It has room for all block indexes, so that marking needs no
+    // memory.
     found: Vec<usize>,
 }
 
@@ -49,26 +48,34 @@ impl Model for Tree {
     ghost Value = { Grown };
 
     ghost view = { λ tree. record {
-      nodes = with_marks tree.nodes.nodes tree.marks.items;
+      block_indexes = with_marks tree.block_indexes.block_indexes tree.marks.items;
       undos = tree.undos.items;
-      room = min (min (spare tree.places) (min tree.nodes.room (vec_capacity tree.marks - vec_len tree.marks)))
-          (min (min (vec_capacity tree.newest - vec_len tree.newest) (vec_capacity tree.elder - vec_len tree.elder))
-          (min (vec_capacity tree.undos - vec_len tree.undos) (vec_capacity tree.found - vec_len tree.marks)));
+      room = min
+          (min (spare tree.places)
+          (min tree.block_indexes.room (vec_capacity tree.marks - vec_len tree.marks)))
+          (min
+          (min (vec_capacity tree.newest - vec_len tree.newest)
+          (vec_capacity tree.elder - vec_len tree.elder))
+          (min (vec_capacity tree.undos - vec_len tree.undos)
+          (vec_capacity tree.found - vec_len tree.marks)));
     } };
 
-    ghost invariant = { λ tree. IsPlaced (with_marks tree.nodes.nodes tree.marks.items) tree.places.entries
-        × AreLinks (with_marks tree.nodes.nodes tree.marks.items) tree.newest.items tree.elder.items
-        × (vec_len tree.marks ≤ vec_capacity tree.found) × (length tree.nodes.nodes ≡ vec_len tree.marks) };
+    ghost invariant = { λ tree. IsPlaced
+        (with_marks tree.block_indexes.block_indexes tree.marks.items) tree.places.entries
+        × AreLinks (with_marks tree.block_indexes.block_indexes tree.marks.items) tree.newest.items
+        tree.elder.items
+        × (vec_len tree.marks ≤ vec_capacity tree.found)
+        × (length tree.block_indexes.block_indexes ≡ vec_len tree.marks) };
 }
 
-/// The node of the genesis block.
-fn first_node(alloc: Global) -> Result<BareNode, Fault>
-    ensures first { IfOk result (λ node. IsFirst (node_of node false)) }
+/// The block index of the genesis block.
+fn first_index(alloc: Global) -> Result<BareIndex, Fault>
+    ensures first { IfOk result (λ block_index. IsFirst (index_of block_index false)) }
     ensures memory { IsOkUnless result Memory }
 {
     let block = genesis(alloc)?;
     let header = block.block().header;
-    Ok(BareNode {
+    Ok(BareIndex {
         header,
         hash: header.hash(),
         height: 0,
@@ -81,9 +88,9 @@ impl Tree {
     /// The tree of the genesis block alone. Its table has this seed. Fails only with
     /// `Fault::Memory`.
     pub(crate) fn new(alloc: Global, seed: Seed) -> Result<Tree, Fault>
-        ensures nodes { IfOk result (λ tree. tree_of tree.nodes ≡ []) }
+        ensures block_indexes { IfOk result (λ tree. tree_of tree.block_indexes ≡ []) }
         ensures undos { IfOk result (λ tree. tree.undos ≡ None ∷ []) }
-        ensures tree { IfOk result (λ tree. IsTree tree.nodes) }
+        ensures tree { IfOk result (λ tree. IsTree tree.block_indexes) }
         ensures memory { IsOkUnless result Memory }
     {
         let mut newest = Vec::with_capacity(alloc, 1)?;
@@ -95,14 +102,14 @@ impl Tree {
         undos.push(None)?;
         let mut marks = Vec::with_capacity(alloc, 1)?;
         marks.push(false)?;
-        let mut nodes = NodeList::new(alloc)?;
-        let first = first_node(alloc)?;
+        let mut block_indexes = IndexList::new(alloc)?;
+        let first = first_index(alloc)?;
         let mut places = HashMap::with_hasher(alloc, seed);
         places.insert(first.hash, 0)?;
-        nodes.push(first);
+        block_indexes.push(first);
         Ok(Tree {
             alloc,
-            nodes,
+            block_indexes,
             marks,
             places,
             newest,
@@ -112,49 +119,49 @@ impl Tree {
         })
     }
 
-    /// The number of nodes.
+    /// The number of block indexes.
     pub(crate) fn len(&self) -> usize
-        ensures { result ≡ length self.now.nodes }
+        ensures { result ≡ length self.now.block_indexes }
     {
         self.marks.len()
     }
 
-    /// The place of the newest node with this hash.
+    /// The place of the newest block index with this hash.
     pub(crate) fn place(&self, hash: &Hash256) -> Option<usize>
-        ensures place { result ≡ place_of (tree_of self.now.nodes) hash.now }
-        ensures within { IfSome result (λ place. place < length self.now.nodes) }
-        ensures tree { IsTree self.now.nodes }
+        ensures place { result ≡ place_of (tree_of self.now.block_indexes) hash.now }
+        ensures within { IfSome result (λ place. place < length self.now.block_indexes) }
+        ensures tree { IsTree self.now.block_indexes }
     {
         self.places.get(hash).copied()
     }
 
-    /// The node at a place.
-    pub(crate) fn node(&self, place: usize) -> &BareNode
-        requires { IsTree self.now.nodes → place < length self.now.nodes }
-        ensures node { slice_get self.now.nodes place
-            ≡ Some (node_of result.now (mark_at self.now.nodes place)) }
-        ensures tree { IsTree self.now.nodes }
+    /// The block index at a place.
+    pub(crate) fn block_index(&self, place: usize) -> &BareIndex
+        requires { IsTree self.now.block_indexes → place < length self.now.block_indexes }
+        ensures block_index { slice_get self.now.block_indexes place
+            ≡ Some (index_of result.now (mark_at self.now.block_indexes place)) }
+        ensures tree { IsTree self.now.block_indexes }
     {
-        self.nodes.get(place)
+        self.block_indexes.get(place)
     }
 
-    /// Whether the node at a place is marked bad.
+    /// Whether the block index at a place is marked bad.
     pub(crate) fn is_bad(&self, place: usize) -> bool
-        requires { IsTree self.now.nodes → place < length self.now.nodes }
-        ensures { result ≡ mark_at self.now.nodes place }
+        requires { IsTree self.now.block_indexes → place < length self.now.block_indexes }
+        ensures { result ≡ mark_at self.now.block_indexes place }
     {
         self.marks[place]
     }
 
-    /// The newest node with this hash, and whether it is marked bad.
-    pub(crate) fn find(&self, hash: &Hash256) -> Option<(&BareNode, bool)>
-        ensures entry { entry_of (tree_of self.now.nodes) hash.now
-            ≡ option_map (λ found. entry_from (node_of found.0.now found.1)) result }
-        ensures height { height_of (tree_of self.now.nodes) hash.now
+    /// The newest block index with this hash, and whether it is marked bad.
+    pub(crate) fn find(&self, hash: &Hash256) -> Option<(&BareIndex, bool)>
+        ensures entry { entry_of (tree_of self.now.block_indexes) hash.now
+            ≡ option_map (λ found. entry_from (index_of found.0.now found.1)) result }
+        ensures height { height_of (tree_of self.now.block_indexes) hash.now
             ≡ option_map (λ found. found.0.now.height) result }
     {
         match self.place(hash) {
-            Some(place) => Some((self.node(place), self.is_bad(place))),
+            Some(place) => Some((self.block_index(place), self.is_bad(place))),
             None => None,
         }
     }
@@ -172,62 +179,65 @@ impl Tree {
     /// Stores the undo record of the block at a place.
     pub(crate) fn note(&mut self, place: usize, undo: Undo)
         requires { place < length self.old.undos }
-        ensures nodes { self.new.nodes ≡ self.old.nodes }
+        ensures block_indexes { self.new.block_indexes ≡ self.old.block_indexes }
         ensures undos { self.new.undos ≡ set self.old.undos place (Some undo) }
         ensures room { self.new.room ≡ self.old.room }
     {
         self.undos[place] = Some(undo);
     }
 
-    /// Reserves room for `count` more nodes. Fails only with `Fault::Memory`; the nodes and records
-    /// are unchanged in every case.
+    /// Reserves room for `count` more block indexes. Fails only with `Fault::Memory`; the block
+    /// indexes and records are unchanged in every case.
     pub(crate) fn reserve(&mut self, count: usize) -> Result<(), Fault>
-        ensures same { self.new.nodes ≡ self.old.nodes }
+        ensures same { self.new.block_indexes ≡ self.old.block_indexes }
         ensures undos { self.new.undos ≡ self.old.undos }
-        ensures tree { IsTree self.new.nodes }
+        ensures tree { IsTree self.new.block_indexes }
         ensures room { OnOk result (count ≤ self.new.room) }
         ensures memory { IsOkUnless result Memory }
     {
-        reserve_lists(
-            &mut self.marks,
-            &mut self.newest,
-            &mut self.elder,
-            &mut self.undos,
-            &mut self.found,
-            count,
-        )?;
-        reserve_nodes(&mut self.nodes, &mut self.places, count)
+        self.marks.reserve(count)?;
+        self.block_indexes.reserve(count)?;
+        self.newest.reserve(count)?;
+        self.elder.reserve(count)?;
+        self.undos.reserve(count)?;
+        self.found.reserve(self.marks.len() + count)?;
+        self.places.reserve(count)?;
+        Ok(())
     }
 
-    /// Adds a node with its mark, and with its undo record if its block is connected. There must be
-    /// room for it.
-    pub(crate) fn add(&mut self, node: BareNode, marked: bool, undo: Option<Undo>)
+    /// Adds a block index with its mark, and with its undo record if its block is connected. There
+    /// must be room for it.
+    pub(crate) fn add(&mut self, block_index: BareIndex, marked: bool, undo: Option<Undo>)
         requires room { 0 < self.old.room }
-        requires node { IsNode (node_of node marked) (tree_of self.old.nodes) }
-        ensures nodes { self.new.nodes ≡ self.old.nodes ++ node_of node marked ∷ [] }
+        requires block_index { IsIndex (index_of block_index marked)
+            (tree_of self.old.block_indexes) }
+        ensures block_indexes { self.new.block_indexes
+            ≡ self.old.block_indexes ++ index_of block_index marked ∷ [] }
         ensures undos { self.new.undos ≡ self.old.undos ++ undo ∷ [] }
         ensures room { self.old.room ≤ self.new.room + 1 }
     {
         let place = self.marks.len();
-        let elder = put_above(self.newest.as_mut_slice(), &node, place);
+        let elder = put_above(self.newest.as_mut_slice(), &block_index, place);
         self.newest.push(0).unwrap();
         self.elder.push(elder).unwrap();
         self.undos.push(undo).unwrap();
-        let noted: Result<_, _> = self.places.insert(node.hash, place);
+        let noted: Result<_, _> = self.places.insert(block_index.hash, place);
         noted.unwrap();
         self.marks.push(marked).unwrap();
-        self.nodes.push(node);
+        self.block_indexes.push(block_index);
     }
 
     /// Marks the block at a place and all kept blocks above it as bad.
     pub(crate) fn mark_above(&mut self, first: usize)
         requires above { 0 < first }
-        requires kept { IsSome (block_at self.old.nodes first) }
-        ensures marks { (node : Node) → slice_get self.old.nodes first ≡ Some node
-            → tree_of self.new.nodes ≡ marked_above node.hash (tree_of self.old.nodes) }
-        ensures len { length self.new.nodes ≡ length self.old.nodes }
+        requires kept { IsSome (block_at self.old.block_indexes first) }
+        ensures marks { (block_index : BlockIndex)
+            → slice_get self.old.block_indexes first ≡ Some block_index
+            → tree_of self.new.block_indexes
+            ≡ marked_above block_index.hash (tree_of self.old.block_indexes) }
+        ensures len { length self.new.block_indexes ≡ length self.old.block_indexes }
         ensures undos { self.new.undos ≡ self.old.undos }
-        ensures tree { IsTree self.new.nodes }
+        ensures tree { IsTree self.new.block_indexes }
     {
         mark_from(
             self.marks.as_mut_slice(),
@@ -238,9 +248,10 @@ impl Tree {
         );
     }
 
-    /// An equal tree, which shares the full chunks of its nodes. Fails only with `Fault::Memory`.
+    /// An equal tree, which shares the full chunks of its block indexes. Fails only with
+    /// `Fault::Memory`.
     pub(crate) fn copy(&self) -> Result<Tree, Fault>
-        ensures same { IfOk result (λ copy. copy.nodes ≡ self.now.nodes) }
+        ensures same { IfOk result (λ copy. copy.block_indexes ≡ self.now.block_indexes) }
         ensures undos { IfOk result (λ copy. copy.undos ≡ self.now.undos) }
         ensures memory { IsOkUnless result Memory }
     {
@@ -249,11 +260,11 @@ impl Tree {
         let found = Vec::with_capacity(self.alloc, self.marks.len())?;
         let undos = copy_undos(self.alloc, self.undos.as_slice())?;
         let marks = Vec::from_slice(self.alloc, self.marks.as_slice())?;
-        let nodes = self.nodes.copy()?;
+        let block_indexes = self.block_indexes.copy()?;
         let places = self.places.clone()?;
         Ok(Tree {
             alloc: self.alloc,
-            nodes,
+            block_indexes,
             marks,
             places,
             newest,
@@ -264,70 +275,23 @@ impl Tree {
     }
 }
 
-/// Reserves room for `count` more items in each of a tree's lists, and for the places of all its
-/// nodes in `found`. Fails only with `Fault::Memory`; the items are unchanged in every case.
-fn reserve_lists(
-    marks: &mut Vec<bool>,
-    newest: &mut Vec<usize>,
-    elder: &mut Vec<usize>,
-    undos: &mut Vec<Option<Undo>>,
-    found: &mut Vec<usize>,
-    count: usize,
-) -> Result<(), Fault>
-    ensures marks { marks.new.items ≡ marks.old.items }
-    ensures newest { newest.new.items ≡ newest.old.items }
-    ensures elder { elder.new.items ≡ elder.old.items }
-    ensures undos { undos.new.items ≡ undos.old.items }
-    ensures found { vec_capacity found.old ≤ vec_capacity found.new }
-    ensures marks_room { OnOk result (vec_len marks.new + count ≤ vec_capacity marks.new) }
-    ensures newest_room { OnOk result (vec_len newest.new + count ≤ vec_capacity newest.new) }
-    ensures elder_room { OnOk result (vec_len elder.new + count ≤ vec_capacity elder.new) }
-    ensures undos_room { OnOk result (vec_len undos.new + count ≤ vec_capacity undos.new) }
-    ensures found_room { OnOk result (vec_len marks.new + count ≤ vec_capacity found.new) }
-    ensures memory { IsOkUnless result Memory }
-{
-    marks.reserve(count)?;
-    newest.reserve(count)?;
-    elder.reserve(count)?;
-    undos.reserve(count)?;
-    found.reserve(marks.len() + count)?;
-    Ok(())
-}
-
-/// Reserves room for `count` more nodes and their places. Fails only with `Fault::Memory`; both are
-/// unchanged in every case.
-fn reserve_nodes(
-    nodes: &mut NodeList,
-    places: &mut HashMap<Hash256, usize, Seed>,
-    count: usize,
-) -> Result<(), Fault>
-    ensures nodes { nodes.new.nodes ≡ nodes.old.nodes }
-    ensures places { (hash : Hash256) → lookup (same hash) places.new.entries ≡ lookup (same hash) places.old.entries }
-    ensures nodes_room { OnOk result (count ≤ nodes.new.room) }
-    ensures places_room { OnOk result (count ≤ spare places.new) }
-    ensures memory { IsOkUnless result Memory }
-{
-    nodes.reserve(count)?;
-    places.reserve(count)?;
-    Ok(())
-}
-
-/// If the node's block is kept, makes it the newest on its parent. Returns the place of the one
-/// that was the newest before, or 0.
-fn put_above(newest: &mut [usize], node: &BareNode, place: usize) -> usize
-    requires { node.now.parent < length newest.old }
+/// If the block index's block is kept, makes it the newest on its parent. Returns the place of the
+/// one that was the newest before, or 0.
+fn put_above(newest: &mut [usize], block_index: &BareIndex, place: usize) -> usize
+    requires { block_index.now.parent < length newest.old }
     ensures len { length newest.new ≡ length newest.old }
-    ensures links { (nodes : List Node) (elder : List ℕ) (marked : Bool) → place ≡ length nodes →
-        IsTree nodes → IsNode (node_of node.now marked) (tree_of nodes) →
-        AreLinks nodes newest.old elder
-        → AreLinks (nodes ++ node_of node.now marked ∷ []) (newest.new ++ 0 ∷ [])
+    ensures links { (block_indexes : List BlockIndex) (elder : List ℕ) (marked : Bool)
+        → place ≡ length block_indexes →
+        IsTree block_indexes → IsIndex (index_of block_index.now marked) (tree_of block_indexes) →
+        AreLinks block_indexes newest.old elder
+        → AreLinks (block_indexes ++ index_of block_index.now marked ∷ []) (newest.new ++ 0 ∷ [])
         (elder ++ result ∷ []) }
 {
-    if node.kept.is_none() {
+    if block_index.kept.is_none() {
         return 0;
     }
-    let elder = newest[node.parent];
-    newest[node.parent] = place;
+    let elder = newest[block_index.parent];
+    newest[block_index.parent] = place;
     elder
 }
 
@@ -347,7 +311,7 @@ fn push_linked(found: &mut Vec<usize>, elder: &[usize], newest: usize)
 }
 
 /// Marks the block at a place and all kept blocks above it as bad, and leaves their places in
-/// `found`. There must be room for all nodes.
+/// `found`. There must be room for all block indexes.
 fn mark_from(
     marks: &mut [bool],
     newest: &[usize],
@@ -355,13 +319,15 @@ fn mark_from(
     found: &mut Vec<usize>,
     first: usize,
 )
-    requires tree { (nodes : List Node) × IsMarked nodes marks.old newest.now elder.now first }
+    requires tree { (block_indexes : List BlockIndex)
+        × IsMarked block_indexes marks.old newest.now elder.now first }
     requires above { 0 < first }
     requires room { length marks.old ≤ vec_capacity found.old }
     ensures len { length marks.new ≡ length marks.old }
-    ensures marks { (nodes : List Node) (node : Node) →
-        IsMarked nodes marks.old newest.now elder.now first → slice_get nodes first ≡ Some node
-        → marks.new ≡ marks_of (marked_nodes node.hash nodes) }
+    ensures marks { (block_indexes : List BlockIndex) (block_index : BlockIndex) →
+        IsMarked block_indexes marks.old newest.now elder.now first
+        → slice_get block_indexes first ≡ Some block_index
+        → marks.new ≡ marks_of (marked_indexes block_index.hash block_indexes) }
     ensures room { vec_capacity found.old ≤ vec_capacity found.new }
 {
     found.clear();

@@ -8,8 +8,8 @@ use Rattle.cb_run.specs.declared.ending.Status.{Status}
 use Rattle.cb_run.specs.declared.ending.Halt.{Halt}
 use Rattle.cb_run.specs.declared.ending.Halt.TheVariants.{Memory, ReadFailed, TooManyLines, WriteFailed}
 use Rattle.cb_run.specs.Ending.{HasCause, halt_status, status_code}
-use Rattle.cb_decode.specs.Report.{ReportsKnown}
-use Rattle.cb_run_nodes.specs.declared.running.RunOrders.{RunOrders}
+use Rattle.cb_run.specs.Report.{ReportsKnown}
+use Rattle.cb_driver.specs.declared.running.RunOrders.{RunOrders}
 use Rattle.cb_command.specs.Command.{EndsEarly, EndsNode, Halts, HasNodeCause, PrintsReport, code_of}
 use Rattle.cb_command.specs.Words.{AreWithin, ByTask, entered, program, task_in, task_named}
 use Rattle.cb_command.specs.declared.commanding.Task.{Task}

@@ -2,10 +2,10 @@
 use Rattle.std.proofs.Common.{◌≡◌, ℕ, Bool, true, false, List, [], ◌++◌, ◌⊎◌, Option, Result, MatchResult, sym, subst, inl, inr}
 use Rattle.std.proofs.lemmas.List.{append-nil}
 use Rattle.std.specs.Io.KnownBytes.{Appends}
-use Rattle.cb_io.proofs.Known.{Appends-then}
+use Rattle.cb_base.proofs.Known.{Appends-then}
 use Rattle.cb_peer_state.specs.declared.state.CloseReason.{CloseReason}
 use Rattle.cb_run.specs.declared.ending.Status.{Status}
-use Rattle.cb_run.specs.declared.ending.Status.TheVariants.{BadInput}
+use Rattle.cb_run.specs.declared.ending.Status.TheVariants.{RunFailed}
 use Rattle.cb_run.specs.declared.ending.Halt.{Halt}
 use Rattle.cb_run.specs.declared.ending.Halt.TheVariants.{ReadFailed, WriteFailed}
 use Rattle.cb_run.specs.Ending.{status_code}
@@ -18,8 +18,8 @@ Settles Same mid tells failed code ended = MatchResult ended (λ c. (code ≡ c)
 
 -- an early end's line, behind the reason's
 told_early : (told mid tells : Option (List ℕ)) (failed : Bool) (reason : CloseReason) (halt : Halt) (code : ℕ)
-    → Appends told mid (closed_text reason) → EndsEarly mid tells failed code halt → code ≡ status_code BadInput
-    → (Appends told tells (closed_text reason ++ end_line halt) × (code ≡ status_code BadInput)) ⊎ ((failed ≡ true) × (code ≡ status_code BadInput))
+    → Appends told mid (closed_text reason) → EndsEarly mid tells failed code halt → code ≡ status_code RunFailed
+    → (Appends told tells (closed_text reason ++ end_line halt) × (code ≡ status_code RunFailed)) ⊎ ((failed ≡ true) × (code ≡ status_code RunFailed))
 told_early told mid tells failed reason halt code a ends c =
     elim ends.0 [
       | inl line ↦ inl (Appends-then told mid tells (closed_text reason) (end_line halt) a line, c)

@@ -4,7 +4,7 @@ use Rattle.std.specs.Str.{bytes_eq}
 use Rattle.clap.specs.Words.{App, Rule, fault_of, new_app, new_rule, subcommand_of, takes, with_rule, with_subcommand}
 use Rattle.clap.specs.declared.builder.action.ArgAction.TheVariants.{SetTrue}
 use Rattle.clap.specs.declared.builder.value_parser.ValueParser.TheVariants as parsers
-use Rattle.cb_run_nodes.specs.declared.running.RunOrders.{RunOrders}
+use Rattle.cb_driver.specs.declared.running.RunOrders.{RunOrders}
 use Rattle.cb_command.specs.declared.commanding.Task.{Task}
 use Rattle.cb_command.specs.declared.commanding.Task.TheVariants.{Decode, Serve, Sim, Run, Node}
 use Rattle.cb_command.specs.declared.node_words.BadWords.{BadWords}
@@ -17,7 +17,12 @@ with_version a = record a { top = record a.top { has_version = true } }
 
 -- An option of this name that must be there, with a number from 1 to the most.
 abbrev pub sized : List ℕ → ℕ → Rule
-sized name most = record (new_rule name) { long = Some name; value_names = 1; parser = Some (parsers.Signed (pos 1) (pos most)); required = true }
+sized name most = record (new_rule name) {
+  long = Some name;
+  value_names = 1;
+  parser = Some (parsers.Signed (pos 1) (pos most));
+  required = true;
+}
 
 -- A flag of this name.
 abbrev pub flag : List ℕ → Rule
@@ -25,11 +30,20 @@ flag name = record (new_rule name) { long = Some name; action = Some SetTrue }
 
 -- The command `run`: how many nodes there are, and how many handler threads each has.
 abbrev pub run_line : App
-run_line = with_rule (with_rule (with_rule (new_app (codes "run")) (sized (codes "nodes") 8)) (sized (codes "handlers") 16)) (flag (codes "stats"))
+run_line =
+    with_rule
+    (with_rule (with_rule (new_app (codes "run")) (sized (codes "nodes") 8))
+    (sized (codes "handlers") 16))
+    (flag (codes "stats"))
 
 -- The command line's version, and the three commands without arguments.
 abbrev pub plain_program : App
-plain_program = with_subcommand (with_subcommand (with_subcommand (with_version (new_app (codes "cbrelay"))) (new_app (codes "decode")).top) (new_app (codes "serve")).top) (new_app (codes "sim")).top
+plain_program =
+    with_subcommand
+    (with_subcommand
+    (with_subcommand (with_version (new_app (codes "cbrelay"))) (new_app (codes "decode")).top)
+    (new_app (codes "serve")).top)
+    (new_app (codes "sim")).top
 
 -- The same with `run` too.
 abbrev pub scripted_program : App
@@ -45,7 +59,9 @@ entered words = option_map (λ found. found.0) (subcommand_of program words)
 
 -- There are 1 to 8 nodes with 1 to 16 handlers each.
 abbrev pub AreWithin : RunOrders → Type 0
-AreWithin orders = ((1 ≤ orders.sizes.nodes) × (orders.sizes.nodes ≤ 8)) × ((1 ≤ orders.sizes.handlers) × (orders.sizes.handlers ≤ 16))
+AreWithin orders =
+    ((1 ≤ orders.sizes.nodes) × (orders.sizes.nodes ≤ 8))
+    × ((1 ≤ orders.sizes.handlers) × (orders.sizes.handlers ≤ 16))
 
 -- The same of a task's orders, if it has any.
 abbrev pub IsWithin : Task → Type 0
@@ -57,7 +73,15 @@ IsWithin other = ⊤
 abbrev pub task_named : RunOrders → Result NodeOrders BadWords → Option (List ℕ) → Task
 task_named orders node None = Decode
 task_named orders node (Some name) =
-    if bytes_eq name (codes "serve") then Serve else if bytes_eq name (codes "sim") then Sim else if bytes_eq name (codes "run") then Run orders else if bytes_eq name (codes "node") then Node node else Decode
+    if bytes_eq name (codes "serve")
+    then Serve
+    else if bytes_eq name (codes "sim")
+    then Sim
+    else if bytes_eq name (codes "run")
+    then Run orders
+    else if bytes_eq name (codes "node")
+    then Node node
+    else Decode
 
 -- The task that the words ask for, with these orders for `run` and for `node`.
 abbrev pub task_in : RunOrders → Result NodeOrders BadWords → List (List ℕ) → Task

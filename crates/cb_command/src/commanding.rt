@@ -9,13 +9,13 @@ ghost use Rattle.cb_run.specs.declared.ending.Status.TheVariants.{Usage};
 ghost use Rattle.cb_command.specs.Command.{PrintsReport, EndsEarly, Halts, Refuses, RunsNode, TellsPeer, code_of, end_line};
 ghost use Rattle.cb_run.specs.Ending.{halt_status};
 ghost use Rattle.cb_command.specs.Peer.{WasServed};
-ghost use Rattle.cb_sim.specs.SimInput.{SimulatesKnown};
+ghost use Rattle.cb_run.specs.SimInput.{SimulatesKnown};
 ghost use Rattle.cb_command.specs.Words.{AreRefused, AreWithin, ByTask, IsWithin, flag, plain_program, program, scripted_program, sized, task_in, task_named};
-ghost use Rattle.cb_run_nodes.specs.Summary.{RunsKnown};
+ghost use Rattle.cb_driver.specs.Summary.{RunsKnown};
 ghost use Rattle.cb_node_process.specs.declared.orders.NodeOrders.{NodeOrders};
 ghost use Rattle.cb_command.specs.NodeWords.{IsNodeOrders, bad_words_text};
 ghost use Rattle.cb_command.specs.declared.node_words.BadWords.{BadWords};
-ghost use Rattle.cb_run_nodes.specs.declared.running.RunOrders.{RunOrders};
+ghost use Rattle.cb_driver.specs.declared.running.RunOrders.{RunOrders};
 ghost use Rattle.clap.specs.Words.{FailsBy, app_of, fault_of, kind_of, rule_of, takes};
 ghost use Rattle.clap.specs.declared.error.kind.ErrorKind.TheVariants.{OutOfMemory};
 
@@ -23,15 +23,12 @@ use crate::node_words::{
     BadWords, NODE_USE, connect_arg, listen_arg, log_arg, node_orders_of, threads_arg, tick_arg,
 };
 use crate::serve::serve_peer;
-use cb_base::{Seed, Shared};
-use cb_decode::decode;
-use cb_io::{Sink, Source};
+use cb_base::{Seed, Shared, Sink, Source};
+use cb_driver::{RunOrders, Sizes, run_nodes};
 use cb_node_process::{NodeOrders, ProcessHost, run_node};
-use cb_outgoing::MessageSink;
 use cb_pipes::Pipes;
-use cb_run::{Halt, Status, write_all};
-use cb_run_nodes::{RunOrders, Sizes, run_nodes};
-use cb_sim::simulate;
+use cb_run::{Halt, Status, decode, simulate, write_all};
+use cb_talk::MessageSink;
 use clap::error::ErrorKind;
 use clap::{Arg, ArgAction, ArgMatches, Command, value_parser};
 use std::alloc::{AllocError, Global};
@@ -64,7 +61,8 @@ Exit status:
   0  all was done
   1  the command line was refused, or help or the version was asked for
   2  sim: an act was refused; run: a node refused what it was given
-  3  the input has a fault, or a read or a write failed; run: also a slot, a socket, a wait or an audit;
+  3  the input has a fault, or a read or a write failed; run: also a slot, a socket, a wait or an \
+    audit;
      node: also an address, a port that is in use, a peer that was never reached, or an audit
   4  memory ran out
 
@@ -97,9 +95,9 @@ Example:
 ///
 /// The first word is the program's name. All input is read from `reader`. Output goes to `writer`.
 /// Messages about the command line, about want of memory, and about a failed read or write, go to
-/// `errors`; `serve` also prints there why its session ended, and `node` why it can't listen. `node`
-/// reads standard input and logs on standard error by `rt`, and looks at `pipes`, which it tells when its end is
-/// asked for. The tables of the halls of `serve`, `run` and `node` have the
+/// `errors`; `serve` also prints there why its session ended, and `node` why it can't listen.
+/// `node` reads standard input and logs on standard error by `rt`, and looks at `pipes`, which it
+/// tells when its end is asked for. The tables of the halls of `serve`, `run` and `node` have the
 /// fixed seed, so that a run takes the same steps each time.
 pub fn command<N: ProcessHost, R: Source, W: MessageSink, E: Sink>(
     rt: N,
@@ -179,7 +177,8 @@ pub fn command<N: ProcessHost, R: Source, W: MessageSink, E: Sink>(
 }
 
 /// As `command`. The tables of the halls of `serve`, `run` and `node` have this seed, which changes
-/// no result. Peers choose the keys of these tables, so a seed that no peer knows keeps a lookup short.
+/// no result. Peers choose the keys of these tables, so a seed that no peer knows keeps a lookup
+/// short.
 pub fn seeded_command<N: ProcessHost, R: Source, W: MessageSink, E: Sink>(
     rt: N,
     alloc: Global,
@@ -316,7 +315,7 @@ fn refuse_words<E: Sink>(bad: BadWords, errors: &mut E) -> Result<u8, Halt>
         return Err(Halt::Memory);
     }
     write_all(errors, bad.message().as_bytes())?;
-    Ok(Status::BadInput.code())
+    Ok(Status::RunFailed.code())
 }
 
 /// Serves a peer, reports on `errors` what failed, and returns the exit status.
@@ -362,7 +361,7 @@ fn settle<E: Sink>(ended: Result<u8, Halt>, errors: &mut E) -> u8
 {
     match ended {
         Ok(code) => code,
-        Err(halt) => tell(halt, errors).code(),
+        Err(halt) => report_halt(halt, errors).code(),
     }
 }
 
@@ -545,7 +544,7 @@ fn refuse<E: Sink>(alloc: Global, error: &clap::Error, errors: &mut E) -> Result
 }
 
 /// Reports on standard error why the run ended early, and returns the status.
-fn tell<E: Sink>(halt: Halt, errors: &mut E) -> Status
+fn report_halt<E: Sink>(halt: Halt, errors: &mut E) -> Status
     ensures told { Appends (E.contents errors.old) (E.contents errors.new) (end_line halt)
         ⊎ (E.has_failed errors.new ≡ true) }
     ensures status { result ≡ halt_status halt }

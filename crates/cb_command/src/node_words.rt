@@ -21,7 +21,8 @@ const TICK: u64 = 100;
 
 /// The text that `node --help` prints below the options.
 pub const NODE_USE: &str = "\
-It prints 'listening ADDR:PORT' once it listens. A connection to a peer that ends is made again after
+It prints 'listening ADDR:PORT' once it listens. A connection to a peer that ends is made again \
+    after
 1, 2, 4, .. 60 seconds. Each line of standard input is answered by a line, or by 'error ..':
 
   tip               the height and the hash of the best chain's tip
@@ -65,10 +66,12 @@ impl BadWords {
     {
         match self {
             BadWords::Listen => {
-                "error: --listen takes ADDR:PORT in numbers alone, as 127.0.0.1:18444 or [::1]:18444; names of hosts aren't looked up\n"
+                "error: --listen takes ADDR:PORT in numbers alone, as 127.0.0.1:18444 or \
+                    [::1]:18444; names of hosts aren't looked up\n"
             }
             BadWords::Connect => {
-                "error: --connect takes ADDR:PORT in numbers alone, as 127.0.0.1:18444 or [::1]:18444; names of hosts aren't looked up\n"
+                "error: --connect takes ADDR:PORT in numbers alone, as 127.0.0.1:18444 or \
+                    [::1]:18444; names of hosts aren't looked up\n"
             }
             BadWords::Log => "error: --log takes off, error, warn, info, debug or trace\n",
             BadWords::Memory => "",
@@ -120,7 +123,8 @@ pub fn tick_arg<'a>(alloc: Global) -> Arg<'a>
         .long("tick")
         .value_name("MS")
         .help(
-            "How often peers are told what is new, in milliseconds, 1 to 60,000; 100 if it isn't told",
+            "How often peers are told what is new, in milliseconds, 1 to 60,000; 100 if it isn't \
+                told",
         )
         .value_parser(value_parser!(u16).range(1..=60_000))
 }

@@ -13,11 +13,10 @@ ghost use Rattle.cb_peer_state.specs.declared.state.State.TheVariants.{Closed};
 ghost use Rattle.cb_run.specs.declared.ending.Halt.TheVariants.{WriteFailed};
 ghost use Rattle.cb_command.specs.Peer.{WasServed, PeerEnds, closed_text, peer_end, reason_status};
 
-use cb_base::Seed;
-use cb_io::{Sink, Source};
-use cb_outgoing::MessageSink;
+use cb_base::{Seed, Sink, Source};
 use cb_run::{Halt, Status, write_all};
 use cb_session::{Badge, CloseReason, Hall, Settings, State, serve};
+use cb_talk::MessageSink;
 use std::alloc::Global;
 
 /// The session's settings. The peer made the connection. The rest is fixed, so that a run can be
@@ -174,6 +173,6 @@ fn status_of(reason: CloseReason) -> Status
         | CloseReason::Kicked
         | CloseReason::TraceFull
         | CloseReason::HallFull
-        | CloseReason::WriteFault => Status::BadInput,
+        | CloseReason::WriteFault => Status::RunFailed,
     }
 }

@@ -5,7 +5,8 @@ use Rattle.std.specs.Prelude.{ℕ, ◌+◌, ◌-◌, ◌<◌, ◌≤◌, List, [
 -- the indexes rise, the first is at least `least`, and each is below the total
 abbrev pub Rise : ℕ → ℕ → List ℕ → Type 0
 Rise least total [] = ⊤
-Rise least total (index ∷ others) = (least ≤ index) × (index < total) × Rise (index + 1) total others
+Rise least total (index ∷ others) =
+    (least ≤ index) × (index < total) × Rise (index + 1) total others
 
 -- the differences of these indexes, where the first is counted from `least`
 abbrev pub differences : ℕ → List ℕ → List ℕ

@@ -39,26 +39,36 @@ pub record IsHonest (block : Block) (nonce : ℕ) (places : List ℕ) (form : Co
 -- Each pair that has the id of a place that isn't prefilled has the block's transaction of that
 -- place. No such id occurs in two pairs.
 pub record AreOwn (block : Block) (nonce : ℕ) (places : List ℕ) (pairs : List Pair) : Type 0 where
-  pub hold : (place : ℕ) (tx : Tx) → IsById block places place tx → All (λ pair. pair.id ≡ id_of block.header nonce tx → pair.tx ≡ tx) pairs
-  pub once : (place : ℕ) (tx : Tx) → IsById block places place tx → length (with_id (id_of block.header nonce tx) pairs) ≤ 1
+  pub hold : (place : ℕ) (tx : Tx) → IsById block places place tx
+      → All (λ pair. pair.id ≡ id_of block.header nonce tx → pair.tx ≡ tx) pairs
+  pub once : (place : ℕ) (tx : Tx) → IsById block places place tx
+      → length (with_id (id_of block.header nonce tx) pairs) ≤ 1
 
 -- The lacking places, in order: those that aren't prefilled and whose ids no pair has.
-pub record AreUnserved (block : Block) (nonce : ℕ) (places : List ℕ) (pairs : List Pair) (lacking : List ℕ) : Type 0 where
+pub record AreUnserved (block : Block) (nonce : ℕ) (places : List ℕ) (pairs : List Pair)
+    (lacking : List ℕ) : Type 0 where
   pub rise : Rise 0 (length block.txs) lacking
-  pub exact : (place : ℕ) → Contains lacking place ↔ ((tx : Tx) × IsById block places place tx × All (λ pair. pair.id ≢ id_of block.header nonce tx) pairs)
+  pub exact : (place : ℕ) → Contains lacking place
+      ↔ ((tx : Tx) × IsById block places place tx
+      × All (λ pair. pair.id ≢ id_of block.header nonce tx) pairs)
 
 -- The block's transactions at the lacking places are as many as the partial block is missing, and
 -- filling them in returns the block.
 abbrev pub IsCompleted : Block → List ℕ → Unfilled → Type 0
-IsCompleted block lacking partial = (txs : List Tx) → map (slice_get block.txs) lacking ≡ map Some txs
-    → (length txs ≡ length (missing 0 partial.slots)) × ((told : Filled) → IsFilled partial.header (filled partial.slots txs) told → told ≡ Sound block)
+IsCompleted block lacking partial =
+    (txs : List Tx) → map (slice_get block.txs) lacking ≡ map Some txs
+    → (length txs ≡ length (missing 0 partial.slots))
+    × ((told : Filled) → IsFilled partial.header (filled partial.slots txs) told
+    → told ≡ Sound block)
 
 -- If no place is lacking, the block is returned. Otherwise the lacking places are returned, and
 -- filling them in completes the block. So no id is repeated, and nothing is wrong.
 abbrev pub IsRebuilt : Block → ℕ → List ℕ → List Pair → Placed → Type 0
 IsRebuilt block nonce places pairs Repeat = ⊥
-IsRebuilt block nonce places pairs (Whole whole) = AreUnserved block nonce places pairs [] × (whole ≡ Sound block)
-IsRebuilt block nonce places pairs (Missing lacking partial) = AreUnserved block nonce places pairs lacking.items × IsCompleted block lacking.items partial
+IsRebuilt block nonce places pairs (Whole whole) =
+    AreUnserved block nonce places pairs [] × (whole ≡ Sound block)
+IsRebuilt block nonce places pairs (Missing lacking partial) =
+    AreUnserved block nonce places pairs lacking.items × IsCompleted block lacking.items partial
 
 -- the block's own transactions as pairs, each with its short id
 abbrev pub own_pairs : Block → ℕ → List Pair
@@ -67,15 +77,21 @@ own_pairs block nonce = map (λ tx. record { id = id_of block.header nonce tx; t
 -- The short id of a place that isn't prefilled is that of no other place of the block, prefilled or
 -- not. Prefilled places may have equal ids.
 abbrev pub HaveOwnIds : Block → ℕ → List ℕ → Type 0
-HaveOwnIds block nonce places = (place other : ℕ) (tx it : Tx) → IsById block places place tx → slice_get block.txs other ≡ Some it → id_of block.header nonce it ≡ id_of block.header nonce tx → other ≡ place
+HaveOwnIds block nonce places =
+    (place other : ℕ) (tx it : Tx) → IsById block places place tx
+    → slice_get block.txs other ≡ Some it
+    → id_of block.header nonce it ≡ id_of block.header nonce tx → other ≡ place
 
 -- a block that is returned as sound: at once, or after filling in any transactions
 abbrev pub IsTold : Placed → Block → Type 0
 IsTold Repeat told = ⊥
 IsTold (Whole whole) told = whole ≡ Sound told
-IsTold (Missing lacking partial) told = (txs : List Tx) × IsFilled partial.header (filled partial.slots txs) (Sound told)
+IsTold (Missing lacking partial) told =
+    (txs : List Tx) × IsFilled partial.header (filled partial.slots txs) (Sound told)
 
 -- The two blocks have the same transactions, byte for byte, if no hashes collide (AreApart). Then
 -- they are equal, if all numbers of their transactions fit their fields.
 abbrev pub AreOneIfApart : Block → Block → Type 0
-AreOneIfApart block told = AreApart (texts block.txs) (texts told.txs) → (texts told.txs ≡ texts block.txs) × (All IsTx block.txs → All IsTx told.txs → told ≡ block)
+AreOneIfApart block told =
+    AreApart (texts block.txs) (texts told.txs)
+    → (texts told.txs ≡ texts block.txs) × (All IsTx block.txs → All IsTx told.txs → told ≡ block)

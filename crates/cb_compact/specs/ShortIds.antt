@@ -14,7 +14,11 @@ key_hash header nonce = sha256 (header_text header ++ to_le_bytes w64 nonce)
 
 -- the key: the first two words of that hash, each of eight bytes, little-endian
 unfoldable pub key_of : Header → ℕ → ℕ × ℕ
-key_of header nonce = (from_le_bytes w64 (take 8 (key_hash header nonce)), from_le_bytes w64 (take 8 (drop 8 (key_hash header nonce))))
+key_of header nonce = (
+  from_le_bytes w64 (take 8 (key_hash header nonce)),
+  from_le_bytes w64
+      (take 8 (drop 8 (key_hash header nonce))),
+)
 
 -- the short id of a txid: the low six bytes
 unfoldable pub short_id_of : ℕ × ℕ → Hash256 → ℕ

@@ -34,7 +34,9 @@ choice pairs id = only_tx (with_id id pairs)
 -- others in order between them.
 abbrev pub laid_out : ℕ → List Prefilled → List (Option Tx) → List (Option Tx)
 laid_out first [] others = others
-laid_out first (given ∷ more) others = take (given.place - first) others ++ Some given.tx ∷ laid_out (given.place + 1) more (drop (given.place - first) others)
+laid_out first (given ∷ more) others =
+    take (given.place - first) others ++ Some given.tx
+    ∷ laid_out (given.place + 1) more (drop (given.place - first) others)
 
 -- The slots of the block: at each place the prefilled transaction, or the one for the id of the
 -- place, or none.

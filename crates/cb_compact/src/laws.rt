@@ -33,7 +33,9 @@ pub fn differences_lead_back()
 /// prefilled has the transaction of that place, and no such id occurs in two pairs.
 pub fn an_honest_form_is_rebuilt()
     // This holds for any result of `place` and `fill` that their contracts allow.
-    ensures rebuilt { (block : Block) (nonce : ℕ) (places : List ℕ) (form : Compact) (pairs : List Pair) → IsHonest block nonce places form → AreOwn block nonce places pairs
+    ensures rebuilt { (block : Block) (nonce : ℕ) (places : List ℕ) (form : Compact)
+        (pairs : List Pair)
+        → IsHonest block nonce places form → AreOwn block nonce places pairs
         → (placed : Placed) →
         IsPlaced form.header form.ids.items form.prefilled.items pairs placed →
         IsRebuilt block nonce places pairs placed }
@@ -65,7 +67,9 @@ pub fn a_form_is_rebuilt_from_its_own_pairs()
 /// filled in: a block that is returned as sound is the sound block under this header, unless hashes
 /// collide.
 pub fn what_is_told_as_sound_is_the_block()
-    ensures { (block told : Block) (ids : List ℕ) (prefilled : List Prefilled) (pairs : List Pair) (placed : Placed) → IsSoundBlock block
+    ensures { (block told : Block) (ids : List ℕ) (prefilled : List Prefilled) (pairs : List Pair)
+        (placed : Placed)
+        → IsSoundBlock block
         → IsPlaced block.header ids prefilled pairs placed → IsTold placed told →
         AreOneIfApart block told }
 {}

@@ -54,7 +54,8 @@ impl Model for Partial {
 
     ghost view = { λ partial. record { header = partial.header; slots = partial.slots.items } };
 
-    ghost invariant = { λ partial. partial.lacking ≡ length (slotting.missing 0 partial.slots.items) };
+    ghost invariant = { λ partial. partial.lacking
+        ≡ length (slotting.missing 0 partial.slots.items) };
 }
 
 /// The transactions of a block, in order, and their txids.

@@ -8,7 +8,7 @@ use Rattle.atomic_table.specs.Seated.{TableId}
 use Rattle.crossbeam_queue.specs.Fifo.{Learns}
 use Rattle.cb_sched.specs.Desks.{DesksReached}
 use Rattle.cb_sched.proofs.DesksLaws.{handlers_stay, desks_count, at_most_one}
-use Rattle.cb_crew.specs.Ring.{Shown, Stage, making, running, IsHeld, HoldsInTurn, peers_of}
+use Rattle.cb_crew.specs.Ring.{Shown, CrewStage, making, running, IsHeld, HoldsInTurn, peers_of}
 use Rattle.cb_crew.specs.RingRule.{RingCrew, HandView, AreDesks, AtStage, IsRing}
 use Rattle.cb_crew.specs.Hand.{state_of}
 use Rattle.cb_crew.proofs.RingSums.{ones, one_below, sum_alone, first_below, alone}
@@ -18,7 +18,7 @@ use Rattle.cb_crew.proofs.RingMoves.{stage_is}
 pub all_wait : {X : Type 0} (seat : ℕ) (v : HandView X) → v.crew.stage ≡ making → 0 < length v.numbers → Learns IsRing seat v (λ waiting. length waiting ≡ length v.crew.names)
 all_wait {X} seat v stage live waiting views r at =
     let knows = (r.hands seat v at).knows live in
-    let in_order : peers_of waiting ≡ range_with_len 0 (length r.crew.names) = subst (λ (t : Stage). AtStage t r.crew waiting views) (stage_is r.crew v making knows stage) r.moves in
+    let in_order : peers_of waiting ≡ range_with_len 0 (length r.crew.names) = subst (λ (t : CrewStage). AtStage t r.crew waiting views) (stage_is r.crew v making knows stage) r.moves in
     let same : length v.crew.names ≡ length r.crew.names = ap (λ (c : RingCrew). length c.names) knows in
     let count : length (peers_of waiting) ≡ length (range_with_len 0 (length r.crew.names)) = ap (length {A = ℕ}) in_order in
     omega (arith, same, count, length-map waiting (λ (t : Shown X). t.peer), length-range_with_len 0 (length r.crew.names))
@@ -66,7 +66,7 @@ short (x ∷ held) (suc a) lt free one =
 pub few_held : {X : Type 0} (seat : ℕ) (v : HandView X) → v.crew.stage ≡ running → 0 < length v.numbers → v.held ≡ [] → Learns IsRing seat v (λ waiting. length v.crew.names < length waiting + v.crew.handlers)
 few_held {X} seat v stage live free waiting views r at =
     let knows = (r.hands seat v at).knows live in
-    let d : AreDesks r.crew waiting views = subst (λ (t : Stage). AtStage t r.crew waiting views) (stage_is r.crew v running knows stage) r.moves in
+    let d : AreDesks r.crew waiting views = subst (λ (t : CrewStage). AtStage t r.crew waiting views) (stage_is r.crew v running knows stage) r.moves in
     let a : ℕ = get_or v.numbers 0 0 in
     let names_same : length v.crew.names ≡ length r.crew.names = ap (λ (c : RingCrew). length c.names) knows in
     let handlers_same : v.crew.handlers ≡ r.crew.handlers = ap (λ (c : RingCrew). c.handlers) knows in
@@ -95,7 +95,7 @@ left_over {X} seat v live all waiting views r at h =
 pub in_turn : {X : Type 0} (seat : ℕ) (v : HandView X) → v.crew.stage ≡ running → 0 < length v.numbers → Learns IsRing seat v (λ waiting. (ring : TableId) → HoldsInTurn (state_of ring v))
 in_turn seat v stage live waiting views r at ring =
     let knows = (r.hands seat v at).knows live in
-    let d : AreDesks r.crew waiting views = subst (λ (t : Stage). AtStage t r.crew waiting views) (stage_is r.crew v running knows stage) r.moves in
+    let d : AreDesks r.crew waiting views = subst (λ (t : CrewStage). AtStage t r.crew waiting views) (stage_is r.crew v running knows stage) r.moves in
     record {
       desks = d.desks;
       reached = subst (λ (c : RingCrew). DesksReached (length c.names) c.handlers d.desks) (sym knows) d.reached;

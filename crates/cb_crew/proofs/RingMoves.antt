@@ -13,7 +13,7 @@ use Rattle.crossbeam_queue.proofs.Lists.{at_set, at_snoc}
 use Rattle.cb_sched.specs.Desks.{Desks, DesksReached, opening_desks, held_by, claimed, given}
 use Rattle.cb_sched.specs.Desks as places
 use Rattle.cb_sched.proofs.DesksLaws.{handlers_stay}
-use Rattle.cb_crew.specs.Ring.{DeskName, Shown, Stage, making, running, finishing, IsOfCrew, IsHeld, peers_of}
+use Rattle.cb_crew.specs.Ring.{DeskName, Shown, CrewStage, making, running, finishing, IsOfCrew, IsHeld, peers_of}
 use Rattle.cb_crew.specs.RingRule.{RingCrew, HandView, numbers_of, held_peers, EachOnce, IsHandOfCrew, Holds, AreDesks, AtStage, IsRing, idle_view, first_view, grown_crew, grown_view, made_crew, made_view, at_stage, running_view, hired_view, hiring_view, claimed_view, given_view, joined_view, kept_view}
 use Rattle.cb_crew.proofs.RingSums.{ones, range_push, range_weighs, one_below, once_moved, once_forked, once_merged, parts_of, first_below, own_numbers, other_numbers, alone}
 
@@ -55,7 +55,7 @@ spent_hand : {X : Type 0} (crew : RingCrew) → IsHandOfCrew {X = X} crew idle_v
 spent_hand crew = record { knows = λ (live : 0 < 0). absurd (omega arith); idle = λ _. refl; named = All-nil (IsOfCrew crew.names) }
 
 -- the stage of a crew that a hand knows
-pub stage_is : {X : Type 0} (crew : RingCrew) (v : HandView X) (t : Stage) → v.crew ≡ crew → v.crew.stage ≡ t → crew.stage ≡ t
+pub stage_is : {X : Type 0} (crew : RingCrew) (v : HandView X) (t : CrewStage) → v.crew ≡ crew → v.crew.stage ≡ t → crew.stage ≡ t
 stage_is crew v t knows is = ap (λ (c : RingCrew). c.stage) (sym knows) ∙ is
 
 -- the desk is another value now, of one peer and one name
@@ -134,7 +134,7 @@ grows seat v stage live all waiting views r at =
     let next = grown_crew r.crew in
     let everyone : length v.numbers ≡ r.crew.handlers = all ∙ ap (λ (c : RingCrew). c.handlers) knows in
     let is_making = stage_is r.crew v making knows stage in
-    let in_order : peers_of waiting ≡ range_with_len 0 (length r.crew.names) = subst (λ (t : Stage). AtStage t r.crew waiting views) is_making r.moves in
+    let in_order : peers_of waiting ≡ range_with_len 0 (length r.crew.names) = subst (λ (t : CrewStage). AtStage t r.crew waiting views) is_making r.moves in
     record {
       crew = next;
       hands = each_new (IsHandOfCrew next) (set views seat (grown_view v)) idle_view
@@ -146,7 +146,7 @@ grows seat v stage live all waiting views r at =
       each_handler = once_forked numbers_of [] views seat r.crew.handlers (r.crew.handlers + 1) v (grown_view v) idle_view r.each_handler at
           (λ h. grown_weighs h v.numbers v.crew.handlers r.crew.handlers (ap (λ (c : RingCrew). c.handlers) knows));
       each_desk = once_forked held_peers (peers_of waiting) views seat (length r.crew.names) (length r.crew.names) v (grown_view v) idle_view r.each_desk at (λ h. nothing_new h (sum_by h (peers_of v.held)) (sum_by h (range_with_len 0 (length r.crew.names))));
-      moves = subst (λ (t : Stage). AtStage t next waiting (set views seat (grown_view v) ++ idle_view ∷ [])) (sym is_making) in_order;
+      moves = subst (λ (t : CrewStage). AtStage t next waiting (set views seat (grown_view v) ++ idle_view ∷ [])) (sym is_making) in_order;
     }
   where
     grown_weighs : (h : ℕ → ℕ) (ns : List ℕ) (k n : ℕ) → k ≡ n → sum_by h (ns ++ k ∷ []) + sum_by h [] + sum_by h (range_with_len 0 n) ≡ sum_by h ns + sum_by h (range_with_len 0 (n + 1))
@@ -165,7 +165,7 @@ makes n seat v s stage live all next_peer waiting views room r at =
     let everyone : length v.numbers ≡ r.crew.handlers = all ∙ ap (λ (c : RingCrew). c.handlers) knows in
     let peer_is : s.peer ≡ length r.crew.names = next_peer ∙ ap (λ (c : RingCrew). length c.names) knows in
     let is_making = stage_is r.crew v making knows stage in
-    let in_order : peers_of waiting ≡ range_with_len 0 (length r.crew.names) = subst (λ (t : Stage). AtStage t r.crew waiting views) is_making r.moves in
+    let in_order : peers_of waiting ≡ range_with_len 0 (length r.crew.names) = subst (λ (t : CrewStage). AtStage t r.crew waiting views) is_making r.moves in
     let count : length next.names ≡ length r.crew.names + 1 = length_push r.crew.names s.name in (
       w,
       record {
@@ -177,7 +177,7 @@ makes n seat v s stage live all next_peer waiting views room r at =
         each_handler = once_moved numbers_of [] [] views seat r.crew.handlers r.crew.handlers v w r.each_handler at (λ h. refl);
         each_desk = once_moved held_peers (peers_of waiting) (peers_of (waiting ++ s ∷ [])) views seat (length r.crew.names) (length next.names) v w r.each_desk at
             (λ h. omega (arith, push_weighs h waiting s, range_weighs h (length r.crew.names) (length next.names) count, ap h peer_is));
-        moves = subst (λ (t : Stage). AtStage t next (waiting ++ s ∷ []) (set views seat w)) (sym is_making)
+        moves = subst (λ (t : CrewStage). AtStage t next (waiting ++ s ∷ []) (set views seat w)) (sym is_making)
             (peers_push waiting s ∙ (ap₂ (λ (xs : List ℕ) (p : ℕ). xs ++ p ∷ []) in_order peer_is ∙ (sym (range_push (length r.crew.names)) ∙ ap (range_with_len 0) (sym count))));
       },
       refl,
@@ -215,7 +215,7 @@ starts {X} seat v stage live all waiting views r at =
     let w = running_view v in
     let everyone : length v.numbers ≡ r.crew.handlers = all ∙ ap (λ (c : RingCrew). c.handlers) knows in
     let is_making = stage_is r.crew v making knows stage in
-    let in_order : peers_of waiting ≡ range_with_len 0 (length r.crew.names) = subst (λ (t : Stage). AtStage t r.crew waiting views) is_making r.moves in
+    let in_order : peers_of waiting ≡ range_with_len 0 (length r.crew.names) = subst (λ (t : CrewStage). AtStage t r.crew waiting views) is_making r.moves in
     let desks : Desks = opening_desks (length r.crew.names) r.crew.handlers in
     let none = none_held waiting views (length r.crew.names) seat v r.each_desk in_order at in
     record {
@@ -283,7 +283,7 @@ hires seat v stage two waiting views r at =
     let hand = r.hands seat v at in
     let knows = hand.knows (omega (arith, two)) in
     let is_running = stage_is r.crew v running knows stage in
-    let d : AreDesks r.crew waiting views = subst (λ (t : Stage). AtStage t r.crew waiting views) is_running r.moves in
+    let d : AreDesks r.crew waiting views = subst (λ (t : CrewStage). AtStage t r.crew waiting views) is_running r.moves in
     record {
       crew = r.crew;
       hands = each_new (IsHandOfCrew r.crew) (set views seat (hiring_view v)) (hired_view v)
@@ -292,7 +292,7 @@ hires seat v stage two waiting views r at =
       waiting_named = r.waiting_named;
       each_handler = once_forked numbers_of [] views seat r.crew.handlers r.crew.handlers v (hiring_view v) (hired_view v) r.each_handler at (λ h. omega (arith, hired_weighs h v.numbers two));
       each_desk = once_forked held_peers (peers_of waiting) views seat (length r.crew.names) (length r.crew.names) v (hiring_view v) (hired_view v) r.each_desk at (λ h. omega arith);
-      moves = subst (λ (t : Stage). AtStage t r.crew waiting (set views seat (hiring_view v) ++ hired_view v ∷ [])) (sym is_running) (hired_desks r.crew waiting views seat v at two d);
+      moves = subst (λ (t : CrewStage). AtStage t r.crew waiting (set views seat (hiring_view v) ++ hired_view v ∷ [])) (sym is_running) (hired_desks r.crew waiting views seat v at two d);
     }
 
 -- ---- a desk is claimed
@@ -319,7 +319,7 @@ claims seat v stage live free s waiting views r at =
     let knows = hand.knows live in
     let w = claimed_view v s in
     let is_running = stage_is r.crew v running knows stage in
-    let d : AreDesks r.crew (s ∷ waiting) views = subst (λ (t : Stage). AtStage t r.crew (s ∷ waiting) views) is_running r.moves in
+    let d : AreDesks r.crew (s ∷ waiting) views = subst (λ (t : CrewStage). AtStage t r.crew (s ∷ waiting) views) is_running r.moves in
     let front : IsOfCrew r.crew.names s = All-head (IsOfCrew r.crew.names) s waiting r.waiting_named in (
       w,
       record {
@@ -329,7 +329,7 @@ claims seat v stage live free s waiting views r at =
         each_handler = once_moved numbers_of [] [] views seat r.crew.handlers r.crew.handlers v w r.each_handler at (λ h. refl);
         each_desk = once_moved held_peers (peers_of (s ∷ waiting)) (peers_of waiting) views seat (length r.crew.names) (length r.crew.names) v w r.each_desk at
             (λ h. omega (arith, sum_by-cons h s.peer (peers_of waiting), one_weighs h s.peer, none_weighs h v.held free));
-        moves = subst (λ (t : Stage). AtStage t r.crew waiting (set views seat w)) (sym is_running) (claimed_desks r.crew s waiting views seat v r.each_handler at live free d);
+        moves = subst (λ (t : CrewStage). AtStage t r.crew waiting (set views seat w)) (sym is_running) (claimed_desks r.crew s waiting views seat v r.each_handler at live free d);
       },
       (refl, subst (λ (c : RingCrew). IsOfCrew c.names s) (sym knows) front),
     )
@@ -358,7 +358,7 @@ gives n seat v s stage live held waiting views room r at =
     let knows = hand.knows live in
     let w = given_view v s in
     let is_running = stage_is r.crew v running knows stage in
-    let d : AreDesks r.crew waiting views = subst (λ (t : Stage). AtStage t r.crew waiting views) is_running r.moves in
+    let d : AreDesks r.crew waiting views = subst (λ (t : CrewStage). AtStage t r.crew waiting views) is_running r.moves in
     let was : All (IsOfCrew r.crew.names) (held.before ∷ []) = subst (All (IsOfCrew r.crew.names)) held.only hand.named in
     let back : IsOfCrew r.crew.names s = same_desk r.crew.names held.before s held.same_peer held.same_inbox held.same_label (All-head (IsOfCrew r.crew.names) held.before [] was) in (
       w,
@@ -369,7 +369,7 @@ gives n seat v s stage live held waiting views room r at =
         each_handler = once_moved numbers_of [] [] views seat r.crew.handlers r.crew.handlers v w r.each_handler at (λ h. refl);
         each_desk = once_moved held_peers (peers_of waiting) (peers_of (waiting ++ s ∷ [])) views seat (length r.crew.names) (length r.crew.names) v w r.each_desk at
             (λ h. omega (arith, push_weighs h waiting s, held_weighs h v.held held.before held.only, ap h held.same_peer));
-        moves = subst (λ (t : Stage). AtStage t r.crew (waiting ++ s ∷ []) (set views seat w)) (sym is_running) (given_desks r.crew s waiting views seat v r.each_handler at live held d);
+        moves = subst (λ (t : CrewStage). AtStage t r.crew (waiting ++ s ∷ []) (set views seat w)) (sym is_running) (given_desks r.crew s waiting views seat v r.each_handler at live held d);
       },
       refl,
     )
@@ -396,7 +396,7 @@ joined_desks {X} crew waiting views seat other v w at at' live live_w free d =
           (λ (live_u : 0 < 0). absurd (omega arith));
     }
 
-joined_moves : {X : Type 0} (t : Stage) (crew : RingCrew) (waiting : List (Shown X)) (views : List (HandView X)) (seat other : ℕ) (v w : HandView X) → get_elem? views seat ≡ some v → get_elem? views other ≡ some w → 0 < length v.numbers → 0 < length w.numbers → w.held ≡ [] → AtStage t crew waiting views → AtStage t crew waiting (set (set views seat (joined_view v w)) other idle_view)
+joined_moves : {X : Type 0} (t : CrewStage) (crew : RingCrew) (waiting : List (Shown X)) (views : List (HandView X)) (seat other : ℕ) (v w : HandView X) → get_elem? views seat ≡ some v → get_elem? views other ≡ some w → 0 < length v.numbers → 0 < length w.numbers → w.held ≡ [] → AtStage t crew waiting views → AtStage t crew waiting (set (set views seat (joined_view v w)) other idle_view)
 joined_moves making crew waiting views seat other v w at at' live live_w free was = was
 joined_moves running crew waiting views seat other v w at at' live live_w free was = joined_desks crew waiting views seat other v w at at' live live_w free was
 joined_moves finishing crew waiting views seat other v w at at' live live_w free was = tt

@@ -14,7 +14,8 @@ pub record CrewState : Type 0 where
   pub ring : RingState
   pub inboxes : List InboxState  -- one for each peer, in their order
   pub handlers : ℕ  -- how many handlers it has
-  pub labels : List ℕ  -- the labels of the works with which it was made, one for each peer, in their order
+  -- the labels of the works with which it was made, one for each peer, in their order
+  pub labels : List ℕ
 
 abbrev pub names_of : CrewState → List TableId
 names_of crew = map (λ (inbox : InboxState). inbox.name) crew.inboxes
@@ -23,7 +24,8 @@ names_of crew = map (λ (inbox : InboxState). inbox.name) crew.inboxes
 pub record IsCrew (crew : CrewState) : Type 0 where
   pub some : 1 ≤ length crew.inboxes
   pub few : length crew.inboxes ≤ 64
-  pub in_order : map (λ (inbox : InboxState). inbox.peer) crew.inboxes ≡ range_with_len 0 (length crew.inboxes)
+  pub in_order : map (λ (inbox : InboxState). inbox.peer) crew.inboxes
+      ≡ range_with_len 0 (length crew.inboxes)
   pub working : 1 ≤ crew.handlers
   pub room : length crew.inboxes ≤ crew.ring.capacity
 
@@ -50,7 +52,8 @@ FirstHasRoom crew [] = length crew.inboxes ≤ 0
 FirstHasRoom crew (first ∷ others) = length crew.inboxes ≤ first.room
 
 -- all handlers of the crew, with the crew's first handler first
-pub record AreHandlersOf {X : Type 0} (crew : CrewState) (handlers : List (HandlerState X)) : Type 0 where
+pub record AreHandlersOf {X : Type 0} (crew : CrewState) (handlers : List (HandlerState X))
+    : Type 0 where
   pub each : All (IsHandlerOf crew) handlers
   pub all : length handlers ≡ crew.handlers
   pub first : FirstHasRoom crew handlers
@@ -72,7 +75,8 @@ HasPlace (side.Live seat) = length seat.queued < 2 ^ 48
 HasPlace (side.Ended seat) = Unit {0}
 
 -- the readers' sides of all peers, in their order
-pub record AreSidesOf {M O : Type 0} (crew : CrewState) (sides : List (ReaderSide M O)) : Type 0 where
+pub record AreSidesOf {M O : Type 0} (crew : CrewState) (sides : List (ReaderSide M O))
+    : Type 0 where
   pub inboxes : map inbox_of sides ≡ names_of crew
   pub places : All HasPlace sides
 
@@ -98,7 +102,8 @@ MadeNoTurn {X} handlers = All (λ (handler : HandlerState X). handler.turns ≡ 
 pub record AreAllDesks {X : Type 0} (crew : CrewState) (desks : List (Shown X)) : Type 0 where
   pub names : List DeskName
   pub names_is : AreDeskNames crew names
-  pub each : (weight : ℕ → ℕ) → sum_by weight (peers_of desks) ≡ sum_by weight (range_with_len 0 (length crew.inboxes))
+  pub each : (weight : ℕ → ℕ)
+      → sum_by weight (peers_of desks) ≡ sum_by weight (range_with_len 0 (length crew.inboxes))
   pub named : All (IsOfCrew names) desks
 
 -- the desks of all peers, in the order of their peers

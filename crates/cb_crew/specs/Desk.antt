@@ -20,12 +20,25 @@ pub record DeskState (W M : Type 0) : Type 0 where
   pub work : W  -- the work of the latest connection
   pub past : List W  -- the works of earlier connections
 
-abbrev pub desk_state : {W M : Type 0} → InboxState → SeatState (Queued M W) → W → List W → DeskState W M
-desk_state inbox seat work past = record { inbox = inbox; queued = seat.queued; taken = seat.taken; work = work; past = past }
+abbrev pub desk_state : {W M : Type 0} → InboxState → SeatState (Queued M W) → W → List W
+    → DeskState W M
+desk_state inbox seat work past = record {
+  inbox = inbox;
+  queued = seat.queued;
+  taken = seat.taken;
+  work = work;
+  past = past;
+}
 
 -- after its seat learned from a note how much was queued
 abbrev pub desk_told : {W M : Type 0} → DeskState W M → SeatState (Queued M W) → DeskState W M
-desk_told d note = record { inbox = d.inbox; queued = longer d.queued note.queued; taken = d.taken; work = d.work; past = d.past }
+desk_told d note = record {
+  inbox = d.inbox;
+  queued = longer d.queued note.queued;
+  taken = d.taken;
+  work = d.work;
+  past = d.past;
+}
 
 -- what its seat knows
 abbrev pub desk_note : {W M : Type 0} → DeskState W M → SeatState (Queued M W)
@@ -38,7 +51,8 @@ first_label label d = label (first_of d.past d.work)
 -- Each connection has its own work. That work was given a prefix of what was taken of the
 -- connection; an open work was given all of it. The works of earlier connections are closed. The
 -- latest work is closed if its connection's end was taken.
-pub record IsDesk {W M : Type 0} (label : W → ℕ) (given : W → List (Given M) → Type 0) (is_closed : W → Bool) (d : DeskState W M) : Type 0 where
+pub record IsDesk {W M : Type 0} (label : W → ℕ) (given : W → List (Given M) → Type 0)
+    (is_closed : W → Bool) (d : DeskState W M) : Type 0 where
   pub whose : AreWorksOf label (first_label label d) d.taken (d.past ++ d.work ∷ [])
   pub works : AllZip (WorksOn given is_closed) (d.past ++ d.work ∷ []) (connections_of d.taken)
   pub past_closed : All (λ work. is_closed work ≡ true) d.past
@@ -56,14 +70,23 @@ IsSameLine old new = IsSameDesk old new × (new.taken ≡ old.taken)
 -- taken and passed over, since it is an open mark or the work is closed. Empty: nothing was taken,
 -- since all that the seat was told was queued had been taken.
 abbrev pub Stepped : {W M : Type 0} → (W → Bool) → DeskState W M → DeskState W M → Step → Type 0
-Stepped {W} {M} is_closed old new step.Worked = IsSameDesk old new × ((mark : Queued M W) × (new.taken ≡ old.taken ++ mark ∷ []) × (is_open mark ≡ false) × (is_closed old.work ≡ false))
-Stepped {W} {M} is_closed old new step.Passed = IsSameDesk old new × ((mark : Queued M W) × (new.taken ≡ old.taken ++ mark ∷ []) × ((is_open mark ≡ true) ⊎ (is_closed new.work ≡ true)))
-Stepped {W} {M} is_closed old new step.Empty = IsSameLine old new × IsBeginning old.queued old.taken × (is_closed old.work ≡ true → is_closed new.work ≡ true)
+Stepped {W} {M} is_closed old new step.Worked =
+    IsSameDesk old new
+    × ((mark : Queued M W) × (new.taken ≡ old.taken ++ mark ∷ []) × (is_open mark ≡ false)
+    × (is_closed old.work ≡ false))
+Stepped {W} {M} is_closed old new step.Passed =
+    IsSameDesk old new
+    × ((mark : Queued M W) × (new.taken ≡ old.taken ++ mark ∷ [])
+    × ((is_open mark ≡ true) ⊎ (is_closed new.work ≡ true)))
+Stepped {W} {M} is_closed old new step.Empty =
+    IsSameLine old new × IsBeginning old.queued old.taken
+    × (is_closed old.work ≡ true → is_closed new.work ≡ true)
 
 -- So many marks were taken, in order. Some were given to works and some passed over, among these
 -- all open marks. If the work was closed before, only a work that an open mark brought was given
 -- anything; without an open mark the work is still closed.
-pub record HasTaken {W M : Type 0} (is_closed : W → Bool) (old new : DeskState W M) (worked passed : ℕ) : Type 0 where
+pub record HasTaken {W M : Type 0} (is_closed : W → Bool) (old new : DeskState W M)
+    (worked passed : ℕ) : Type 0 where
   pub marks : List (Queued M W)
   pub taken : new.taken ≡ old.taken ++ marks
   pub count : length marks ≡ worked + passed
@@ -72,16 +95,19 @@ pub record HasTaken {W M : Type 0} (is_closed : W → Bool) (old new : DeskState
   pub stays : is_closed old.work ≡ true → count_by is_open marks ≡ 0 → is_closed new.work ≡ true
 
 -- The same, of the same inbox, and the seat was told nothing new.
-pub record HasServed {W M : Type 0} (is_closed : W → Bool) (old new : DeskState W M) (worked passed : ℕ) : Type 0 where
+pub record HasServed {W M : Type 0} (is_closed : W → Bool) (old new : DeskState W M)
+    (worked passed : ℕ) : Type 0 where
   pub same : IsSameDesk old new
   pub has : HasTaken is_closed old new worked passed
 
 -- The same within a budget. Fewer marks than the budget were taken only if all that the seat was
 -- told was queued has been taken, or something was given to a work and the work is closed now.
-pub record IsServed {W M : Type 0} (is_closed : W → Bool) (old new : DeskState W M) (budget worked passed : ℕ) : Type 0 where
+pub record IsServed {W M : Type 0} (is_closed : W → Bool) (old new : DeskState W M)
+    (budget worked passed : ℕ) : Type 0 where
   pub has : HasServed is_closed old new worked passed
   pub within : worked + passed ≤ budget
-  pub all_told : worked + passed < budget → IsBeginning new.queued new.taken ⊎ ((1 ≤ worked) × (is_closed new.work ≡ true))
+  pub all_told : worked + passed < budget
+      → IsBeginning new.queued new.taken ⊎ ((1 ≤ worked) × (is_closed new.work ≡ true))
 
 -- Marks were taken, in order, until all that the seat was told was queued had been taken.
 pub record HasServedAll {W M : Type 0} (old new : DeskState W M) : Type 0 where
@@ -91,9 +117,10 @@ pub record HasServedAll {W M : Type 0} (old new : DeskState W M) : Type 0 where
 
 -- ---- ticks
 
--- The works of a desk before and after. No earlier work was ticked. The latest work became `latest`,
--- as `becomes` tells. The works that came since were never ticked.
-pub record WorksAfter {W M : Type 0} (ticked : W → List ℕ → Type 0) (becomes : W → W → Type 0) (old new : DeskState W M) : Type 0 where
+-- The works of a desk before and after. No earlier work was ticked. The latest work became
+-- `latest`, as `becomes` tells. The works that came since were never ticked.
+pub record WorksAfter {W M : Type 0} (ticked : W → List ℕ → Type 0) (becomes : W → W → Type 0)
+    (old new : DeskState W M) : Type 0 where
   pub earlier : List W
   pub latest : W
   pub later : List W
@@ -104,11 +131,14 @@ pub record WorksAfter {W M : Type 0} (ticked : W → List ℕ → Type 0) (becom
 
 -- If the latest work was open, it was ticked once, before it was given anything more. No other work
 -- was ticked.
-abbrev pub TickedOnce : {W M : Type 0} → (W → List (Given M) → Type 0) → (W → List ℕ → Type 0) → (W → Bool) → DeskState W M → DeskState W M → Type 0
-TickedOnce given ticked is_closed old new = WorksAfter ticked (IsTicked given ticked is_closed) old new
+abbrev pub TickedOnce : {W M : Type 0} → (W → List (Given M) → Type 0) → (W → List ℕ → Type 0)
+    → (W → Bool) → DeskState W M → DeskState W M → Type 0
+TickedOnce given ticked is_closed old new =
+    WorksAfter ticked (IsTicked given ticked is_closed) old new
 
 -- no work was ticked
-abbrev pub NotTicked : {W M : Type 0} → (W → List ℕ → Type 0) → DeskState W M → DeskState W M → Type 0
+abbrev pub NotTicked : {W M : Type 0} → (W → List ℕ → Type 0) → DeskState W M → DeskState W M
+    → Type 0
 NotTicked ticked old new = WorksAfter ticked (IsUnticked ticked) old new
 
 -- ---- what the works of past connections keep
@@ -117,8 +147,11 @@ NotTicked ticked old new = WorksAfter ticked (IsUnticked ticked) old new
 -- bytes that it kept if these were more than 1,000,000. The first of them is the latest work from
 -- before, unchanged if that was closed. Since then each past work stayed as it was or let go, and
 -- the latest stayed as far as 1,000,000 bytes go.
-pub record PastAfter {W M : Type 0} (label : W → ℕ) (given : W → List (Given M) → Type 0) (ticked : W → List ℕ → Type 0) (is_closed : W → Bool) (weight : W → ℕ) (old new : DeskState W M) : Type 0 where
+pub record PastAfter {W M : Type 0} (label : W → ℕ) (given : W → List (Given M) → Type 0)
+    (ticked : W → List ℕ → Type 0) (is_closed : W → Bool) (weight : W → ℕ) (old new : DeskState W M)
+    : Type 0 where
   pub ended : List W
   pub few : All (λ work. weight work ≤ 1000000) ended
   pub past : OldestLetGo label given ticked is_closed weight (old.past ++ ended) new.past
-  pub closed : is_closed old.work ≡ true → StaysIfFew label given ticked is_closed weight old.work (first_of ended new.work)
+  pub closed : is_closed old.work ≡ true
+      → StaysIfFew label given ticked is_closed weight old.work (first_of ended new.work)

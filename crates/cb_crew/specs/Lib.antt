@@ -5,8 +5,6 @@ pub mod Headline
 pub mod Past
 pub mod Ring
 pub mod RingRule
-pub mod RingTests
 pub mod Turn
 pub mod Unmanned
 pub mod Work
-pub mod WorkTests

@@ -31,10 +31,10 @@ pub record Last (X : Type 0) : Type 0 where
   pub gave : List X  -- and as it was given back
 
 -- The stages of a crew: its desks are made; its hands claim and give them; one hand keeps them all.
-pub data Stage : Type 0 where
-  making : Stage
-  running : Stage
-  finishing : Stage
+pub data CrewStage : Type 0 where
+  making : CrewStage
+  running : CrewStage
+  finishing : CrewStage
 
 pub record RingState : Type 0 where
   pub name : TableId  -- which ring it is: no other has this name
@@ -45,7 +45,7 @@ pub record HandState (X : Type 0) : Type 0 where
   pub hands : ℕ  -- for how many handlers it stands
   pub names : List DeskName  -- the names of the crew's desks, one for each peer, in their order
   pub handlers : ℕ  -- how many handlers the crew has
-  pub stage : Stage
+  pub stage : CrewStage
   pub held : List (Shown X)  -- the desks that it holds
   pub last : Last X
 
@@ -76,7 +76,9 @@ pub record IsHeld {X : Type 0} (held : List (Shown X)) (s : Shown X) : Type 0 wh
 -- The hand holds the desks of all peers, each once. Give each peer any weight: the peers of its
 -- desks weigh together as much as all peers.
 abbrev pub HoldsAll : {X : Type 0} → HandState X → Type 0
-HoldsAll hand = (weight : ℕ → ℕ) → sum_by weight (peers_of hand.held) ≡ sum_by weight (range_with_len 0 (length hand.names))
+HoldsAll hand =
+    (weight : ℕ → ℕ)
+    → sum_by weight (peers_of hand.held) ≡ sum_by weight (range_with_len 0 (length hand.names))
 
 -- The hand holds what some handler holds in a state to which acts of the crew's core lead.
 pub record HoldsInTurn {X : Type 0} (hand : HandState X) : Type 0 where
@@ -89,7 +91,16 @@ pub record HoldsInTurn {X : Type 0} (hand : HandState X) : Type 0 where
 -- ---- what each call does to a hand
 
 abbrev pub no_last : {X : Type 0} → Last X
-no_last = record { gives = 0; peer = 0; grew = 0; closed = false; taken = 0; told = 0; claimed = []; gave = [] }
+no_last = record {
+  gives = 0;
+  peer = 0;
+  grew = 0;
+  closed = false;
+  taken = 0;
+  told = 0;
+  claimed = [];
+  gave = [];
+}
 
 -- how many marks had been taken from its inbox when the desk was claimed
 abbrev pub taken_before : {X : Type 0} → List (Shown X) → ℕ
@@ -98,38 +109,119 @@ taken_before (s ∷ rest) = s.taken
 
 -- what a hand remembers after it gave back a desk, given what it remembered before and what it held
 abbrev pub last_of : {X : Type 0} → Last X → List (Shown X) → Shown X → Last X
-last_of {X} last held s = record { gives = last.gives + 1; peer = s.peer; grew = s.taken - taken_before held; closed = s.closed; taken = s.taken; told = s.told; claimed = map (λ (t : Shown X). t.whole) held; gave = s.whole ∷ [] }
+last_of {X} last held s = record {
+  gives = last.gives + 1;
+  peer = s.peer;
+  grew = s.taken - taken_before held;
+  closed = s.closed;
+  taken = s.taken;
+  told = s.told;
+  claimed = map (λ (t : Shown X). t.whole) held;
+  gave = s.whole ∷ [];
+}
 
 -- the one hand of a new ring, which stands for all handlers
 abbrev pub opening_hand : {X : Type 0} → TableId → ℕ → HandState X
-opening_hand ring handlers = record { ring = ring; hands = handlers; names = []; handlers = handlers; stage = making; held = []; last = no_last }
+opening_hand ring handlers = record {
+  ring = ring;
+  hands = handlers;
+  names = [];
+  handlers = handlers;
+  stage = making;
+  held = [];
+  last = no_last;
+}
 
 -- after it put this new desk into the ring
 abbrev pub made_hand : {X : Type 0} → HandState X → Shown X → HandState X
-made_hand h s = record { ring = h.ring; hands = h.hands; names = h.names ++ s.name ∷ []; handlers = h.handlers; stage = h.stage; held = h.held; last = h.last }
+made_hand h s = record {
+  ring = h.ring;
+  hands = h.hands;
+  names = h.names ++ s.name ∷ [];
+  handlers = h.handlers;
+  stage = h.stage;
+  held = h.held;
+  last = h.last;
+}
 
 -- after all desks were made
 abbrev pub running_hand : {X : Type 0} → HandState X → HandState X
-running_hand h = record { ring = h.ring; hands = h.hands; names = h.names; handlers = h.handlers; stage = running; held = h.held; last = h.last }
+running_hand h = record {
+  ring = h.ring;
+  hands = h.hands;
+  names = h.names;
+  handlers = h.handlers;
+  stage = running;
+  held = h.held;
+  last = h.last;
+}
 
 -- the new hand for one handler, and the old hand, which stands for one fewer
 abbrev pub hired_hand : {X : Type 0} → HandState X → HandState X
-hired_hand h = record { ring = h.ring; hands = 1; names = h.names; handlers = h.handlers; stage = h.stage; held = []; last = no_last }
+hired_hand h = record {
+  ring = h.ring;
+  hands = 1;
+  names = h.names;
+  handlers = h.handlers;
+  stage = h.stage;
+  held = [];
+  last = no_last;
+}
 
 abbrev pub hiring_hand : {X : Type 0} → HandState X → HandState X
-hiring_hand h = record { ring = h.ring; hands = h.hands - 1; names = h.names; handlers = h.handlers; stage = h.stage; held = h.held; last = h.last }
+hiring_hand h = record {
+  ring = h.ring;
+  hands = h.hands - 1;
+  names = h.names;
+  handlers = h.handlers;
+  stage = h.stage;
+  held = h.held;
+  last = h.last;
+}
 
 -- after it claimed this desk, and after it gave it back
 abbrev pub claimed_hand : {X : Type 0} → HandState X → Shown X → HandState X
-claimed_hand h s = record { ring = h.ring; hands = h.hands; names = h.names; handlers = h.handlers; stage = h.stage; held = s ∷ []; last = h.last }
+claimed_hand h s = record {
+  ring = h.ring;
+  hands = h.hands;
+  names = h.names;
+  handlers = h.handlers;
+  stage = h.stage;
+  held = s ∷ [];
+  last = h.last;
+}
 
 abbrev pub given_hand : {X : Type 0} → HandState X → Shown X → HandState X
-given_hand h s = record { ring = h.ring; hands = h.hands; names = h.names; handlers = h.handlers; stage = h.stage; held = []; last = last_of h.last h.held s }
+given_hand h s = record {
+  ring = h.ring;
+  hands = h.hands;
+  names = h.names;
+  handlers = h.handlers;
+  stage = h.stage;
+  held = [];
+  last = last_of h.last h.held s;
+}
 
 -- after it took over another hand's handlers
 abbrev pub joined_hand : {X : Type 0} → HandState X → HandState X → HandState X
-joined_hand h other = record { ring = h.ring; hands = h.hands + other.hands; names = h.names; handlers = h.handlers; stage = h.stage; held = h.held; last = h.last }
+joined_hand h other = record {
+  ring = h.ring;
+  hands = h.hands + other.hands;
+  names = h.names;
+  handlers = h.handlers;
+  stage = h.stage;
+  held = h.held;
+  last = h.last;
+}
 
 -- after it claimed this desk to keep it
 abbrev pub kept_hand : {X : Type 0} → HandState X → Shown X → HandState X
-kept_hand h s = record { ring = h.ring; hands = h.hands; names = h.names; handlers = h.handlers; stage = finishing; held = h.held ++ s ∷ []; last = h.last }
+kept_hand h s = record {
+  ring = h.ring;
+  hands = h.hands;
+  names = h.names;
+  handlers = h.handlers;
+  stage = finishing;
+  held = h.held ++ s ∷ [];
+  last = h.last;
+}

@@ -7,7 +7,8 @@ use Rattle.cb_crew.specs.Crew.{CrewState}
 
 -- the empty inboxes of so many peers, in their order, each with its reader's seat and its vacancy,
 -- the desk without a work
-pub record AreLines {Q : Type 0} (peers capacity : ℕ) (inboxes : List InboxState) (readers : List (SeatState Q)) (vacancies : List InboxState) : Type 0 where
+pub record AreLines {Q : Type 0} (peers capacity : ℕ) (inboxes : List InboxState)
+    (readers : List (SeatState Q)) (vacancies : List InboxState) : Type 0 where
   pub in_order : map (λ (inbox : InboxState). inbox.peer) inboxes ≡ range_with_len 0 peers
   pub capacities : All (λ (inbox : InboxState). inbox.capacity ≡ capacity) inboxes
   pub readers_are : readers ≡ map opening_seat (map (λ (inbox : InboxState). inbox.name) inboxes)

@@ -15,7 +15,8 @@ IsEnd (given.Item item) = ⊥
 IsEnd given.End = Unit {0}
 
 -- a work that is open, was given nothing and was never ticked
-pub record IsFresh {W M : Type 0} (was_given : W → List (Given M) → Type 0) (ticked : W → List ℕ → Type 0) (is_closed : W → Bool) (work : W) : Type 0 where
+pub record IsFresh {W M : Type 0} (was_given : W → List (Given M) → Type 0)
+    (ticked : W → List ℕ → Type 0) (is_closed : W → Bool) (work : W) : Type 0 where
   pub nothing : was_given work []
   pub unticked : ticked work []
   pub live : is_closed work ≡ false
@@ -52,15 +53,18 @@ AreWorksOf label first marks works = map label works ≡ first ∷ map label (op
 
 -- The work was given a prefix of its connection, in order and each once. An open work was given all
 -- of it.
-pub record WorksOn {W M : Type 0} (was_given : W → List (Given M) → Type 0) (is_closed : W → Bool) (work : W) (connection : List (Given M)) : Type 0 where
+pub record WorksOn {W M : Type 0} (was_given : W → List (Given M) → Type 0) (is_closed : W → Bool)
+    (work : W) (connection : List (Given M)) : Type 0 where
   pub items : List (Given M)
   pub are_given : was_given work items
   pub begin : IsBeginning items connection
   pub whole : is_closed work ≡ false → items ≡ connection
 
 -- An open work was ticked once, before it was given anything more. A closed work wasn't ticked.
-pub record IsTicked {W M : Type 0} (was_given : W → List (Given M) → Type 0) (ticked : W → List ℕ → Type 0) (is_closed : W → Bool) (old new : W) : Type 0 where
-  pub once : is_closed old ≡ false → (items : List (Given M)) (at : List ℕ) → was_given old items → ticked old at → ticked new (at ++ length items ∷ [])
+pub record IsTicked {W M : Type 0} (was_given : W → List (Given M) → Type 0)
+    (ticked : W → List ℕ → Type 0) (is_closed : W → Bool) (old new : W) : Type 0 where
+  pub once : is_closed old ≡ false → (items : List (Given M)) (at : List ℕ) → was_given old items
+      → ticked old at → ticked new (at ++ length items ∷ [])
   pub none : is_closed old ≡ true → (at : List ℕ) → ticked old at → ticked new at
 
 -- it wasn't ticked again
@@ -68,7 +72,9 @@ abbrev pub IsUnticked : {W : Type 0} → (W → List ℕ → Type 0) → W → W
 IsUnticked ticked old new = (at : List ℕ) → ticked old at → ticked new at
 
 -- It let go of the bytes that it kept. It is closed, and else it is as before.
-pub record HasLetGo {W M : Type 0} (label : W → ℕ) (was_given : W → List (Given M) → Type 0) (ticked : W → List ℕ → Type 0) (is_closed : W → Bool) (weight : W → ℕ) (old new : W) : Type 0 where
+pub record HasLetGo {W M : Type 0} (label : W → ℕ) (was_given : W → List (Given M) → Type 0)
+    (ticked : W → List ℕ → Type 0) (is_closed : W → Bool) (weight : W → ℕ) (old new : W)
+    : Type 0 where
   pub nothing : weight new ≡ 0
   pub labelled : label new ≡ label old
   pub given : (items : List (Given M)) → was_given old items → was_given new items
@@ -76,5 +82,7 @@ pub record HasLetGo {W M : Type 0} (label : W → ℕ) (was_given : W → List (
   pub closed : is_closed new ≡ true
 
 -- it is as before, or it let go
-abbrev pub IsKeptOrLetGo : {W M : Type 0} → (W → ℕ) → (W → List (Given M) → Type 0) → (W → List ℕ → Type 0) → (W → Bool) → (W → ℕ) → W → W → Type 0
-IsKeptOrLetGo label was_given ticked is_closed weight old new = (new ≡ old) ⊎ HasLetGo label was_given ticked is_closed weight old new
+abbrev pub IsKeptOrLetGo : {W M : Type 0} → (W → ℕ) → (W → List (Given M) → Type 0)
+    → (W → List ℕ → Type 0) → (W → Bool) → (W → ℕ) → W → W → Type 0
+IsKeptOrLetGo label was_given ticked is_closed weight old new =
+    (new ≡ old) ⊎ HasLetGo label was_given ticked is_closed weight old new

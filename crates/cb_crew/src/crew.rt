@@ -32,9 +32,21 @@ impl<W: Work> Model for Crew<W> {
 
     ghost Value = { CrewState };
 
-    ghost view = { λ a. record { ring = a.ring; inboxes = a.inboxes.items; handlers = a.handlers; labels = a.labels.items } };
+    ghost view = { λ a.
+        record {
+          ring = a.ring;
+          inboxes = a.inboxes.items;
+          handlers = a.handlers;
+          labels = a.labels.items;
+        } };
 
-    ghost invariant = { λ a. IsCrew record { ring = a.ring; inboxes = a.inboxes.items; handlers = a.handlers; labels = a.labels.items } };
+    ghost invariant = { λ a. IsCrew
+        record {
+          ring = a.ring;
+          inboxes = a.inboxes.items;
+          handlers = a.handlers;
+          labels = a.labels.items;
+        } };
 }
 
 impl<W: Work> Crew<W> {

@@ -42,8 +42,8 @@ pub struct Count {
 /// Each connection has its own work. The first work keeps its label. Each later work has the label
 /// of the work that its open mark brought. A work was given a prefix of what was taken of its
 /// connection, in order and each once. An open work was given all of that. The works of earlier
-/// connections are closed, and keep at most 1,000,000 bytes together: the oldest let go first, so the
-/// latest are kept whole as far as these bytes go.
+/// connections are closed, and keep at most 1,000,000 bytes together: the oldest let go first, so
+/// the latest are kept whole as far as these bytes go.
 #[derive(Drop)]
 pub struct Desk<W: Work> {
     inbox: Shared<Inbox<W::Item, Fresh<W>>>,
@@ -60,7 +60,9 @@ impl<W: Work> Model for Desk<W> {
 
     ghost view = { λ a. desk_state a.inbox a.seat a.work a.past.works };
 
-    ghost invariant = { λ a. IsDesk W.label W.given W.is_closed (desk_state a.inbox a.seat a.work a.past.works) × (a.seat.inbox ≡ a.inbox.name) × (255 ≤ a.past.capacity) };
+    ghost invariant = { λ a. IsDesk W.label W.given W.is_closed
+        (desk_state a.inbox a.seat a.work a.past.works)
+        × (a.seat.inbox ≡ a.inbox.name) × (255 ≤ a.past.capacity) };
 }
 
 impl<W: Work> Travels for Desk<W> {

@@ -96,7 +96,8 @@ impl<W: Work> Handler<W> {
         ensures turns { result ≢ Spent → self.new.turns ≡ self.old.turns + 1 }
         ensures stays { result ≡ Spent → self.new ≡ self.old }
         ensures same { IsHandlerOf crew.now self.new × (self.new.room ≡ self.old.room) }
-        ensures ticks { Ticks W.label W.given W.ticked W.is_closed self.old.hand self.new.hand result }
+        ensures ticks { Ticks W.label W.given W.ticked W.is_closed self.old.hand self.new.hand
+            result }
         ensures counts { Counts W.label W.is_closed self.old.hand self.new.hand result }
     {
         match self.begin(rt, crew) {
@@ -126,7 +127,8 @@ impl<W: Work> Handler<W> {
         ensures stays { result.0 ≡ Spent → self.new ≡ self.old }
         ensures same { IsHandlerOf crew.now self.new × (self.new.room ≡ self.old.room) }
         ensures brings { Brings self.new.hand result.0 peer note result.1 }
-        ensures ticks { Ticks W.label W.given W.ticked W.is_closed self.old.hand self.new.hand result.0 }
+        ensures ticks { Ticks W.label W.given W.ticked W.is_closed self.old.hand self.new.hand
+            result.0 }
         ensures counts { Counts W.label W.is_closed self.old.hand self.new.hand result.0 }
     {
         match self.begin(rt, crew) {
@@ -160,7 +162,8 @@ impl<W: Work> Handler<W> {
         requires desk { IsClaimed W.label self.old.hand desk }
         requires budget { (1 ≤ budget) × (budget ≤ 64) }
         ensures serves { Serves W.label W.is_closed self.old.hand self.new.hand desk budget result }
-        ensures ticks { GivesTicked W.label W.given W.ticked W.is_closed self.old.hand self.new.hand desk }
+        ensures ticks { GivesTicked W.label W.given W.ticked W.is_closed self.old.hand self.new.hand
+            desk }
         ensures same { (self.new.turns ≡ self.old.turns) × (self.new.room ≡ self.old.room) }
     {
         let turn = serve_desk(rt, &mut desk, budget);

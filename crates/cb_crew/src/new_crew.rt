@@ -49,7 +49,8 @@ impl<W: Work> Model for Vacancy<W> {
 
     ghost view = { λ a. a.inbox };
 
-    ghost invariant = { λ a. (a.seat ≡ opening_seat a.inbox.name) × (a.past.items ≡ []) × (255 ≤ vec_capacity a.past) };
+    ghost invariant = { λ a. (a.seat ≡ opening_seat a.inbox.name) × (a.past.items ≡ [])
+        × (255 ≤ vec_capacity a.past) };
 }
 
 /// The inboxes of a crew. Each has its reader's seat and its vacancy.
@@ -81,7 +82,10 @@ impl<W: Work> Model for Unmanned<W> {
 
     ghost view = { λ a. a.crew };
 
-    ghost invariant = { λ a. IsOpeningHandOf a.crew a.hand × AreOpeningSeats a.crew a.readers.items × (a.vacancies.items ≡ a.crew.inboxes) × (a.desks.items ≡ []) × (length a.crew.inboxes ≤ vec_capacity a.desks) × (a.handlers.items ≡ []) × (a.crew.handlers ≤ vec_capacity a.handlers) };
+    ghost invariant = { λ a. IsOpeningHandOf a.crew a.hand × AreOpeningSeats a.crew a.readers.items
+        × (a.vacancies.items ≡ a.crew.inboxes) × (a.desks.items ≡ [])
+        × (length a.crew.inboxes ≤ vec_capacity a.desks) × (a.handlers.items ≡ [])
+        × (a.crew.handlers ≤ vec_capacity a.handlers) };
 }
 
 impl<W: Work> Crew<W> {
@@ -173,7 +177,9 @@ impl<W: Work> Lines<W> {
     /// with `Fault::Memory`.
     fn new(alloc: Global, peers: u16, capacity: usize) -> Result<Lines<W>, Fault>
         requires { (1 ≤ capacity) × (capacity ≤ 1024) }
-        ensures lines { IfOk result (λ made. AreLines peers capacity made.inboxes.items made.readers.items made.vacancies.items) }
+        ensures lines { IfOk result
+            (λ made. AreLines peers capacity made.inboxes.items made.readers.items
+            made.vacancies.items) }
         ensures memory { IsOkUnless result Memory }
     {
         let mut lines = Lines {

@@ -8,8 +8,8 @@ use std::marker::Model;
 /// How many bytes the works of a desk's past connections keep together at most.
 const PAST_BYTES: u64 = 1_000_000;
 
-/// The works of a desk's past connections, in order. They keep at most 1,000,000 bytes together: the
-/// oldest let go first, so the latest are kept whole as far as these bytes go.
+/// The works of a desk's past connections, in order. They keep at most 1,000,000 bytes together:
+/// the oldest let go first, so the latest are kept whole as far as these bytes go.
 #[derive(Drop)]
 pub(crate) struct PastWorks<W: Work> {
     works: Vec<W>,
@@ -61,9 +61,11 @@ impl<W: Work> PastWorks<W> {
     /// Adds the work of a connection that is past. If it alone keeps more than 1,000,000 bytes, it
     /// lets go. Otherwise the oldest works let go, one after another, until it fits.
     pub(crate) fn push(&mut self, mut work: W)
-        requires closed { (W.is_closed work ≡ true) × All (λ past. W.is_closed past ≡ true) self.old.works }
+        requires closed { (W.is_closed work ≡ true)
+            × All (λ past. W.is_closed past ≡ true) self.old.works }
         requires room { length self.old.works < self.old.capacity }
-        ensures pushed { IsPushed W.label W.given W.ticked W.is_closed W.weight work self.old.works self.new.works }
+        ensures pushed { IsPushed W.label W.given W.ticked W.is_closed W.weight work self.old.works
+            self.new.works }
         ensures room { self.new.capacity ≡ self.old.capacity }
     {
         self.kept += lighten(&mut work);
@@ -93,7 +95,8 @@ fn lighten_oldest<W: Work>(works: &mut Vec<W>, gone: &mut usize, kept: &mut u64)
     requires closed { All (λ work. W.is_closed work ≡ true) works.old.items }
     requires keeps { Keeps W.weight works.old.items gone.old kept.old }
     ensures keeps { Keeps W.weight works.new.items gone.new kept.new × (kept.new ≤ 1000000) }
-    ensures past { OldestLetGo W.label W.given W.ticked W.is_closed W.weight works.old.items works.new.items }
+    ensures past { OldestLetGo W.label W.given W.ticked W.is_closed W.weight works.old.items
+        works.new.items }
     ensures room { vec_capacity works.new ≡ vec_capacity works.old }
 {
     while *kept > PAST_BYTES {

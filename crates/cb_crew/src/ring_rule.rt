@@ -100,7 +100,8 @@ impl<D: Travels> Lesson<D, Knowledge<D>> for Makes {
 pub struct Claims;
 
 impl<D: Travels> Outcome<D, Knowledge<D>> for Claims {
-    ghost then = { λ v desk w. (w ≡ claimed_view v (D.shown desk)) × IsOfCrew v.crew.names (D.shown desk) };
+    ghost then = { λ v desk w. (w ≡ claimed_view v (D.shown desk))
+        × IsOfCrew v.crew.names (D.shown desk) };
 }
 
 impl<D: Travels> Lesson<D, Knowledge<D>> for Claims {
@@ -122,11 +123,14 @@ impl<D: Travels> Lesson<D, Knowledge<D>> for Gives {
 pub struct Keeps;
 
 impl<D: Travels> Outcome<D, Knowledge<D>> for Keeps {
-    ghost then = { λ v desk w. (w ≡ kept_view v (D.shown desk)) × IsOfCrew v.crew.names (D.shown desk) × (length v.held < length v.crew.names) };
+    ghost then = { λ v desk w. (w ≡ kept_view v (D.shown desk))
+        × IsOfCrew v.crew.names (D.shown desk) × (length v.held < length v.crew.names) };
 }
 
 impl<D: Travels> Lesson<D, Knowledge<D>> for Keeps {
-    ghost fact = { λ v desks. (weight : ℕ → ℕ) → sum_by weight (peers_of (map D.shown desks)) + sum_by weight (peers_of v.held) ≡ sum_by weight (range_with_len 0 (length v.crew.names)) };
+    ghost fact = { λ v desks. (weight : ℕ → ℕ)
+        → sum_by weight (peers_of (map D.shown desks)) + sum_by weight (peers_of v.held)
+        ≡ sum_by weight (range_with_len 0 (length v.crew.names)) };
 }
 
 /// The hand holds what some handler holds in a state to which acts of the crew's core lead.

@@ -3,9 +3,9 @@ use Rattle.std.specs.Prelude.{ℕ, ◌+◌, ◌*◌, ◌-◌, ◌^◌, ◌≤◌
 use Rattle.std.specs.List.{All, Contains}
 use Rattle.std.specs.declared.net.socket_addr.SocketAddr.{SocketAddr}
 use Rattle.cb_dialling.specs.OwnAddress.{IsOwn}
-use Rattle.cb_dialling.specs.declared.dialling.Stage.{Stage}
+use Rattle.cb_dialling.specs.declared.dialling.DialStage.{DialStage}
 use Rattle.cb_dialling.specs.declared.dialling.Target.{Target}
-use Rattle.cb_dialling.specs.declared.dialling.Stage.TheVariants as stages
+use Rattle.cb_dialling.specs.declared.dialling.DialStage.TheVariants as stages
 
 -- the delay, in seconds, behind one of so many seconds: 1, 2, 4 .. 32, 60
 abbrev pub longer : ℕ → ℕ
@@ -16,19 +16,19 @@ abbrev pub later : ℕ → ℕ → ℕ
 later now seconds = min (now + seconds * 1000) (2 ^ 64 - 1)
 
 -- it waits until a time that has come
-abbrev pub IsDue : Stage → ℕ → Type 0
+abbrev pub IsDue : DialStage → ℕ → Type 0
 IsDue (stages.Waits due) now = due ≤ now
 IsDue (stages.Dials dial) now = ⊥
 IsDue (stages.Lasts slot since) now = ⊥
 
 -- a thread dials it
-abbrev pub IsDialled : Stage → Type 0
+abbrev pub IsDialled : DialStage → Type 0
 IsDialled (stages.Waits due) = ⊥
 IsDialled (stages.Dials dial) = Unit {0}
 IsDialled (stages.Lasts slot since) = ⊥
 
 -- its connection has lasted for a minute
-abbrev pub LastsWell : Stage → ℕ → Type 0
+abbrev pub LastsWell : DialStage → ℕ → Type 0
 LastsWell (stages.Waits due) now = ⊥
 LastsWell (stages.Dials dial) now = ⊥
 LastsWell (stages.Lasts slot since) now = since + 60000 ≤ now
@@ -44,10 +44,11 @@ abbrev pub AreDifferent : List SocketAddr → Type 0
 AreDifferent [] = ⊤
 AreDifferent (address ∷ addresses) = (Contains addresses address → ⊥) × AreDifferent addresses
 
--- A node that listens at the first address, and is asked to dial these, dials those: each of them once,
--- its own never, and no other.
+-- A node that listens at the first address, and is asked to dial these, dials those: each of them
+-- once, its own never, and no other.
 pub record AreDialled (own : SocketAddr) (asked dialled : List SocketAddr) : Type 0 where
   pub asked_for : All (Contains asked) dialled
   pub never_own : All (λ address. IsOwn own address → ⊥) dialled
   pub once : AreDifferent dialled
-  pub each : (address : SocketAddr) → Contains asked address → (IsOwn own address → ⊥) → Contains dialled address
+  pub each : (address : SocketAddr) → Contains asked address → (IsOwn own address → ⊥)
+      → Contains dialled address

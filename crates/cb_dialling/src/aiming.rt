@@ -8,8 +8,8 @@ use crate::own_address::is_own;
 use std::alloc::{AllocError, Global};
 use std::net::SocketAddr;
 
-/// The addresses that a node which listens at the first one dials from the start: each of these once,
-/// and its own never. Fails only for lack of memory.
+/// The addresses that a node which listens at the first one dials from the start: each of these
+/// once, and its own never. Fails only for lack of memory.
 pub fn targets_of(
     alloc: Global,
     own: SocketAddr,
@@ -25,8 +25,8 @@ pub fn targets_of(
     Ok(targets)
 }
 
-/// Adds an address to those that a node dials, unless it is the node's own or one of them. There must be
-/// room for it.
+/// Adds an address to those that a node dials, unless it is the node's own or one of them. There
+/// must be room for it.
 fn aim(targets: &mut Vec<Target>, own: SocketAddr, address: SocketAddr)
     requires room { vec_len targets.old < vec_capacity targets.old }
     ensures dialled { (asked : List SocketAddr) →

@@ -11,7 +11,7 @@ use std::net::{Net, SocketAddr, TcpListener, TcpStream};
 use std::sync::atomic::{AtomicBool, Ordering};
 use std::thread::{JoinHandle, Threads};
 use std::time::Duration;
-use std::{mem, thread};
+use std::{io, mem, thread};
 
 /// How many seconds a dial may take.
 const DIAL_SECONDS: u64 = 5;
@@ -21,7 +21,7 @@ const LONGEST_DELAY: u16 = 60;
 
 /// A connection that lasted for this many milliseconds was a good one: the next delay is the
 /// shortest.
-const GOOD_MILLIS: u64 = 60_000;
+const GOOD_MILLISECONDS: u64 = 60_000;
 
 /// What dialling needs: sockets and threads.
 pub trait Dialler: Net<Listener = TcpListener, Stream = TcpStream>
@@ -46,7 +46,7 @@ struct Dial {
 
 /// How it stands with an address.
 #[derive(Drop)]
-enum Stage {
+enum DialStage {
     /// It is dialled at this time, in milliseconds since the process began.
     Waits(u64),
     /// A thread dials it.
@@ -64,7 +64,7 @@ pub struct Target {
     pub keeps_trying: bool,
     /// Whether a connection to it was ever made.
     pub reached: bool,
-    stage: Stage,
+    stage: DialStage,
     /// How many seconds pass before it is dialled again.
     delay: u16,
 }
@@ -74,13 +74,13 @@ impl Target {
     pub fn new(address: SocketAddr, keeps_trying: bool) -> Target
         ensures { (result.address ≡ address) × (result.keeps_trying ≡ keeps_trying)
             × (result.reached ≡ false) × (result.delay ≡ 1)
-            × (result.stage ≡ Stage.Waits 0) }
+            × (result.stage ≡ DialStage.Waits 0) }
     {
         Target {
             address,
             keeps_trying,
             reached: false,
-            stage: Stage::Waits(0),
+            stage: DialStage::Waits(0),
             delay: 1,
         }
     }
@@ -88,12 +88,12 @@ impl Target {
     /// The connection to it has ended with the node. It is due to be dialled, and the delays begin
     /// anew.
     pub fn renew(&mut self)
-        ensures due { (self.new.stage ≡ Stage.Waits 0) × (self.new.delay ≡ 1) }
+        ensures due { (self.new.stage ≡ DialStage.Waits 0) × (self.new.delay ≡ 1) }
         ensures same { (self.new.reached ≡ self.old.reached)
             × (self.new.address ≡ self.old.address)
             × (self.new.keeps_trying ≡ self.old.keeps_trying) }
     {
-        self.stage = Stage::Waits(0);
+        self.stage = DialStage::Waits(0);
         self.delay = 1;
     }
 
@@ -102,8 +102,8 @@ impl Target {
         ensures { IsTrue result ↔ IsDue self.now.stage now }
     {
         match &self.stage {
-            Stage::Waits(due) => *due <= now,
-            Stage::Dials(_) | Stage::Lasts(_, _) => false,
+            DialStage::Waits(due) => *due <= now,
+            DialStage::Dials(_) | DialStage::Lasts(_, _) => false,
         }
     }
 
@@ -118,7 +118,7 @@ impl Target {
     {
         match start_dial(rt, alloc, self.address) {
             Some(dial) => {
-                self.stage = Stage::Dials(dial);
+                self.stage = DialStage::Dials(dial);
                 true
             }
             None => false,
@@ -130,15 +130,15 @@ impl Target {
         ensures { IsTrue result → IsDialled self.now.stage }
     {
         match &self.stage {
-            Stage::Dials(dial) => dial.done.load(Ordering::SeqCst),
-            Stage::Waits(_) | Stage::Lasts(_, _) => false,
+            DialStage::Dials(dial) => dial.done.load(Ordering::SeqCst),
+            DialStage::Waits(_) | DialStage::Lasts(_, _) => false,
         }
     }
 
     /// Waits for the end of a dial of it, if one is under way, and returns the stream if one was
     /// connected. It is due to be dialled at this time then.
     pub fn take_stream<R: Dialler>(&mut self, rt: &R, now: u64) -> Option<TcpStream>
-        ensures due { IsDialled self.old.stage → self.new.stage ≡ Stage.Waits now }
+        ensures due { IsDialled self.old.stage → self.new.stage ≡ DialStage.Waits now }
         ensures none { (IsDialled self.old.stage → ⊥)
             → (result ≡ None) × (self.new.stage ≡ self.old.stage) }
         ensures same { (self.new.reached ≡ self.old.reached)
@@ -146,8 +146,8 @@ impl Target {
             × (self.new.keeps_trying ≡ self.old.keeps_trying)
             × (self.new.delay ≡ self.old.delay) }
     {
-        match mem::replace(&mut self.stage, Stage::Waits(now)) {
-            Stage::Dials(dial) => {
+        match mem::replace(&mut self.stage, DialStage::Waits(now)) {
+            DialStage::Dials(dial) => {
                 let Dial { thread, done } = dial;
                 drop(done);
                 thread.join(rt)
@@ -163,19 +163,19 @@ impl Target {
     pub fn reach(&mut self, slot: u16, now: u64)
         ensures { (self.new.reached ≡ true) × (self.new.address ≡ self.old.address)
             × (self.new.keeps_trying ≡ self.old.keeps_trying) × (self.new.delay ≡ self.old.delay)
-            × (self.new.stage ≡ Stage.Lasts slot now) }
+            × (self.new.stage ≡ DialStage.Lasts slot now) }
     {
         self.reached = true;
-        self.stage = Stage::Lasts(slot, now);
+        self.stage = DialStage::Lasts(slot, now);
     }
 
     /// Whether the connection that was made at this time in this slot is to it.
     pub fn lasts_in(&self, slot: u16, since: u64) -> bool
-        ensures { IsTrue result ↔ (self.now.stage ≡ Stage.Lasts slot since) }
+        ensures { IsTrue result ↔ (self.now.stage ≡ DialStage.Lasts slot since) }
     {
         match &self.stage {
-            Stage::Lasts(its, made) => *its == slot && *made == since,
-            Stage::Waits(_) | Stage::Dials(_) => false,
+            DialStage::Lasts(its, made) => *its == slot && *made == since,
+            DialStage::Waits(_) | DialStage::Dials(_) => false,
         }
     }
 
@@ -185,21 +185,29 @@ impl Target {
         ensures short { LastsWell self.old.stage now → result ≡ 1 }
         ensures delay { (LastsWell self.old.stage now → ⊥) → result ≡ self.old.delay }
         ensures next { self.new.delay ≡ longer result }
-        ensures due { self.new.stage ≡ Stage.Waits (later now result) }
+        ensures due { self.new.stage ≡ DialStage.Waits (later now result) }
         ensures same { (self.new.reached ≡ self.old.reached)
             × (self.new.address ≡ self.old.address)
             × (self.new.keeps_trying ≡ self.old.keeps_trying) }
     {
-        if let Stage::Lasts(_, since) = &self.stage {
-            if now.saturating_sub(*since) >= GOOD_MILLIS {
+        if let DialStage::Lasts(_, since) = &self.stage {
+            if now.saturating_sub(*since) >= GOOD_MILLISECONDS {
                 self.delay = 1;
             }
         }
         let delay = self.delay;
         self.delay = delay.saturating_mul(2).min(LONGEST_DELAY);
-        self.stage = Stage::Waits(now.saturating_add(u64::from(delay) * 1_000));
+        self.stage = DialStage::Waits(now.saturating_add(u64::from(delay) * 1_000));
         delay
     }
+}
+
+/// Connects to a peer at this address. Waits for 5 seconds at most.
+pub fn connect_to<R: Net<Stream = TcpStream>>(
+    rt: &R,
+    address: &SocketAddr,
+) -> io::Result<TcpStream> {
+    TcpStream::connect_timeout(rt, address, Duration::from_secs(DIAL_SECONDS))
 }
 
 /// Whether one of these has this address.
@@ -220,8 +228,7 @@ fn start_dial<R: Dialler>(rt: &R, alloc: Global, address: SocketAddr) -> Option<
     let rt_of_thread = *rt;
     let started = thread::spawn(rt, move || {
         let (rt, flag) = (rt_of_thread, flag);
-        let timeout = Duration::from_secs(DIAL_SECONDS);
-        let stream = TcpStream::connect_timeout(&rt, &address, timeout).ok();
+        let stream = connect_to(&rt, &address).ok();
         flag.store(true, Ordering::SeqCst);
         stream
     });

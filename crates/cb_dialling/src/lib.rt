@@ -6,5 +6,5 @@ mod dialling;
 mod own_address;
 
 pub use aiming::targets_of;
-pub use dialling::{Dialler, Target, is_target};
+pub use dialling::{Dialler, Target, connect_to, is_target};
 pub use own_address::is_own;

@@ -6,7 +6,7 @@ use Rattle.std.proofs.lemmas.List.{length-append}
 use Rattle.std.proofs.lemmas.List.Folds.{list_any-append}
 use Rattle.cb_base.specs.declared.hash.Hash256.{Hash256}
 use Rattle.cb_chain.specs.Entries.{same}
-use Rattle.cb_chain.proofs.Nodes.{same-refl}
+use Rattle.cb_chain.proofs.BlockIndexes.{same-refl}
 use Rattle.cb_fetch.specs.Fetching.{FetchState, asks_now, fallen_back, has, with_flight, with_wanted}
 
 -- ---- one more, as the last, is another list

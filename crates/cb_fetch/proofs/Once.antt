@@ -6,7 +6,7 @@ use Rattle.std.proofs.lemmas.List.{append-nil, append_assoc, length-append, take
 use Rattle.std.proofs.lemmas.List.Sums.{fold-append}
 use Rattle.cb_base.specs.declared.hash.Hash256.{Hash256}
 use Rattle.cb_chain.specs.Entries.{same}
-use Rattle.cb_chain.proofs.Nodes.{same-symm}
+use Rattle.cb_chain.proofs.BlockIndexes.{same-symm}
 use Rattle.cb_payload.specs.declared.inventory.Inventory.{Inventory}
 use Rattle.cb_fetch.specs.Fetching.{AreDifferent, FetchState, IsFetch, block_in, blocks_in, has, idle, landed, taken_on, taking_on, with_flight, with_wanted}
 

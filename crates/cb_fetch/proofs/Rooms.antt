@@ -5,7 +5,7 @@ use Rattle.std.proofs.lemmas.Bool.{cases_Bool, ltb-false, ltb-true}
 use Rattle.std.proofs.lemmas.List.{length-append}
 use Rattle.cb_base.specs.declared.hash.Hash256.{Hash256}
 use Rattle.cb_chain.specs.Entries.{same}
-use Rattle.cb_chain.proofs.Nodes.{same-true}
+use Rattle.cb_chain.proofs.BlockIndexes.{same-true}
 use Rattle.cb_fetch.specs.Fetching.{FetchState, has, is_fetched, leaves_out, wanting, wanting_all, with_wanted}
 use Rattle.cb_fetch.proofs.Falling.{last_there, still_there}
 use Rattle.cb_fetch.proofs.Still.{no_fewer}

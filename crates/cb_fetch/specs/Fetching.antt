@@ -42,7 +42,10 @@ is_due fetch = (length fetch.flight == 0) && nat_lt 0 (length fetch.wanted)
 -- a block was received: it is no longer in flight. It may be wanted still, and then the question
 -- about wanted blocks tells that it isn't needed.
 abbrev pub landed : Hash256 → FetchState → FetchState
-landed hash fetch = record { flight = filter (λ other. not (same hash other)) fetch.flight; wanted = fetch.wanted }
+landed hash fetch = record {
+  flight = filter (λ other. not (same hash other)) fetch.flight;
+  wanted = fetch.wanted;
+}
 
 -- with one more block in flight, as the last
 abbrev pub with_flight : FetchState → Hash256 → FetchState
@@ -50,7 +53,10 @@ with_flight fetch hash = record { flight = fetch.flight ++ hash ∷ []; wanted =
 
 -- with one more wanted block, as the last, if fewer than 2,000 are wanted
 abbrev pub with_wanted : FetchState → Hash256 → FetchState
-with_wanted fetch hash = if nat_lt (length fetch.wanted) 2000 then record { flight = fetch.flight; wanted = fetch.wanted ++ hash ∷ [] } else fetch
+with_wanted fetch hash =
+    if nat_lt (length fetch.wanted) 2000
+    then record { flight = fetch.flight; wanted = fetch.wanted ++ hash ∷ [] }
+    else fetch
 
 -- a block is missing: it becomes wanted, unless it is in flight or wanted
 abbrev pub wanting : FetchState → Hash256 → FetchState
@@ -63,7 +69,12 @@ wanting_all fetch hashes = fold wanting fetch hashes
 -- a block is still needed: it goes in flight if fewer than 16 are, and otherwise becomes wanted, if
 -- fewer than 2,000 are
 abbrev pub taking_on : FetchState → Hash256 → FetchState
-taking_on fetch hash = if is_fetched fetch hash then fetch else (if nat_lt (length fetch.flight) 16 then with_flight fetch hash else with_wanted fetch hash)
+taking_on fetch hash =
+    if is_fetched fetch hash
+    then fetch
+    else (if nat_lt (length fetch.flight) 16
+    then with_flight fetch hash
+    else with_wanted fetch hash)
 
 -- The state once it is known which of the wanted blocks are still needed: the first 16 different
 -- ones are in flight, and the next 2,000 are wanted.
@@ -125,10 +136,13 @@ pub record IsFetch (fetch : FetchState) : Type 0 where
 -- the states that calls lead to, from the start of a session on
 pub data IsReached : FetchState → Type 0 where
   opening : IsReached idle
-  wants : (fetch : FetchState) (hashes : List Hash256) → IsReached fetch → IsReached (wanting_all fetch hashes)
+  wants : (fetch : FetchState) (hashes : List Hash256) → IsReached fetch
+      → IsReached (wanting_all fetch hashes)
   lands : (fetch : FetchState) (hash : Hash256) → IsReached fetch → IsReached (landed hash fetch)
-  falls_back : (fetch : FetchState) (hash : Hash256) → IsReached fetch → IsReached (fallen_back hash fetch)
-  takes_on : (fetch : FetchState) (hashes : List Hash256) → IsReached fetch → IsReached (taken_on hashes)
+  falls_back : (fetch : FetchState) (hash : Hash256) → IsReached fetch
+      → IsReached (fallen_back hash fetch)
+  takes_on : (fetch : FetchState) (hashes : List Hash256) → IsReached fetch
+      → IsReached (taken_on hashes)
 
 -- ---- each once
 

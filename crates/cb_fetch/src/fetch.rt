@@ -34,7 +34,8 @@ impl Model for Fetch {
 
     ghost view = { λ fetch. record { flight = fetch.flight.items; wanted = fetch.wanted.keys } };
 
-    ghost invariant = { λ fetch. IsFetch (record { flight = fetch.flight.items; wanted = fetch.wanted.keys }) };
+    ghost invariant = { λ fetch. IsFetch
+        (record { flight = fetch.flight.items; wanted = fetch.wanted.keys }) };
 }
 
 impl Fetch {
@@ -206,8 +207,8 @@ impl Fetch {
     /// Queues missing blocks for download: each becomes wanted, in order, unless it is in flight or
     /// wanted, or 2,000 are wanted.
     ///
-    /// Fails only with `Fault::Memory`, and never if no block becomes wanted. After an error nothing
-    /// has changed.
+    /// Fails only with `Fault::Memory`, and never if no block becomes wanted. After an error
+    /// nothing has changed.
     pub fn want(&mut self, hashes: &[Hash256]) -> Result<(), Fault>
         ensures wanted { OnOk result (self.new ≡ wanting_all self.old hashes.now) }
         ensures memory { IsOkUnless result Memory }

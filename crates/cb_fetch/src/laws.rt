@@ -51,8 +51,8 @@ pub fn what_falls_back_is_asked_for()
         has (fallen_back hash fetch).wanted other ≡ true }
 {}
 
-/// A missing block is left out only where 2,000 blocks are wanted. All others are in flight or wanted,
-/// and what was so before stays so.
+/// A missing block is left out only where 2,000 blocks are wanted. All others are in flight or
+/// wanted, and what was so before stays so.
 pub fn what_is_left_out_has_no_room()
     ensures full { (fetch : FetchState) (hashes : List Hash256) → length fetch.wanted ≤ 2000 →
         leaves_out (wanting_all fetch hashes) hashes ≡ true →

@@ -91,7 +91,7 @@ noted_counts : (old new : JournalState) (badge : BadgeState) (entry : Entry) (to
     → (connected : Connected) × (connected_of new.latest.connections badge.connection ≡ Some connected) × (connected.count ≡ badge.count + one_if b)
 noted_counts old new badge entry told b (had, is, alike) notes asked =
     let c = badge.connection in
-    let known = does_known old.latest.node new.latest.node old.latest.connections new.latest.connections entry told c had notes.steps.does is in
+    let known = does_known old.latest.relay new.latest.relay old.latest.connections new.latest.connections entry told c had notes.steps.does is in
     (after_entry c entry had, known, count_after c entry had ∙ ap (λ (n : ℕ). n + one_if (is_question_of c entry)) alike ∙ ap (λ (d : Bool). badge.count + one_if d) asked)
 
 passed_counts : (old new : JournalState) (badge : BadgeState) (entry : Entry) (told : Option Answer) → CountsAlike old badge → is_question_of badge.connection entry ≡ false

@@ -5,7 +5,7 @@ use Rattle.std.specs.Option.{option_map_or}
 use Rattle.std.proofs.lemmas.Bool.Decides.{nat_tests}
 use Rattle.cb_state.specs.declared.connection.Connection.{Connection}
 use Rattle.cb_state.specs.Announcers.{same_connection}
-use Rattle.cb_state.specs.State.{NodeState}
+use Rattle.cb_state.specs.State.{RelayState}
 use Rattle.cb_journal.specs.declared.answer.Answer.{Answer}
 use Rattle.cb_journal.specs.declared.answer.Answer.TheVariants as reply
 use Rattle.cb_journal.specs.declared.answer.Answer.TheVariants.{Kicked}
@@ -58,7 +58,7 @@ put_known f slots d c x (inr (same, is)) =
     let here : same_connection d c ≡ true = subst (λ (k : Connection). same_connection k c ≡ true) (sym same) (same_self c) in
     rw here is
 
-pub does_known : (old new : NodeState) (slots after : Slots) (entry : Entry) (told : Option Answer) (c : Connection) (x : Connected) → Does old slots entry told new after
+pub does_known : (old new : RelayState) (slots after : Slots) (entry : Entry) (told : Option Answer) (c : Connection) (x : Connected) → Does old slots entry told new after
     → connected_of slots c ≡ Some x → connected_of after c ≡ Some (after_entry c entry x)
 does_known old new slots after (Asked d question) told c x does is =
     subst (λ (s : Slots). connected_of s c ≡ Some (if same_connection d c then counted x else x)) (sym does.1) (put_known counted slots d c x (put_either counted slots d c x is))
@@ -68,7 +68,7 @@ does_known old new slots after (Opened d) told c x does is = subst (λ (s : Slot
 does_known old new slots after (Submitted local) told c x does is = subst (λ (s : Slots). connected_of s c ≡ Some x) (sym does.1) is
 
 -- one that isn't there is not there, or fresh
-does_unknown : (old new : NodeState) (slots after : Slots) (entry : Entry) (told : Option Answer) (c : Connection) (y : Connected) → Does old slots entry told new after
+does_unknown : (old new : RelayState) (slots after : Slots) (entry : Entry) (told : Option Answer) (c : Connection) (y : Connected) → Does old slots entry told new after
     → connected_of slots c ≡ None → connected_of after c ≡ Some y → y ≡ fresh
 does_unknown old new slots after (Asked d question) told c y does none is =
     absurd (let never : None ≡ Some y = sym (put_nothing counted slots d c none) ∙ ap (λ (s : Slots). connected_of s c) (sym does.1) ∙ is in cc)
@@ -108,7 +108,7 @@ pub counts : (old new : ReplicaState) (calls : List Entry) (answers : List Answe
 counts old new [] answers c h had is = (had, ap (λ (s : ReplicaState). connected_of s.connections c) h.1 ∙ is, omega arith)
 counts old new (entry ∷ calls) answers c h had is =
     let next = h.1 in
-    let known = does_known old.node next.node old.connections next.connections entry h.0 c had h.3.does is in
+    let known = does_known old.relay next.relay old.connections next.connections entry h.0 c had h.3.does is in
     let rest = counts next new calls h.2 c h.5 (after_entry c entry had) known in
     let here = count_after c entry had in
     let more = questions_more c entry calls in
@@ -138,7 +138,7 @@ kicked_on c (Submitted local) x h = h
 step_kicked : (old new : ReplicaState) (entry : Entry) (told : Option Answer) (c : Connection) → Steps old entry told new → is_kicked old.connections c ≡ true → is_kicked new.connections c ≡ true
 step_kicked old new entry told c step h =
     let was = known_kicked (connected_of old.connections c) h in
-    let now = does_known old.node new.node old.connections new.connections entry told c was.0 step.does was.1 in
+    let now = does_known old.relay new.relay old.connections new.connections entry told c was.0 step.does was.1 in
     ap (λ (o : Option Connected). option_map_or (λ x. x.kicked) o false) now ∙ kicked_on c entry was.0 was.2
 
 stays_kicked : (old new : ReplicaState) (calls : List Entry) (answers : List Answer) (c : Connection) → Leads old calls answers new → is_kicked old.connections c ≡ true → is_kicked new.connections c ≡ true
@@ -146,15 +146,15 @@ stays_kicked old new [] answers c h is = ap (λ (s : ReplicaState). is_kicked s.
 stays_kicked old new (entry ∷ calls) answers c h is = stays_kicked h.1 new calls h.2 c h.5 (step_kicked old h.1 entry h.0 c h.3 is)
 
 -- who was kicked is answered so
-replies_kicked : (b : Bool) (old new : NodeState) (c : Connection) (question : Question) (answer : Answer) → b ≡ true → Replies b old c question answer new → (answer ≡ Kicked) × (new ≡ old)
+replies_kicked : (b : Bool) (old new : RelayState) (c : Connection) (question : Question) (answer : Answer) → b ≡ true → Replies b old c question answer new → (answer ≡ Kicked) × (new ≡ old)
 replies_kicked true old new c question answer h replies = replies
 replies_kicked false old new c question answer h replies = absurd (let e : false ≡ true = h in cc)
 
 asked_kicked : (old new : ReplicaState) (c : Connection) (question : Question) (told : Option Answer) → Steps old (Asked c question) told new → is_kicked old.connections c ≡ true
-    → (told ≡ Some Kicked) × (new.node ≡ old.node)
+    → (told ≡ Some Kicked) × (new.relay ≡ old.relay)
 asked_kicked old new c question told step is =
     let tells = step.does.0 in
-    let both = replies_kicked (is_kicked old.connections c) old.node new.node c question tells.0 is tells.2 in
+    let both = replies_kicked (is_kicked old.connections c) old.relay new.relay c question tells.0 is tells.2 in
     (tells.1 ∙ ap Some both.0, both.1)
 
 pub turned_away : (old new : ReplicaState) (calls : List Entry) (answers : List Answer) (c : Connection) → Leads old calls answers new → is_kicked old.connections c ≡ true → AreTurnedAway old calls c new
@@ -165,12 +165,12 @@ turned_away old new calls answers c leads is =
     }
 
 -- who wasn't isn't answered so
-served_not : (old : NodeState) (request : Request) (answer : Answer) → IsServed old request answer → answer ≢ Kicked
+served_not : (old : RelayState) (request : Request) (answer : Answer) → IsServed old request answer → answer ≢ Kicked
 served_not old (Items entries) answer served same = let e : reply.Served (pieces_of old entries) ≡ Kicked = sym served ∙ same in cc
 served_not old (After locator stop) answer served same = let e : reply.Following (headers_after old.tree locator stop) ≡ Kicked = sym served ∙ same in cc
 served_not old (Places hash differences) answer served same = let e : reply.Excerpt (excerpt_of old hash differences) ≡ Kicked = sym served ∙ same in cc
 
-answers_not : (old new : NodeState) (c : Connection) (question : Question) (answer : Answer) → Answers old c question answer new → answer ≢ Kicked
+answers_not : (old new : RelayState) (c : Connection) (question : Question) (answer : Answer) → Answers old c question answer new → answer ≢ Kicked
 answers_not old new c ask.Admit answer h same = let e : reply.Go ≡ Kicked = sym h.0 ∙ same in cc
 answers_not old new c (ask.Headers headers) answer h same = let e : reply.Heads h.0 ≡ Kicked = sym h.1 ∙ same in cc
 answers_not old new c ask.Locator answer h same = let e : reply.Locator (locator_of old.tree) ≡ Kicked = sym h.0 ∙ same in cc
@@ -182,14 +182,14 @@ answers_not old new c (ask.News since) answer h same = let e : reply.News h.0 �
 answers_not old new c (ask.Match sought) answer h same =
     let e : reply.Pairs (pairs_of (key_of sought.header sought.nonce) sought.ids (txs_of old.pool.list)) ≡ Kicked = sym h.0 ∙ same in cc
 
-replies_not : (b : Bool) (old new : NodeState) (c : Connection) (question : Question) (answer : Answer) → b ≡ false → Replies b old c question answer new → answer ≢ Kicked
+replies_not : (b : Bool) (old new : RelayState) (c : Connection) (question : Question) (answer : Answer) → b ≡ false → Replies b old c question answer new → answer ≢ Kicked
 replies_not true old new c question answer h replies = absurd (let e : true ≡ false = h in cc)
 replies_not false old new c question answer h replies = answers_not old new c question answer replies
 
 pub let_in : (asked : ReplicaState) (c : Connection) → is_kicked asked.connections c ≡ false → IsLetIn asked c
 let_in asked c differ question answer next step same =
     let tells = step.does.0 in
-    replies_not (is_kicked asked.connections c) asked.node next.node c question tells.0 differ tells.2 (let e : Some tells.0 ≡ Some Kicked = sym tells.1 ∙ same in cc)
+    replies_not (is_kicked asked.connections c) asked.relay next.relay c question tells.0 differ tells.2 (let e : Some tells.0 ≡ Some Kicked = sym tells.1 ∙ same in cc)
 
 -- who wasn't and is was kicked by an entry
 clash : (x : Connected) → x.kicked ≡ false → x.kicked ≡ true → ⊥
@@ -213,10 +213,10 @@ step_reason : (old new : ReplicaState) (entry : Entry) (told : Option Answer) (c
     → option_map_or (λ x. x.kicked) o false ≡ false → is_kicked new.connections c ≡ true → entry ≡ Kick c
 step_reason old new entry told c None step at differ is =
     let now = known_kicked (connected_of new.connections c) is in
-    let comes = does_unknown old.node new.node old.connections new.connections entry told c now.0 step.does at now.1 in
+    let comes = does_unknown old.relay new.relay old.connections new.connections entry told c now.0 step.does at now.1 in
     absurd (let e : false ≡ true = sym (ap (λ (x : Connected). x.kicked) comes) ∙ now.2 in cc)
 step_reason old new entry told c (Some x) step at differ is =
-    let now = does_known old.node new.node old.connections new.connections entry told c x step.does at in
+    let now = does_known old.relay new.relay old.connections new.connections entry told c x step.does at in
     kicked_there c entry x differ (sym (ap (λ (o : Option Connected). option_map_or (λ y. y.kicked) o false) now) ∙ is)
 
 behind_entry : (entry : Entry) (calls : List Entry) (c : Connection) → WasKicked calls c → WasKicked (entry ∷ calls) c

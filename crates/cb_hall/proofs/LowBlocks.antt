@@ -20,9 +20,9 @@ use Rattle.cb_chain.proofs.Histories.{historic_block}
 use Rattle.cb_chain.proofs.LawLemmas.{tip_kept}
 use Rattle.cb_chain.proofs.Marks.{marked_is, marks_keep_best, marks_keep_height, marks_keep_kept}
 use Rattle.cb_chain.proofs.NewTip.{best_new, height_other}
-use Rattle.cb_chain.proofs.Nodes.{same-refl, same-true}
+use Rattle.cb_chain.proofs.BlockIndexes.{same-refl, same-true}
 use Rattle.cb_chain.proofs.Reached.{ArePlanted, IsPlanted, kept_apart, kept_behind, kept_known, kept_own, marked_behind, marked_own, nothing_missing, planted_after, stop_leads}
-use Rattle.cb_chain.proofs.SideNodes.{block_free, low_best}
+use Rattle.cb_chain.proofs.SideBranchIndexes.{block_free, low_best}
 
 abbrev pub StandLow : Tree → Type 0
 StandLow tree = (hash : Hash256) → is_kept tree hash ≡ true → is_marked tree hash ≡ false → height_in tree hash ≤ height_in tree (best tree)

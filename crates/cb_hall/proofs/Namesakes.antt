@@ -16,7 +16,7 @@ use Rattle.cb_chain.specs.History.{IsHistoric}
 use Rattle.cb_chain.specs.Laws.{height_in}
 use Rattle.cb_chain.proofs.LawLemmas.{tip_kept}
 use Rattle.cb_chain.proofs.NewTip.{height_other}
-use Rattle.cb_chain.proofs.Nodes.{same-true}
+use Rattle.cb_chain.proofs.BlockIndexes.{same-true}
 use Rattle.cb_chain.proofs.Reached.{ArePlanted, kept_apart, kept_behind, planted_after}
 use Rattle.cb_hall.specs.MinedBlock.{HasNamesake}
 use Rattle.cb_hall.proofs.LowBlocks.{stand_low}

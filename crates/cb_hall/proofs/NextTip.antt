@@ -24,16 +24,16 @@ use Rattle.cb_chain.specs.History.{IsHistoric}
 use Rattle.cb_chain.specs.Laws.{height_in}
 use Rattle.cb_chain.proofs.LawLemmas.{tip_kept}
 use Rattle.cb_chain.proofs.NewTip.{best_new, branch_new, height_new, height_other, joined_err, joined_ok}
-use Rattle.cb_chain.proofs.Nodes.{reverse_cons, same-refl}
+use Rattle.cb_chain.proofs.BlockIndexes.{reverse_cons, same-refl}
 use Rattle.cb_chain.proofs.Reached.{marked_err, planted_after}
-use Rattle.cb_chain.proofs.SideNodes.{block_free, kept_other}
+use Rattle.cb_chain.proofs.SideBranchIndexes.{block_free, kept_other}
 use Rattle.cb_pool.specs.Listing.{txs_of}
 use Rattle.cb_pool.proofs.Spent.{ok_at}
 use Rattle.cb_state.specs.declared.connection.Connection.{Connection}
 use Rattle.cb_state.specs.declared.accepting.Taken.{Taken}
 use Rattle.cb_state.specs.Accepting.{TakesBlock, refused_for}
 use Rattle.cb_state.specs.Mining.{IsMined, coinbase_of, next_height, subsidy}
-use Rattle.cb_state.specs.State.{IsUnspent, NodeState, WaitOn}
+use Rattle.cb_state.specs.State.{IsUnspent, RelayState, WaitOn}
 use Rattle.cb_state.proofs.Growing.{spent_on}
 use Rattle.cb_state.proofs.TipHeight.{tip_low}
 use Rattle.cb_hall.specs.MinedBlock.{FaresAsMined, IsMadeAgain, IsNextTip}
@@ -168,7 +168,7 @@ module _ (old : Tree) (block : Block) (height : ℕ) (u : Unspent) (is : IsTipOf
 
 -- ---- what it spends
 
-spends : (state : NodeState) (mark : ℕ) (block : Block) (u : Unspent) → IsUnspent state.tree u → WaitOn state.tree state.pool → MeetsBlockRules block → IsMined state mark block
+spends : (state : RelayState) (mark : ℕ) (block : Block) (u : Unspent) → IsUnspent state.tree u → WaitOn state.tree state.pool → MeetsBlockRules block → IsMined state mark block
     → IsOk (spend u block.txs) ⊎ ((spend u block.txs ≡ Err Remade) × IsMadeAgain u block.txs)
 spends state mark block u unspent wait rules is =
     let height = next_height state.tree in
@@ -186,14 +186,14 @@ spends state mark block u unspent wait rules is =
 -- ---- what becomes of it
 
 -- what a node knows of a block that it mined
-pub record Knows (state : NodeState) (mark : ℕ) (block : Block) (height : ℕ) (u : Unspent) : Type 0 where
+pub record Knows (state : RelayState) (mark : ℕ) (block : Block) (height : ℕ) (u : Unspent) : Type 0 where
   pub mined : IsMined state mark block
   pub tip : IsTipOf state.tree height u
   pub wait : WaitOn state.tree state.pool
   pub rules : MeetsBlockRules block
   pub long : length (header_text block.header) ≡ 80
 
-fares_refused : (state new : NodeState) (mark : ℕ) (block : Block) (height : ℕ) (u : Unspent) (taken : Taken) (fault : Fault) → Knows state mark block height u → taken.refused ≡ Some fault
+fares_refused : (state new : RelayState) (mark : ℕ) (block : Block) (height : ℕ) (u : Unspent) (taken : Taken) (fault : Fault) → Knows state mark block height u → taken.refused ≡ Some fault
     → Against state.tree block.header fault → FaresAsMined state block taken new
 fares_refused state new mark block height u taken fault k told (marked is bad) = FaresAsMined.was_marked (told ∙ ap Some is) bad
 fares_refused state new mark block height u taken fault k told (kept is clean there) =
@@ -207,7 +207,7 @@ fares_refused state new mark block height u taken fault k told (no_parent lacks)
 fares_refused state new mark block height u taken fault k told (full is most) =
     FaresAsMined.tip_is_full (told ∙ ap Some is) (full_tip state.tree height u k.tip (ap (is_full_under state.tree) (sym k.mined.header.prev) ∙ most))
 
-fares_joined : (state new : NodeState) (mark : ℕ) (block : Block) (height : ℕ) (u : Unspent) (taken : Taken) (answer : Result Change Fault) → Knows state mark block height u → taken.refused ≡ refused_for answer
+fares_joined : (state new : RelayState) (mark : ℕ) (block : Block) (height : ℕ) (u : Unspent) (taken : Taken) (answer : Result Change Fault) → Knows state mark block height u → taken.refused ≡ refused_for answer
     → block_fault state.tree block.header ≡ None → (answer, new.tree) ≡ joined state.tree block → FaresAsMined state block taken new
 fares_joined state new mark block height u taken answer k told none e =
     let old = state.tree in
@@ -226,7 +226,7 @@ fares_joined state new mark block height u taken answer k told none e =
           FaresAsMined.makes_again (told ∙ answer_is) (record { unspent = u; behind_tip = k.tip.unspent; fault = bad.0; again = bad.1 })
     ]
 
-fares_by : (state new : NodeState) (mark : ℕ) (block : Block) (height : ℕ) (u : Unspent) (taken : Taken) (answer : Result Change Fault) → Knows state mark block height u → taken.refused ≡ refused_for answer
+fares_by : (state new : RelayState) (mark : ℕ) (block : Block) (height : ℕ) (u : Unspent) (taken : Taken) (answer : Result Change Fault) → Knows state mark block height u → taken.refused ≡ refused_for answer
     → AcceptsBlock state.tree block answer new.tree → FaresAsMined state block taken new
 fares_by state new mark block height u taken answer k told (AcceptsBlock.without_work lacks _ _) = absurd (lacks k.mined.nonce.work)
 fares_by state new mark block height u taken answer k told (AcceptsBlock.refused _ fault is answered _) =
@@ -234,6 +234,6 @@ fares_by state new mark block height u taken answer k told (AcceptsBlock.refused
 fares_by state new mark block height u taken answer k told (AcceptsBlock.breaks_rule _ _ fault breaks _ _) = absurd (refused_meets block fault breaks k.rules)
 fares_by state new mark block height u taken answer k told (AcceptsBlock.meets_rules _ none _ e) = fares_joined state new mark block height u taken answer k told none e
 
-pub fares : (state new : NodeState) (mark : ℕ) (block : Block) (height : ℕ) (u : Unspent) (from : Option Connection) (taken : Taken) → Knows state mark block height u → TakesBlock state block from taken new
+pub fares : (state new : RelayState) (mark : ℕ) (block : Block) (height : ℕ) (u : Unspent) (from : Option Connection) (taken : Taken) → Knows state mark block height u → TakesBlock state block from taken new
     → FaresAsMined state block taken new
 fares state new mark block height u from taken k takes = fares_by state new mark block height u taken takes.answer k takes.refused takes.chain

@@ -10,7 +10,7 @@ use Rattle.cb_state.specs.declared.connection.Connection.{Connection}
 use Rattle.cb_state.specs.declared.accepting.Taken.{Taken}
 use Rattle.cb_state.specs.Accepting.{TakesBlock, TakesTx, announcers_after, became_tip}
 use Rattle.cb_state.specs.Announcers.{is_among, last_three, same_connection, with_announcer, without, without_peer}
-use Rattle.cb_state.specs.State.{NodeState}
+use Rattle.cb_state.specs.State.{RelayState}
 use Rattle.cb_journal.specs.declared.answer.Answer.{Answer}
 use Rattle.cb_journal.specs.declared.entry.Entry.{Entry}
 use Rattle.cb_journal.specs.declared.entry.Entry.TheVariants.{Asked, Kick, Opened, Submitted}
@@ -127,20 +127,20 @@ left xs peer are =
     let keeps = λ (other : Connection). not (nat_eq other.peer peer) in
     record { few = omega (arith, few_filtered keeps xs, are.few); apart = apart_filtered keeps xs are.apart }
 
-unchanged : (old new : NodeState) → new.announcers ≡ old.announcers → AreAnnouncers old.announcers → AreAnnouncers new.announcers
+unchanged : (old new : RelayState) → new.announcers ≡ old.announcers → AreAnnouncers old.announcers → AreAnnouncers new.announcers
 unchanged old new same are = subst AreAnnouncers (sym same) are
 
-alike : (old new : NodeState) → new ≡ old → AreAnnouncers old.announcers → AreAnnouncers new.announcers
-alike old new same are = unchanged old new (ap (λ (s : NodeState). s.announcers) same) are
+alike : (old new : RelayState) → new ≡ old → AreAnnouncers old.announcers → AreAnnouncers new.announcers
+alike old new same are = unchanged old new (ap (λ (s : RelayState). s.announcers) same) are
 
-by_block : (old new : NodeState) (block : Block) (from : Option Connection) (taken : Taken) → TakesBlock old block from taken new → AreAnnouncers old.announcers → AreAnnouncers new.announcers
+by_block : (old new : RelayState) (block : Block) (from : Option Connection) (taken : Taken) → TakesBlock old block from taken new → AreAnnouncers old.announcers → AreAnnouncers new.announcers
 by_block old new block from taken takes are = subst AreAnnouncers (sym takes.announcers) (rewarded old.announcers (became_tip takes.answer) from are)
 
-by_tx : (old new : NodeState) (tx : Tx) (refused : Option Fault) → TakesTx old tx refused new → AreAnnouncers old.announcers → AreAnnouncers new.announcers
-by_tx old new tx None takes are = unchanged old new (ap (λ (s : NodeState). s.announcers) takes.2.1) are
+by_tx : (old new : RelayState) (tx : Tx) (refused : Option Fault) → TakesTx old tx refused new → AreAnnouncers old.announcers → AreAnnouncers new.announcers
+by_tx old new tx None takes are = unchanged old new (ap (λ (s : RelayState). s.announcers) takes.2.1) are
 by_tx old new tx (Some fault) takes are = alike old new takes.2.1 are
 
-by_answer : (old new : NodeState) (c : Connection) (question : Question) (answer : Answer) → Answers old c question answer new → AreAnnouncers old.announcers → AreAnnouncers new.announcers
+by_answer : (old new : RelayState) (c : Connection) (question : Question) (answer : Answer) → Answers old c question answer new → AreAnnouncers old.announcers → AreAnnouncers new.announcers
 by_answer old new c ask.Admit answer h are = alike old new h.1 are
 by_answer old new c (ask.Headers headers) answer h are = unchanged old new h.2.announcers are
 by_answer old new c ask.Locator answer h are = alike old new h.1 are
@@ -151,27 +151,27 @@ by_answer old new c (ask.Serve request) answer h are = alike old new h.1 are
 by_answer old new c (ask.News since) answer h are = alike old new h.3 are
 by_answer old new c (ask.Match sought) answer h are = alike old new h.1 are
 
-by_reply : (b : Bool) (old new : NodeState) (c : Connection) (question : Question) (answer : Answer) → Replies b old c question answer new → AreAnnouncers old.announcers → AreAnnouncers new.announcers
+by_reply : (b : Bool) (old new : RelayState) (c : Connection) (question : Question) (answer : Answer) → Replies b old c question answer new → AreAnnouncers old.announcers → AreAnnouncers new.announcers
 by_reply true old new c question answer h are = alike old new h.1 are
 by_reply false old new c question answer h are = by_answer old new c question answer h are
 
-by_entry : (old new : NodeState) (slots : Slots) (entry : Entry) (told : Option Answer) → Tells old slots entry told new → AreAnnouncers old.announcers → AreAnnouncers new.announcers
+by_entry : (old new : RelayState) (slots : Slots) (entry : Entry) (told : Option Answer) → Tells old slots entry told new → AreAnnouncers old.announcers → AreAnnouncers new.announcers
 by_entry old new slots (Asked c question) told h are = by_reply (is_kicked slots c) old new c question h.0 h.2 are
 by_entry old new slots (Kick c) told h are = alike old new h.1 are
 by_entry old new slots (Opened c) told h are =
-    unchanged (record old { announcers = without_peer old.announcers c.peer }) new (ap (λ (s : NodeState). s.announcers) h.2) (left old.announcers c.peer are)
+    unchanged (record old { announcers = without_peer old.announcers c.peer }) new (ap (λ (s : RelayState). s.announcers) h.2) (left old.announcers c.peer are)
 by_entry old new slots (Submitted (local.Tx tx)) told h are = by_tx old new tx h.2.0 h.2.2 are
 by_entry old new slots (Submitted (local.Block block)) told h are = by_block old new block None h.2.0 h.2.2 are
 
-by_calls : (old new : ReplicaState) (calls : List Entry) (answers : List Answer) → Leads old calls answers new → AreAnnouncers old.node.announcers → AreAnnouncers new.node.announcers
-by_calls old new [] answers h are = alike old.node new.node (ap (λ (s : ReplicaState). s.node) h.1) are
-by_calls old new (entry ∷ calls) answers h are = by_calls h.1 new calls h.2 h.5 (by_entry old.node h.1.node old.connections entry h.0 h.3.does.0 are)
+by_calls : (old new : ReplicaState) (calls : List Entry) (answers : List Answer) → Leads old calls answers new → AreAnnouncers old.relay.announcers → AreAnnouncers new.relay.announcers
+by_calls old new [] answers h are = alike old.relay new.relay (ap (λ (s : ReplicaState). s.relay) h.1) are
+by_calls old new (entry ∷ calls) answers h are = by_calls h.1 new calls h.2 h.5 (by_entry old.relay h.1.relay old.connections entry h.0 h.3.does.0 are)
 
-announcing : (hall : JournalState) (past : List Entry) (answers : List Answer) → HasHistory hall past answers → AreAnnouncers hall.latest.node.announcers
+announcing : (hall : JournalState) (past : List Entry) (answers : List Answer) → HasHistory hall past answers → AreAnnouncers hall.latest.relay.announcers
 announcing hall past answers history = by_calls opening hall.latest past answers (history_leads hall past answers history) (record { few = omega arith; apart = tt })
 
-pub are_few : (hall : JournalState) (past : List Entry) (answers : List Answer) → HasHistory hall past answers → length hall.latest.node.announcers ≤ 3
+pub are_few : (hall : JournalState) (past : List Entry) (answers : List Answer) → HasHistory hall past answers → length hall.latest.relay.announcers ≤ 3
 are_few hall past answers history = (announcing hall past answers history).few
 
-pub are_apart : (hall : JournalState) (past : List Entry) (answers : List Answer) → HasHistory hall past answers → AreApart hall.latest.node.announcers
+pub are_apart : (hall : JournalState) (past : List Entry) (answers : List Answer) → HasHistory hall past answers → AreApart hall.latest.relay.announcers
 are_apart hall past answers history = (announcing hall past answers history).apart

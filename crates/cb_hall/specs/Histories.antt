@@ -36,7 +36,8 @@ IsRefused hall badge other = Unit {0}
 
 -- A badge's calls lead from one hall and badge to another. These questions were granted, in order.
 -- They are the last of all calls. Each was answered from the state that the calls before it led to.
-pub record Asks (old new : JournalState) (had has : BadgeState) (replies : List Reply) : Type 0 where
+pub record Asks (old new : JournalState) (had has : BadgeState) (replies : List Reply)
+    : Type 0 where
   pub leads : Leads old.latest (asked_by had.connection replies) (told_by replies) new.latest
   pub history : (past : List Entry) (answers : List Answer) → HasHistory old past answers
       → HasHistory new (past ++ asked_by had.connection replies) (answers ++ told_by replies)

@@ -16,7 +16,7 @@ use Rattle.cb_chain.specs.Entries.{Entry, Tree, block_hash, block_of, entry_of, 
 use Rattle.cb_chain.specs.Laws.{height_in}
 use Rattle.cb_pool.specs.Rules.{txid_of}
 use Rattle.cb_state.specs.declared.accepting.Taken.{Taken}
-use Rattle.cb_state.specs.State.{IsUnspent, NodeState}
+use Rattle.cb_state.specs.State.{IsUnspent, RelayState}
 
 -- The block is kept and is the tip, and the active chain grew by its header alone.
 pub record IsNextTip (old : Tree) (block : Block) (new : Tree) : Type 0 where
@@ -41,7 +41,8 @@ first_output tx = record { txid = txid_of tx; index = 0 }
 abbrev pub IsMadeAgain : Unspent → List Tx → Type 0
 IsMadeAgain u [] = ⊥
 IsMadeAgain u (coinbase ∷ others) =
-    (finite.contains_key u (first_output coinbase) ≡ true) ⊎ Any (λ tx. (¬ IsCoinbase tx) × (txid_of tx ≡ txid_of coinbase)) others
+    (finite.contains_key u (first_output coinbase) ≡ true)
+    ⊎ Any (λ tx. (¬ IsCoinbase tx) × (txid_of tx ≡ txid_of coinbase)) others
 
 -- The block can't be connected to the tip, because an output that it creates is unspent already.
 pub record MakesAgain (tree : Tree) (block : Block) : Type 0 where
@@ -53,9 +54,15 @@ pub record MakesAgain (tree : Tree) (block : Block) : Type 0 where
 -- The block becomes the tip, or it is refused for one of four reasons: its hash was marked bad
 -- before, the tip has the greatest height there may be, another header has its hash, or an output
 -- that it creates is unspent already.
-pub data FaresAsMined (old : NodeState) (block : Block) (taken : Taken) (new : NodeState) : Type 0 where
-  is_next_tip : taken.refused ≡ None → IsNextTip old.tree block new.tree → FaresAsMined old block taken new
-  was_marked : taken.refused ≡ Some BadParent → is_marked old.tree (block_hash block.header) ≡ true → FaresAsMined old block taken new
-  tip_is_full : taken.refused ≡ Some TooMany → height_in old.tree (best old.tree) ≡ 1000000000 → FaresAsMined old block taken new
-  has_namesake : taken.refused ≡ Some Known → HasNamesake old.tree block.header → FaresAsMined old block taken new
-  makes_again : taken.refused ≡ Some Remade → MakesAgain old.tree block → FaresAsMined old block taken new
+pub data FaresAsMined (old : RelayState) (block : Block) (taken : Taken) (new : RelayState)
+    : Type 0 where
+  is_next_tip : taken.refused ≡ None → IsNextTip old.tree block new.tree
+      → FaresAsMined old block taken new
+  was_marked : taken.refused ≡ Some BadParent → is_marked old.tree (block_hash block.header) ≡ true
+      → FaresAsMined old block taken new
+  tip_is_full : taken.refused ≡ Some TooMany → height_in old.tree (best old.tree) ≡ 1000000000
+      → FaresAsMined old block taken new
+  has_namesake : taken.refused ≡ Some Known → HasNamesake old.tree block.header
+      → FaresAsMined old block taken new
+  makes_again : taken.refused ≡ Some Remade → MakesAgain old.tree block
+      → FaresAsMined old block taken new

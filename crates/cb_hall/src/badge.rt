@@ -22,7 +22,8 @@ impl Model for Badge {
 
     ghost Value = { BadgeState };
 
-    ghost view = { λ badge. record { connection = badge.connection; count = badge.count; full = badge.full } };
+    ghost view = { λ badge.
+        record { connection = badge.connection; count = badge.count; full = badge.full } };
 
     ghost invariant = { λ badge. badge.count ≤ 2 ^ 62 };
 }
@@ -44,6 +45,20 @@ impl Badge {
         ensures { result ≡ self.now.connection }
     {
         self.connection
+    }
+
+    /// The peer whose connection it is.
+    pub fn peer(&self) -> u16
+        ensures { result ≡ self.now.connection.peer }
+    {
+        self.connection.peer
+    }
+
+    /// Which of the peer's connections it is: 1 for the first.
+    pub fn generation(&self) -> u64
+        ensures { result ≡ self.now.connection.generation }
+    {
+        self.connection.generation
     }
 
     /// How many questions were granted.

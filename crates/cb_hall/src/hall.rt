@@ -15,7 +15,7 @@ use crate::summary::Look;
 use cb_base::{Fault, Seed};
 use cb_block::SoundBlock;
 use cb_journal::{Answer, Connections, Entry, Journal, Local, MOST_CALLS, Question};
-use cb_state::{Connection, State};
+use cb_state::{Connection, Relay};
 use std::alloc::Global;
 use std::marker::Model;
 
@@ -206,8 +206,8 @@ impl Hall {
     }
 
     /// The chain, the mempool and the announcers.
-    pub(crate) fn state(&self) -> &State
-        ensures { result.now ≡ self.now.latest.node }
+    pub(crate) fn state(&self) -> &Relay
+        ensures { result.now ≡ self.now.latest.relay }
     {
         self.journal.latest().state()
     }
@@ -219,7 +219,7 @@ impl Hall {
 
     /// A summary of the current state.
     pub fn look(&self) -> Look
-        ensures { result ≡ look_of self.now.latest.node }
+        ensures { result ≡ look_of self.now.latest.relay }
     {
         Look::at(self.state())
     }
@@ -233,9 +233,9 @@ impl Hall {
     /// - `Fault::Mutated` if two neighbours in the Merkle tree are equal (CVE-2012-2459);
     /// - `Fault::Memory`.
     pub fn mine(&self, mark: u8) -> Result<SoundBlock, Fault>
-        ensures mined { IfOk result (λ block. IsMined self.now.latest.node mark block) }
+        ensures mined { IfOk result (λ block. IsMined self.now.latest.relay mark block) }
         ensures err { IfErr result
-            (λ fault. (fault ≡ Memory) ⊎ CannotMine self.now.latest.node mark fault) }
+            (λ fault. (fault ≡ Memory) ⊎ CannotMine self.now.latest.relay mark fault) }
     {
         self.state().mine(mark)
     }

@@ -13,7 +13,7 @@ ghost use Rattle.cb_state.specs.declared.connection.Connection.{Connection};
 ghost use Rattle.cb_state.specs.declared.accepting.Taken.{Taken};
 ghost use Rattle.cb_state.specs.Accepting.{TakesBlock};
 ghost use Rattle.cb_state.specs.Mining.{IsMined};
-ghost use Rattle.cb_state.specs.State.{NodeState};
+ghost use Rattle.cb_state.specs.State.{RelayState};
 
 use crate::hall::Hall;
 use crate::mined::mined_fares;
@@ -36,19 +36,22 @@ pub fn one_hall()
 /// state that peers share unchanged. No question of a connection that isn't kicked is answered with
 /// `Kicked`. A connection becomes kicked only by an entry that names it.
 pub fn who_was_kicked()
-    ensures turned_away { (old new : ReplicaState) (calls : List Entry) (answers : List Answer) (connection : Connection)
+    ensures turned_away { (old new : ReplicaState) (calls : List Entry) (answers : List Answer)
+        (connection : Connection)
         → Leads old calls answers new → is_kicked old.connections connection ≡ true →
         AreTurnedAway old calls connection new }
     ensures let_in { (asked : ReplicaState) (connection : Connection) →
         is_kicked asked.connections connection ≡ false → IsLetIn asked connection }
-    ensures for_a_reason { (old new : ReplicaState) (calls : List Entry) (answers : List Answer) (connection : Connection)
+    ensures for_a_reason { (old new : ReplicaState) (calls : List Entry) (answers : List Answer)
+        (connection : Connection)
         → Leads old calls answers new → is_kicked old.connections connection ≡ false →
         is_kicked new.connections connection ≡ true → WasKicked calls connection }
 {}
 
 /// The count that is kept of a connection grows by one with each of its granted questions.
 pub fn each_question_is_counted()
-    ensures { (old new : ReplicaState) (calls : List Entry) (answers : List Answer) (connection : Connection)
+    ensures { (old new : ReplicaState) (calls : List Entry) (answers : List Answer)
+        (connection : Connection)
         → Leads old calls answers new → CountsItsQuestions old calls connection new }
 {}
 
@@ -62,9 +65,9 @@ pub fn each_badge_counts_its_questions()
 /// two of them are equal.
 pub fn few_announcers()
     ensures few { (hall : JournalState) (past : List Entry) (answers : List Answer) →
-        HasHistory hall past answers → length hall.latest.node.announcers ≤ 3 }
+        HasHistory hall past answers → length hall.latest.relay.announcers ≤ 3 }
     ensures apart { (hall : JournalState) (past : List Entry) (answers : List Answer) →
-        HasHistory hall past answers → AreApart hall.latest.node.announcers }
+        HasHistory hall past answers → AreApart hall.latest.relay.announcers }
 {}
 
 /// The calls determine the hall that a new journal of them is: the state before its entries, the
@@ -82,10 +85,10 @@ pub fn one_replay()
 /// - `Fault::Remade`: an output that it creates is unspent already. That is the coinbase's output,
 ///   or one of a transaction with the coinbase's txid.
 pub fn mined_is_next_tip(hall: &Hall, mark: u8, block: &SoundBlock)
-    requires { IsMined hall.now.latest.node mark block.now }
-    ensures { (taken : Taken) (new : NodeState) →
-        TakesBlock hall.now.latest.node block.now None taken new →
-        FaresAsMined hall.now.latest.node block.now taken new }
+    requires { IsMined hall.now.latest.relay mark block.now }
+    ensures { (taken : Taken) (new : RelayState) →
+        TakesBlock hall.now.latest.relay block.now None taken new →
+        FaresAsMined hall.now.latest.relay block.now taken new }
 {
     mined_fares(hall.state(), mark, block);
 }

@@ -3,17 +3,17 @@ ghost use Rattle.std.specs.Prelude.{None};
 ghost use Rattle.cb_state.specs.declared.accepting.Taken.{Taken};
 ghost use Rattle.cb_state.specs.Accepting.{TakesBlock};
 ghost use Rattle.cb_state.specs.Mining.{IsMined};
-ghost use Rattle.cb_state.specs.State.{NodeState};
+ghost use Rattle.cb_state.specs.State.{RelayState};
 ghost use Rattle.cb_hall.specs.MinedBlock.{FaresAsMined};
 
 use cb_block::SoundBlock;
 use cb_chain::has_history;
-use cb_state::{State, mined_meets_rules};
+use cb_state::{Relay, mined_meets_rules};
 
 /// What happens to a mined block that is submitted at once to the state it was mined on.
-pub(crate) fn mined_fares(state: &State, mark: u8, block: &SoundBlock)
+pub(crate) fn mined_fares(state: &Relay, mark: u8, block: &SoundBlock)
     requires { IsMined state.now mark block.now }
-    ensures { (taken : Taken) (new : NodeState) → TakesBlock state.now block.now None taken new →
+    ensures { (taken : Taken) (new : RelayState) → TakesBlock state.now block.now None taken new →
         FaresAsMined state.now block.now taken new }
 {
     let chain = state.chain();

@@ -2,7 +2,7 @@ ghost use Rattle.std.specs.Prelude.{◌≡◌};
 ghost use Rattle.cb_hall.specs.Hall.{look_of};
 
 use cb_base::Hash256;
-use cb_state::State;
+use cb_state::Relay;
 
 /// A summary of a node for its owner.
 #[derive(Clone, Copy, PartialEq, Eq)]
@@ -17,7 +17,7 @@ pub struct Look {
 
 impl Look {
     /// The summary of a state.
-    pub(crate) fn at(state: &State) -> Look
+    pub(crate) fn at(state: &Relay) -> Look
         ensures { result ≡ look_of state.now }
     {
         Look {

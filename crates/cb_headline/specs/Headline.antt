@@ -15,7 +15,8 @@ use Rattle.cb_reader.specs.declared.input.Input.{Input}
 use Rattle.cb_work.specs.PeerWork.{WorkState, events_of}
 
 -- A connection: the work that served it, and what its reader queued.
-pub record KeepsConnection {S H F : Type 0} (work : WorkState S H F) (queued : List (Given Input)) : Type 0 where
+pub record KeepsConnection {S H F : Type 0} (work : WorkState S H F) (queued : List (Given Input))
+    : Type 0 where
   -- Its trace is the log of all that its session was given. The work still has the last entries.
   pub trace : List TraceEntry
   pub dropped : List TraceEntry
@@ -29,20 +30,24 @@ pub record KeepsConnection {S H F : Type 0} (work : WorkState S H F) (queued : L
   pub none_after : EachOpen (first_account work.trace.settings) trace
   -- "Its session is the one-thread fold of its trace."
   pub fold : work.trace.session ≡ session_of work.trace.settings trace
-  -- "Every block handed to the chain is the only sound transaction list under its announced header."
+  -- "Every block handed to the chain is the only sound transaction list under its announced
+  -- header."
   pub blocks : All IsOnlySound (blocks_given work.trace.settings trace)
 
 -- A peer: each connection in what its reader queued has a work of its own, in their order.
-abbrev pub KeepsPeer : {S H F : Type 0} → ReaderSide Input (WorkState S H F) → DeskState (WorkState S H F) Input → Type 0
+abbrev pub KeepsPeer : {S H F : Type 0} → ReaderSide Input (WorkState S H F)
+    → DeskState (WorkState S H F) Input → Type 0
 KeepsPeer side desk = AllZip KeepsConnection (works_of desk) (connections_of (all_queued side))
 
 -- The desk's seat took all that the reader queued, and nothing else.
-abbrev pub TookAll : {S H F : Type 0} → ReaderSide Input (WorkState S H F) → DeskState (WorkState S H F) Input → Type 0
+abbrev pub TookAll : {S H F : Type 0} → ReaderSide Input (WorkState S H F)
+    → DeskState (WorkState S H F) Input → Type 0
 TookAll side desk = desk.taken ≡ all_queued side
 
--- All peers of the node's crew, however many there are and however many handlers: what their readers
--- queued, and the desks that served it, one for each peer, in their order.
-pub record KeepsHeadline {S H F : Type 0} (crew : CrewState) (desks : List (DeskState (WorkState S H F) Input)) : Type 0 where
+-- All peers of the node's crew, however many there are and however many handlers: what their
+-- readers queued, and the desks that served it, one for each peer, in their order.
+pub record KeepsHeadline {S H F : Type 0} (crew : CrewState)
+    (desks : List (DeskState (WorkState S H F) Input)) : Type 0 where
   pub sides : List (ReaderSide Input (WorkState S H F))
   pub readers : AreSidesOf crew sides
   pub inboxes : map (λ desk. desk.inbox.name) desks ≡ names_of crew

@@ -12,20 +12,28 @@ use Rattle.cb_inbox.specs.declared.rule.SeatView.{SeatView}
 use Rattle.cb_inbox.specs.Queued.{is_end, is_open, IsFresh}
 
 -- what a seat with these rights knows of a line
-pub record Knows {Q : Type 0} (line : Line Q) (reads takes : Bool) (queued taken : List Q) : Type 0 where
+pub record Knows {Q : Type 0} (line : Line Q) (reads takes : Bool) (queued taken : List Q)
+    : Type 0 where
   pub queued_begins : IsBeginning queued line.queued
   pub taken_begins : IsBeginning taken line.taken
   pub all_queued : reads ≡ true → queued ≡ line.queued
   pub all_taken : takes ≡ true → taken ≡ line.taken
 
 -- acts lead to some line of which a seat with these rights knows these lists
-pub record IsOfALine {M O : Type 0} (reads takes : Bool) (queued taken : List (Queued M O)) : Type 0 where
+pub record IsOfALine {M O : Type 0} (reads takes : Bool) (queued taken : List (Queued M O))
+    : Type 0 where
   pub line : Line (Queued M O)
   pub reached : LineReached is_end is_open line
   pub knows : Knows line reads takes queued taken
 
-abbrev pub seat_view : {M O : Type 0} → (reads takes : Bool) → (queued taken : List (Queued M O)) → SeatView M O
-seat_view reads takes queued taken = record { reads = reads; takes = takes; queued = queued; taken = taken }
+abbrev pub seat_view : {M O : Type 0} → (reads takes : Bool) → (queued taken : List (Queued M O))
+    → SeatView M O
+seat_view reads takes queued taken = record {
+  reads = reads;
+  takes = takes;
+  queued = queued;
+  taken = taken;
+}
 
 -- the first seat: it has both rights, and nothing was queued or taken
 abbrev pub first_view : {M O : Type 0} → SeatView M O
@@ -59,16 +67,21 @@ learned whole known told = if whole then known else longer known told
 
 -- a seat after it was told what another one knows
 abbrev pub informed : {M O : Type 0} → SeatView M O → SeatView M O → SeatView M O
-informed v w = seat_view v.reads v.takes (learned v.reads v.queued w.queued) (learned v.takes v.taken w.taken)
+informed v w =
+    seat_view v.reads v.takes (learned v.reads v.queued w.queued) (learned v.takes v.taken w.taken)
 
 -- the rule, for what waits and for what each seat knows
-pub record IsInbox {M O : Type 0} (fresh : O → Type 0) (items : List (Queued M O)) (views : List (SeatView M O)) : Type 0 where
+pub record IsInbox {M O : Type 0} (fresh : O → Type 0) (items : List (Queued M O))
+    (views : List (SeatView M O)) : Type 0 where
   pub line : Line (Queued M O)
   pub reached : LineReached is_end is_open line
   pub content : line.inbox ≡ items
   pub openings : All (IsFresh fresh) items
   pub reader : ℕ  -- the number of the seat that may queue
   pub taker : ℕ  -- the number of the seat that may take
-  pub knows : (seat : ℕ) (v : SeatView M O) → get_elem? views seat ≡ some v → Knows line v.reads v.takes v.queued v.taken
-  pub reads : (seat : ℕ) (v : SeatView M O) → get_elem? views seat ≡ some v → v.reads ≡ true → seat ≡ reader
-  pub takes : (seat : ℕ) (v : SeatView M O) → get_elem? views seat ≡ some v → v.takes ≡ true → seat ≡ taker
+  pub knows : (seat : ℕ) (v : SeatView M O) → get_elem? views seat ≡ some v
+      → Knows line v.reads v.takes v.queued v.taken
+  pub reads : (seat : ℕ) (v : SeatView M O) → get_elem? views seat ≡ some v → v.reads ≡ true
+      → seat ≡ reader
+  pub takes : (seat : ℕ) (v : SeatView M O) → get_elem? views seat ≡ some v → v.takes ≡ true
+      → seat ≡ taker

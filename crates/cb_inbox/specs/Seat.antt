@@ -28,17 +28,33 @@ opening_seat name = record { inbox = name; queued = []; taken = [] }
 
 -- the seat after it queued this mark, and after it took it
 abbrev pub queued_more : {Q : Type 0} → SeatState Q → Q → SeatState Q
-queued_more seat mark = record { inbox = seat.inbox; queued = seat.queued ++ mark ∷ []; taken = seat.taken }
+queued_more seat mark = record {
+  inbox = seat.inbox;
+  queued = seat.queued ++ mark ∷ [];
+  taken = seat.taken;
+}
 
 abbrev pub taken_more : {Q : Type 0} → SeatState Q → Q → SeatState Q
-taken_more seat mark = record { inbox = seat.inbox; queued = seat.queued; taken = seat.taken ++ mark ∷ [] }
+taken_more seat mark = record {
+  inbox = seat.inbox;
+  queued = seat.queued;
+  taken = seat.taken ++ mark ∷ [];
+}
 
 -- the seat after a note told it what was taken, or what was queued: it keeps the longer list
 abbrev pub told_of_taken : {Q : Type 0} → SeatState Q → SeatState Q → SeatState Q
-told_of_taken seat note = record { inbox = seat.inbox; queued = seat.queued; taken = longer seat.taken note.taken }
+told_of_taken seat note = record {
+  inbox = seat.inbox;
+  queued = seat.queued;
+  taken = longer seat.taken note.taken;
+}
 
 abbrev pub told_of_queued : {Q : Type 0} → SeatState Q → SeatState Q → SeatState Q
-told_of_queued seat note = record { inbox = seat.inbox; queued = longer seat.queued note.queued; taken = seat.taken }
+told_of_queued seat note = record {
+  inbox = seat.inbox;
+  queued = longer seat.queued note.queued;
+  taken = seat.taken;
+}
 
 -- A full capacity of the queued marks isn't known to the seat as taken.
 abbrev pub IsFullBy : {Q : Type 0} → SeatState Q → ℕ → Type 0
@@ -53,26 +69,37 @@ pub record MayQueue {M O : Type 0} (queued : List (Queued M O)) (mark : Queued M
 -- ---- how they are defined over the queue
 
 abbrev pub inbox_state : {T V R A : Type 0} → ℕ → Slotted (Option T) (Doing T V) R A → InboxState
-inbox_state peer line = record { peer = peer; capacity = ruled_capacity line; name = line.table.shared.table_id }
+inbox_state peer line = record {
+  peer = peer;
+  capacity = ruled_capacity line;
+  name = line.table.shared.table_id;
+}
 
 abbrev pub seat_state : {M O : Type 0} → Pass (Queued M O) (SeatView M O) → SeatState (Queued M O)
-seat_state pass = record { inbox = pass.table_id; queued = (view pass).queued; taken = (view pass).taken }
+seat_state pass = record {
+  inbox = pass.table_id;
+  queued = (view pass).queued;
+  taken = (view pass).taken;
+}
 
 -- A seat with these rights: no slot of the queue is out with it, and what it knows is part of a
 -- line to which acts lead.
-pub record IsSeat {M O : Type 0} (reads takes : Bool) (pass : Pass (Queued M O) (SeatView M O)) : Type 0 where
+pub record IsSeat {M O : Type 0} (reads takes : Bool) (pass : Pass (Queued M O) (SeatView M O))
+    : Type 0 where
   pub at_rest : pass.me.1 ≡ []
   pub reads_is : (view pass).reads ≡ reads
   pub takes_is : (view pass).takes ≡ takes
   pub sees : IsOfALine reads takes (view pass).queued (view pass).taken
 
 -- such a seat of a new inbox
-pub record IsFirst {M O : Type 0} (reads takes : Bool) (pass : Pass (Queued M O) (SeatView M O)) : Type 0 where
+pub record IsFirst {M O : Type 0} (reads takes : Bool) (pass : Pass (Queued M O) (SeatView M O))
+    : Type 0 where
   pub at_rest : pass.me.1 ≡ []
   pub view_is : view pass ≡ seat_view reads takes [] []
 
 -- the reader's seat, with the number of marks that it queued and of their connections
-pub record Counts {M O : Type 0} (pass : Pass (Queued M O) (SeatView M O)) (count connected : ℕ) : Type 0 where
+pub record Counts {M O : Type 0} (pass : Pass (Queued M O) (SeatView M O)) (count connected : ℕ)
+    : Type 0 where
   pub is_reader : IsSeat true false pass
   pub count_is : count ≡ length (view pass).queued
   pub connected_is : connected ≡ connections is_open (view pass).queued

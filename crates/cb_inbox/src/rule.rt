@@ -52,7 +52,8 @@ impl<M, O> Lesson<Queued<M, O>, SeatView<M, O>> for Queues {
 pub struct Takes;
 
 impl<M, O: Opening> Outcome<Queued<M, O>, SeatView<M, O>> for Takes {
-    ghost then = { λ v mark w. (w ≡ taken_view v mark) × IsFresh O.fresh mark × IsOfALine w.reads w.takes w.queued w.taken };
+    ghost then = { λ v mark w. (w ≡ taken_view v mark) × IsFresh O.fresh mark
+        × IsOfALine w.reads w.takes w.queued w.taken };
 }
 
 impl<M, O> Lesson<Queued<M, O>, SeatView<M, O>> for Takes {

@@ -6,7 +6,7 @@ use Rattle.cb_block.specs.declared.header.Header.{Header}
 use Rattle.cb_tx.specs.declared.tx.Tx.{Tx}
 use Rattle.cb_state.specs.declared.connection.Connection.{Connection}
 use Rattle.cb_state.specs.Accepting.{TakesTx}
-use Rattle.cb_state.specs.State.{NodeState}
+use Rattle.cb_state.specs.State.{RelayState}
 use Rattle.cb_journal.specs.declared.answer.Answer.TheVariants as answer
 use Rattle.cb_journal.specs.declared.entry.Local.{Local}
 use Rattle.cb_journal.specs.declared.entry.Local.TheVariants as local
@@ -19,12 +19,12 @@ pub after_few : (headers line : List Header) → headers ≡ take 2000 line → 
 after_few headers line is = let long = ap length is in omega (arith, long, length-take 2000 line)
 
 -- a transaction that is given is shared, and taken as it is
-pub answers_tx : (old new : NodeState) (connection : Connection) (asked : Question) (tx shared : Tx) (refused : Option Fault) → asked ≡ question.GiveTx tx → shared ≡ tx
+pub answers_tx : (old new : RelayState) (connection : Connection) (asked : Question) (tx shared : Tx) (refused : Option Fault) → asked ≡ question.GiveTx tx → shared ≡ tx
     → TakesTx old shared refused new → Answers old connection asked (answer.TxTaken refused) new
 answers_tx old new connection asked tx shared refused is same takes =
     subst (λ (q : Question). Answers old connection q (answer.TxTaken refused) new) (sym is) (refused, refl, subst (λ (t : Tx). TakesTx old t refused new) same takes)
 
-pub submits_tx : (old new : NodeState) (given : Local) (tx shared : Tx) (refused : Option Fault) → given ≡ local.Tx tx → shared ≡ tx → TakesTx old shared refused new
+pub submits_tx : (old new : RelayState) (given : Local) (tx shared : Tx) (refused : Option Fault) → given ≡ local.Tx tx → shared ≡ tx → TakesTx old shared refused new
     → Submits old given (answer.TxTaken refused) new
 submits_tx old new given tx shared refused is same takes =
     subst (λ (g : Local). Submits old g (answer.TxTaken refused) new) (sym is) (refused, refl, subst (λ (t : Tx). TakesTx old t refused new) same takes)

@@ -4,7 +4,7 @@ use Rattle.std.specs.Prelude.{Err, IfOk, Ok, Result}
 use Rattle.std.proofs.lemmas.Bool.Decides.{nat_tests}
 use Rattle.std.proofs.lemmas.List.{append-nil, drop_all, drop_more, length-append}
 use Rattle.cb_base.specs.declared.fault.Fault.{Fault}
-use Rattle.cb_state.specs.State.{NodeState}
+use Rattle.cb_state.specs.State.{RelayState}
 use Rattle.cb_journal.specs.declared.answer.Answer.{Answer}
 use Rattle.cb_journal.specs.declared.entry.Entry.{Entry}
 use Rattle.cb_journal.specs.declared.entry.Entry.TheVariants.{Asked, Kick, Opened, Submitted}
@@ -27,25 +27,25 @@ after_counted most connections (Kick connection) are = counted_kicked most conne
 after_counted most connections (Opened connection) are = counted_opened most connection.peer connections are
 after_counted most connections (Submitted local) are = counted_more most connections are
 
-pub step_counted : (most : ℕ) (old new : NodeState) (connections after : Slots) (entry : Entry) (told : Option Answer) → Does old connections entry told new after
+pub step_counted : (most : ℕ) (old new : RelayState) (connections after : Slots) (entry : Entry) (told : Option Answer) → Does old connections entry told new after
     → AreCounted most connections → AreCounted (most + 1) after
 step_counted most old new connections after entry told does are =
     subst (λ (n : ℕ). AreCounted n after) (more most) (subst (AreCounted (suc most)) (sym does.1) (after_counted most connections entry are))
 
-tells_fit : (old new : NodeState) (connections : Slots) (entry : Entry) (told : Option Answer) → Tells old connections entry told new → IsFit connections entry
+tells_fit : (old new : RelayState) (connections : Slots) (entry : Entry) (told : Option Answer) → Tells old connections entry told new → IsFit connections entry
 tells_fit old new connections (Asked connection question) told h = tt
 tells_fit old new connections (Kick connection) told h = tt
 tells_fit old new connections (Opened connection) told (e, is, same) = is
 tells_fit old new connections (Submitted local) told h = tt
 
-pub does_fit : (old new : NodeState) (connections after : Slots) (entry : Entry) (told : Option Answer) → Does old connections entry told new after → IsFit connections entry
+pub does_fit : (old new : RelayState) (connections after : Slots) (entry : Entry) (told : Option Answer) → Does old connections entry told new after → IsFit connections entry
 does_fit old new connections after entry told does = tells_fit old new connections entry told does.0
 
-pub does_slots : (old new : NodeState) (connections after : Slots) (entry : Entry) (told : Option Answer) → Does old connections entry told new after → after ≡ slots_after connections entry
+pub does_slots : (old new : RelayState) (connections after : Slots) (entry : Entry) (told : Option Answer) → Does old connections entry told new after → after ≡ slots_after connections entry
 does_slots old new connections after entry told does = does.1
 
 pub step_fit : (old new : ReplicaState) (entry : Entry) (told : Option Answer) → Steps old entry told new → IsFit old.connections entry
-step_fit old new entry told step = does_fit old.node new.node old.connections new.connections entry told step.does
+step_fit old new entry told step = does_fit old.relay new.relay old.connections new.connections entry told step.does
 
 pub step_slots : (old new : ReplicaState) (entry : Entry) (told : Option Answer) → Steps old entry told new → new.connections ≡ slots_after old.connections entry
 step_slots old new entry told step = step.does.1
@@ -111,7 +111,7 @@ again_first base end all past = record { rest = (past.answers, past.since); whol
 
 pub again_fit : (base here end : ReplicaState) (all left : List Entry) (entry : Entry) (told : List Answer) → IsAgain base all (entry ∷ left) told here end → IsFit here.connections entry
 again_fit base here end all left entry told are =
-    let r = are.rest.1 in does_fit here.node r.1.node here.connections r.1.connections entry r.0 r.3.does
+    let r = are.rest.1 in does_fit here.relay r.1.relay here.connections r.1.connections entry r.0 r.3.does
 
 pub again_few : (base here end : ReplicaState) (all left : List Entry) (entry : Entry) (told : List Answer) → IsAgain base all (entry ∷ left) told here end → end.entries ≤ 2 ^ 62
     → here.entries < 2 ^ 62

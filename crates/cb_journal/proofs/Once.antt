@@ -6,7 +6,7 @@ use Rattle.cb_payload.specs.declared.inventory.Inventory.{Inventory}
 use Rattle.cb_state.specs.declared.news.News.{News}
 use Rattle.cb_state.specs.declared.wanting.Need.{Need}
 use Rattle.cb_state.specs.News.{IsNews}
-use Rattle.cb_state.specs.State.{NodeState}
+use Rattle.cb_state.specs.State.{RelayState}
 use Rattle.cb_state.specs.Wanting.{IsNeed, blocks_of, is_near}
 use Rattle.cb_state.proofs.OneAnswer.{one_heads, one_taken, one_tx}
 use Rattle.cb_journal.specs.declared.answer.Answer.{Answer}
@@ -31,28 +31,28 @@ same_need a b e f g = λ i. record { entries = e i; near = f i; locator = g i }
 same_news : (a b : News) → a.tip ≡ b.tip → a.path ≡ b.path → a.long ≡ b.long → a.block ≡ b.block → a.txids ≡ b.txids → a.next ≡ b.next → a.high ≡ b.high → a ≡ b
 same_news a b d e f g h k l = λ i. record { tip = d i; path = e i; long = f i; block = g i; txids = h i; next = k i; high = l i }
 
-same_replica : (a b : ReplicaState) → a.node ≡ b.node → a.connections ≡ b.connections → a.entries ≡ b.entries → a ≡ b
-same_replica a b e f g = λ i. record { node = e i; connections = f i; entries = g i }
+same_replica : (a b : ReplicaState) → a.relay ≡ b.relay → a.connections ≡ b.connections → a.entries ≡ b.entries → a ≡ b
+same_replica a b e f g = λ i. record { relay = e i; connections = f i; entries = g i }
 
 -- ---- answers
 
-one_need : (state : NodeState) (entries : List Inventory) (a b : Need) → IsNeed state entries a → IsNeed state entries b → a ≡ b
+one_need : (state : RelayState) (entries : List Inventory) (a b : Need) → IsNeed state entries a → IsNeed state entries b → a ≡ b
 one_need state entries a b is are =
     let same = is.wanted ∙ sym are.wanted in
     same_need a b same (is.near ∙ ap (λ (es : List Inventory). is_near state (blocks_of es)) same ∙ sym are.near)
     (is.locator ∙ rw same refl ∙ sym are.locator)
 
-one_news : (state : NodeState) (connection : Connection) (told : Option Hash256) (from : ℕ) (whole : Bool) (a b : News) → IsNews state connection told from whole a
+one_news : (state : RelayState) (connection : Connection) (told : Option Hash256) (from : ℕ) (whole : Bool) (a b : News) → IsNews state connection told from whole a
     → IsNews state connection told from whole b → a ≡ b
 one_news state connection told from whole a b is are =
     same_news a b (is.tip ∙ sym are.tip) (is.path ∙ sym are.path) (is.long ∙ sym are.long) (is.block ∙ sym are.block) (is.txids ∙ sym are.txids) (is.next ∙ sym are.next) (is.high ∙ sym are.high)
 
-one_served : (state : NodeState) (request : Request) (told again : Answer) → IsServed state request told → IsServed state request again → told ≡ again
+one_served : (state : RelayState) (request : Request) (told again : Answer) → IsServed state request told → IsServed state request again → told ≡ again
 one_served state (Items entries) told again is are = is ∙ sym are
 one_served state (After locator stop) told again is are = is ∙ sym are
 one_served state (Places hash differences) told again is are = is ∙ sym are
 
-one_answer : (old new other : NodeState) (connection : Connection) (asked : Question) (told again : Answer) → Answers old connection asked told new → Answers old connection asked again other
+one_answer : (old new other : RelayState) (connection : Connection) (asked : Question) (told again : Answer) → Answers old connection asked told new → Answers old connection asked again other
     → (told ≡ again) × (new ≡ other)
 one_answer old new other connection question.Admit told again h k = (h.0 ∙ sym k.0, h.1 ∙ sym k.1)
 one_answer old new other connection (question.Headers headers) told again (heads, e, is) (met, f, are) =
@@ -69,12 +69,12 @@ one_answer old new other connection (question.News since) told again (news, e, i
     (e ∙ ap answer.News (one_news old connection since.tip since.from since.whole news tale is are) ∙ sym f, same ∙ sym like)
 one_answer old new other connection (question.Match sought) told again h k = (h.0 ∙ sym k.0, h.1 ∙ sym k.1)
 
-one_reply : (kicked : Bool) (old new other : NodeState) (connection : Connection) (asked : Question) (told again : Answer) → Replies kicked old connection asked told new
+one_reply : (kicked : Bool) (old new other : RelayState) (connection : Connection) (asked : Question) (told again : Answer) → Replies kicked old connection asked told new
     → Replies kicked old connection asked again other → (told ≡ again) × (new ≡ other)
 one_reply true old new other connection asked told again h k = (h.0 ∙ sym k.0, h.1 ∙ sym k.1)
 one_reply false old new other connection asked told again h k = one_answer old new other connection asked told again h k
 
-one_submit : (old new other : NodeState) (given : Local) (told again : Answer) → Submits old given told new → Submits old given again other → (told ≡ again) × (new ≡ other)
+one_submit : (old new other : RelayState) (given : Local) (told again : Answer) → Submits old given told new → Submits old given again other → (told ≡ again) × (new ≡ other)
 one_submit old new other (local.Tx tx) told again (refused, e, is) (fault, f, are) =
     let one = one_tx old new other tx refused fault is are in (e ∙ ap answer.TxTaken one.0 ∙ sym f, one.1)
 one_submit old new other (local.Block block) told again (taken, e, is) (met, f, are) =
@@ -82,7 +82,7 @@ one_submit old new other (local.Block block) told again (taken, e, is) (met, f, 
 
 -- ---- entries
 
-one_telling : (old new other : NodeState) (connections : Slots) (entry : Entry) (told again : Option Answer) → Tells old connections entry told new → Tells old connections entry again other
+one_telling : (old new other : RelayState) (connections : Slots) (entry : Entry) (told again : Option Answer) → Tells old connections entry told new → Tells old connections entry again other
     → (told ≡ again) × (new ≡ other)
 one_telling old new other connections (Asked connection asked) told again (a, e, is) (b, f, are) =
     let one = one_reply (is_kicked connections connection) old new other connection asked a b is are in (e ∙ ap Some one.0 ∙ sym f, one.1)
@@ -93,7 +93,7 @@ one_telling old new other connections (Submitted given) told again (a, e, is) (b
 
 pub one_step : (old new other : ReplicaState) (entry : Entry) (told again : Option Answer) → Steps old entry told new → Steps old entry again other → (told ≡ again) × (new ≡ other)
 one_step old new other entry told again h k =
-    let one = one_telling old.node new.node other.node old.connections entry told again h.does.0 k.does.0 in
+    let one = one_telling old.relay new.relay other.relay old.connections entry told again h.does.0 k.does.0 in
     (one.0, same_replica new other one.1 (h.does.1 ∙ sym k.does.1) (h.entries ∙ sym k.entries))
 
 pub one_end : (old new other : ReplicaState) (entries : List Entry) (answers again : List Answer) → Leads old entries answers new → Leads old entries again other

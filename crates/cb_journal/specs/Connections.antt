@@ -16,10 +16,13 @@ connected_at slot zero = None
 connected_at slot (suc place) = slice_get slot place
 
 abbrev pub connected_of : Slots → Connection → Option Connected
-connected_of slots connection = option_and_then (λ slot. connected_at slot connection.generation) (slice_get slots connection.peer)
+connected_of slots connection =
+    option_and_then (λ slot. connected_at slot connection.generation)
+    (slice_get slots connection.peer)
 
 abbrev pub is_kicked : Slots → Connection → Bool
-is_kicked slots connection = option_map_or (λ connected. connected.kicked) (connected_of slots connection) false
+is_kicked slots connection =
+    option_map_or (λ connected. connected.kicked) (connected_of slots connection) false
 
 -- The generation of a peer's latest connection; 0 if there is no such peer.
 abbrev pub latest_of : Slots → ℕ → ℕ
@@ -39,7 +42,8 @@ in_slot change (suc place) slot = changed_at change place slot
 
 -- What is known of one connection is changed, if the connection exists.
 abbrev pub put_in : (Connected → Connected) → Connection → Slots → Slots
-put_in change connection slots = changed_at (in_slot change connection.generation) connection.peer slots
+put_in change connection slots =
+    changed_at (in_slot change connection.generation) connection.peer slots
 
 -- A connection that has asked nothing.
 abbrev pub fresh : Connected
@@ -62,4 +66,6 @@ first_slots = replicate 64 (fresh ∷ [])
 
 -- No connection was granted more than `most` questions.
 abbrev pub AreCounted : ℕ → Slots → Type 0
-AreCounted most slots = (connection : Connection) → IfSome (connected_of slots connection) (λ connected. connected.count ≤ most)
+AreCounted most slots =
+    (connection : Connection)
+    → IfSome (connected_of slots connection) (λ connected. connected.count ≤ most)

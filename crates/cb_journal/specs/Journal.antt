@@ -13,7 +13,8 @@ pub record JournalState : Type 0 where
 
 -- Some calls led from the start to the base, and the entries lead from the base to the latest
 -- state.
-pub record IsPast (base : ReplicaState) (entries : List Entry) (latest : ReplicaState) : Type 0 where
+pub record IsPast (base : ReplicaState) (entries : List Entry) (latest : ReplicaState)
+    : Type 0 where
   pub dropped : List Entry
   pub told : List Answer
   pub before : Leads opening dropped told base
@@ -22,7 +23,8 @@ pub record IsPast (base : ReplicaState) (entries : List Entry) (latest : Replica
 
 -- At most 1,000,000 entries. They count for at most 64,000,000 bytes, unless there is only one.
 abbrev pub IsBounded : List Entry → Type 0
-IsBounded entries = (length entries ≤ 1000000) × ((journal_weight entries ≤ 64000000) ⊎ (length entries ≤ 1))
+IsBounded entries =
+    (length entries ≤ 1000000) × ((journal_weight entries ≤ 64000000) ⊎ (length entries ≤ 1))
 
 -- A journal without calls.
 abbrev pub new_journal : JournalState
@@ -30,32 +32,38 @@ new_journal = record { base = opening; entries = []; latest = opening }
 
 -- With one more entry there would be too many, or they would count for too many bytes.
 abbrev pub is_to_begin_anew : List Entry → Entry → Bool
-is_to_begin_anew entries entry = nat_le 1000000 (length entries) || nat_lt 64000000 (entry_weight entry + journal_weight entries)
+is_to_begin_anew entries entry =
+    nat_le 1000000 (length entries) || nat_lt 64000000 (entry_weight entry + journal_weight entries)
 
 -- One more call. Its entry is appended, or the journal starts over with it if the entries would be
 -- too many or too long.
-pub record Notes (old : JournalState) (entry : Entry) (told : Option Answer) (new : JournalState) : Type 0 where
+pub record Notes (old : JournalState) (entry : Entry) (told : Option Answer) (new : JournalState)
+    : Type 0 where
   pub steps : Steps old.latest entry told new.latest
   pub base : new.base ≡ (if is_to_begin_anew old.entries entry then old.latest else old.base)
-  pub entries : new.entries ≡ (if is_to_begin_anew old.entries entry then entry ∷ [] else old.entries ++ entry ∷ [])
+  pub entries : new.entries
+      ≡ (if is_to_begin_anew old.entries entry then entry ∷ [] else old.entries ++ entry ∷ [])
 
 -- ---- how the code keeps it
 
 -- The journal starts over with a call.
-pub record BeginsWith (old : JournalState) (entry : Entry) (told : Option Answer) (new : JournalState) : Type 0 where
+pub record BeginsWith (old : JournalState) (entry : Entry) (told : Option Answer)
+    (new : JournalState) : Type 0 where
   pub steps : Steps old.latest entry told new.latest
   pub base : new.base ≡ old.latest
   pub entries : new.entries ≡ entry ∷ []
 
 -- One more entry is replayed.
-pub record Again (old : ReplicaState) (entry : Entry) (had : List Answer) (new : ReplicaState) (has : List Answer) : Type 0 where
+pub record Again (old : ReplicaState) (entry : Entry) (had : List Answer) (new : ReplicaState)
+    (has : List Answer) : Type 0 where
   pub told : Option Answer
   pub steps : Steps old entry told new
   pub has_all : has ≡ had ++ heard entry told
 
 -- The weight is that of the entries, capped at 2^64 - 1. At most 2^62 entries led to the latest
 -- state.
-pub record IsJournal (base : ReplicaState) (entries : List Entry) (weight : ℕ) (latest : ReplicaState) : Type 0 where
+pub record IsJournal (base : ReplicaState) (entries : List Entry) (weight : ℕ)
+    (latest : ReplicaState) : Type 0 where
   pub weighed : weight ≡ min (journal_weight entries) 18446744073709551615
   pub bounded : IsBounded entries
   pub few : latest.entries ≤ 4611686018427387904

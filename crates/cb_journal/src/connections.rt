@@ -21,11 +21,11 @@ pub struct Connected {
 
 /// One peer's connections, ordered by generation. Its model is the list.
 #[derive(Drop)]
-struct Slot {
+struct PeerConnections {
     list: Vec<Connected>,
 }
 
-impl Model for Slot {
+impl Model for PeerConnections {
     ghost use Rattle.std.specs.Prelude.{List};
     ghost use Rattle.cb_journal.specs.declared.connections.Connected.{Connected};
 
@@ -40,15 +40,15 @@ const FRESH: Connected = Connected {
     kicked: false,
 };
 
-impl Slot {
+impl PeerConnections {
     /// A slot with a peer's first connection. Fails only with `Fault::Memory`.
-    fn new(alloc: Global) -> Result<Slot, Fault>
+    fn new(alloc: Global) -> Result<PeerConnections, Fault>
         ensures first { IfOk result (λ slot. slot ≡ fresh ∷ []) }
         ensures memory { IsOkUnless result Memory }
     {
         let mut list = Vec::with_capacity(alloc, 1)?;
         list.push(FRESH)?;
-        Ok(Slot { list })
+        Ok(PeerConnections { list })
     }
 
     /// The connection of a generation, if there is one.
@@ -88,11 +88,11 @@ impl Slot {
     }
 
     /// A copy. Fails only with `Fault::Memory`.
-    fn copy(&self, alloc: Global) -> Result<Slot, Fault>
+    fn copy(&self, alloc: Global) -> Result<PeerConnections, Fault>
         ensures same { IfOk result (λ copy. copy ≡ self.now) }
         ensures memory { IsOkUnless result Memory }
     {
-        Ok(Slot {
+        Ok(PeerConnections {
             list: Vec::from_slice(alloc, self.list.as_slice())?,
         })
     }
@@ -102,7 +102,7 @@ impl Slot {
 /// with the connection of generation 1 first.
 #[derive(Drop)]
 pub struct Connections {
-    slots: Vec<Slot>,
+    slots: Vec<PeerConnections>,
 }
 
 impl Model for Connections {
@@ -220,19 +220,19 @@ impl Connections {
 }
 
 /// The first connection of each peer. Fails only with `Fault::Memory`.
-fn first_slots(alloc: Global) -> Result<Vec<Slot>, Fault>
+fn first_slots(alloc: Global) -> Result<Vec<PeerConnections>, Fault>
     ensures first { IfOk result (λ slots. slots.items ≡ replicate 64 (fresh ∷ [])) }
     ensures memory { IsOkUnless result Memory }
 {
     let mut slots = Vec::with_capacity(alloc, PEERS as usize)?;
     for _ in 0..PEERS {
-        slots.push(Slot::new(alloc)?)?;
+        slots.push(PeerConnections::new(alloc)?)?;
     }
     Ok(slots)
 }
 
 /// A copy of all slots. Fails only with `Fault::Memory`.
-fn copy_slots(alloc: Global, slots: &[Slot]) -> Result<Vec<Slot>, Fault>
+fn copy_slots(alloc: Global, slots: &[PeerConnections]) -> Result<Vec<PeerConnections>, Fault>
     ensures same { IfOk result (λ copies. copies.items ≡ slots.now) }
     ensures memory { IsOkUnless result Memory }
 {

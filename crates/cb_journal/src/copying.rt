@@ -4,7 +4,7 @@ ghost use Rattle.cb_journal.specs.Copying.{is_plain_answer, is_plain_entry, is_p
 
 use crate::answer::Answer;
 use crate::entry::{Entry, Local};
-use crate::question::{Given, Question, Request};
+use crate::question::{GivenBlock, Question, Request};
 use cb_base::Fault;
 use cb_chain::Hashes;
 use cb_state::{BoundedBlock, Excerpt, Heads, Need, News, Piece, Pieces, Taken};
@@ -31,13 +31,13 @@ fn copy_block(block: Option<&BoundedBlock>) -> Result<Option<BoundedBlock>, Faul
 
 // ---- what is asked
 
-impl Given {
+impl GivenBlock {
     /// A copy that shares the block. Fails only with `Fault::Memory`.
-    pub fn copy(&self) -> Result<Given, Fault>
+    pub fn copy(&self) -> Result<GivenBlock, Fault>
         ensures same { IfOk result (λ copy. copy ≡ self.now) }
         ensures memory { IsOkUnless result Memory }
     {
-        Ok(Given {
+        Ok(GivenBlock {
             block: self.block.copy()?,
             capable: self.capable,
         })

@@ -38,9 +38,11 @@ impl Model for Journal {
 
     ghost Value = { JournalState };
 
-    ghost view = { λ journal. record { base = journal.base; entries = journal.entries.items; latest = journal.latest } };
+    ghost view = { λ journal.
+        record { base = journal.base; entries = journal.entries.items; latest = journal.latest } };
 
-    ghost invariant = { λ journal. IsJournal journal.base journal.entries.items journal.weight journal.latest };
+    ghost invariant = { λ journal. IsJournal journal.base journal.entries.items journal.weight
+        journal.latest };
 }
 
 impl Journal {

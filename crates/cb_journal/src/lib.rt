@@ -18,5 +18,5 @@ pub use connections::{Connected, Connections, PEERS};
 pub use entry::{Entry, Local};
 pub use journal::{JOURNAL_ENTRIES, JOURNAL_WEIGHT, Journal};
 pub use laws::{one_end, one_step};
-pub use question::{Given, Question, Request, Sought, Told};
+pub use question::{GivenBlock, Question, Request, Sought, Told};
 pub use replica::{MOST_CALLS, Replica};

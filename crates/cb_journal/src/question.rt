@@ -12,7 +12,7 @@ const ENTRY_WEIGHT: u64 = 40;
 
 /// A block from a peer.
 #[derive(Drop)]
-pub struct Given {
+pub struct GivenBlock {
     /// The block.
     pub block: SoundBlock,
     /// Whether the peer knows compact blocks (BIP 152, `sendcmpct`).
@@ -68,7 +68,7 @@ pub enum Question {
     /// The peer sent a transaction.
     GiveTx(Shared<Tx>),
     /// The peer sent a block.
-    GiveBlock(Given),
+    GiveBlock(GivenBlock),
     /// The peer requests data.
     Serve(Request),
     /// What is new since the peer was told last?

@@ -10,7 +10,7 @@ use crate::entry::Entry;
 use crate::question::Question;
 use crate::replying::{reply, submit};
 use cb_base::{Fault, Seed};
-use cb_state::{Connection, State};
+use cb_state::{Connection, Relay};
 use std::alloc::Global;
 use std::marker::Model;
 
@@ -23,7 +23,7 @@ pub const MOST_CALLS: u64 = 1 << 62;
 #[derive(Drop)]
 pub struct Replica {
     alloc: Global,
-    state: State,
+    state: Relay,
     connections: Connections,
     entries: u64,
 }
@@ -35,9 +35,15 @@ impl Model for Replica {
 
     ghost Value = { ReplicaState };
 
-    ghost view = { λ replica. record { node = replica.state; connections = replica.connections; entries = replica.entries } };
+    ghost view = { λ replica.
+        record {
+          relay = replica.state;
+          connections = replica.connections;
+          entries = replica.entries;
+        } };
 
-    ghost invariant = { λ replica. (replica.entries ≤ 2 ^ 62) × AreCounted replica.entries replica.connections };
+    ghost invariant = { λ replica. (replica.entries ≤ 2 ^ 62)
+        × AreCounted replica.entries replica.connections };
 }
 
 impl Replica {
@@ -58,15 +64,15 @@ impl Replica {
     {
         Ok(Replica {
             alloc,
-            state: State::with_seed(alloc, seed)?,
+            state: Relay::with_seed(alloc, seed)?,
             connections: Connections::new(alloc)?,
             entries: 0,
         })
     }
 
     /// The state that the peers share.
-    pub fn state(&self) -> &State
-        ensures { result.now ≡ self.now.node }
+    pub fn state(&self) -> &Relay
+        ensures { result.now ≡ self.now.relay }
     {
         &self.state
     }
@@ -119,7 +125,7 @@ impl Replica {
 /// Applies an entry to the state and the connections. Fails only with `Fault::Memory`; both are
 /// then unchanged.
 fn change(
-    state: &mut State,
+    state: &mut Relay,
     connections: &mut Connections,
     entry: &Entry,
 ) -> Result<Option<Answer>, Fault>
@@ -151,7 +157,7 @@ fn change(
 
 /// Answers a question and counts it. Fails only with `Fault::Memory`; nothing is then changed.
 fn ask(
-    state: &mut State,
+    state: &mut Relay,
     connections: &mut Connections,
     connection: Connection,
     question: &Question,

@@ -4,13 +4,13 @@ ghost use Rattle.cb_journal.specs.Replies.{Answers, IsServed, Submits, giver};
 
 use crate::answer::Answer;
 use crate::entry::Local;
-use crate::question::{Given, Question, Request};
+use crate::question::{GivenBlock, Question, Request};
 use cb_base::Fault;
 use cb_payload::HeaderList;
-use cb_state::{Connection, State};
+use cb_state::{Connection, Relay};
 
 /// The connection that gave a block, if it knows compact blocks.
-fn giver_of(connection: Connection, given: &Given) -> Option<Connection>
+fn giver_of(connection: Connection, given: &GivenBlock) -> Option<Connection>
     ensures { result ≡ giver connection given.now }
 {
     if given.capable {
@@ -20,7 +20,7 @@ fn giver_of(connection: Connection, given: &Given) -> Option<Connection>
 }
 
 /// The answer to a request for data. Fails only with `Fault::Memory`.
-fn served(state: &State, request: &Request) -> Result<Answer, Fault>
+fn served(state: &Relay, request: &Request) -> Result<Answer, Fault>
     ensures answers { IfOk result (λ answer. IsServed state.now request.now answer) }
     ensures memory { IsOkUnless result Memory }
 {
@@ -40,7 +40,7 @@ fn served(state: &State, request: &Request) -> Result<Answer, Fault>
 /// Answers a question of a connection that wasn't kicked. Fails only with `Fault::Memory`; the
 /// state is then unchanged.
 pub(crate) fn reply(
-    state: &mut State,
+    state: &mut Relay,
     connection: Connection,
     question: &Question,
 ) -> Result<Answer, Fault>
@@ -77,7 +77,7 @@ pub(crate) fn reply(
 
 /// Takes a transaction or block from the node's own user. Fails only with `Fault::Memory`; the
 /// state is then unchanged.
-pub(crate) fn submit(state: &mut State, local: &Local) -> Result<Answer, Fault>
+pub(crate) fn submit(state: &mut Relay, local: &Local) -> Result<Answer, Fault>
     ensures answers { IfOk result (λ answer. Submits state.old local.now answer state.new) }
     ensures err { OnErr result (state.new ≡ state.old) }
     ensures memory { IsOkUnless result Memory }

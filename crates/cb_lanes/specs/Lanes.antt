@@ -13,4 +13,5 @@ HasWholeBlocks text = (0 < length text) × (length text % 64 ≡ 0)
 -- The state after block i of a text. Where the text has no block i, the state stays.
 abbrev pub TakesBlock : List ℕ → ℕ → List ℕ → List ℕ → Type 0
 TakesBlock text i before after =
-    (i < length text / 64 → after ≡ compress before (take 64 (drop (i * 64) text))) × (length text / 64 ≤ i → after ≡ before)
+    (i < length text / 64 → after ≡ compress before (take 64 (drop (i * 64) text)))
+    × (length text / 64 ≤ i → after ≡ before)

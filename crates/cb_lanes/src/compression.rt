@@ -31,8 +31,8 @@ const PADDING_ROUNDS: [u32; 64] = [
     0xc39c91f2, 0x9eccabbd, 0xb5c9a0e6, 0x532fb63c, 0xd2c741c6, 0x07237ea3, 0xa4954b68, 0x4c191d76,
 ];
 
-/// The next words of the schedules. `w` is a ring of the last 16: the next go to `place`, over those
-/// 16 before them.
+/// The next words of the schedules. `w` is a ring of the last 16: the next go to `place`, over
+/// those 16 before them.
 #[inline(always)]
 fn next_word(w: &mut [u32x4; 16], place: usize) -> u32x4
     requires { place < 16 }

@@ -79,9 +79,11 @@ fn absorb(first: &[u8], second: &[u8], third: &[u8], fourth: &[u8]) -> [u32x4; 8
     requires third { HasWholeBlocks third.now }
     requires fourth { HasWholeBlocks fourth.now }
     ensures first { lane 0 result ≡ hash_after initial_hash_256 first.now (length first.now / 64) }
-    ensures second { lane 1 result ≡ hash_after initial_hash_256 second.now (length second.now / 64) }
+    ensures second { lane 1 result
+        ≡ hash_after initial_hash_256 second.now (length second.now / 64) }
     ensures third { lane 2 result ≡ hash_after initial_hash_256 third.now (length third.now / 64) }
-    ensures fourth { lane 3 result ≡ hash_after initial_hash_256 fourth.now (length fourth.now / 64) }
+    ensures fourth { lane 3 result
+        ≡ hash_after initial_hash_256 fourth.now (length fourth.now / 64) }
 {
     let most = most_blocks(first, second, third, fourth);
     let mut state = initial_state();
@@ -198,8 +200,8 @@ fn gains_by_lanes(first: usize, second: usize, third: usize, fourth: usize) -> b
     (most + 1).saturating_mul(3) / 2 < a.saturating_add(b).saturating_add(c).saturating_add(d) + 4
 }
 
-/// The double hashes of four texts, which are hashed side by side: padding is appended to them. They
-/// still stand in front of it, after an error too.
+/// The double hashes of four texts, which are hashed side by side: padding is appended to them.
+/// They still stand in front of it, after an error too.
 ///
 /// Fails only with `Fault::Memory`, and never if each has a free capacity of 72 bytes.
 fn dsha_by_lanes(

@@ -10,8 +10,8 @@ const ZEROS: [u8; 64] = [0; 64];
 /// Appends the padding of SHA-256 (FIPS 180-4, 5.1.1) to a message: the byte 0x80, zeros, and the
 /// length in bits. The result has whole blocks of 64 bytes.
 ///
-/// Fails only with `Fault::Memory`, and only if the free capacity is less than 72 bytes, the longest
-/// padding. The message still stands in front then.
+/// Fails only with `Fault::Memory`, and only if the free capacity is less than 72 bytes, the
+/// longest padding. The message still stands in front then.
 pub(crate) fn pad(text: &mut Vec<u8>) -> Result<(), Fault>
     ensures ok { OnOk result (text.new.items ≡ padded_message text.old.items) }
     ensures memory { IsOkUnless result Memory }

@@ -47,7 +47,9 @@ unfoldable pub make_outputs : Unspent → Hash256 → ℕ → List TxOut → Res
 make_outputs u txid place [] = Ok u
 make_outputs u txid place (output ∷ outputs) =
     let point : OutPoint = record { txid = txid; index = place } in
-    if map.contains_key u point then Err Remade else make_outputs (map.insert u point output.value) txid (suc place) outputs
+    if map.contains_key u point
+    then Err Remade
+    else make_outputs (map.insert u point output.value) txid (suc place) outputs
 
 -- A coinbase only creates its outputs. Any other transaction spends its inputs, which must be worth
 -- at least its outputs. Then it creates its outputs.
@@ -56,7 +58,9 @@ spend_tx u tx =
     let txid = double_hash (tx_text tx) in
     if is_coinbase tx.inputs then make_outputs u txid 0 tx.outputs else (do
       spent ← spend_inputs u tx.inputs
-      if int_lt spent.0 (value_sum tx.outputs) then Err Overspent else make_outputs spent.1 txid 0 tx.outputs)
+      if int_lt spent.0 (value_sum tx.outputs)
+          then Err Overspent
+          else make_outputs spent.1 txid 0 tx.outputs)
 
 -- the UTXO set after the transactions, or the first fault
 unfoldable pub spend : Unspent → List Tx → Result Unspent Fault
@@ -68,7 +72,8 @@ spend u (tx ∷ txs) = do
 -- the value that the coinbases among the transactions create
 abbrev pub coinbase_value : List Tx → ℤ
 coinbase_value [] = pos 0
-coinbase_value (tx ∷ txs) = (if is_coinbase tx.inputs then value_sum tx.outputs else pos 0) +ℤ coinbase_value txs
+coinbase_value (tx ∷ txs) =
+    (if is_coinbase tx.inputs then value_sum tx.outputs else pos 0) +ℤ coinbase_value txs
 
 -- A call that allocates returned what the definition says, where shows maps its value to what is
 -- defined, or memory ran out.

@@ -21,7 +21,8 @@ changed u (change ∷ changes) = set_at (changed u changes) change.point change.
 -- no outpoint occurs twice
 abbrev pub StandOnce : List CoinChange → Type 0
 StandOnce [] = ⊤
-StandOnce (change ∷ changes) = AllByRecursion (λ other. other.point ≢ change.point) changes × StandOnce changes
+StandOnce (change ∷ changes) =
+    AllByRecursion (λ other. other.point ≢ change.point) changes × StandOnce changes
 
 -- the changes of a list of pairs
 abbrev pub changes_of : List (OutPoint × Option ℤ) → List CoinChange
@@ -31,9 +32,11 @@ changes_of (entry ∷ entries) = record { point = entry.0; value = entry.1 } ∷
 -- what the outpoints of these changes have in the UTXO set
 abbrev pub values_of : Unspent → List CoinChange → List CoinChange
 values_of u [] = []
-values_of u (change ∷ changes) = record { point = change.point; value = map.get u change.point } ∷ values_of u changes
+values_of u (change ∷ changes) =
+    record { point = change.point; value = map.get u change.point } ∷ values_of u changes
 
 -- The changes undo the transactions: they lead from the UTXO set after them to the one before.
-pub record LeadsBack (changes : List CoinChange) (txs : List Tx) (before after : Unspent) : Type 0 where
+pub record LeadsBack (changes : List CoinChange) (txs : List Tx) (before after : Unspent)
+    : Type 0 where
   pub spent : spend before txs ≡ Ok after
   pub back : changed after changes ≡ before

@@ -14,7 +14,8 @@ outpoint_cmp a b = ordering_then (slice_cmp nat_cmp a.txid.0 b.txid.0) (nat_cmp 
 -- an outpoint as a pair of bytes and a number
 abbrev pub coded_outpoint : Coded OutPoint
 coded_outpoint =
-    code_by (List ℕ × ℕ) (coded× (coded_list coded_ℕ) coded_ℕ) (λ p. (p.txid.0, p.index)) (λ p. record { txid = record { 0 = p.0 }; index = p.1 }) (λ _. refl)
+    code_by (List ℕ × ℕ) (coded× (coded_list coded_ℕ) coded_ℕ) (λ p. (p.txid.0, p.index))
+    (λ p. record { txid = record { 0 = p.0 }; index = p.1 }) (λ _. refl)
 
 -- the value of each unspent output
 abbrev pub Unspent : Type 0
@@ -39,4 +40,5 @@ pub record Held : Type 0 where
 
 abbrev pub coded_held : Coded Held
 coded_held =
-    code_by (Unspent × ℕ) (coded× coded_unspent coded_ℕ) (λ h. (h.unspent, h.room)) (λ p. record { unspent = p.0; room = p.1 }) (λ _. refl)
+    code_by (Unspent × ℕ) (coded× coded_unspent coded_ℕ) (λ h. (h.unspent, h.room))
+    (λ p. record { unspent = p.0; room = p.1 }) (λ _. refl)

@@ -26,7 +26,8 @@ impl Model for Ledger {
 
     ghost coded = { coded_held };
 
-    ghost view = { λ ledger. record { unspent = map.from_entries ledger.outputs.entries; room = spare ledger.outputs } };
+    ghost view = { λ ledger.
+        record { unspent = map.from_entries ledger.outputs.entries; room = spare ledger.outputs } };
 }
 
 impl Ledger {

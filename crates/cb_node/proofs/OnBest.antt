@@ -8,7 +8,7 @@ use Rattle.cb_chain.specs.Entries.{Tree, block_hash, same}
 use Rattle.cb_chain.specs.Best.{active, best}
 use Rattle.cb_chain.specs.Following.{headers_after, place_in, start_of, up_to}
 use Rattle.cb_chain.specs.Laws.{AreLinked, ReachesUp, active_hashes}
-use Rattle.cb_chain.proofs.Nodes.{same-true, same-refl}
+use Rattle.cb_chain.proofs.BlockIndexes.{same-true, same-refl}
 
 -- ---- what a list has
 

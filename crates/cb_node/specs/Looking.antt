@@ -11,4 +11,6 @@ use Rattle.cb_node.specs.declared.looking.BlockLook.{BlockLook}
 abbrev pub IsBlockLook : Tree → Hash256 → Option BlockLook → Type 0
 IsBlockLook tree hash None = height_of tree hash ≡ None
 IsBlockLook tree hash (Some look) =
-    (height_of tree hash ≡ Some look.height) × (look.txs ≡ option_map (λ (block : blocks.Block). length block.txs) (block_of tree hash)) × ((look.best ≡ true) ↔ Contains (active_hashes tree) hash)
+    (height_of tree hash ≡ Some look.height)
+    × (look.txs ≡ option_map (λ (block : blocks.Block). length block.txs) (block_of tree hash))
+    × ((look.best ≡ true) ↔ Contains (active_hashes tree) hash)

@@ -15,8 +15,8 @@ use Rattle.cb_slots.specs.Slot.{SlotState, uses_of}
 use Rattle.cb_node.specs.declared.peering.Admitted.{Admitted}
 use Rattle.cb_node.specs.declared.settings.NodeSettings.{NodeSettings}
 
--- A node: its crew, how many slots serve peers that connect to it, where it listens, and which slots
--- ever had a socket. The inbound slots come first.
+-- A node: its crew, how many slots serve peers that connect to it, where it listens, and which
+-- slots ever had a socket. The inbound slots come first.
 pub record NodeState : Type 0 where
   pub crew : CrewState
   pub inbound : ℕ
@@ -24,11 +24,22 @@ pub record NodeState : Type 0 where
   pub used : List Bool
 
 abbrev pub node_state : CrewState → ℕ → Option SocketAddr → List SlotState → NodeState
-node_state crew inbound listens slots = record { crew = crew; inbound = inbound; listens = listens; used = uses_of slots }
+node_state crew inbound listens slots = record {
+  crew = crew;
+  inbound = inbound;
+  listens = listens;
+  used = uses_of slots;
+}
 
 -- with what the sessions of a slot begin
 abbrev pub session_settings : NodeSettings → ℕ → Settings
-session_settings settings slot = record { inbound = nat_lt slot settings.inbound; nonce = settings.nonce; time = settings.time; height = pos 0; salt = settings.salt }
+session_settings settings slot = record {
+  inbound = nat_lt slot settings.inbound;
+  nonce = settings.nonce;
+  time = settings.time;
+  height = pos 0;
+  salt = settings.salt;
+}
 
 -- ---- what calls do
 
@@ -42,13 +53,23 @@ pub record IsNewNode (inbound outbound handlers : ℕ) (made : NodeState) : Type
 
 -- this slot has or had a socket
 abbrev pub with_used : NodeState → ℕ → NodeState
-with_used n slot = record { crew = n.crew; inbound = n.inbound; listens = n.listens; used = slice_set n.used slot true }
+with_used n slot = record {
+  crew = n.crew;
+  inbound = n.inbound;
+  listens = n.listens;
+  used = slice_set n.used slot true;
+}
 
 abbrev pub with_listens : NodeState → Option SocketAddr → NodeState
-with_listens n listens = record { crew = n.crew; inbound = n.inbound; listens = listens; used = n.used }
+with_listens n listens = record {
+  crew = n.crew;
+  inbound = n.inbound;
+  listens = listens;
+  used = n.used;
+}
 
--- The slots of a kind, which serve peers that connect to the node or those to which it connects: the
--- first, and the one behind the last.
+-- The slots of a kind, which serve peers that connect to the node or those to which it connects:
+-- the first, and the one behind the last.
 abbrev pub first_of : Bool → NodeState → ℕ
 first_of true n = 0
 first_of false n = n.inbound
@@ -64,7 +85,8 @@ HasNoUnused inbound n = HasNone n.used false (first_of inbound n) (end_of inboun
 -- What a call answers that serves a peer by a slot of a kind, and what it does: a slot of the kind
 -- serves it, the lowest that never had a socket, if there is one, and nothing else changes. A
 -- refusal changes nothing, and `NoSlot` is answered only where each slot of the kind had a socket.
-pub record IsServed (inbound : Bool) (old new : NodeState) (result : Result ℕ NodeFault) : Type 0 where
+pub record IsServed (inbound : Bool) (old new : NodeState) (result : Result ℕ NodeFault)
+    : Type 0 where
   pub chosen : IfOk result (IsChosen old.used (first_of inbound old) (end_of inbound old))
   pub ok : IfOk result (λ slot. new ≡ with_used old slot)
   pub err : OnErr result (new ≡ old)
@@ -76,9 +98,10 @@ IsAdmitted old new (Ok (Some admitted)) = IsServed true old new (Ok admitted.slo
 IsAdmitted old new (Ok None) = new ≡ old
 IsAdmitted old new (Err fault) = IsServed true old new (Err fault)
 
--- The node's crew has finished: its peers' readers left these sides, one of each inbox, in order, and
--- the desks served all that they queued. Nothing is told of the bytes that went out by sockets.
-pub record HasFinished {S H F : Type 0} (crew : CrewState) (desks : List (DeskState (WorkState S H F) Input)) : Type 0 where
+-- The node's crew has finished: its peers' readers left these sides, one of each inbox, in order,
+-- and the desks served all that they queued. Nothing is told of the bytes that went out by sockets.
+pub record HasFinished {S H F : Type 0} (crew : CrewState)
+    (desks : List (DeskState (WorkState S H F) Input)) : Type 0 where
   pub sides : List (ReaderSide Input (WorkState S H F))
   pub own : AreSidesOf crew sides
   pub headline : IsHeadline (λ sink. None) crew sides desks

@@ -11,11 +11,14 @@ mod serving;
 mod settings;
 mod starting;
 
+pub use cb_audit::audit_desks as audit;
 pub use cb_hall::{Hall, Look};
 pub use cb_journal::{Answer, Local};
 pub use cb_peer::{CloseReason, State};
 pub use cb_peers::Link;
+pub use cb_reader::{Input, Seat, Stop, read_loop};
 pub use cb_slots::NodeFault;
+pub use cb_work::PeerWork;
 pub use looking::BlockLook;
 pub use node::{Node, NodeEnd};
 pub use opening::NodeWork;

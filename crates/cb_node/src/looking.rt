@@ -16,7 +16,7 @@ use cb_hall::Hall;
 use cb_journal::{Answer, Local};
 use cb_pool::Pool;
 use cb_slots::NodeFault;
-use cb_state::State;
+use cb_state::Relay;
 use std::marker::{Copy, Send};
 use std::sync::Wait;
 use std::thread::Threads;
@@ -83,8 +83,8 @@ impl<R: Threads + Wait + Copy + Send + Drop + 'static> Node<R> {
 }
 
 /// The chain, the mempool and the announcers of a hall.
-fn state_of(hall: &Hall) -> &State
-    ensures { result.now ≡ hall.now.latest.node }
+fn state_of(hall: &Hall) -> &Relay
+    ensures { result.now ≡ hall.now.latest.relay }
 {
     hall.record().latest().state()
 }

@@ -60,9 +60,14 @@ impl<R: Wait + Drop> Model for Node<R> {
 
     ghost Value = { NodeState };
 
-    ghost view = { λ node. node_state node.common.crew node.service.settings.inbound node.listening node.slots.items };
+    ghost view = { λ node. node_state node.common.crew node.service.settings.inbound node.listening
+        node.slots.items };
 
-    ghost invariant = { λ node. AreSlotsOf node.common.crew node.slots.items × (node.service.settings.inbound ≤ length node.slots.items) × (length node.slots.items ≤ 64) × AreThreadsOf node.common.crew node.handling.items × (node.handlers.items ≡ []) × (length node.handling.items ≤ vec_capacity node.handlers) × (node.sides.items ≡ []) × (length node.slots.items ≤ vec_capacity node.sides) };
+    ghost invariant = { λ node. AreSlotsOf node.common.crew node.slots.items
+        × (node.service.settings.inbound ≤ length node.slots.items) × (length node.slots.items ≤ 64)
+        × AreThreadsOf node.common.crew node.handling.items × (node.handlers.items ≡ [])
+        × (length node.handling.items ≤ vec_capacity node.handlers) × (node.sides.items ≡ [])
+        × (length node.slots.items ≤ vec_capacity node.sides) };
 }
 
 impl<R: Threads + Wait + Copy + Send + Drop + 'static> Node<R> {
@@ -78,7 +83,8 @@ impl<R: Threads + Wait + Copy + Send + Drop + 'static> Node<R> {
     ///
     /// Fails with `Fault::JournalFull` of the hall, and with `NodeFault::Memory`.
     pub fn submit(&self, local: Local) -> Result<Answer, NodeFault>
-        ensures { IfErr result (λ fault. (fault ≡ told.Hall faults.JournalFull) ⊎ (fault ≡ Memory)) }
+        ensures { IfErr result
+            (λ fault. (fault ≡ told.Hall faults.JournalFull) ⊎ (fault ≡ Memory)) }
     {
         Ok(self.service.hall.lock(&self.service.rt).submit(local)?)
     }
@@ -90,16 +96,17 @@ impl<R: Threads + Wait + Copy + Send + Drop + 'static> Node<R> {
         }
     }
 
-    /// Kicks the latest connection that the hall opened for a slot: the one that is served, or the one
-    /// that stands ready since its opening was refused. From then on each of its questions to the hall
-    /// is answered `Kicked`, which ends it. A tick of the slot is due.
+    /// Kicks the latest connection that the hall opened for a slot: the one that is served, or the
+    /// one that stands ready since its opening was refused. From then on each of its questions to
+    /// the hall is answered `Kicked`, which ends it. A tick of the slot is due.
     ///
     /// Fails with `NodeFault::NoSlot` if the node doesn't have the slot, with `Fault::JournalFull`
     /// of the hall, and with `NodeFault::Memory`.
     pub fn kick(&self, slot: u16) -> Result<(), NodeFault>
         ensures no_slot { (result ≡ Err NoSlot) ↔ (length self.now.used ≤ slot) }
         ensures kinds { IfErr result
-            (λ fault. (fault ≡ NoSlot) ⊎ (fault ≡ told.Hall faults.JournalFull) ⊎ (fault ≡ Memory)) }
+            (λ fault. (fault ≡ NoSlot) ⊎ (fault ≡ told.Hall faults.JournalFull)
+            ⊎ (fault ≡ Memory)) }
     {
         let Some(kicked) = self.slots.get(usize::from(slot)) else {
             return Err(NodeFault::NoSlot);
@@ -139,12 +146,12 @@ impl<R: Threads + Wait + Copy + Send + Drop + 'static> Node<R> {
         Ok(self.service.hall.lock(&self.service.rt).checkpoint()?)
     }
 
-    #[tactic(auto, using(crate::proofs::Slots::sides_are, crate::proofs::Slots::handlers_are))]
     /// Ends the node. No connection is read any more; what the readers queued is served. Then all
     /// threads have returned, and all sockets are closed.
     ///
     /// Promises for each connection what `finish_peers` does (`IsHeadline`): there is one desk for
     /// each slot, in order; each session is over, and served a prefix of what its reader queued.
+    #[tactic(auto, using(crate::proofs::Slots::sides_are, crate::proofs::Slots::handlers_are))]
     pub fn finish(self) -> NodeEnd<R>
         ensures { HasFinished self.crew result.desks.items }
     {

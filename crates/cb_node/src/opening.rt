@@ -10,7 +10,7 @@ use cb_base::{Fault, Shared};
 use cb_crew::Fresh;
 use cb_hall::Badge;
 use cb_peers::{Link, OutboxSink};
-use cb_slots::Next;
+use cb_slots::NextConnection;
 use cb_state::Connection;
 use cb_work::{NotStarted, Outlet, PeerFlags, PeerWork, SharedHall};
 use std::marker::Copy;
@@ -30,7 +30,7 @@ struct Ends<R: Wait + Drop> {
 
 impl<R: Wait + Copy + Drop> Service<R> {
     /// The first connections of slots, under these badges. Fails only with `Fault::Memory`.
-    pub fn firsts(&self, badges: Vec<Badge>) -> Result<Vec<Next<NodeWork<R>>>, Fault>
+    pub fn firsts(&self, badges: Vec<Badge>) -> Result<Vec<NextConnection<NodeWork<R>>>, Fault>
         requires { All IsNew badges.items }
         ensures { IfOk result (λ firsts. length firsts.items ≡ length badges.items) }
     {
@@ -46,11 +46,13 @@ impl<R: Wait + Copy + Drop> Service<R> {
 
     /// The connection of this badge, under which nothing was asked. Fails only with
     /// `Fault::Memory`, and gives the badge back.
-    pub fn connection(&self, badge: Badge) -> Result<Next<NodeWork<R>>, (Badge, Fault)>
+    pub fn connection(&self, badge: Badge) -> Result<NextConnection<NodeWork<R>>, (Badge, Fault)>
         requires { IsNew badge }
         ensures badge { IfOk result (λ next. next.work.badge ≡ badge) }
         ensures settings { IfOk result (λ next. next.work.trace.settings
             ≡ session_settings self.now.settings badge.connection.peer) }
+        ensures link { IfOk result
+            (λ next. next.link.generation ≡ badge.connection.generation) }
         ensures back { IfErr result (λ back. back.0 ≡ badge) }
     {
         let connection = badge.connection();
@@ -66,7 +68,7 @@ impl<R: Wait + Copy + Drop> Service<R> {
         } = ends;
         let settings = session_settings(&self.settings, connection.peer);
         match PeerWork::new(self.alloc, settings, badge, outlet, hall, flags) {
-            Ok(work) => Ok(Next {
+            Ok(work) => Ok(NextConnection {
                 work: Fresh::new(work),
                 link,
             }),
@@ -84,6 +86,7 @@ impl<R: Wait + Copy + Drop> Service<R> {
         ensures slot { IfOk result (λ ends. ends.outlet.slot ≡ connection.peer) }
         ensures sink { IfOk result (λ ends. ends.outlet.sink.failure ≡ None) }
         ensures flags { IfOk result (λ ends. HasLooked ends.flags.looked ends.flags.found []) }
+        ensures link { IfOk result (λ ends. ends.link.generation ≡ connection.generation) }
     {
         let link = self.links.link(self.alloc, connection.generation)?;
         let (one, status) = (link.clone()?, link.status.clone()?);

@@ -5,16 +5,13 @@ ghost use Rattle.cb_node.specs.Node.{HasNoUnused, IsAdmitted, IsServed, end_of, 
 
 use crate::node::Node;
 use cb_base::Shared;
+use cb_dialling::connect_to;
 use cb_peers::Link;
 use cb_slots::{Listening, NodeFault, has_left, lowest_unused};
 use std::marker::{Copy, Send};
 use std::net::{IpAddr, Ipv4Addr, Net, SocketAddr, TcpListener, TcpStream};
 use std::sync::Wait;
 use std::thread::Threads;
-use std::time::Duration;
-
-/// How many seconds a connection to a peer may take to be made.
-const CONNECT_SECONDS: u64 = 10;
 
 /// A connection that a peer made.
 #[derive(Clone, Copy)]
@@ -75,8 +72,7 @@ impl<
         ensures { IsServed false self.old self.new result }
     {
         self.look_for_slot(false)?;
-        let timeout = Duration::from_secs(CONNECT_SECONDS);
-        let stream = TcpStream::connect_timeout(&self.service.rt, &address, timeout)?;
+        let stream = connect_to(&self.service.rt, &address)?;
         self.serve_stream(stream)
     }
 }
@@ -123,8 +119,8 @@ impl<R: Threads + Wait + Copy + Send + Drop + 'static> Node<R> {
         Ok(Some(Admitted { slot, address }))
     }
 
-    /// Serves a stream that is connected to a peer by an outbound slot, whose number is returned, as
-    /// `connect_to` does. A tick of the connection is due, so its session opens.
+    /// Serves a stream that is connected to a peer by an outbound slot, whose number is returned,
+    /// as `connect_to` does. A tick of the connection is due, so its session opens.
     pub fn serve_stream(&mut self, stream: TcpStream) -> Result<u16, NodeFault>
         ensures { IsServed false self.old self.new result }
     {
@@ -143,8 +139,8 @@ impl<R: Threads + Wait + Copy + Send + Drop + 'static> Node<R> {
         self.has_slot(false)
     }
 
-    /// Closes the connection of a peer that waits to be accepted. Returns whether one waited. A node
-    /// whose slots are all busy so refuses peers.
+    /// Closes the connection of a peer that waits to be accepted. Returns whether one waited. A
+    /// node whose slots are all busy so refuses peers.
     ///
     /// Fails with `NodeFault::Io` if the node doesn't listen or a socket fails.
     pub fn turn_away(&self) -> Result<bool, NodeFault>
@@ -178,7 +174,8 @@ impl<R: Threads + Wait + Copy + Send + Drop + 'static> Node<R> {
         !slots.is_empty() && slots.iter().all(|slot| slot.is_spent())
     }
 
-    /// The first slot of a kind, the inbound ones or the outbound ones, and the one behind its last.
+    /// The first slot of a kind, the inbound ones or the outbound ones, and the one behind its
+    /// last.
     fn kind(&self, inbound: bool) -> (u16, u16)
         ensures first { result.0 ≡ first_of inbound self.now }
         ensures end { result.1 ≡ end_of inbound self.now }
@@ -200,7 +197,8 @@ impl<R: Threads + Wait + Copy + Send + Drop + 'static> Node<R> {
         }
     }
 
-    /// Fails only with `NodeFault::NoSlot`: if no slot of a kind, as it seems, can serve a connection.
+    /// Fails only with `NodeFault::NoSlot`: if no slot of a kind, as it seems, can serve a
+    /// connection.
     fn look_for_slot(&self, inbound: bool) -> Result<(), NodeFault>
         ensures no_slot { IfErr result (λ fault. HasNoUnused inbound self.now) }
         ensures kinds { IfErr result (λ fault. fault ≡ NoSlot) }

@@ -32,8 +32,8 @@ pub struct Service<R: Wait + Drop> {
 }
 
 impl<R: Threads + Wait + Copy + Send + Drop + 'static> Service<R> {
-    /// Serves a connection by one of these slots, whose number is returned: the lowest that never had
-    /// a socket, or else the lowest in which the next connection can be opened.
+    /// Serves a connection by one of these slots, whose number is returned: the lowest that never
+    /// had a socket, or else the lowest in which the next connection can be opened.
     ///
     /// Fails with `NodeFault::NoSlot` if there is none. No slot is used then.
     pub fn begin(
@@ -59,8 +59,9 @@ impl<R: Threads + Wait + Copy + Send + Drop + 'static> Service<R> {
         Ok(number)
     }
 
-    /// One of these slots with a connection that waits for its socket: the lowest that never had one,
-    /// or else the lowest that a reader has left and in which a connection waits or can be opened.
+    /// One of these slots with a connection that waits for its socket: the lowest that never had
+    /// one, or else the lowest that a reader has left and in which a connection waits or can be
+    /// opened.
     fn find(
         &self,
         common: &Common<NodeWork<R>>,

@@ -31,10 +31,10 @@ impl<R: Threads + Wait + Copy + Send + Drop + 'static> Node<R> {
         Node::start_with_seed(rt, alloc, settings, Seed::fixed())
     }
 
-    #[tactic(auto, using(crate::proofs::Slots::badges_new, crate::proofs::Slots::badges_count))]
     /// As `start`. The tables of the node's hall and of its sessions have this seed, which changes
-    /// no result. Peers choose the keys of these tables, so a seed that no peer knows keeps a lookup
-    /// short.
+    /// no result. Peers choose the keys of these tables, so a seed that no peer knows keeps a
+    /// lookup short.
+    #[tactic(auto, using(crate::proofs::Slots::badges_new, crate::proofs::Slots::badges_count))]
     pub fn start_with_seed(
         rt: R,
         alloc: Global,
@@ -68,8 +68,8 @@ impl<R: Threads + Wait + Copy + Send + Drop + 'static> Node<R> {
     }
 }
 
-#[tactic(auto, using(crate::proofs::Slots::count_of, crate::proofs::Slots::uses_new))]
 /// Starts the handlers' threads of a node.
+#[tactic(auto, using(crate::proofs::Slots::count_of, crate::proofs::Slots::uses_new))]
 fn man<R: Threads + Wait + Copy + Send + Drop + 'static>(
     service: Service<R>,
     crewed: Crewed<NodeWork<R>>,

@@ -1,36 +1,39 @@
 -- How a run ends.
 use Rattle.std.proofs.Common.{◌≡◌, ◌⊎◌, ◌↔◌, ℕ, Bool, true, List, Option, Result, Ok, Err, IfOk, IfErr, OnOk, inl, inr}
 use Rattle.cb_run.specs.declared.ending.Halt.{Halt}
-use Rattle.cb_run.specs.declared.ending.Halt.TheVariants.{Memory, ReadFailed, WriteFailed}
-use Rattle.cb_operator.specs.declared.refusal.Verdict.{Verdict}
-use Rattle.cb_operator.specs.declared.refusal.Verdict.TheVariants as verdicts
-use Rattle.cb_operator.specs.declared.reply.Reply.TheVariants as replies
-use Rattle.cb_node_process.specs.Telling.{TellsAll, TellsOne, TellsOpening}
+use Rattle.cb_control.specs.declared.verdict.Verdict.{Verdict}
+use Rattle.cb_control.specs.declared.verdict.Verdict.TheVariants as verdicts
+use Rattle.cb_control.specs.declared.reply.Reply.TheVariants as replies
+use Rattle.cb_control.specs.Outcomes.{LacksOrFails}
+use Rattle.cb_node_process.specs.Telling.{StopsEarly, Tells, TellsAll, TellsOpening}
 use Rattle.cb_node_process.specs.declared.start_fault.StartFault.{StartFault}
 use Rattle.cb_node_process.proofs.Runs.{tells_all}
 
 -- the audit's answer is the last line
 pub told_all : {E : Type 0} (r : Result ℕ E) (a b c : Option (List ℕ)) (verdict : Verdict) (well served reached : Bool) → TellsOpening (served ≡ true) a b
     → (well ≡ true → (verdict ≡ verdicts.Yes) × ((reached ≡ true) × (served ≡ true)))
-    → IfOk r (λ status. TellsOne b c (replies.Audit verdict)) → IfOk r (λ status. (status ≡ 0) ↔ (well ≡ true)) → IfOk r (λ status. (status ≡ 0) ⊎ (status ≡ 3)) → IfOk r (TellsAll a c)
+    → IfOk r (λ status. Tells b c (replies.Audit verdict)) → IfOk r (λ status. (status ≡ 0) ↔ (well ≡ true)) → IfOk r (λ status. (status ≡ 0) ⊎ (status ≡ 3)) → IfOk r (TellsAll a c)
 told_all (Ok status) a b c verdict well served reached o says last full which =
     tells_all (served ≡ true) a b c verdict status (λ zero. (says (full.0 zero)).1.1) (λ zero. (says (full.0 zero)).0) o last which
 told_all (Err halt) a b c verdict well served reached o says last full which = tt
 
--- why it ends early: memory, a read, or a write that failed; it told standard error nothing
-pub run_ends : (P Q : Type 0) (r : Result ℕ Halt) → IfErr r (λ halt. (halt ≡ Memory) ⊎ ((halt ≡ ReadFailed) ⊎ ((halt ≡ WriteFailed) × P)))
-    → IfErr r (λ halt. (halt ≡ Memory) ⊎ ((halt ≡ ReadFailed) ⊎ ((halt ≡ WriteFailed) × (P ⊎ Q))))
+-- by which status
+pub which : (a b : Option (List ℕ)) (r : Result ℕ Halt) → IfOk r (TellsAll a b) → IfOk r (λ status. (status ≡ 0) ⊎ (status ≡ 3))
+which a b (Ok status) told = told.9.1
+which a b (Err halt) told = tt
+
+-- why it ends early, where more can fail
+pub run_ends : (P Q : Type 0) (r : Result ℕ Halt) → IfErr r (StopsEarly P) → IfErr r (StopsEarly (P ⊎ Q))
 run_ends P Q (Ok status) h = tt
 run_ends P Q (Err halt) (inl e) = inl e
 run_ends P Q (Err halt) (inr (inl e)) = inr (inl e)
 run_ends P Q (Err halt) (inr (inr (e, p))) = inr (inr (e, inl p))
 
 -- the same where standard error could not be told why it can't listen
-pub deaf_ends : (P Q : Type 0) (r : Result ℕ Halt) → IfErr r (λ halt. (halt ≡ Memory) ⊎ ((halt ≡ WriteFailed) × Q))
-    → IfErr r (λ halt. (halt ≡ Memory) ⊎ ((halt ≡ ReadFailed) ⊎ ((halt ≡ WriteFailed) × (P ⊎ Q))))
-deaf_ends P Q (Ok status) h = tt
-deaf_ends P Q (Err halt) (inl e) = inl e
-deaf_ends P Q (Err halt) (inr (e, q)) = inr (inr (e, inr q))
+pub deaf_ends : (P : Type 0) (failed : Bool) (r : Result ℕ Halt) → IfErr r (LacksOrFails failed) → IfErr r (StopsEarly (P ⊎ (failed ≡ true)))
+deaf_ends P failed (Ok status) h = tt
+deaf_ends P failed (Err halt) (inl e) = inl e
+deaf_ends P failed (Err halt) (inr (e, q)) = inr (inr (e, inr q))
 
 -- it ran, and standard error was told nothing
 pub ran_quietly : (Same : Type 0) (A B : ℕ → Type 0) (r : Result ℕ Halt) → Same → IfOk r A → IfOk r (λ status. (A status × Same) ⊎ B status)

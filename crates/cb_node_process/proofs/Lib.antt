@@ -1,4 +1,3 @@
 pub mod Endings
 pub mod Printing
 pub mod Runs
-pub mod Told

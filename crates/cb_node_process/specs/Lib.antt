@@ -1,2 +1,1 @@
-pub mod Auditing
 pub mod Telling

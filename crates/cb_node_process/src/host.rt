@@ -1,4 +1,4 @@
-use cb_run_nodes::Host;
+use cb_driver::Host;
 use std::io::StdinLock;
 use std::random::RandomSource;
 

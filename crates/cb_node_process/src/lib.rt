@@ -3,7 +3,6 @@
 #![tactic(auto)]
 
 mod answering;
-mod auditing;
 mod host;
 mod orders;
 mod polling;

@@ -1,15 +1,16 @@
 //! What a process does between two lines: it notes connections that ended, accepts and dials peers,
 //! and ticks. Each is logged. Nothing of it fails: what can't be done now is tried again later.
 ghost use Rattle.std.specs.Prelude.{◌≢◌, ◌<◌, length, IfErr, IfSome};
-ghost use Rattle.cb_operator.specs.declared.refusal.Refusal.TheVariants.{Unreadable};
+ghost use Rattle.cb_control.specs.declared.refusal.Refusal.TheVariants.{Unreadable};
 
 use crate::host::ProcessHost;
-use crate::process::{Process, refusal_of};
+use crate::process::Process;
 use crate::watching::Watched;
 use cb_base::Hash256;
+use cb_control::Refusal;
 use cb_dialling::{Target, is_own, is_target};
+use cb_driver::{refusal_of, tip_of};
 use cb_node::{CloseReason, NodeFault};
-use cb_operator::Refusal;
 use cb_pipes::{Pace, unix_time};
 use log::{Level, Log, debug, info, log_enabled, warn};
 use std::net::{SocketAddr, TcpStream};
@@ -19,7 +20,7 @@ const MOST_ADMITTED: u32 = 64;
 
 /// How many milliseconds pass at least between two lines of the log which tell that a peer wasn't
 /// accepted. Where descriptors have run out, each try fails.
-const COMPLAINT_MILLIS: u64 = 1_000;
+const COMPLAINT_MILLISECONDS: u64 = 1_000;
 
 impl<R: ProcessHost> Process<R> {
     /// Does what is due.
@@ -28,8 +29,12 @@ impl<R: ProcessHost> Process<R> {
         self.node.set_time(unix_time(&self.rt));
         self.note_ends(log, now);
         self.admit(log, now);
-        self.dial(log, now);
-        self.note_dials(log, now);
+        for place in (0..self.targets.len()).rev() {
+            self.start_dial(log, place, now);
+        }
+        for place in (0..self.targets.len()).rev() {
+            self.note_dial(log, place, now);
+        }
         tell_others(log, self.pace.take_due(now));
         if self.next_tick <= now {
             self.next_tick = now.saturating_add(self.tick);
@@ -78,14 +83,11 @@ impl<R: ProcessHost> Process<R> {
     fn ended(&self, place: usize) -> Option<CloseReason>
         ensures { IfSome result (λ reason. place < length self.now.watched.items) }
     {
-        match self.watched.get(place) {
-            Some(watched) => watched.ended(),
-            None => None,
-        }
+        self.watched.get(place)?.ended()
     }
 
-    /// A connection has ended: if it was to an address that is dialled, that is put off. Another one
-    /// may have its slot already.
+    /// A connection has ended: if it was to an address that is dialled, that is put off. Another
+    /// one may have its slot already.
     fn put_off<L: Log>(&mut self, log: &L, gone: &Watched, now: u64) {
         for target in self.targets.as_mut_slice() {
             if target.lasts_in(gone.slot, gone.since) {
@@ -119,7 +121,7 @@ impl<R: ProcessHost> Process<R> {
     /// Logs that a peer wasn't accepted, unless that was logged a moment ago.
     fn complain<L: Log>(&mut self, log: &L, now: u64, fault: NodeFault) {
         if self.next_complaint <= now {
-            self.next_complaint = now.saturating_add(COMPLAINT_MILLIS);
+            self.next_complaint = now.saturating_add(COMPLAINT_MILLISECONDS);
             if may_tell(&mut self.pace, log, Level::Warn, now) {
                 warn!(log; "a peer wasn't accepted: {fault}");
             }
@@ -128,15 +130,12 @@ impl<R: ProcessHost> Process<R> {
 
     /// Turns a peer away that waits to be accepted. Returns whether one waited.
     fn turn_away<L: Log>(&mut self, log: &L, now: u64) -> bool {
-        match self.node.turn_away() {
-            Ok(true) => {
-                if may_tell(&mut self.pace, log, Level::Warn, now) {
-                    note_turned_away(log, self.node.is_spent(true));
-                }
-                true
-            }
-            Ok(false) | Err(_) => false,
+        let turned = self.node.turn_away() == Ok(true);
+        if turned && may_tell(&mut self.pace, log, Level::Warn, now) {
+            let why = self.lack_of_slots(true);
+            warn!(log; "a peer was turned away: {why}");
         }
+        turned
     }
 
     /// Watches a connection that was made, and logs it.
@@ -165,29 +164,15 @@ impl<R: ProcessHost> Process<R> {
         }
     }
 
-    /// Starts a dial of each address that is due.
-    fn dial<L: Log>(&mut self, log: &L, now: u64) {
-        for place in (0..self.targets.len()).rev() {
-            if self.is_due(place, now) {
-                self.start_dial(log, place, now);
-            }
-        }
-    }
-
-    /// Whether the address at this place of the list is due to be dialled.
-    fn is_due(&self, place: usize, now: u64) -> bool {
-        match self.targets.get(place) {
-            Some(target) => target.is_due(now),
-            None => false,
-        }
-    }
-
-    /// Starts a dial of the address at this place of the list. Where no thread can be made for it,
-    /// the dial has failed.
+    /// Starts a dial of the address at this place of the list, if one is due. Where no thread can
+    /// be made for it, the dial has failed.
     fn start_dial<L: Log>(&mut self, log: &L, place: usize, now: u64) {
         let Some(target) = self.targets.get_mut(place) else {
             return;
         };
+        if !target.is_due(now) {
+            return;
+        }
         let address = target.address;
         if target.dial(&self.rt, self.alloc) {
             if may_tell(&mut self.pace, log, Level::Debug, now) {
@@ -199,43 +184,26 @@ impl<R: ProcessHost> Process<R> {
         }
     }
 
-    /// Serves the streams that were connected, and puts the addresses off that weren't reached.
-    fn note_dials<L: Log>(&mut self, log: &L, now: u64) {
-        for place in (0..self.targets.len()).rev() {
-            if self.has_dialled(place) {
-                self.note_dial(log, place, now);
-            }
-        }
-    }
-
-    /// Whether a dial of the address at this place of the list has ended.
-    fn has_dialled(&self, place: usize) -> bool {
-        match self.targets.get(place) {
-            Some(target) => target.has_dialled(),
-            None => false,
-        }
-    }
-
-    /// Serves the stream that was connected to the address at this place of the list. If there is
-    /// none, or it can't be served, the address is put off.
+    /// Serves the stream that a dial of the address at this place of the list connected, if one has
+    /// ended. If there is none, or it can't be served, the address is put off.
     fn note_dial<L: Log>(&mut self, log: &L, place: usize, now: u64) {
         let Some(target) = self.targets.get_mut(place) else {
             return;
         };
+        if !target.has_dialled() {
+            return;
+        }
         let address = target.address;
         let stream = target.take_stream(&self.rt, now);
         let served = self.serve(log, stream, address, now);
         self.tell(address, served);
         match served {
-            Ok(slot) => self.reach(place, slot, now),
+            Ok(slot) => {
+                if let Some(target) = self.targets.get_mut(place) {
+                    target.reach(slot, now);
+                }
+            }
             Err(refusal) => self.miss(log, place, now, refusal),
-        }
-    }
-
-    /// A connection to the address at this place of the list was made at this time, in this slot.
-    fn reach(&mut self, place: usize, slot: u16, now: u64) {
-        if let Some(target) = self.targets.get_mut(place) {
-            target.reach(slot, now);
         }
     }
 
@@ -249,15 +217,14 @@ impl<R: ProcessHost> Process<R> {
         let (address, forgotten) = (target.address, !target.keeps_trying && !target.reached);
         let seconds = target.put_off(now);
         if may_tell(&mut self.pace, log, Level::Warn, now) {
-            note_miss(
-                log,
-                address,
-                why,
-                if forgotten { None } else { Some(seconds) },
-            );
+            if forgotten {
+                warn!(log; "no connection to {address}: {why}");
+            } else {
+                warn!(log; "no connection to {address}: {why}; again in {seconds} s");
+            }
         }
-        if forgotten {
-            forget(&mut self.targets, place);
+        if forgotten && place < self.targets.len() {
+            drop(self.targets.remove(place));
         }
     }
 
@@ -272,13 +239,12 @@ impl<R: ProcessHost> Process<R> {
         let Some(stream) = stream else {
             return Err(Refusal::Io);
         };
-        match self.node.serve_stream(stream) {
-            Ok(slot) => {
-                self.watch(log, slot, false, address, now);
-                Ok(slot)
-            }
-            Err(fault) => Err(refusal_of(fault)),
-        }
+        let slot = self
+            .node
+            .serve_stream(stream)
+            .map_err(|fault| refusal_of(fault))?;
+        self.watch(log, slot, false, address, now);
+        Ok(slot)
     }
 
     /// Notes what the dial came to, if an operator waits for it.
@@ -292,19 +258,25 @@ impl<R: ProcessHost> Process<R> {
     /// Why no connection was made, in words.
     fn words_of(&self, refusal: Refusal) -> &'static str {
         match refusal {
-            Refusal::NoSlot if self.node.is_spent(false) => {
-                "all slots are used up, which restart mends"
-            }
-            Refusal::NoSlot => "no slot is free",
+            Refusal::NoSlot => self.lack_of_slots(false),
             Refusal::Memory => "memory ran out",
             Refusal::Fault(_) => "the hall refused",
             _ => "it doesn't answer",
         }
     }
 
-    #[tactic(auto, using(crate::proofs::Printing::memory_is_known, crate::proofs::Printing::no_slot_is_known, crate::proofs::Printing::already_is_known, crate::proofs::Printing::own_is_known))]
+    /// Why no slot of a kind can serve a connection, in words.
+    fn lack_of_slots(&self, inbound: bool) -> &'static str {
+        if self.node.is_spent(inbound) {
+            "all slots are used up, which restart mends"
+        } else {
+            "no slot is free"
+        }
+    }
+
     /// Lets an operator wait for the first dial of an address. Refused if it is the node's own or
     /// dialled already, or no outbound slot is free.
+    #[tactic(auto, using(crate::proofs::Printing::memory_is_known, crate::proofs::Printing::no_slot_is_known, crate::proofs::Printing::already_is_known, crate::proofs::Printing::own_is_known))]
     pub fn connect(&mut self, address: SocketAddr) -> Result<(), Refusal>
         ensures { IfErr result (λ refusal. refusal ≢ Unreadable) }
     {
@@ -326,7 +298,7 @@ impl<R: ProcessHost> Process<R> {
 
     /// Logs the tip if it is another one than before.
     pub fn note_tip<L: Log>(&mut self, log: &L) {
-        let tip = self.tip();
+        let tip = tip_of(&self.node);
         if tip.hash != self.tip {
             self.tip = tip.hash;
             self.log_tip(log, tip.height, tip.hash);
@@ -342,13 +314,6 @@ impl<R: ProcessHost> Process<R> {
     }
 }
 
-/// Takes the address at this place out of a list.
-fn forget(targets: &mut Vec<Target>, place: usize) {
-    if place < targets.len() {
-        drop(targets.remove(place));
-    }
-}
-
 /// Whether a line about a connection may be logged at this time. If it may not, it is counted.
 fn may_tell<L: Log>(pace: &mut Pace, log: &L, level: Level, now: u64) -> bool {
     log_enabled!(log; level) && pace.admits(now)
@@ -358,25 +323,6 @@ fn may_tell<L: Log>(pace: &mut Pace, log: &L, level: Level, now: u64) -> bool {
 fn tell_others<L: Log>(log: &L, others: u64) {
     if others > 0 {
         warn!(log; "{others} more lines about connections");
-    }
-}
-
-/// Logs that a peer was turned away, where all slots are used up, or only none is free.
-fn note_turned_away<L: Log>(log: &L, spent: bool) {
-    if spent {
-        warn!(log; "a peer was turned away: all slots are used up, which restart mends");
-    } else {
-        warn!(log; "a peer was turned away: no slot is free");
-    }
-}
-
-/// Logs that no connection to an address was made, and in how many seconds it is dialled again, if it is.
-fn note_miss<L: Log>(log: &L, address: SocketAddr, why: &str, again: Option<u16>) {
-    match again {
-        Some(seconds) => {
-            warn!(log; "no connection to {address}: {why}; again in {seconds} s");
-        }
-        None => warn!(log; "no connection to {address}: {why}"),
     }
 }
 

@@ -1,17 +1,19 @@
 //! A node's process: its node, the connections that last, and the addresses that it dials.
 ghost use Rattle.std.specs.Prelude.{◌≡◌, ◌≤◌, true, IfOk};
-ghost use Rattle.cb_node_process.specs.Telling.{refusal_of};
+ghost use Rattle.cb_control.specs.declared.order.Order.TheVariants.{Restart};
+ghost use Rattle.cb_node_process.specs.Telling.{Responds};
 
-use crate::auditing::{is_well, verdict_of};
+use crate::answering::Response;
 use crate::host::ProcessHost;
 use crate::orders::NodeOrders;
 use crate::start_fault::{StartFault, listen};
 use crate::stopwatch::Stopwatch;
 use crate::watching::Watched;
 use cb_base::{Hash256, Seed};
+use cb_control::{Moved, Refusal, Reply, Verdict};
 use cb_dialling::{Target, is_own, targets_of};
+use cb_driver::{audit_end, tip_of};
 use cb_node::{Node, NodeEnd, NodeFault, NodeSettings};
-use cb_operator::{Moved, Refusal, Tip, Verdict};
 use cb_pipes::{Pace, unix_time};
 use log::{Log, error, warn};
 use std::alloc::Global;
@@ -62,15 +64,6 @@ pub struct Process<R: ProcessHost> {
     pub(crate) moved: Moved,
 }
 
-/// What came of a node that was ended, and of another one that was started.
-#[derive(Clone, Copy)]
-pub struct Restarted {
-    /// What the audit of the one that has ended answers.
-    pub verdict: Verdict,
-    /// Whether it says yes, and the other one has its chain, its mempool and its address.
-    pub well: bool,
-}
-
 impl<R: ProcessHost> Process<R> {
     /// Starts a node, which listens. Its tables, and those of the nodes that follow it, have this
     /// seed. If that fails no thread runs.
@@ -117,16 +110,8 @@ impl<R: ProcessHost> Process<R> {
         self.clock.millis(&self.rt)
     }
 
-    /// The best chain's tip.
-    pub fn tip(&self) -> Tip {
-        let look = self.node.look();
-        Tip {
-            height: look.height,
-            hash: look.tip,
-        }
-    }
-
-    /// Waits for the dials that are under way, at most a few seconds. What they connected is closed.
+    /// Waits for the dials that are under way, at most a few seconds. What they connected is
+    /// closed.
     fn end_dials(&mut self) {
         for target in self.targets.as_mut_slice() {
             drop(target.take_stream(&self.rt, 0));
@@ -142,19 +127,15 @@ impl<R: ProcessHost> Process<R> {
         }
     }
 
-    /// Whether each address that is dialled for ever was reached once.
-    fn has_reached_all(&self) -> bool {
-        self.targets
-            .iter()
-            .all(|target| target.reached || !target.keeps_trying)
-    }
-
     /// Ends the node and all its threads. Returns what the audit answers, and whether each address
     /// that was to be dialled from the start was reached once.
     pub fn finish(self) -> (Verdict, bool) {
         let mut process = self;
         process.end_dials();
-        let reached = process.has_reached_all();
+        let reached = process
+            .targets
+            .iter()
+            .all(|target| target.reached || !target.keeps_trying);
         let Process {
             rt,
             alloc,
@@ -162,7 +143,7 @@ impl<R: ProcessHost> Process<R> {
             ..
         } = process;
         let end = node.finish();
-        (verdict_of(&rt, alloc, &end), reached)
+        (audit_end(&rt, alloc, &end).1, reached)
     }
 
     /// Ends the node, audits it, and starts another one over the same chain and mempool, which
@@ -170,9 +151,9 @@ impl<R: ProcessHost> Process<R> {
     ///
     /// Fails with `NodeFault::Io` and `NodeFault::Memory` if no other node can be started. Nothing
     /// was done then.
-    pub fn restart<L: Log>(&mut self, log: &L) -> Result<Restarted, NodeFault>
-        ensures well { IfOk result
-            (λ restarted. restarted.well ≡ true → restarted.verdict ≡ Verdict.Yes) }
+    #[tactic(auto, using(crate::proofs::Printing::restarts_well, crate::proofs::Printing::restarts_ill))]
+    pub fn restart<L: Log>(&mut self, log: &L) -> Result<Response, NodeFault>
+        ensures told { IfOk result (λ response. Responds Restart response) }
     {
         let settings = settings_of(&self.rt, self.settings.handlers)?;
         let fresh = Node::start_with_seed(self.rt, self.alloc, settings, self.seed)?;
@@ -181,26 +162,29 @@ impl<R: ProcessHost> Process<R> {
         let end = mem::replace(&mut self.node, fresh).finish();
         self.settings = settings;
         self.forget_connections();
-        let verdict = verdict_of(&self.rt, self.alloc, &end);
+        let verdict = audit_end(&self.rt, self.alloc, &end).1;
         let took = self.take_over(log, &end);
         let listens = self.listen_again(log);
-        let well = is_well(verdict, took, listens);
-        Ok(Restarted { verdict, well })
+        let reply = Reply::Restarted(verdict, tip_of(&self.node));
+        if is_well(verdict, took, listens) {
+            Ok(Response::Reply(reply))
+        } else {
+            Ok(Response::Failed(reply))
+        }
     }
 
     /// The connections have ended with their node. What they moved stays counted, and each address
     /// is due to be dialled.
     fn forget_connections(&mut self) {
-        for gone in self.watched.as_slice() {
-            self.moved = self.moved.with(gone.moved());
-        }
+        self.moved = self.moved_in_all();
         self.watched.clear();
         for target in self.targets.as_mut_slice() {
             target.renew();
         }
     }
 
-    /// Gives the node the chain and the mempool of one that has ended. Returns whether that was done.
+    /// Gives the node the chain and the mempool of one that has ended. Returns whether that was
+    /// done.
     fn take_over<L: Log>(&self, log: &L, end: &NodeEnd<R>) -> bool {
         match self.node.take_over(&*end.hall.lock(&self.rt)) {
             Ok(()) => true,
@@ -224,6 +208,17 @@ impl<R: ProcessHost> Process<R> {
     }
 }
 
+/// Whether all went well: an audit says yes, and both of these hold.
+pub fn is_well(verdict: Verdict, first: bool, second: bool) -> bool
+    ensures { result ≡ true
+        → (verdict ≡ Verdict.Yes) × ((first ≡ true) × (second ≡ true)) }
+{
+    if !verdict.is_yes() {
+        return false;
+    }
+    first && second
+}
+
 /// Lets a node listen, and returns where, and the addresses that it dials from the start.
 fn listen_and_aim<R: ProcessHost>(
     rt: &R,
@@ -240,7 +235,8 @@ fn listen_and_aim<R: ProcessHost>(
 /// salt are drawn; its time is the clock's.
 fn settings_of<R: RandomSource + Clock>(rt: &R, handlers: u16) -> Result<NodeSettings, NodeFault>
     ensures slots { IfOk result (λ settings. (settings.inbound ≡ 48) × (settings.outbound ≡ 16)) }
-    ensures handlers { IfOk result (λ settings. (1 ≤ settings.handlers) × (settings.handlers ≤ 16)) }
+    ensures handlers { IfOk result
+        (λ settings. (1 ≤ settings.handlers) × (settings.handlers ≤ 16)) }
     ensures same { 1 ≤ handlers → handlers ≤ 16 →
         IfOk result (λ settings. settings.handlers ≡ handlers) }
 {
@@ -256,16 +252,4 @@ fn settings_of<R: RandomSource + Clock>(rt: &R, handlers: u16) -> Result<NodeSet
         outbound: OUTBOUND,
         handlers: handlers.clamp(1, 16),
     })
-}
-
-/// Why a call of the node was refused.
-pub fn refusal_of(fault: NodeFault) -> Refusal
-    ensures { result ≡ refusal_of fault }
-{
-    match fault {
-        NodeFault::Io => Refusal::Io,
-        NodeFault::NoSlot => Refusal::NoSlot,
-        NodeFault::Memory => Refusal::Memory,
-        NodeFault::Hall(fault) => Refusal::Fault(fault),
-    }
 }

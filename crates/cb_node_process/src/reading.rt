@@ -3,9 +3,8 @@ ghost use Rattle.std.specs.Prelude.{◌≡◌, ◌⊎◌, IfErr, IsOkUnless};
 ghost use Rattle.cb_run.specs.declared.ending.Halt.TheVariants.{Memory, ReadFailed};
 
 use crate::host::ProcessHost;
-use cb_base::Shared;
-use cb_io::{In, Source};
-use cb_operator::{Line, read_line};
+use cb_base::{In, Shared, Source};
+use cb_control::{Order, read_order};
 use cb_pipes::Pipes;
 use cb_run::{Halt, LineReader};
 use crossbeam_channel::{Receiver, RecvTimeoutError, Sender, bounded};
@@ -18,14 +17,14 @@ use std::thread;
 use std::thread::JoinHandle;
 use std::time::Duration;
 
-/// How many lines wait to be answered at most, and how many bytes they may have before one more is read.
-/// They are many, so that the end is seen though nobody reads the answers.
+/// How many lines wait to be answered at most, and how many bytes they may have before one more is
+/// read. They are many, so that the end is seen though nobody reads the answers.
 const MOST_WAITING: usize = 16_384;
 
 const MOST_BYTES: u64 = 32_000_000;
 
 /// How many milliseconds pass until it is looked again whether the lines that wait are fewer.
-const PAUSE_MILLIS: u64 = 20;
+const PAUSE_MILLISECONDS: u64 = 20;
 
 /// Why standard input can't be read any more.
 #[derive(Clone, Copy)]
@@ -50,25 +49,23 @@ impl Broken {
 
 /// What came from standard input.
 #[derive(Drop)]
-pub enum Order {
-    /// A line.
-    Line(Line),
-    /// A line that isn't of one of the forms of `Line`.
+pub enum Arrival {
+    /// A line that gives an order.
+    Order(Order),
+    /// A line that gives none.
     Unreadable,
     /// Memory ran out for a line.
     NoMemory,
-    /// The input ended. Nothing comes after it.
-    End,
-    /// It can't be read any more. Nothing comes after it.
-    Broken(Broken),
+    /// Nothing comes after this: the input ended, or can't be read any more.
+    End(Option<Broken>),
 }
 
-impl Order {
+impl Arrival {
     /// Whether nothing is read after it.
     fn is_last(&self) -> bool {
         match self {
-            Order::Line(Line::Quit) | Order::End | Order::Broken(_) => true,
-            Order::Line(_) | Order::Unreadable | Order::NoMemory => false,
+            Arrival::Order(Order::Quit) | Arrival::End(_) => true,
+            Arrival::Order(_) | Arrival::Unreadable | Arrival::NoMemory => false,
         }
     }
 }
@@ -76,14 +73,14 @@ impl Order {
 /// What came, and how many bytes its line has.
 #[derive(Drop)]
 struct Coming {
-    order: Order,
+    arrival: Arrival,
     bytes: u64,
 }
 
 /// The lines that come, and the thread that reads them. It returns once it has read `quit` or the
 /// end of input.
 #[derive(Drop)]
-pub struct Orders {
+pub struct Arrivals {
     /// What came and wasn't answered yet.
     coming: Receiver<Coming, Global>,
     /// How many bytes that has.
@@ -91,21 +88,21 @@ pub struct Orders {
     thread: JoinHandle<()>,
 }
 
-impl Orders {
+impl Arrivals {
     /// Waits so long for what comes next.
     pub fn next<R: Wait + Clock>(
         &self,
         rt: &R,
         pause: Duration,
-    ) -> Result<Order, RecvTimeoutError> {
-        let Coming { order, bytes } = self.coming.recv_timeout(rt, pause)?;
+    ) -> Result<Arrival, RecvTimeoutError> {
+        let Coming { arrival, bytes } = self.coming.recv_timeout(rt, pause)?;
         self.waiting.fetch_sub(bytes, Ordering::SeqCst);
-        Ok(order)
+        Ok(arrival)
     }
 
     /// Waits for the thread. It must have read `quit` or the end of input, or be about to.
     pub fn join<R: ProcessHost>(self, rt: &R) {
-        let Orders {
+        let Arrivals {
             coming,
             waiting,
             thread,
@@ -117,31 +114,31 @@ impl Orders {
 
 /// What the thread that reads has.
 #[derive(Drop)]
-struct Desk {
+struct Sending {
     sender: Sender<Coming, Global>,
     waiting: Shared<AtomicU64>,
     pipes: Shared<Pipes>,
 }
 
-/// Starts the thread that reads standard input. At the end of input, and at `quit`, it tells the others
-/// that the end was asked for. Fails with `Halt::Memory`, and with `Halt::ReadFailed` if no thread can
-/// be made.
+/// Starts the thread that reads standard input. At the end of input, and at `quit`, it tells the
+/// others that the end was asked for. Fails with `Halt::Memory`, and with `Halt::ReadFailed` if no
+/// thread can be made.
 pub fn start_reading<R: ProcessHost>(
     rt: &R,
     alloc: Global,
     pipes: &Shared<Pipes>,
-) -> Result<Orders, Halt>
+) -> Result<Arrivals, Halt>
     ensures { IfErr result (λ halt. (halt ≡ Memory) ⊎ (halt ≡ ReadFailed)) }
 {
-    let (desk, coming, waiting) = ways(alloc, pipes)?;
+    let (sending, coming, waiting) = ways(alloc, pipes)?;
     let rt_of_thread = *rt;
     let started = thread::spawn(rt, move || {
-        let (rt, desk) = (rt_of_thread, desk);
-        read_all(&rt, alloc, &desk);
-        desk.pipes.ask_end();
+        let (rt, sending) = (rt_of_thread, sending);
+        read_all(&rt, alloc, &sending);
+        sending.pipes.ask_end();
     });
     match started {
-        Ok(thread) => Ok(Orders {
+        Ok(thread) => Ok(Arrivals {
             coming,
             waiting,
             thread,
@@ -153,86 +150,73 @@ pub fn start_reading<R: ProcessHost>(
     }
 }
 
-/// What the thread that reads has, what comes from it, and how many bytes of it wait. Fails only with
-/// `Halt::Memory`.
+/// What the thread that reads has, what comes from it, and how many bytes of it wait. Fails only
+/// with `Halt::Memory`.
 fn ways(
     alloc: Global,
     pipes: &Shared<Pipes>,
-) -> Result<(Desk, Receiver<Coming, Global>, Shared<AtomicU64>), Halt>
+) -> Result<(Sending, Receiver<Coming, Global>, Shared<AtomicU64>), Halt>
     ensures { IsOkUnless result Memory }
 {
     let (sender, coming) = bounded(alloc, MOST_WAITING)?;
-    let waiting = new_count(alloc)?;
-    let desk = Desk {
+    let waiting = Shared::new(alloc, AtomicU64::new(0))?;
+    let sending = Sending {
         sender,
         waiting: waiting.clone()?,
         pipes: pipes.clone()?,
     };
-    Ok((desk, coming, waiting))
-}
-
-/// A number, which is 0. Fails only with `Halt::Memory`.
-fn new_count(alloc: Global) -> Result<Shared<AtomicU64>, Halt>
-    ensures { IsOkUnless result Memory }
-{
-    match Shared::new(alloc, AtomicU64::new(0)) {
-        Ok(count) => Ok(count),
-        Err(failed) => {
-            drop(failed);
-            Err(Halt::Memory)
-        }
-    }
+    Ok((sending, coming, waiting))
 }
 
 /// Reads lines and sends what they say, until nothing comes after one, or nobody listens.
 fn read_all<R: Wait + Clock + Input<Reader = StdinLock<'static>>>(
     rt: &R,
     alloc: Global,
-    desk: &Desk,
+    sending: &Sending,
 ) {
     let mut source = In::new(rt.reader());
     let mut lines = match LineReader::new(alloc) {
         Ok(lines) => lines,
         Err(_) => {
-            let order = Order::Broken(Broken::Memory);
-            drop(desk.sender.send(rt, Coming { order, bytes: 0 }));
+            let arrival = Arrival::End(Some(Broken::Memory));
+            drop(sending.sender.send(rt, Coming { arrival, bytes: 0 }));
             return;
         }
     };
     for _ in 0..u64::MAX {
-        wait_for_room(rt, desk);
-        let order = next_order(alloc, &mut lines, &mut source);
-        let (last, bytes) = (order.is_last(), lines.line().len() as u64);
+        wait_for_room(rt, sending);
+        let arrival = next_arrival(alloc, &mut lines, &mut source);
+        let (last, bytes) = (arrival.is_last(), lines.line().len() as u64);
         if last {
-            desk.pipes.ask_end();
+            sending.pipes.ask_end();
         }
-        desk.waiting.fetch_add(bytes, Ordering::SeqCst);
-        if desk.sender.send(rt, Coming { order, bytes }).is_err() || last {
+        sending.waiting.fetch_add(bytes, Ordering::SeqCst);
+        if sending.sender.send(rt, Coming { arrival, bytes }).is_err() || last {
             return;
         }
     }
 }
 
 /// Waits until fewer bytes wait than may.
-fn wait_for_room<R: Wait + Clock>(rt: &R, desk: &Desk) {
+fn wait_for_room<R: Wait + Clock>(rt: &R, sending: &Sending) {
     for _ in rt.forever() {
-        if desk.waiting.load(Ordering::SeqCst) <= MOST_BYTES {
+        if sending.waiting.load(Ordering::SeqCst) <= MOST_BYTES {
             return;
         }
-        thread::sleep(rt, Duration::from_millis(PAUSE_MILLIS));
+        thread::sleep(rt, Duration::from_millis(PAUSE_MILLISECONDS));
     }
 }
 
 /// What the next line says.
-fn next_order<S: Source>(alloc: Global, lines: &mut LineReader, source: &mut S) -> Order {
+fn next_arrival<S: Source>(alloc: Global, lines: &mut LineReader, source: &mut S) -> Arrival {
     match lines.advance(source) {
-        Ok(true) => match read_line(alloc, lines.line()) {
-            Ok(Some(line)) => Order::Line(line),
-            Ok(None) => Order::Unreadable,
-            Err(_) => Order::NoMemory,
+        Ok(true) => match read_order(alloc, lines.line()) {
+            Ok(Some(order)) => Arrival::Order(order),
+            Ok(None) => Arrival::Unreadable,
+            Err(_) => Arrival::NoMemory,
         },
-        Ok(false) => Order::End,
-        Err(Halt::Memory) => Order::Broken(Broken::Memory),
-        Err(_) => Order::Broken(Broken::Read),
+        Ok(false) => Arrival::End(None),
+        Err(Halt::Memory) => Arrival::End(Some(Broken::Memory)),
+        Err(_) => Arrival::End(Some(Broken::Read)),
     }
 }

@@ -1,23 +1,22 @@
 //! Running a node until its operator ends it.
-ghost use Rattle.std.specs.Prelude.{◌≡◌, ◌≢◌, ◌↔◌, ◌⊎◌, ◌≤◌, true, IfErr, IfOk, OnErr, OnOk, IsOkUnless};
+ghost use Rattle.std.specs.Prelude.{◌≡◌, ◌↔◌, ◌⊎◌, ◌≤◌, [], true, IfErr, IfOk, OnErr, OnOk};
 ghost use Rattle.std.specs.Io.KnownBytes.{Appends};
-ghost use Rattle.cb_run.specs.declared.ending.Halt.TheVariants.{Memory, ReadFailed, WriteFailed};
+ghost use Rattle.cb_run.specs.declared.ending.Halt.TheVariants.{WriteFailed};
+ghost use Rattle.cb_control.specs.Outcomes.{LacksOrFails};
 ghost use Rattle.cb_node_process.specs.declared.start_fault.StartFault.{StartFault};
-ghost use Rattle.cb_node_process.specs.Telling.{IsDialReply, TellsAll, TellsAnswers, TellsOne, TellsOpening, deaf_text};
+ghost use Rattle.cb_node_process.specs.Telling.{Comes, HasRun, IsDialReply, StopsEarly, Tells, TellsAll, TellsOpening, deaf_text};
 
-use crate::answering::{After, print};
-use crate::auditing::is_well;
+use crate::answering::Response;
 use crate::host::ProcessHost;
 use crate::orders::NodeOrders;
-use crate::process::Process;
-use crate::reading::{Broken, Order, Orders, start_reading};
+use crate::process::{Process, is_well};
+use crate::reading::{Arrival, Arrivals, Broken, start_reading};
 use crate::start_fault::StartFault;
-use cb_base::{Seed, Shared};
-use cb_io::Sink;
-use cb_operator::{Line, Refusal, Reply, Verdict};
-use cb_pipes::{LogFault, LogLine, PipedLog, Pipes, start_log};
+use cb_base::{Seed, Shared, Sink};
+use cb_control::{Refusal, Reply, Verdict, write_reply};
+use cb_pipes::{PipedLog, Pipes, start_log};
 use cb_run::{Halt, Status, write_all};
-use crossbeam_channel::{RecvTimeoutError, Sender};
+use crossbeam_channel::RecvTimeoutError;
 use log::{Log, Logged, info};
 use std::alloc::Global;
 use std::net::SocketAddr;
@@ -25,24 +24,7 @@ use std::thread;
 use std::time::Duration;
 
 /// How many milliseconds the process waits for a line before it looks at its sockets again.
-const PAUSE_MILLIS: u64 = 10;
-
-/// Why no more lines are answered.
-#[derive(Clone, Copy)]
-enum Stop {
-    /// By `quit`, or because the input ended.
-    Asked,
-    /// Standard input can't be read any more.
-    Broken(Broken),
-}
-
-/// How lines were answered until the process was to end.
-#[derive(Clone, Copy)]
-struct Served {
-    stop: Stop,
-    /// Whether each `restart` went well.
-    well: bool,
-}
+const PAUSE_MILLISECONDS: u64 = 10;
 
 /// Runs a node. It prints `listening ADDR:PORT` once it listens, and then an answer to each line of
 /// standard input. `quit` and the end of input end it: all its threads return, and the audit's
@@ -53,8 +35,8 @@ struct Served {
 ///
 /// Returns the exit status: 0; 3 if it couldn't listen, an audit said no, or an address that it was
 /// to dial from the start was never reached. Why it couldn't listen goes to `errors`. Connections,
-/// their ends and new tips are logged on standard error, by a thread of its own. The node's tables have
-/// this seed, which changes no result.
+/// their ends and new tips are logged on standard error, by a thread of its own. The node's tables
+/// have this seed, which changes no result.
 ///
 /// Fails if memory runs out at the start, or a read or a write failed. The node has ended then.
 pub fn run_node<R: ProcessHost, W: Sink, E: Sink>(
@@ -77,58 +59,38 @@ pub fn run_node<R: ProcessHost, W: Sink, E: Sink>(
         × (status ≡ 3))) }
     ensures status { IfOk result (λ status. (status ≡ 0) ⊎ (status ≡ 3)) }
     // For every writer and standard error: why it ends early.
-    ensures halts { IfErr result (λ halt. (halt ≡ Memory) ⊎ ((halt ≡ ReadFailed)
-        ⊎ ((halt ≡ WriteFailed)
-        × ((W.has_failed writer.new ≡ true) ⊎ (E.has_failed errors.new ≡ true))))) }
+    ensures halts { IfErr result (StopsEarly
+        ((W.has_failed writer.new ≡ true) ⊎ (E.has_failed errors.new ≡ true))) }
     // Nothing else is told to `errors`.
     ensures quiet { IfErr result
         (λ halt. (errors.new ≡ errors.old) ⊎ (E.has_failed errors.new ≡ true)) }
 {
-    match start_log(&rt, alloc) {
-        Ok((lines, thread)) => {
-            let ended = run_logged(rt, alloc, seed, orders, pipes, lines, writer, errors);
-            thread.end(&rt);
-            ended
-        }
-        Err(LogFault::Memory) => Err(Halt::Memory),
-        Err(LogFault::NoThread) => refuse(alloc, orders.listen, StartFault::NoMeans, errors),
-    }
-}
-
-/// Runs a node whose log goes this way.
-fn run_logged<R: ProcessHost, W: Sink, E: Sink>(
-    rt: R,
-    alloc: Global,
-    seed: Seed,
-    orders: NodeOrders,
-    pipes: &Shared<Pipes>,
-    lines: Sender<LogLine, Global>,
-    writer: &mut W,
-    errors: &mut E,
-) -> Result<u8, Halt>
-    ensures told { IfOk result
-        (λ status. (TellsAll (W.contents writer.old) (W.contents writer.new) status
-        × (errors.new ≡ errors.old))
-        ⊎ ((fault : StartFault)
-        × Appends (E.contents errors.old) (E.contents errors.new) (deaf_text orders.listen fault)
-        × (status ≡ 3))) }
-    ensures status { IfOk result (λ status. (status ≡ 0) ⊎ (status ≡ 3)) }
-    ensures halts { IfErr result (λ halt. (halt ≡ Memory) ⊎ ((halt ≡ ReadFailed)
-        ⊎ ((halt ≡ WriteFailed)
-        × ((W.has_failed writer.new ≡ true) ⊎ (E.has_failed errors.new ≡ true))))) }
-    ensures quiet { IfErr result
-        (λ halt. (errors.new ≡ errors.old) ⊎ (E.has_failed errors.new ≡ true)) }
-{
-    let logged = Logged::new(rt, orders.level, PipedLog::new(rt, alloc, lines));
-    let log = logged.with_target("cbrelay");
-    match Process::start(rt, alloc, seed, &orders) {
-        Ok(process) => {
-            process.note_own(&log, orders.connect.as_slice());
-            run(rt, alloc, process, pipes, &log, writer)
-        }
+    match run_logged(rt, alloc, seed, &orders, pipes, writer) {
+        Ok(ended) => ended,
         Err(StartFault::Memory) => Err(Halt::Memory),
         Err(fault) => refuse(alloc, orders.listen, fault, errors),
     }
+}
+
+/// Runs a node, and the thread that writes its log. Fails if it can't be started.
+fn run_logged<R: ProcessHost, W: Sink>(
+    rt: R,
+    alloc: Global,
+    seed: Seed,
+    orders: &NodeOrders,
+    pipes: &Shared<Pipes>,
+    writer: &mut W,
+) -> Result<Result<u8, Halt>, StartFault>
+    ensures { IfOk result (HasRun (W.contents writer.old) (W.contents writer.new)
+        (W.has_failed writer.new)) }
+{
+    let (lines, thread) = start_log(&rt, alloc)?;
+    let logged = Logged::new(rt, orders.level, PipedLog::new(rt, alloc, lines));
+    let log = logged.with_target("cbrelay");
+    let ran = run(rt, alloc, seed, orders, pipes, &log, writer);
+    drop(logged);
+    thread.end(&rt);
+    ran
 }
 
 /// Tells why the node can't listen. Returns the exit status.
@@ -141,52 +103,52 @@ fn refuse<E: Sink>(
     ensures told { OnOk result
         (Appends (E.contents errors.old) (E.contents errors.new) (deaf_text address fault)) }
     ensures status { IfOk result (λ status. status ≡ 3) }
-    ensures err { IfErr result
-        (λ halt. (halt ≡ Memory) ⊎ ((halt ≡ WriteFailed) × (E.has_failed errors.new ≡ true))) }
+    ensures err { IfErr result (LacksOrFails (E.has_failed errors.new)) }
     ensures quiet { IfErr result
         (λ halt. (errors.new ≡ errors.old) ⊎ (E.has_failed errors.new ≡ true)) }
 {
     let words = fault.cause();
     let text = format!(in alloc; "error: can't listen at {address}: {words}\n")?;
     write_all(errors, text.as_bytes())?;
-    Ok(Status::BadInput.code())
+    Ok(Status::RunFailed.code())
 }
 
-/// Answers lines until the process is to end, and ends it.
+/// Starts a node, answers lines until the process is to end, and ends it. Fails if it can't be
+/// started.
 fn run<R: ProcessHost, L: Log, W: Sink>(
     rt: R,
     alloc: Global,
-    process: Process<R>,
+    seed: Seed,
+    orders: &NodeOrders,
     pipes: &Shared<Pipes>,
     log: &L,
     writer: &mut W,
-) -> Result<u8, Halt>
-    ensures told { IfOk result (TellsAll (W.contents writer.old) (W.contents writer.new)) }
-    ensures status { IfOk result (λ status. (status ≡ 0) ⊎ (status ≡ 3)) }
-    ensures halts { IfErr result (λ halt. (halt ≡ Memory) ⊎ ((halt ≡ ReadFailed)
-        ⊎ ((halt ≡ WriteFailed) × (W.has_failed writer.new ≡ true)))) }
+) -> Result<Result<u8, Halt>, StartFault>
+    ensures { IfOk result (HasRun (W.contents writer.old) (W.contents writer.new)
+        (W.has_failed writer.new)) }
 {
-    let mut process = process;
-    let orders = match start_reading(&rt, alloc, pipes) {
-        Ok(orders) => orders,
+    let mut process = Process::start(rt, alloc, seed, orders)?;
+    process.note_own(log, orders.connect.as_slice());
+    let arrivals = match start_reading(&rt, alloc, pipes) {
+        Ok(arrivals) => arrivals,
         Err(halt) => {
             drop(process.finish());
-            return Err(halt);
+            return Ok(Err(halt));
         }
     };
-    let ended = serve(&rt, alloc, &mut process, &orders, pipes, log, writer);
+    let served = serve(&rt, alloc, &mut process, &arrivals, pipes, log, writer);
     info!(log; "ending");
     process.note_all_ends(log);
     process.note_unreached(log);
     let (verdict, reached) = process.finish();
-    match ended {
-        Ok(served) => {
-            orders.join(&rt);
-            let well = is_well(verdict, reached, served.well);
-            tell_end(alloc, verdict, well, served.stop, writer)
+    match served {
+        Ok((broken, well)) => {
+            arrivals.join(&rt);
+            let well = is_well(verdict, reached, well);
+            Ok(tell_end(alloc, verdict, well, broken, writer))
         }
         // The thread that reads may still wait for a line, so nobody waits for it.
-        Err(halt) => Err(halt),
+        Err(halt) => Ok(Err(halt)),
     }
 }
 
@@ -195,137 +157,102 @@ fn tell_end<W: Sink>(
     alloc: Global,
     verdict: Verdict,
     well: bool,
-    stop: Stop,
+    broken: Option<Broken>,
     writer: &mut W,
 ) -> Result<u8, Halt>
     ensures told { IfOk result (λ status.
-        TellsOne (W.contents writer.old) (W.contents writer.new) (Reply.Audit verdict)) }
+        Tells (W.contents writer.old) (W.contents writer.new) (Reply.Audit verdict)) }
     ensures fully { IfOk result (λ status. (status ≡ 0) ↔ (well ≡ true)) }
     ensures status { IfOk result (λ status. (status ≡ 0) ⊎ (status ≡ 3)) }
-    ensures halts { IfErr result (λ halt. (halt ≡ Memory) ⊎ ((halt ≡ ReadFailed)
-        ⊎ ((halt ≡ WriteFailed) × (W.has_failed writer.new ≡ true)))) }
+    ensures halts { IfErr result (StopsEarly (W.has_failed writer.new ≡ true)) }
 {
-    print(alloc, &Reply::Audit(verdict), writer)?;
-    match stop {
-        Stop::Broken(broken) => Err(broken.halt()),
-        Stop::Asked if well => Ok(Status::Success.code()),
-        Stop::Asked => Ok(Status::BadInput.code()),
+    write_reply(alloc, &Reply::Audit(verdict), writer)?;
+    match broken {
+        Some(broken) => Err(broken.halt()),
+        None if well => Ok(Status::Success.code()),
+        None => Ok(Status::RunFailed.code()),
     }
 }
 
-/// Answers lines until the process is to end. Fails only with `Halt::WriteFailed`.
+/// Answers lines until the process is to end. Returns why standard input can't be read any more, if
+/// that ends it, and whether each `restart` went well. Fails only with `Halt::WriteFailed`.
 fn serve<R: ProcessHost, L: Log, W: Sink>(
     rt: &R,
     alloc: Global,
     process: &mut Process<R>,
-    orders: &Orders,
+    arrivals: &Arrivals,
     pipes: &Pipes,
     log: &L,
     writer: &mut W,
-) -> Result<Served, Halt>
-    ensures told { IfOk result (λ served. TellsOpening (served.well ≡ true)
+) -> Result<(Option<Broken>, bool), Halt>
+    ensures told { IfOk result (λ served. TellsOpening (served.1 ≡ true)
         (W.contents writer.old) (W.contents writer.new)) }
-    ensures failed { IsOkUnless result WriteFailed }
-    ensures marked { OnErr result (W.has_failed writer.new ≡ true) }
+    ensures failed { IfErr result
+        (λ halt. (halt ≡ WriteFailed) × (W.has_failed writer.new ≡ true)) }
 {
     let address = process.address;
     info!(log; "listening at {address}");
-    print(alloc, &Reply::Listening(address), writer)?;
-    let (mut dials, mut well) = (false, true);
+    write_reply(alloc, &Reply::Listening(address), writer)?;
+    let mut well = true;
     for _ in rt.forever() {
         process.poll(log);
-        match advance(rt, alloc, process, orders, pipes, dials, log, writer)? {
-            Next::Line(After::Next) => dials = false,
-            Next::Line(After::Failed) => (dials, well) = (false, false),
-            Next::Line(After::Dial) => dials = true,
-            Next::Line(After::End) => {
-                return Ok(Served {
-                    stop: Stop::Asked,
-                    well,
-                });
+        heed_failure(pipes, writer)?;
+        match advance(rt, process, arrivals, pipes, log) {
+            Response::Silence => {}
+            Response::Reply(reply) => write_reply(alloc, &reply, writer)?,
+            Response::Failed(reply) => {
+                well = false;
+                write_reply(alloc, &reply, writer)?;
             }
-            Next::Broken(broken) => {
-                return Ok(Served {
-                    stop: Stop::Broken(broken),
-                    well,
-                });
-            }
+            Response::End(broken) => return Ok((broken, well)),
         }
     }
     unreachable!()
 }
 
-/// What comes next.
-#[derive(Clone, Copy)]
-enum Next {
-    /// A line was answered, or none came.
-    Line(After),
-    /// Standard input can't be read any more.
-    Broken(Broken),
+/// Fails with `Halt::WriteFailed` if what was printed before couldn't be written: the next write
+/// tells so.
+fn heed_failure<W: Sink>(pipes: &Pipes, writer: &mut W) -> Result<(), Halt>
+    ensures told { OnOk result (Appends (W.contents writer.old) (W.contents writer.new) []) }
+    ensures failed { IfErr result
+        (λ halt. (halt ≡ WriteFailed) × (W.has_failed writer.new ≡ true)) }
+{
+    if pipes.has_failed() && writer.write(b"").is_none() {
+        return Err(Halt::WriteFailed);
+    }
+    Ok(())
 }
 
-/// Waits a moment for a line and answers it, or for the dial that an operator waits for. It only waits
-/// while nobody takes what was printed before. Fails only with `Halt::WriteFailed`.
-fn advance<R: ProcessHost, L: Log, W: Sink>(
+/// What a moment brings: what a dial came to for which an operator waits, or what answers a line.
+/// It only waits while the dial goes on, and while nobody takes what was printed before.
+#[tactic(auto, using(crate::proofs::Runs::order_comes))]
+fn advance<R: ProcessHost, L: Log>(
     rt: &R,
-    alloc: Global,
     process: &mut Process<R>,
-    orders: &Orders,
+    arrivals: &Arrivals,
     pipes: &Pipes,
-    dials: bool,
     log: &L,
-    writer: &mut W,
-) -> Result<Next, Halt>
-    ensures told { IfOk result (λ next. TellsAnswers (next ≢ Next.Line After.Failed)
-        (W.contents writer.old) (W.contents writer.new)) }
-    ensures failed { IsOkUnless result WriteFailed }
-    ensures marked { OnErr result (W.has_failed writer.new ≡ true) }
+) -> Response
+    ensures { Comes result }
 {
-    if pipes.has_failed() {
-        note_failure(writer)
-    } else if pipes.holds_answers() {
-        thread::sleep(rt, Duration::from_millis(PAUSE_MILLIS));
-        Ok(Next::Line(if dials { After::Dial } else { After::Next }))
-    } else if dials {
-        answer_dial(rt, alloc, process, writer)
-    } else {
-        answer_next(rt, alloc, process, orders, log, writer)
+    let pause = Duration::from_millis(PAUSE_MILLISECONDS);
+    if pipes.holds_answers() || process.awaited.is_some() {
+        thread::sleep(rt, pause);
+        return Response::Silence;
     }
-}
-
-/// What was printed before couldn't be written: the next write tells so. Fails with `Halt::WriteFailed`
-/// then.
-fn note_failure<W: Sink>(writer: &mut W) -> Result<Next, Halt>
-    ensures told { IfOk result (λ next. TellsAnswers (next ≢ Next.Line After.Failed)
-        (W.contents writer.old) (W.contents writer.new)) }
-    ensures failed { IsOkUnless result WriteFailed }
-    ensures marked { OnErr result (W.has_failed writer.new ≡ true) }
-{
-    match writer.write(b"") {
-        Some(_) => Ok(Next::Line(After::Next)),
-        None => Err(Halt::WriteFailed),
+    if let Some((address, served)) = process.outcome.take() {
+        return Response::Reply(dial_reply(address, served));
     }
-}
-
-/// Tells what the dial came to for which an operator waits, or waits a moment. Fails only with
-/// `Halt::WriteFailed`.
-fn answer_dial<R: ProcessHost, W: Sink>(
-    rt: &R,
-    alloc: Global,
-    process: &mut Process<R>,
-    writer: &mut W,
-) -> Result<Next, Halt>
-    ensures told { IfOk result (λ next. TellsAnswers (next ≢ Next.Line After.Failed)
-        (W.contents writer.old) (W.contents writer.new)) }
-    ensures failed { IsOkUnless result WriteFailed }
-    ensures marked { OnErr result (W.has_failed writer.new ≡ true) }
-{
-    match process.outcome.take() {
-        Some((address, served)) => tell(alloc, dial_reply(address, served), writer),
-        None => {
-            thread::sleep(rt, Duration::from_millis(PAUSE_MILLIS));
-            Ok(Next::Line(After::Dial))
-        }
+    match arrivals.next(rt, pause) {
+        Ok(Arrival::Order(order)) => match process.obey(order, log) {
+            Ok(response) => response,
+            Err(refusal) => Response::Reply(Reply::Refused(refusal)),
+        },
+        Ok(Arrival::Unreadable) => Response::Reply(Reply::Refused(Refusal::Unreadable)),
+        Ok(Arrival::NoMemory) => Response::Reply(Reply::Refused(Refusal::Memory)),
+        Ok(Arrival::End(broken)) => Response::End(broken),
+        Err(RecvTimeoutError::Timeout) => Response::Silence,
+        Err(RecvTimeoutError::Disconnected) => Response::End(None),
     }
 }
 
@@ -337,55 +264,4 @@ fn dial_reply(address: SocketAddr, served: Result<u16, Refusal>) -> Reply
         Ok(slot) => Reply::Connected(address, slot),
         Err(refusal) => Reply::Refused(refusal),
     }
-}
-
-/// Waits a moment for a line, and answers it. Fails only with `Halt::WriteFailed`.
-fn answer_next<R: ProcessHost, L: Log, W: Sink>(
-    rt: &R,
-    alloc: Global,
-    process: &mut Process<R>,
-    orders: &Orders,
-    log: &L,
-    writer: &mut W,
-) -> Result<Next, Halt>
-    ensures told { IfOk result (λ next. TellsAnswers (next ≢ Next.Line After.Failed)
-        (W.contents writer.old) (W.contents writer.new)) }
-    ensures failed { IsOkUnless result WriteFailed }
-    ensures marked { OnErr result (W.has_failed writer.new ≡ true) }
-{
-    let pause = Duration::from_millis(PAUSE_MILLIS);
-    match orders.next(rt, pause) {
-        Ok(Order::Line(line)) => obey(process, line, log, writer),
-        Ok(Order::Unreadable) => tell(alloc, Reply::Refused(Refusal::Unreadable), writer),
-        Ok(Order::NoMemory) => tell(alloc, Reply::Refused(Refusal::Memory), writer),
-        Ok(Order::Broken(broken)) => Ok(Next::Broken(broken)),
-        Err(RecvTimeoutError::Timeout) => Ok(Next::Line(After::Next)),
-        Ok(Order::End) | Err(RecvTimeoutError::Disconnected) => Ok(Next::Line(After::End)),
-    }
-}
-
-/// Answers a line. Fails only with `Halt::WriteFailed`.
-fn obey<R: ProcessHost, L: Log, W: Sink>(
-    process: &mut Process<R>,
-    line: Line,
-    log: &L,
-    writer: &mut W,
-) -> Result<Next, Halt>
-    ensures told { IfOk result (λ next. TellsAnswers (next ≢ Next.Line After.Failed)
-        (W.contents writer.old) (W.contents writer.new)) }
-    ensures failed { IsOkUnless result WriteFailed }
-    ensures marked { OnErr result (W.has_failed writer.new ≡ true) }
-{
-    Ok(Next::Line(process.answer(line, log, writer)?))
-}
-
-/// Prints a line. Fails only with `Halt::WriteFailed`.
-fn tell<W: Sink>(alloc: Global, reply: Reply, writer: &mut W) -> Result<Next, Halt>
-    ensures told { OnOk result
-        (TellsOne (W.contents writer.old) (W.contents writer.new) reply) }
-    ensures failed { IsOkUnless result WriteFailed }
-    ensures marked { OnErr result (W.has_failed writer.new ≡ true) }
-{
-    print(alloc, &reply, writer)?;
-    Ok(Next::Line(After::Next))
 }

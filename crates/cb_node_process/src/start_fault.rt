@@ -4,6 +4,7 @@ ghost use Rattle.cb_node_process.specs.Telling.{cause_text};
 
 use crate::host::ProcessHost;
 use cb_node::{Node, NodeFault};
+use cb_pipes::LogFault;
 use std::alloc::AllocError;
 use std::io::ErrorKind;
 use std::net::{SocketAddr, TcpListener};
@@ -43,6 +44,15 @@ impl From<NodeFault> for StartFault {
         match fault {
             NodeFault::Memory => StartFault::Memory,
             NodeFault::Io | NodeFault::NoSlot | NodeFault::Hall(_) => StartFault::NoMeans,
+        }
+    }
+}
+
+impl From<LogFault> for StartFault {
+    fn from(fault: LogFault) -> StartFault {
+        match fault {
+            LogFault::Memory => StartFault::Memory,
+            LogFault::NoThread => StartFault::NoMeans,
         }
     }
 }

@@ -1,8 +1,8 @@
 //! The connections that last.
 use cb_base::Shared;
+use cb_control::{Moved, PeerReport, Phase};
+use cb_driver::moved_of;
 use cb_node::{CloseReason, Link, State};
-use cb_operator::{Moved, PeerLine, Phase};
-use cb_work::Totals;
 use std::net::SocketAddr;
 
 /// A connection that lasts.
@@ -34,9 +34,9 @@ impl Watched {
         moved_of(&self.link.status.totals())
     }
 
-    /// Its line in the answer to `peers`.
-    pub fn line(&self) -> PeerLine {
-        PeerLine {
+    /// What an operator is told of it.
+    pub fn report(&self) -> PeerReport {
+        PeerReport {
             slot: self.slot,
             generation: self.link.generation,
             inbound: self.inbound,
@@ -54,20 +54,5 @@ fn phase_of(state: State) -> Phase {
         State::Greeted => Phase::Greeted,
         State::Ready => Phase::Ready,
         State::Closed(_) => Phase::Over,
-    }
-}
-
-/// What a connection moved.
-fn moved_of(totals: &Totals) -> Moved {
-    Moved {
-        messages: totals.messages,
-        payload: totals.payload,
-        sent: totals.sent,
-        written: totals.written,
-        full: totals.full,
-        compact: totals.compact,
-        completed: totals.completed,
-        fallback: totals.fallback,
-        saved: totals.saved,
     }
 }

@@ -37,4 +37,6 @@ compact_block_count_at bytes = do
 -- Reading allocates: there are short ids, or there are none and the count of prefilled transactions
 -- can be read.
 abbrev pub CompactBlockTakesMemory : List ℕ → Type 0
-CompactBlockTakesMemory bytes = (n : ℕ × List ℕ) × (compact_block_count_at bytes ≡ Ok n) × ((0 < n.0) ⊎ ((m : ℕ × List ℕ) × (prefilled_count_at 0 n.1 ≡ Ok m)))
+CompactBlockTakesMemory bytes =
+    (n : ℕ × List ℕ) × (compact_block_count_at bytes ≡ Ok n)
+    × ((0 < n.0) ⊎ ((m : ℕ × List ℕ) × (prefilled_count_at 0 n.1 ≡ Ok m)))

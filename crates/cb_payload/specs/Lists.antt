@@ -15,7 +15,9 @@ use Rattle.cb_payload.specs.declared.inventory.Inventory.TheVariants as kinds
 unfoldable pub limited_at : ℕ → ℕ → List ℕ → Read ℕ
 limited_at most size bytes = do
   n ← compact_at bytes
-  if nat_lt most n.0 then Err TooMany else (if nat_lt (length n.1) (n.0 * size) then Err Truncated else Ok n)
+  if nat_lt most n.0
+      then Err TooMany
+      else (if nat_lt (length n.1) (n.0 * size) then Err Truncated else Ok n)
 
 -- reads such a count and that many items
 unfoldable pub listed_at : {A : Type 0} → ℕ → ℕ → (List ℕ → Read A) → List ℕ → Read (List A)

@@ -57,7 +57,11 @@ short_form_text f = list_text short_id_text f.ids ++ list_text prefilled_text f.
 unfoldable pub prefilled_count_at : ℕ → List ℕ → Read ℕ
 prefilled_count_at ids bytes = do
   n ← compact_at bytes
-  if ids + n.0 == 0 then Err Empty else (if nat_lt 16666 (ids + n.0) then Err TooMany else (if nat_lt (length n.1) (n.0 * 11) then Err Truncated else Ok n))
+  if ids + n.0 == 0
+      then Err Empty
+      else (if nat_lt 16666 (ids + n.0)
+      then Err TooMany
+      else (if nat_lt (length n.1) (n.0 * 11) then Err Truncated else Ok n))
 
 unfoldable pub short_form_at : List ℕ → Read ShortForm
 short_form_at bytes = do
@@ -69,4 +73,6 @@ short_form_at bytes = do
 -- Reading allocates: there are short ids, or there are none and the count of prefilled transactions
 -- can be read.
 abbrev pub FormTakesMemory : List ℕ → Type 0
-FormTakesMemory bytes = (n : ℕ × List ℕ) × (count_at 6 bytes ≡ Ok n) × ((0 < n.0) ⊎ ((m : ℕ × List ℕ) × (prefilled_count_at 0 n.1 ≡ Ok m)))
+FormTakesMemory bytes =
+    (n : ℕ × List ℕ) × (count_at 6 bytes ≡ Ok n)
+    × ((0 < n.0) ⊎ ((m : ℕ × List ℕ) × (prefilled_count_at 0 n.1 ≡ Ok m)))

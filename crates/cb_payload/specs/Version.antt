@@ -40,8 +40,12 @@ agent_at bytes = do
 -- all fields but the relay byte
 unfoldable pub version_fields : Version → List ℕ
 version_fields v =
-    to_le_bytes w32 (cast_unsigned w32 v.version) ++ (to_le_bytes w64 v.services ++ (to_le_bytes w64 (cast_unsigned w64 v.time) ++ (address_text v.receiver
-    ++ (address_text v.sender ++ (to_le_bytes w64 v.nonce ++ (agent_text v.agent ++ to_le_bytes w32 (cast_unsigned w32 v.height)))))))
+    to_le_bytes w32 (cast_unsigned w32 v.version)
+    ++ (to_le_bytes w64 v.services
+    ++ (to_le_bytes w64 (cast_unsigned w64 v.time) ++ (address_text v.receiver
+    ++ (address_text v.sender
+    ++ (to_le_bytes w64 v.nonce
+    ++ (agent_text v.agent ++ to_le_bytes w32 (cast_unsigned w32 v.height)))))))
 
 -- the payload that is written: the fields, then the relay byte
 unfoldable pub version_text : Version → List ℕ
@@ -69,7 +73,17 @@ version_at bytes = do
   nonce ← number_at w64 sender.1
   agent ← agent_at nonce.1
   height ← signed_at w32 agent.1
-  Ok (record { version = version.0; services = services.0; time = time.0; receiver = receiver.0; sender = sender.0; nonce = nonce.0; agent = agent.0; height = height.0; relay = relay_of height.1 })
+  Ok (record {
+    version = version.0;
+    services = services.0;
+    time = time.0;
+    receiver = receiver.0;
+    sender = sender.0;
+    nonce = nonce.0;
+    agent = agent.0;
+    height = height.0;
+    relay = relay_of height.1;
+  })
 
 -- The range of a version: each number is in the range of its field, and the user agent has at most
 -- 256 bytes.

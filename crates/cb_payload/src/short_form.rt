@@ -34,7 +34,8 @@ impl Model for CompactTxs {
 
     ghost view = { λ txs. record { ids = txs.ids.items; prefilled = txs.prefilled.items } };
 
-    ghost invariant = { λ txs. IsShortForm (record { ids = txs.ids.items; prefilled = txs.prefilled.items }) };
+    ghost invariant = { λ txs. IsShortForm
+        (record { ids = txs.ids.items; prefilled = txs.prefilled.items }) };
 }
 
 impl CompactTxs {

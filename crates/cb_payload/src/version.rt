@@ -107,7 +107,19 @@ fn read_relay(cursor: &mut Cursor) -> bool
 #[tactic(auto, unfolding(crate::specs::Version::version_at))]
 fn told_by(payload: &[u8]) -> Result<Told<'_>, Fault>
     ensures exact { MatchResult result
-        (λ told. version_at payload.now ≡ Ok (record { version = told.version; services = told.services; time = told.time; receiver = told.receiver; sender = told.sender; nonce = told.nonce; agent = told.agent.now; height = told.height; relay = told.relay }))
+        (λ told. version_at payload.now
+        ≡ Ok
+        (record {
+          version = told.version;
+          services = told.services;
+          time = told.time;
+          receiver = told.receiver;
+          sender = told.sender;
+          nonce = told.nonce;
+          agent = told.agent.now;
+          height = told.height;
+          relay = told.relay;
+        }))
         (λ fault. version_at payload.now ≡ Err fault) }
     ensures few { IfOk result (λ told. length told.agent.now ≤ 256) }
 {

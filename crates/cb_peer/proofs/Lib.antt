@@ -1,1 +1,3 @@
 mod Ending
+pub mod Completing
+pub mod Lights

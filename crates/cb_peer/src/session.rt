@@ -10,9 +10,8 @@ use crate::stepping::{arrive, end_of, hear_answer, starve};
 use cb_base::{Fault, Seed};
 use cb_fetch::Fetch;
 use cb_journal::Question;
-use cb_outgoing::Outgoing;
 use cb_peer_state::{CloseReason, Event, Peer, SessionState, Settings, State, one_message};
-use cb_talk::our_version;
+use cb_talk::{Outgoing, our_version};
 use std::alloc::Global;
 use std::marker::Model;
 

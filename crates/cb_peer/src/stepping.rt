@@ -1,5 +1,5 @@
 //! How a session handles an event. What it does with an item and with an answer is in
-//! cb_peer_receiving and cb_peer_replying.
+//! `receiving` and `replying`.
 ghost use Rattle.std.specs.Prelude.{◌≡◌, [], true, false, IfOk, IsOk, IsOkUnless, OnErr};
 ghost use Rattle.cb_base.specs.declared.fault.Fault.TheVariants.{Memory};
 ghost use Rattle.cb_journal.specs.declared.answer.Answer.TheVariants as answers;
@@ -14,14 +14,13 @@ ghost use Rattle.cb_peer_state.specs.Replying.{answered, replied};
 ghost use Rattle.cb_peer_state.specs.Session.{arrives, closes, for_item, is_light, open_step, spares, told, weighs_at};
 ghost use Rattle.cb_peer_state.specs.State.{bare, over};
 
+use crate::{process, reply};
 use cb_base::{Fault, Shared};
 use cb_journal::{Answer, Question};
-use cb_outgoing::Outgoing;
-use cb_peer_receiving::process;
-use cb_peer_replying::reply;
 use cb_peer_state::{
     CloseReason, Event, NextQuestion, Pending, Reaction, SessionState, Settings, Stage, State,
 };
+use cb_talk::Outgoing;
 use cb_wire::Item;
 use std::alloc::Global;
 

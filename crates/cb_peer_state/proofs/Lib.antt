@@ -1,4 +1,17 @@
+pub mod Again
+pub mod Apt
+pub mod Behind
 pub mod Cases
+pub mod CompactHeld
+pub mod CompactHonest
+pub mod CompactLaws
+pub mod CompactSteps
+pub mod CompactTable
+pub mod CompactTold
+pub mod LawLemmas
 pub mod Lights
 pub mod Meeting
+pub mod Remembered
 pub mod Resuming
+pub mod Sending
+pub mod Steps

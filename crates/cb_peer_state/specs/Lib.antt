@@ -1,8 +1,11 @@
+pub mod Compact
 pub mod Event
+pub mod Laws
 pub mod Outcomes
 pub mod Pings
 pub mod Questions
 pub mod Receiving
 pub mod Replying
+pub mod Resuming
 pub mod Session
 pub mod State

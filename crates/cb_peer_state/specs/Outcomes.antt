@@ -18,16 +18,21 @@ as_list (Some one) = one ∷ []
 
 -- The next question for an item, if there is one.
 abbrev pub asked_by : Option Item → Outcome → Option NextQuestion
-asked_by item outcome = option_map (λ stage. record { stage = stage; question = question_of outcome.session item stage }) outcome.next
+asked_by item outcome =
+    option_map
+    (λ stage. record { stage = stage; question = question_of outcome.session item stage })
+    outcome.next
 
 -- The session, the messages and the question are those of the outcome for the item.
-pub record Makes (outcome : Outcome) (item : Option Item) (session : SessionState) (sent : List Message) (next : Option NextQuestion) : Type 0 where
+pub record Makes (outcome : Outcome) (item : Option Item) (session : SessionState)
+    (sent : List Message) (next : Option NextQuestion) : Type 0 where
   pub after : session ≡ outcome.session
   pub messages : sent ≡ outcome.messages
   pub next_is : next ≡ asked_by item outcome
 
 -- The result of a call is that of the step.
-pub record Answers (step : Stepped) (session : SessionState) (sent : List Message) (asked : Option Question) : Type 0 where
+pub record Answers (step : Stepped) (session : SessionState) (sent : List Message)
+    (asked : Option Question) : Type 0 where
   pub after : session ≡ step.session
   pub messages : sent ≡ step.messages
   pub question : asked ≡ step.question

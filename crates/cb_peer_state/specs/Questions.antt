@@ -94,10 +94,14 @@ about subjects.Headers s item = questions.Headers (item_headers item)
 about subjects.Locator s item = questions.Locator
 about subjects.Inventory s item = questions.Want (told_of (item_inventory item))
 about subjects.Tx s item = questions.GiveTx (item_tx item)
-about subjects.Block s item = questions.GiveBlock (record { block = item_block item; capable = s.peer.capable })
+about subjects.Block s item = questions.GiveBlock (record {
+  block = item_block item;
+  capable = s.peer.capable;
+})
 about subjects.Items s item = questions.Serve (Items (item_requests item))
 about subjects.After s item = questions.Serve (After (item_locator item) (item_stop item))
-about subjects.Places s item = questions.Serve (Places (item_places item).block (item_places item).differences)
+about subjects.Places s item =
+    questions.Serve (Places (item_places item).block (item_places item).differences)
 
 -- The question for each step of an item or tick: whether it is admitted; what the item leads to;
 -- which transactions of the mempool have a compact block's short ids; what the hall says of a
@@ -107,9 +111,16 @@ abbrev pub question_of : SessionState → Option Item → Stage → Question
 question_of s item stages.Admit = questions.Admit
 question_of s item (stages.About subject) = about subject s item
 question_of s item stages.Match = questions.Match (sought_for (short_in item))
-question_of s item (stages.Give block) = questions.GiveBlock (record { block = block; capable = s.peer.capable })
+question_of s item (stages.Give block) = questions.GiveBlock (record {
+  block = block;
+  capable = s.peer.capable;
+})
 question_of s item stages.Wanted = questions.Want (as_blocks s.fetch.wanted)
-question_of s item stages.Fresh = questions.News (record { tip = s.marks.tip; from = s.marks.next; whole = s.peer.wants_high })
+question_of s item stages.Fresh = questions.News (record {
+  tip = s.marks.tip;
+  from = s.marks.next;
+  whole = s.peer.wants_high;
+})
 
 -- The open question, if there is one.
 abbrev pub question_at : SessionState → Option Pending → Option Question

@@ -69,23 +69,41 @@ ends s sent =
 
 -- Notes the last block heard of from the peer.
 abbrev pub heard_of : Hash256 → SessionState → SessionState
-heard_of hash s = with_marks (record { heard = Some hash; tip = s.marks.tip; next = s.marks.next }) s
+heard_of hash s =
+    with_marks (record { heard = Some hash; tip = s.marks.tip; next = s.marks.next }) s
 
 -- The peer wants blocks announced by their headers (BIP 130).
 abbrev pub by_headers : SessionState → SessionState
-by_headers s = with_peer (record { version = s.peer.version; by_headers = true; capable = s.peer.capable; wants_high = s.peer.wants_high }) s
+by_headers s =
+    with_peer
+    (record {
+      version = s.peer.version;
+      by_headers = true;
+      capable = s.peer.capable;
+      wants_high = s.peer.wants_high;
+    })
+    s
 
 -- The peer supports compact blocks of version 1. Another version is ignored (BIP 152).
 abbrev pub by_compact : CompactRelay → SessionState → SessionState
 by_compact relay s =
-    if relay.version == 1 then with_peer (record { version = s.peer.version; by_headers = s.peer.by_headers; capable = true; wants_high = relay.high_bandwidth }) s
+    if relay.version == 1
+    then with_peer
+    (record {
+      version = s.peer.version;
+      by_headers = s.peer.by_headers;
+      capable = true;
+      wants_high = relay.high_bandwidth;
+    })
+    s
     else s
 
 -- The answer to the peer's `version`: `verack`, and before it our `version` if the peer made the
 -- connection.
 abbrev pub greeting : Settings → List Message
 greeting settings =
-    if settings.inbound then our_version settings.nonce settings.time settings.height ∷ messages.Verack ∷ []
+    if settings.inbound
+    then our_version settings.nonce settings.time settings.height ∷ messages.Verack ∷ []
     else messages.Verack ∷ []
 
 -- The peer's `version`. The session ends if its nonce is our own, or if the version is below 70001
@@ -96,7 +114,15 @@ introduced s version =
     else if int_lt version.version (pos 70001) then ended reasons.OldPeer s
     else
     sends
-    (with_state Greeted (with_peer (record { version = version.version; by_headers = s.peer.by_headers; capable = s.peer.capable; wants_high = s.peer.wants_high }) s))
+    (with_state Greeted
+    (with_peer
+    (record {
+      version = version.version;
+      by_headers = s.peer.by_headers;
+      capable = s.peer.capable;
+      wants_high = s.peer.wants_high;
+    })
+    s))
     (greeting s.settings)
 
 -- ---- a message that was admitted
@@ -105,7 +131,11 @@ introduced s version =
 -- too, though its root matches the header.
 unfoldable pub brought : SessionState → Block → Outcome
 brought s block =
-    if is_sound_block block then asks (heard_of (block_hash block.header) (dropping (block_hash block.header) (landing (block_hash block.header) s))) [] (About subjects.Block)
+    if is_sound_block block
+    then asks
+    (heard_of (block_hash block.header)
+    (dropping (block_hash block.header) (landing (block_hash block.header) s)))
+    [] (About subjects.Block)
     else ended reasons.BadBlock s
 
 -- A block of a `notfound` is no longer in flight; it is named as a block or a compact block.
@@ -131,13 +161,15 @@ gives s block = asks (landing (block_hash block.header) s) [] (Give block)
 -- A compact block that can't be rebuilt is requested whole, or queued for download if 16 others are
 -- in flight. If the queue is full, the header before it is remembered.
 unfoldable pub falls_back : SessionState → Hash256 → Hash256 → Outcome
-falls_back s hash before = ends (with_fallen hash before s) (if asks_now s.fetch hash then asking_block hash ∷ [] else [])
+falls_back s hash before =
+    ends (with_fallen hash before s) (if asks_now s.fetch hash then asking_block hash ∷ [] else [])
 
 -- A `cmpctblock`: the hall is asked about its header. The session ends if a prefilled transaction
 -- has a place past the block's end.
 unfoldable pub short_heard : SessionState → HeaderAndShortIds → Outcome
 short_heard s short =
-    if has_places short.txs then asks (heard_of (block_hash short.header) s) [] (About subjects.Headers)
+    if has_places short.txs
+    then asks (heard_of (block_hash short.header) s) [] (About subjects.Headers)
     else ended reasons.BadMessage s
 
 -- The completed block is given to the hall, or requested whole if it isn't sound. The session ends
@@ -152,7 +184,9 @@ filled_by s hash before (Err fault) = ended reasons.BadMessage s
 abbrev pub completed_by : SessionState → BlockTransactions → Option Unfilled → Outcome
 completed_by s given None = ends s []
 completed_by s given (Some partial) =
-    if same (block_hash partial.header) given.block then filled_by (with_partial None s) given.block partial.header.prev (completed_of partial given)
+    if same (block_hash partial.header) given.block
+    then filled_by (with_partial None s) given.block partial.header.prev
+    (completed_of partial given)
     else ends s []
 
 -- A `blocktxn`: the transactions that a compact block lacked.
@@ -164,8 +198,10 @@ unfoldable pub in_ready : SessionState → Message → Outcome
 in_ready s messages.SendHeaders = ends (by_headers s) []
 in_ready s (messages.SendCmpct relay) = ends (by_compact relay s) []
 in_ready s (messages.Headers []) = ends s []
-in_ready s (messages.Headers (first ∷ others)) = asks (heard_of (last_hash first others) s) [] (About subjects.Headers)
-in_ready s (messages.Inv entries) = if is_nil (told_of entries) then ends s [] else asks s [] (About subjects.Inventory)
+in_ready s (messages.Headers (first ∷ others)) =
+    asks (heard_of (last_hash first others) s) [] (About subjects.Headers)
+in_ready s (messages.Inv entries) =
+    if is_nil (told_of entries) then ends s [] else asks s [] (About subjects.Inventory)
 in_ready s (messages.GetData entries) = asks s [] (About subjects.Items)
 in_ready s (messages.GetHeaders request) = asks s [] (About subjects.After)
 in_ready s (messages.NotFound entries) = ends (with_fetch (given_up entries s.fetch) s) []
@@ -184,7 +220,8 @@ in_start s other = sends s []
 -- A message between the peer's `version` and its `verack`. `verack` completes the handshake;
 -- `sendheaders` and `sendcmpct` are noted. Anything else is ignored.
 unfoldable pub in_greeted : SessionState → Message → Outcome
-in_greeted s messages.Verack = asks (with_state Ready s) (wishes s.peer.version) (About subjects.Locator)
+in_greeted s messages.Verack =
+    asks (with_state Ready s) (wishes s.peer.version) (About subjects.Locator)
 in_greeted s messages.SendHeaders = sends (by_headers s) []
 in_greeted s (messages.SendCmpct relay) = sends (by_compact relay s) []
 in_greeted s other = sends s []

@@ -46,7 +46,10 @@ use Rattle.cb_peer_state.specs.State.{landing, next_nonce, unless_remembered, wi
 -- After a full message of 2,000 headers, the headers after them are requested.
 abbrev pub more_behind : List Header → List Message
 more_behind [] = []
-more_behind (first ∷ others) = if length (first ∷ others) == 2000 then asking_headers (last_hash first others ∷ []) ∷ [] else []
+more_behind (first ∷ others) =
+    if length (first ∷ others) == 2000
+    then asking_headers (last_hash first others ∷ []) ∷ []
+    else []
 
 abbrev pub more_headers : Option Item → List Message
 more_headers (Some (Good (messages.Headers headers))) = more_behind headers
@@ -57,11 +60,12 @@ abbrev pub before_first : Option Item → Option Hash256
 before_first (Some (Good (messages.Headers (first ∷ others)))) = Some first.prev
 before_first item = None
 
--- The result of `headers`, once its missing blocks are noted (`with_lacking`). A header without proof
--- of work ends the session. For an unknown parent the headers before it are requested.
+-- The result of `headers`, once its missing blocks are noted (`with_lacking`). A header without
+-- proof of work ends the session. For an unknown parent the headers before it are requested.
 abbrev pub heads_by : SessionState → Option Item → Option Fault → List Hash256 → Outcome
 heads_by s item (Some faults.BadWork) locator = ended reasons.BadBlock s
-heads_by s item (Some faults.NoParent) locator = ends s (unless_remembered s (asking_headers locator ∷ []))
+heads_by s item (Some faults.NoParent) locator =
+    ends s (unless_remembered s (asking_headers locator ∷ []))
 heads_by s item (Some other) locator = ends s []
 heads_by s item None locator = ends s (unless_remembered s (more_headers item))
 
@@ -70,7 +74,8 @@ heads_by s item None locator = ends s (unless_remembered s (more_headers item))
 unfoldable pub taken_told : SessionState → Option Fault → List Hash256 → Outcome
 taken_told s None locator = ends s []
 taken_told s (Some faults.Known) locator = ends s []
-taken_told s (Some faults.NoParent) locator = ends s (unless_remembered s (asking_headers locator ∷ []))
+taken_told s (Some faults.NoParent) locator =
+    ends s (unless_remembered s (asking_headers locator ∷ []))
 taken_told s (Some other) locator = ended reasons.BadBlock s
 
 -- The headers before one with an unknown parent are requested.
@@ -91,7 +96,8 @@ is_workless refused = false
 unfoldable pub short_told : SessionState → Hash256 → Heads → Outcome
 short_told s hash heads =
     if is_workless heads.refused then ended reasons.BadBlock s
-    else if is_nil heads.lack then ends (landing hash s) (unless_remembered s (before_parent heads.refused heads.locator))
+    else if is_nil heads.lack
+    then ends (landing hash s) (unless_remembered s (before_parent heads.refused heads.locator))
     else asks s (unless_remembered s (before_parent heads.refused heads.locator)) Match
 
 -- What comes of the transactions of the mempool that have a compact block's short ids: the block is
@@ -99,7 +105,8 @@ short_told s hash heads =
 -- requested whole.
 abbrev pub rebuilt_by : SessionState → Header → Rebuilt → Outcome
 rebuilt_by s header (rebuilts.Sound block) = gives s block
-rebuilt_by s header (rebuilts.Lacking partial request) = ends (with_partial (Some partial) s) (asking_txs request ∷ [])
+rebuilt_by s header (rebuilts.Lacking partial request) =
+    ends (with_partial (Some partial) s) (asking_txs request ∷ [])
 rebuilt_by s header rebuilts.Useless = falls_back s (block_hash header) header.prev
 
 abbrev pub paired : SessionState → Option HeaderAndShortIds → List Pair → Outcome
@@ -111,10 +118,11 @@ paired s (Some short) pairs =
 unfoldable pub pairs_told : SessionState → Option Item → List Pair → Outcome
 pairs_told s item pairs = paired s (short_in item) pairs
 
--- Headers, or the header of a compact block. Blocks of accepted headers that we don't have are queued
--- for download, as far as there is room.
+-- Headers, or the header of a compact block. Blocks of accepted headers that we don't have are
+-- queued for download, as far as there is room.
 abbrev pub heads_for : SessionState → Option Item → Option HeaderAndShortIds → Heads → Outcome
-heads_for s item None heads = heads_by (with_lacking heads.lack (before_first item) s) item heads.refused heads.locator
+heads_for s item None heads =
+    heads_by (with_lacking heads.lack (before_first item) s) item heads.refused heads.locator
 heads_for s item (Some short) heads = short_told s (block_hash short.header) heads
 
 unfoldable pub heads_told : SessionState → Option Item → Heads → Outcome
@@ -142,15 +150,19 @@ is_block other = false
 -- The result of `inv`: wanted transactions are requested, and headers if a block is wanted.
 unfoldable pub need_told : SessionState → Need → Outcome
 need_told s need =
-    ends s (asking_for (filter_map tx_request need.entries) ++ unless_remembered s (if list_any is_block need.entries then asking_headers need.locator ∷ [] else []))
+    ends s
+    (asking_for (filter_map tx_request need.entries)
+    ++ unless_remembered s
+    (if list_any is_block need.entries then asking_headers need.locator ∷ [] else []))
 
--- Queued blocks that are still needed are requested, the first 16 of them: as a compact block
--- (type 4) if one alone is needed, on top of the tip, from a peer that supports compact blocks; else
+-- Queued blocks that are still needed are requested, the first 16 of them: as a compact block (type
+-- 4) if one alone is needed, on top of the tip, from a peer that supports compact blocks; else
 -- whole (type 2).
 unfoldable pub wanted_told : SessionState → Need → Outcome
 wanted_told s need =
     let fetch = taken_on (blocks_in need.entries) in
-    asks (with_fetch fetch s) (asking_for (requests_of (need.near && s.peer.capable) fetch.flight)) Fresh
+    asks (with_fetch fetch s) (asking_for (requests_of (need.near && s.peer.capable) fetch.flight))
+    Fresh
 
 -- Whether the tip is the last block heard of from the peer.
 abbrev pub is_heard : Option Hash256 → Hash256 → Bool
@@ -193,7 +205,8 @@ high_asked s high = if s.peer.capable then high else s.compact.asked_high
 
 -- The transactions without the one that the item brought.
 abbrev pub without_brought : Option Item → List Hash256 → List Hash256
-without_brought (Some (Good (messages.Tx tx))) txids = filter (λ txid. not (same (double_hash (tx_text tx)) txid)) txids
+without_brought (Some (Good (messages.Tx tx))) txids =
+    filter (λ txid. not (same (double_hash (tx_text tx)) txid)) txids
 without_brought item txids = txids
 
 -- News: the tip and transactions are announced, and how the peer is to announce its own.
@@ -214,7 +227,8 @@ unfoldable pub replied : SessionState → Option Item → Stage → Answer → O
 replied s item stage answers.Kicked = ended reasons.Kicked s
 replied s item Admit answers.Go = processed s item
 replied s item (About subject) (answers.Heads heads) = heads_told s item heads
-replied s item (About subject) (answers.Locator locator) = ends s (unless_remembered s (asking_headers locator ∷ []))
+replied s item (About subject) (answers.Locator locator) =
+    ends s (unless_remembered s (asking_headers locator ∷ []))
 replied s item (About subject) (answers.Need need) = need_told s need
 replied s item (About subject) (answers.TxTaken refused) = ends s []
 replied s item (About subject) (answers.Taken taken) = taken_told s taken.refused taken.locator
@@ -244,12 +258,14 @@ resumed hash outcome =
 
 abbrev pub resumes : Option Hash256 → Outcome → Outcome
 resumes None outcome = outcome
-resumes (Some hash) outcome = if wants_none outcome.session.fetch then resumed hash outcome else outcome
+resumes (Some hash) outcome =
+    if wants_none outcome.session.fetch then resumed hash outcome else outcome
 
 -- The end of an item or a tick, where what is new is asked next: headers are requested from the
 -- remembered one if nothing is wanted any more.
 unfoldable pub resuming : Outcome → Outcome
-resuming outcome = if asks_news outcome.next then resumes outcome.session.resume_from outcome else outcome
+resuming outcome =
+    if asks_news outcome.next then resumes outcome.session.resume_from outcome else outcome
 
 -- An answer to the question asked for an item.
 unfoldable pub answered : SessionState → Option Item → Stage → Answer → Outcome

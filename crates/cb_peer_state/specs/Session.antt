@@ -38,7 +38,8 @@ pub record Stepped : Type 0 where
 
 -- The messages that open a session: our `version` if this node made the connection.
 abbrev pub openings : Settings → List Message
-openings settings = if settings.inbound then [] else our_version settings.nonce settings.time settings.height ∷ []
+openings settings =
+    if settings.inbound then [] else our_version settings.nonce settings.time settings.height ∷ []
 
 -- Nothing changes, and nothing is sent or asked.
 abbrev pub stays : SessionState → Stepped
@@ -70,7 +71,8 @@ arrives (Some other) s item = stays s
 abbrev pub told : Option Pending → SessionState → Answer → Stepped
 told None s answer = stays s
 told (Some pending) s answer =
-    if fits (question_of s pending.item pending.stage) answer then for_item pending.item (answered (freed s) pending.item pending.stage answer)
+    if fits (question_of s pending.item pending.stage) answer
+    then for_item pending.item (answered (freed s) pending.item pending.stage answer)
     else stays s
 
 unfoldable pub open_step : SessionState → Event → Stepped
@@ -143,10 +145,11 @@ pending_item (Some pending) = pending.item
 abbrev pub spares_pending : Option Pending → SessionState → Answer → Bool
 spares_pending None s answer = true
 spares_pending (Some pending) s answer =
-    not (fits (question_of s pending.item pending.stage) answer) || not (weighs_at (freed s) pending.item pending.stage answer)
+    not (fits (question_of s pending.item pending.stage) answer)
+    || not (weighs_at (freed s) pending.item pending.stage answer)
 
--- An answer that doesn't fit, or that leads to nothing that is hashed, copied or listed. It takes no
--- memory if nothing is sent to it and nothing is asked but for the locator or what is new
+-- An answer that doesn't fit, or that leads to nothing that is hashed, copied or listed. It takes
+-- no memory if nothing is sent to it and nothing is asked but for the locator or what is new
 -- (`is_light`).
 abbrev pub spares : SessionState → Event → Bool
 spares s (events.Told answer) = spares_pending s.pending s answer

@@ -31,7 +31,16 @@ no_compact = record { partial = None; made = 0; asked_high = false }
 -- A session about which only its settings and its state are known. This is so at its beginning and
 -- when it is over.
 abbrev pub bare : Settings → State → SessionState
-bare settings state = record { settings = settings; state = state; peer = stranger; marks = unmarked; fetch = idle; resume_from = None; compact = no_compact; pending = None }
+bare settings state = record {
+  settings = settings;
+  state = state;
+  peer = stranger;
+  marks = unmarked;
+  fetch = idle;
+  resume_from = None;
+  compact = no_compact;
+  pending = None;
+}
 
 abbrev pub opening : Settings → SessionState
 opening settings = bare settings Start
@@ -50,25 +59,88 @@ is_ready other = false
 -- ---- a session with one part replaced
 
 abbrev pub with_state : State → SessionState → SessionState
-with_state state s = record { settings = s.settings; state = state; peer = s.peer; marks = s.marks; fetch = s.fetch; resume_from = s.resume_from; compact = s.compact; pending = s.pending }
+with_state state s = record {
+  settings = s.settings;
+  state = state;
+  peer = s.peer;
+  marks = s.marks;
+  fetch = s.fetch;
+  resume_from = s.resume_from;
+  compact = s.compact;
+  pending = s.pending;
+}
 
 abbrev pub with_peer : Peer → SessionState → SessionState
-with_peer peer s = record { settings = s.settings; state = s.state; peer = peer; marks = s.marks; fetch = s.fetch; resume_from = s.resume_from; compact = s.compact; pending = s.pending }
+with_peer peer s = record {
+  settings = s.settings;
+  state = s.state;
+  peer = peer;
+  marks = s.marks;
+  fetch = s.fetch;
+  resume_from = s.resume_from;
+  compact = s.compact;
+  pending = s.pending;
+}
 
 abbrev pub with_marks : Marks → SessionState → SessionState
-with_marks marks s = record { settings = s.settings; state = s.state; peer = s.peer; marks = marks; fetch = s.fetch; resume_from = s.resume_from; compact = s.compact; pending = s.pending }
+with_marks marks s = record {
+  settings = s.settings;
+  state = s.state;
+  peer = s.peer;
+  marks = marks;
+  fetch = s.fetch;
+  resume_from = s.resume_from;
+  compact = s.compact;
+  pending = s.pending;
+}
 
 abbrev pub with_fetch : FetchState → SessionState → SessionState
-with_fetch fetch s = record { settings = s.settings; state = s.state; peer = s.peer; marks = s.marks; fetch = fetch; resume_from = s.resume_from; compact = s.compact; pending = s.pending }
+with_fetch fetch s = record {
+  settings = s.settings;
+  state = s.state;
+  peer = s.peer;
+  marks = s.marks;
+  fetch = fetch;
+  resume_from = s.resume_from;
+  compact = s.compact;
+  pending = s.pending;
+}
 
 abbrev pub with_pending : Option Pending → SessionState → SessionState
-with_pending pending s = record { settings = s.settings; state = s.state; peer = s.peer; marks = s.marks; fetch = s.fetch; resume_from = s.resume_from; compact = s.compact; pending = pending }
+with_pending pending s = record {
+  settings = s.settings;
+  state = s.state;
+  peer = s.peer;
+  marks = s.marks;
+  fetch = s.fetch;
+  resume_from = s.resume_from;
+  compact = s.compact;
+  pending = pending;
+}
 
 abbrev pub with_compact : CompactState → SessionState → SessionState
-with_compact compact s = record { settings = s.settings; state = s.state; peer = s.peer; marks = s.marks; fetch = s.fetch; resume_from = s.resume_from; compact = compact; pending = s.pending }
+with_compact compact s = record {
+  settings = s.settings;
+  state = s.state;
+  peer = s.peer;
+  marks = s.marks;
+  fetch = s.fetch;
+  resume_from = s.resume_from;
+  compact = compact;
+  pending = s.pending;
+}
 
 abbrev pub with_resume_from : Option Hash256 → SessionState → SessionState
-with_resume_from hash s = record { settings = s.settings; state = s.state; peer = s.peer; marks = s.marks; fetch = s.fetch; resume_from = hash; compact = s.compact; pending = s.pending }
+with_resume_from hash s = record {
+  settings = s.settings;
+  state = s.state;
+  peer = s.peer;
+  marks = s.marks;
+  fetch = s.fetch;
+  resume_from = hash;
+  compact = s.compact;
+  pending = s.pending;
+}
 
 -- ---- blocks that had no room among the wanted ones
 
@@ -76,8 +148,8 @@ with_resume_from hash s = record { settings = s.settings; state = s.state; peer 
 abbrev pub remembers : SessionState → Bool
 remembers s = is_some s.resume_from
 
--- The messages, requests for headers, unless a header is remembered: then headers are requested from
--- that one alone, and later.
+-- The messages, requests for headers, unless a header is remembered: then headers are requested
+-- from that one alone, and later.
 abbrev pub unless_remembered : SessionState → List Message → List Message
 unless_remembered s sent = if remembers s then [] else sent
 
@@ -85,29 +157,51 @@ unless_remembered s sent = if remembers s then [] else sent
 -- header before them is remembered. While one is remembered, nothing becomes wanted.
 abbrev pub with_lacking : List Hash256 → Option Hash256 → SessionState → SessionState
 with_lacking lack before s =
-    with_resume_from (if remembers s then s.resume_from else if leaves_out (wanting_all s.fetch lack) lack then before else None)
+    with_resume_from
+    (if remembers s
+    then s.resume_from
+    else if leaves_out (wanting_all s.fetch lack) lack
+    then before
+    else None)
     (with_fetch (if remembers s then s.fetch else wanting_all s.fetch lack) s)
 
 -- A compact block couldn't be rebuilt, so the whole block is needed. If it is neither in flight nor
 -- wanted then, the header before it is remembered, unless another one is.
 abbrev pub with_fallen : Hash256 → Hash256 → SessionState → SessionState
 with_fallen hash before s =
-    with_resume_from (if remembers s then s.resume_from else if is_fetched (fallen_back hash s.fetch) hash then None else Some before)
+    with_resume_from
+    (if remembers s
+    then s.resume_from
+    else if is_fetched (fallen_back hash s.fetch) hash
+    then None
+    else Some before)
     (with_fetch (fallen_back hash s.fetch) s)
 
 -- ---- compact blocks (BIP 152)
 
 -- With this block, or none, being rebuilt.
 abbrev pub with_partial : Option Unfilled → SessionState → SessionState
-with_partial partial s = with_compact (record { partial = partial; made = s.compact.made; asked_high = s.compact.asked_high }) s
+with_partial partial s =
+    with_compact
+    (record { partial = partial; made = s.compact.made; asked_high = s.compact.asked_high }) s
 
 -- With this many more compact blocks made for the peer, modulo 2^64.
 abbrev pub with_made : ℕ → SessionState → SessionState
-with_made count s = with_compact (record { partial = s.compact.partial; made = (s.compact.made + count) % 2 ^ 64; asked_high = s.compact.asked_high }) s
+with_made count s =
+    with_compact
+    (record {
+      partial = s.compact.partial;
+      made = (s.compact.made + count) % 2
+          ^ 64;
+      asked_high = s.compact.asked_high;
+    })
+    s
 
 -- With what the peer was last asked: whether to announce blocks as compact blocks.
 abbrev pub with_asked_high : Bool → SessionState → SessionState
-with_asked_high high s = with_compact (record { partial = s.compact.partial; made = s.compact.made; asked_high = high }) s
+with_asked_high high s =
+    with_compact (record { partial = s.compact.partial; made = s.compact.made; asked_high = high })
+    s
 
 -- The nonce of the next compact block that is made for the peer.
 abbrev pub next_nonce : SessionState → ℕ

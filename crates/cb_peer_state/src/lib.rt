@@ -1,20 +1,40 @@
-//! What a session of one peer keeps and is given, and the definition of all that it does. The hall
-//! that it asks is what Bitcoin Core keeps in ChainstateManager and CTxMemPool.
+//! What a session of one peer keeps and is given, the definition of all that it does, and what
+//! holds for every session, whatever events it is given. The hall that it asks is what Bitcoin Core
+//! keeps in ChainstateManager and CTxMemPool.
 #![tactic(auto)]
 
 mod compact;
+mod compact_laws;
 mod event;
+mod laws;
 mod pending;
 mod reaction;
+mod resuming_laws;
 mod session_state;
 mod settings;
 mod stage;
 mod state;
 
 pub use compact::CompactState;
+pub use compact_laws::{
+    a_compact_block_is_not_held_against_its_peer, a_fallback_asks_for_the_whole_block,
+    an_honest_block_is_rebuilt, bandwidth_wishes_alternate,
+    compact_blocks_are_announced_where_asked_for, each_compact_block_has_its_nonce,
+    missing_transactions_are_requested, one_block_is_rebuilt_at_a_time,
+};
 pub use event::Event;
+pub use laws::{
+    a_tip_is_not_told_to_its_source, few_blocks_are_fetched, headers_are_sent_where_asked_for,
+    no_block_in_flight_is_asked_for, only_the_handshake_counts, questions_run_out,
+    sound_blocks_are_given, what_the_hall_has_is_served,
+};
 pub use pending::Pending;
 pub use reaction::{NextQuestion, Reaction, hash_of_last, locator_of, one_message, push_some};
+pub use resuming_laws::{
+    headers_are_requested_as_soon_as_nothing_is_wanted,
+    headers_are_requested_from_what_is_remembered, no_missing_block_is_left_out,
+    nothing_joins_the_wanted_meanwhile,
+};
 pub use session_state::SessionState;
 pub use settings::Settings;
 pub use stage::{Stage, Subject};

@@ -9,8 +9,8 @@ use crate::stage::{Stage, Subject};
 use cb_base::{Fault, Hash256};
 use cb_block::Header;
 use cb_journal::Question;
-use cb_outgoing::Outgoing;
 use cb_payload::Locator;
+use cb_talk::Outgoing;
 use std::alloc::Global;
 
 /// The next question to the hall, and how far the session is with the item then.

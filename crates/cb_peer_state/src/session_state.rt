@@ -18,9 +18,8 @@ use crate::state::{CloseReason, Marks, Peer, State};
 use cb_base::{Fault, Hash256};
 use cb_block::SoundBlock;
 use cb_fetch::Fetch;
-use cb_journal::{Given, Question, Told};
-use cb_outgoing::Outgoing;
-use cb_talk::{asking_block, asking_headers};
+use cb_journal::{GivenBlock, Question, Told};
+use cb_talk::{Outgoing, asking_block, asking_headers};
 use std::alloc::Global;
 
 /// What is known of a peer that has sent nothing.
@@ -166,7 +165,7 @@ impl SessionState {
         ensures memory { IsOkUnless result Memory }
     {
         self.fetch.land(&block.block().header.hash());
-        let question = Question::GiveBlock(Given {
+        let question = Question::GiveBlock(GivenBlock {
             block: block.copy()?,
             capable: self.peer.capable,
         });
@@ -242,8 +241,8 @@ impl SessionState {
         Ok(())
     }
 
-    /// The end of an item or a tick. Where news are asked for next and nothing is wanted, headers are
-    /// requested from the remembered one, which is forgotten.
+    /// The end of an item or a tick. Where news are asked for next and nothing is wanted, headers
+    /// are requested from the remembered one, which is forgotten.
     ///
     /// Fails only with `Fault::Memory`, and never if nothing is sent.
     #[tactic(auto, unfolding(crate::specs::Replying::resuming))]

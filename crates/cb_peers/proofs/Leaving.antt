@@ -10,7 +10,7 @@ use Rattle.cb_inbox.specs.Seat.{SeatState}
 use Rattle.cb_crew.specs.declared.reader_side.ReaderSide.{ReaderSide}
 use Rattle.cb_crew.specs.declared.reader_side.ReaderSide.TheVariants as side
 use Rattle.cb_crew.specs.Work.{brought_by, openings_of}
-use Rattle.cb_io.specs.declared.read_end.ReadEnd.{ReadEnd}
+use Rattle.cb_base.specs.declared.read_end.ReadEnd.{ReadEnd}
 use Rattle.cb_reader.specs.declared.input.Input.{Input}
 use Rattle.cb_reader.specs.Putting.{SeatNow}
 use Rattle.cb_reader.specs.Reading.{Reads}

@@ -1,7 +1,7 @@
 -- What a node promises of its connections: what was made of all that their readers queued.
 use Rattle.std.specs.Prelude.{◌≡◌, ℕ, true, false, List, [], length, map, All, Option}
 use Rattle.std.specs.List.{AllZip, range_with_len}
-use Rattle.cb_outgoing.specs.Writing.{Wrote}
+use Rattle.cb_talk.specs.Writing.{Wrote}
 use Rattle.cb_wire.specs.Stream.{texts}
 use Rattle.cb_peer_state.specs.declared.state.State.TheVariants.{Closed}
 use Rattle.cb_peer_state.specs.declared.state.CloseReason.TheVariants.{Bye}
@@ -25,7 +25,8 @@ use Rattle.cb_work.specs.PeerWork.{HoldsNothing, WorkState, events_of, label_of,
 
 -- One connection: what its reader queued, and what its work made of that. `contents` tells what a
 -- sink holds.
-pub record ServesConnection {S H F : Type 0} (contents : S → Option (List ℕ)) (work : WorkState S H F) (queued : List (Given Input)) : Type 0 where
+pub record ServesConnection {S H F : Type 0} (contents : S → Option (List ℕ))
+    (work : WorkState S H F) (queued : List (Given Input)) : Type 0 where
   -- All entries of the connection's trace since the beginning.
   pub history : List TraceEntry
   pub stands : StandsFor work.trace history
@@ -45,7 +46,8 @@ pub record ServesConnection {S H F : Type 0} (contents : S → Option (List ℕ)
   pub sink : S
   pub empty : HoldsNothing (contents sink)
   pub missing : List ℕ
-  pub wrote : Wrote (contents sink) (contents work.sink) (texts (sends work.trace.settings history)) work.written missing
+  pub wrote : Wrote (contents sink) (contents work.sink) (texts (sends work.trace.settings history))
+      work.written missing
   pub whole : has_kind is_told history ≡ true → has_kind loses history ≡ false → missing ≡ []
   -- As many answers were logged as the badge counts questions.
   pub answers : number_of is_told history ≡ work.badge.count
@@ -59,18 +61,23 @@ peer_label work = label_of work.badge.connection
 -- One peer: all that its reader queued, and the works of its desk. Each connection was served by a
 -- work of its own. The first is the crew's work with the label `first`. Each later one is the work
 -- that its open mark brought.
-pub record ServesPeer {S H F : Type 0} (contents : S → Option (List ℕ)) (first : ℕ) (queued : List (Queued Input (WorkState S H F))) (works : List (WorkState S H F)) : Type 0 where
+pub record ServesPeer {S H F : Type 0} (contents : S → Option (List ℕ)) (first : ℕ)
+    (queued : List (Queued Input (WorkState S H F))) (works : List (WorkState S H F)) : Type 0 where
   pub whose : AreWorksOf peer_label first queued works
   pub each : AllZip (ServesConnection contents) works (connections_of queued)
 
 -- The desk has served all that this side of its peer's reader queued. Its seat took just that.
-pub record ServesSide {S H F : Type 0} (contents : S → Option (List ℕ)) (side : ReaderSide Input (WorkState S H F)) (desk : DeskState (WorkState S H F) Input) : Type 0 where
+pub record ServesSide {S H F : Type 0} (contents : S → Option (List ℕ))
+    (side : ReaderSide Input (WorkState S H F)) (desk : DeskState (WorkState S H F) Input)
+    : Type 0 where
   pub taken : desk.taken ≡ all_queued side
   pub served : ServesPeer contents (first_label peer_label desk) (all_queued side) (works_of desk)
 
 -- All peers: their readers' sides, and the desks of the crew that served them. There is one desk
 -- for each peer, in order. Its first work is the one with which the crew was made for this peer.
-pub record IsHeadline {S H F : Type 0} (contents : S → Option (List ℕ)) (crew : CrewState) (sides : List (ReaderSide Input (WorkState S H F))) (desks : List (DeskState (WorkState S H F) Input)) : Type 0 where
+pub record IsHeadline {S H F : Type 0} (contents : S → Option (List ℕ)) (crew : CrewState)
+    (sides : List (ReaderSide Input (WorkState S H F)))
+    (desks : List (DeskState (WorkState S H F) Input)) : Type 0 where
   pub peers : map (λ desk. desk.inbox.peer) desks ≡ range_with_len 0 (length crew.inboxes)
   pub inboxes : map (λ desk. desk.inbox.name) desks ≡ names_of crew
   pub labels : map (first_label peer_label) desks ≡ crew.labels

@@ -53,7 +53,8 @@ pub record IsSameSeat {O : Type 0} (old new : SeatView O) : Type 0 where
   pub openings : openings_of (marks_of new.side) ≡ openings_of (marks_of old.side)
 
 -- One more mark was queued, which is these inputs. Now the connection is ended or not.
-pub record HasTaken {O : Type 0} (old new : SeatView O) (inputs : List Input) (ended : Bool) : Type 0 where
+pub record HasTaken {O : Type 0} (old new : SeatView O) (inputs : List Input) (ended : Bool)
+    : Type 0 where
   pub put : put_in new ≡ put_in old ++ inputs
   pub counts : length (marks_of new.side) ≡ length (marks_of old.side) + 1
   pub ended_is : is_ended new.side ≡ ended
@@ -63,7 +64,8 @@ pub record HasTaken {O : Type 0} (old new : SeatView O) (inputs : List Input) (e
 -- many as were queued before this connection.
 abbrev pub IsSeatOf : {O : Type 0} → InboxState → ℕ → ℕ → Option (ReaderSide Input O) → Type 0
 IsSeatOf inbox first count None = ⊥
-IsSeatOf inbox first count (Some s) = (inbox_of s ≡ inbox.name) × (count ≡ length (queued_by s)) × (count < 2 ^ 48) × (first ≤ count)
+IsSeatOf inbox first count (Some s) =
+    (inbox_of s ≡ inbox.name) × (count ≡ length (queued_by s)) × (count < 2 ^ 48) × (first ≤ count)
 
 -- ---- laws
 
@@ -71,4 +73,9 @@ pub same_none : {O : Type 0} (a : SeatView O) → IsSameSeat a a
 same_none a = record { inbox = refl; first = refl; before = refl; openings = refl }
 
 pub same_then : {O : Type 0} (a b c : SeatView O) → IsSameSeat a b → IsSameSeat b c → IsSameSeat a c
-same_then a b c h k = record { inbox = k.inbox ∙ h.inbox; first = k.first ∙ h.first; before = k.before ∙ h.before; openings = k.openings ∙ h.openings }
+same_then a b c h k = record {
+  inbox = k.inbox ∙ h.inbox;
+  first = k.first ∙ h.first;
+  before = k.before ∙ h.before;
+  openings = k.openings ∙ h.openings;
+}

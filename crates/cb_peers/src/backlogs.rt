@@ -19,8 +19,8 @@ struct Backlog {
 ///
 /// A connection's own status counts the payload bytes that lie queued of it. What came to a closed
 /// session is passed over, and isn't taken off there. So a peer that connects again and again could
-/// have more queued than one connection's status tells. Its reader adds what its earlier connections
-/// left, until a handler has taken the mark that opened the latest one.
+/// have more queued than one connection's status tells. Its reader adds what its earlier
+/// connections left, until a handler has taken the mark that opened the latest one.
 ///
 /// No clause speaks of these numbers, since other threads change them.
 #[derive(Drop)]

@@ -5,10 +5,12 @@ ghost use Rattle.cb_service.specs.Service.{queued_by};
 ghost use Rattle.cb_peers.specs.Seat.{HasTaken, before_in, is_ended, marks_of, put_in};
 
 use crate::backlogs::Backlogs;
+use crate::outbox::Outbox;
 use cb_crew::ReaderSide;
 use cb_inbox::{Inbox, Opening, ReaderSeat};
 use cb_reader::{Input, Seat};
 use cb_service::{Signals, offer, offer_end};
+use cb_wire::{Item, Message};
 use cb_work::ConnectionStatus;
 use std::marker::Model;
 use std::sync::Wait;
@@ -17,12 +19,24 @@ use std::sync::Wait;
 /// may be queued beyond that.
 pub const MOST_BYTES: u64 = 8_000_000;
 
+/// What a reader waits for before it queues an input.
+#[derive(Clone, Copy)]
+enum Lack {
+    /// That handlers take what lies queued.
+    Handlers,
+    /// That the socket takes what waits in the outbox.
+    Socket,
+}
+
 /// The reader's seat of a peer's inbox during one connection.
 ///
 /// It puts an input only if at most `MOST_BYTES` payload bytes of the peer lie queued then, this
 /// input's included, or nothing else lies queued. Until then it sleeps, as it does while the inbox
 /// is full. Handlers wake it after each turn that took something from the inbox. It gives an input
 /// back if the connection or all threads are told to stop.
+///
+/// A request is put only if nothing else of the peer lies queued and the connection's outbox isn't
+/// crowded. So a peer that reads gets all that it asks for, however fast it asks.
 ///
 /// Contracts tell what it queues and in which order. They don't tell what it waits for, nor how
 /// many bytes lie queued: other threads change that.
@@ -31,6 +45,7 @@ pub struct InboxSeat<'a, O: Opening + Drop> {
     inbox: &'a Inbox<Input, O>,
     signals: &'a Signals,
     status: &'a ConnectionStatus,
+    outbox: &'a Outbox,
     backlogs: &'a Backlogs,
     /// The side of the inbox. It is always there between two calls.
     side: Option<ReaderSide<Input, O>>,
@@ -45,18 +60,20 @@ impl<'a, O: Opening + Drop> Model for InboxSeat<'a, O> {
 
     ghost Value = { SeatView O };
 
-    ghost view = { λ seat. record { inbox = seat.inbox.now; first = seat.first; side = seat.side } };
+    ghost view = { λ seat.
+        record { inbox = seat.inbox.now; first = seat.first; side = seat.side } };
 
     ghost invariant = { λ seat. IsSeatOf seat.inbox.now seat.first seat.count seat.side };
 }
 
 impl<'a, O: Opening + Drop> InboxSeat<'a, O> {
-    /// The seat of a connection in which nothing was queued yet. It has this status, and is of this
-    /// inbox.
+    /// The seat of a connection in which nothing was queued yet. It has this status and this
+    /// outbox, and is of this inbox.
     pub fn new(
         inbox: &'a Inbox<Input, O>,
         seat: ReaderSeat<Input, O>,
         status: &'a ConnectionStatus,
+        outbox: &'a Outbox,
         signals: &'a Signals,
         backlogs: &'a Backlogs,
     ) -> InboxSeat<'a, O>
@@ -73,6 +90,7 @@ impl<'a, O: Opening + Drop> InboxSeat<'a, O> {
             inbox,
             signals,
             status,
+            outbox,
             backlogs,
             side: Some(ReaderSide::Live(seat)),
             count,
@@ -99,10 +117,22 @@ impl<'a, O: Opening + Drop> InboxSeat<'a, O> {
         self.status.queued().saturating_add(earlier)
     }
 
-    /// Whether an input with so many payload bytes may be queued now.
-    fn has_room_for(&self, bytes: u64) -> bool {
+    /// What an input with so many payload bytes, which may be a request, has to wait for; `None` if
+    /// it may be queued now.
+    fn lack(&self, bytes: u64, is_request: bool) -> Option<Lack> {
         let lying = self.lying();
-        lying == 0 || lying.saturating_add(bytes) <= MOST_BYTES
+        if lying == 0 {
+            return if is_request && self.outbox.is_crowded() {
+                Some(Lack::Socket)
+            } else {
+                None
+            };
+        }
+        if is_request || lying.saturating_add(bytes) > MOST_BYTES {
+            Some(Lack::Handlers)
+        } else {
+            None
+        }
     }
 
     /// Whether the connection or all threads are told to stop.
@@ -179,10 +209,11 @@ impl<'a, O: Opening + Drop> Seat for InboxSeat<'a, O> {
     ghost same_seat = { λ old new. IsSameSeat old new };
 
     fn put<R: Wait>(&mut self, rt: &R, input: Input) -> Result<(), Input> {
-        let bytes = input.payload_len();
+        let (bytes, is_request) = (input.payload_len(), is_request(&input));
         let mut input = input;
         for _ in rt.forever() {
-            if self.has_room_for(bytes) {
+            let lack = self.lack(bytes, is_request);
+            if lack.is_none() {
                 match self.try_put(rt, input, bytes) {
                     Ok(()) => return Ok(()),
                     Err(back) => input = back,
@@ -191,7 +222,10 @@ impl<'a, O: Opening + Drop> Seat for InboxSeat<'a, O> {
             if self.is_stopped() {
                 return Err(input);
             }
-            self.wait(rt);
+            match lack {
+                Some(Lack::Socket) => self.outbox.wait_for_room(rt),
+                Some(Lack::Handlers) | None => self.wait(rt),
+            }
         }
         unreachable!()
     }
@@ -216,4 +250,23 @@ impl<'a, O: Opening + Drop> Seat for InboxSeat<'a, O> {
     ghost same_none = { λ a. same_none a };
 
     ghost same_then = { λ a b c h k. same_then a b c h k };
+}
+
+/// Whether an input asks for what may take much room: blocks, transactions or headers.
+fn is_request(input: &Input) -> bool {
+    match input {
+        Input::Said(item) => asks(item),
+        Input::Broken(_) | Input::NoMemory => false,
+    }
+}
+
+/// Whether an item does.
+fn asks(item: &Item) -> bool {
+    match item {
+        Item::Good(message) => matches!(
+            message.message(),
+            Message::GetData(_) | Message::GetHeaders(_) | Message::GetBlockTxn(_)
+        ),
+        Item::Damaged | Item::Bad(_, _) => false,
+    }
 }

@@ -1,5 +1,5 @@
-//! The connections of peers, over any work: how one is read and written, by what its threads are told
-//! to stop, and what a crew that served all of them promises in the end.
+//! The connections of peers, over any work: how one is read and written, by what its threads are
+//! told to stop, and what a crew that served all of them promises in the end.
 #![tactic(auto)]
 
 mod backlogs;

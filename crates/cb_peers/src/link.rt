@@ -4,11 +4,10 @@ ghost use Rattle.cb_base.specs.declared.fault.Fault.TheVariants.{Memory};
 use crate::backlogs::Backlogs;
 use crate::outbox::{Outbox, WriterEnd};
 use crate::socket::Socket;
-use cb_base::{Fault, Shared};
+use cb_base::{Fault, Shared, Sink, SinkFailure};
 use cb_crew::Turn;
-use cb_io::{Sink, SinkFailure};
-use cb_outgoing::{MessageSink, Outgoing, QueueFault, Room, Taken, WriteEnd, WriteFault};
 use cb_service::AfterTurn;
+use cb_talk::{MessageSink, Outgoing, QueueFault, Receipt, Room, WriteEnd, WriteFault};
 use cb_work::ConnectionStatus;
 use std::alloc::Global;
 use std::net::TcpStream;
@@ -20,7 +19,7 @@ use std::time::Duration;
 /// milliseconds each time.
 const LAST_WAITS: u32 = 100;
 
-const LAST_MILLIS: u64 = 300;
+const LAST_MILLISECONDS: u64 = 300;
 
 /// What the threads of a connection share with the node.
 #[derive(Drop)]
@@ -141,7 +140,9 @@ impl<R: Drop> Sink for OutboxSink<R> {
 
     ghost heeds_none = { λ sink h. refl };
 
-    ghost heeds_then = { λ a b c h k failed. k (ap (λ sink. is_some sink.failure) (h failed) ∙ failed) ∙ h failed };
+    ghost heeds_then = { λ a b c h k failed. k
+        (ap (λ sink. is_some sink.failure) (h failed) ∙ failed)
+        ∙ h failed };
 
     // It takes messages alone.
     fn write(&mut self, _piece: &[u8]) -> Option<usize> {
@@ -157,7 +158,7 @@ impl<R: Drop> Sink for OutboxSink<R> {
 }
 
 impl<R: Wait + Drop> MessageSink for OutboxSink<R> {
-    fn put(&mut self, _alloc: Global, message: Outgoing) -> Result<Taken, WriteEnd> {
+    fn put(&mut self, _alloc: Global, message: Outgoing) -> Result<Receipt, WriteEnd> {
         if self.failure.is_some() {
             drop(message);
             return Err(WriteEnd {
@@ -275,7 +276,7 @@ fn wait_for_all<R: Wait>(rt: &R, links: &[Shared<Link>], times: u32) -> u32 {
     for link in links {
         left = link
             .outbox
-            .wait_for(rt, left, Duration::from_millis(LAST_MILLIS));
+            .wait_for(rt, left, Duration::from_millis(LAST_MILLISECONDS));
         link.socket.close(rt);
         link.outbox.wait(rt);
     }

@@ -9,10 +9,8 @@ ghost use Rattle.cb_wire.specs.Stream.{texts};
 ghost use Rattle.cb_wire.specs.declared.message.Message.{Message};
 
 use cb_base::{Fault, Shared};
-use cb_outgoing::{
-    MESSAGE, MOST_TOGETHER, MessageQueue, Outgoing, QueueFault, Room, Taken, Waiting,
-};
 use cb_service::Sleeper;
+use cb_talk::{MESSAGE, MOST_TOGETHER, MessageQueue, Outgoing, QueueFault, Receipt, Room, Waiting};
 use cb_work::ConnectionStatus;
 use std::alloc::Global;
 use std::io::{ErrorKind, Write};
@@ -26,7 +24,13 @@ use std::time::Duration;
 const STILL_WRITES: u32 = 30;
 
 /// How many milliseconds a socket may be still that has no write timeout.
-const STILL_MILLIS: u64 = 30_000;
+const STILL_MILLISECONDS: u64 = 30_000;
+
+/// More bytes wait in a crowded outbox.
+const MOST_BEFORE_A_REQUEST: u64 = 1_000_000;
+
+/// How many milliseconds a reader sleeps at most before a crowded outbox.
+const LOOK_MILLISECONDS: u64 = 100;
 
 /// No message needs more room: none keeps more bytes for itself than its payload has, which are
 /// 4,000,000 at most.
@@ -53,6 +57,8 @@ pub enum WriterEnd {
 pub struct Outbox {
     alloc: Global,
     queue: Mutex<MessageQueue>,
+    /// How many bytes the queue holds. It is written under the queue's lock.
+    held: AtomicU64,
     /// The room of all outboxes of the node. Whoever holds the queue's lock may take this one.
     room: Shared<Mutex<Room>>,
     /// Whether a thread was started that writes.
@@ -81,6 +87,7 @@ impl Outbox {
         Ok(Outbox {
             alloc,
             queue: Mutex::new(MessageQueue::new(alloc)),
+            held: AtomicU64::new(0),
             room,
             started: AtomicBool::new(false),
             writer: Sleeper::new(alloc)?,
@@ -137,9 +144,32 @@ impl Outbox {
         0
     }
 
+    /// Whether so much waits that no further request of the peer is queued.
+    pub fn is_crowded(&self) -> bool {
+        self.held.load(Ordering::SeqCst) > MOST_BEFORE_A_REQUEST
+    }
+
+    /// Sleeps while the outbox is crowded, for a moment at most.
+    pub fn wait_for_room<R: Wait>(&self, rt: &R) {
+        let held = self.held.load(Ordering::SeqCst);
+        if held > MOST_BEFORE_A_REQUEST {
+            let moment = Duration::from_millis(LOOK_MILLISECONDS);
+            self.held
+                .park_timeout(rt, (held & 0xffff_ffff) as u32, moment);
+        }
+    }
+
+    /// Notes how many bytes the queue holds now, and wakes a reader once it is crowded no more.
+    fn note_held(&self, held: u64) {
+        let before = self.held.swap(held, Ordering::SeqCst);
+        if before > MOST_BEFORE_A_REQUEST && held <= MOST_BEFORE_A_REQUEST {
+            self.held.wake_all();
+        }
+    }
+
     /// Takes a message. Fails if the outbox isn't open, if the message has no room in it or in the
     /// node's outboxes, or if memory runs out.
-    pub fn push<R: Wait>(&self, rt: &R, message: Outgoing) -> Result<Taken, QueueFault>
+    pub fn push<R: Wait>(&self, rt: &R, message: Outgoing) -> Result<Receipt, QueueFault>
         ensures { IfOk result (λ taken. (taken.message ≡ message) × (taken.written ≡ 0)) }
     {
         let own = message.own_bytes();
@@ -149,7 +179,7 @@ impl Outbox {
     }
 
     /// Puts a message into the queue, and takes its room.
-    fn put<R: Wait>(&self, rt: &R, one: Waiting) -> Result<Taken, QueueFault>
+    fn put<R: Wait>(&self, rt: &R, one: Waiting) -> Result<Receipt, QueueFault>
         ensures { IfOk result (λ taken. (taken.message ≡ one.message) × (taken.written ≡ 0)) }
     {
         let needed = one.own.saturating_add(MESSAGE);
@@ -160,6 +190,7 @@ impl Outbox {
             return Err(QueueFault::Full);
         }
         let put = queue.put(one);
+        self.note_held(queue.held());
         if put.is_err() {
             self.room.lock(rt).give(needed);
         }
@@ -179,6 +210,7 @@ impl Outbox {
         let mut queue = self.queue.lock(rt);
         let held = queue.held();
         queue.clear();
+        self.note_held(0);
         self.room.lock(rt).give(held);
     }
 
@@ -243,13 +275,15 @@ impl Outbox {
         if batch.is_empty() {
             return if queue.is_open() { Due::Rest } else { Due::End };
         }
-        let freed = held.saturating_sub(queue.held());
+        let left = queue.held();
+        self.note_held(left);
+        let freed = held.saturating_sub(left);
         self.room.lock(rt).give(freed);
         Due::Messages
     }
 
-    /// Spells the messages of a list, which is empty afterwards, and writes them. Otherwise a beginning
-    /// of their text was written.
+    /// Spells the messages of a list, which is empty afterwards, and writes them. Otherwise a
+    /// beginning of their text was written.
     fn write_batch<R: Wait, W: Write>(
         &self,
         rt: &R,
@@ -316,7 +350,7 @@ impl Pace {
     {
         let whole = match stream.write_timeout() {
             Ok(Some(timeout)) => timeout,
-            Ok(None) | Err(_) => Duration::from_millis(STILL_MILLIS),
+            Ok(None) | Err(_) => Duration::from_millis(STILL_MILLISECONDS),
         };
         let _ = stream.set_write_timeout(whole.checked_div(STILL_WRITES));
         Pace { still: 0 }

@@ -5,6 +5,7 @@ ghost use Rattle.cb_peers.specs.Reading.{HasRead};
 
 use crate::backlogs::Backlogs;
 use crate::inbox_seat::InboxSeat;
+use crate::outbox::Outbox;
 use crate::stopping::ConnectionStop;
 use cb_crew::ReaderSide;
 use cb_inbox::{Inbox, Opening, ReaderSeat};
@@ -36,6 +37,7 @@ pub fn read_connection<R: Wait, S: Source, P: Stop, O: Opening + Drop>(
     source: &mut S,
     stop: &mut P,
     status: &ConnectionStatus,
+    outbox: &Outbox,
     inbox: &Inbox<Input, O>,
     seat: ReaderSeat<Input, O>,
     signals: &Signals,
@@ -48,7 +50,7 @@ pub fn read_connection<R: Wait, S: Source, P: Stop, O: Opening + Drop>(
         (S.has_failed source.old) (S.has_failed source.new) (P.has_stopped stop.old)
         (P.has_stopped stop.new) result.why seat.queued (queued_by result.side) }
 {
-    let mut seat = InboxSeat::new(inbox, seat, status, signals, backlogs);
+    let mut seat = InboxSeat::new(inbox, seat, status, outbox, signals, backlogs);
     let why = read_loop(rt, alloc, source, &mut seat, stop);
     let count = seat.count();
     match seat.into_side() {

@@ -7,12 +7,11 @@ use crate::link::Link;
 use crate::reading::read_connection;
 use crate::socket::SocketReader;
 use crate::stopping::ConnectionStop;
-use cb_base::Shared;
+use cb_base::{In, Shared};
 use cb_crew::{Crew, Fresh, Work};
 use cb_inbox::{Inbox, Opening, ReaderSeat};
-use cb_io::In;
 use cb_reader::Input;
-use cb_service::{NoReader, Reader, Reading, Refusal, Side, Signals, start_reader};
+use cb_service::{NoReader, Reader, Reading, Side, Signals, ThreadFault, start_reader};
 use std::alloc::Global;
 use std::marker::{Copy, Send};
 use std::net::TcpStream;
@@ -20,8 +19,8 @@ use std::sync::Wait;
 use std::thread;
 use std::thread::Threads;
 
-/// What the reader of a connection does: it reads the connection's socket, and queues what the stream
-/// spells in the peer's inbox. Then it ends the connection, and says that it returns.
+/// What the reader of a connection does: it reads the connection's socket, and queues what the
+/// stream spells in the peer's inbox. Then it ends the connection, and says that it returns.
 #[derive(Drop)]
 pub struct SocketReading {
     /// Where buffers and items are allocated.
@@ -62,6 +61,7 @@ impl<O: Opening + Drop> Reader<Input, O> for SocketReading {
             &mut source,
             &mut stop,
             &link.status,
+            &link.outbox,
             inbox,
             seat,
             signals,
@@ -72,16 +72,16 @@ impl<O: Opening + Drop> Reader<Input, O> for SocketReading {
     }
 }
 
-/// Starts the thread that writes what a connection's session sends. It returns once the connection is
-/// over and what waits went out, or the socket takes nothing more; the connection's outbox tells that
-/// it does.
+/// Starts the thread that writes what a connection's session sends. It returns once the connection
+/// is over and what waits went out, or the socket takes nothing more; the connection's outbox tells
+/// that it does.
 ///
-/// Fails with `Refusal::Thread` if no thread can be made, and with `Refusal::Memory`.
+/// Fails with `ThreadFault::Thread` if no thread can be made, and with `ThreadFault::Memory`.
 fn start_writing<R: Threads + Wait + Copy + Send + Drop + 'static>(
     rt: &R,
     link: &Shared<Link>,
     stream: &Shared<TcpStream>,
-) -> Result<(), Refusal> {
+) -> Result<(), ThreadFault> {
     let (owner, stream) = (link.clone()?, stream.clone()?);
     link.outbox.open(rt);
     let rt_of_thread = *rt;
@@ -98,13 +98,13 @@ fn start_writing<R: Threads + Wait + Copy + Send + Drop + 'static>(
         Err(refused) => {
             drop(refused);
             link.outbox.cancel(rt);
-            Err(Refusal::Thread)
+            Err(ThreadFault::Thread)
         }
     }
 }
 
-/// Starts the threads that write and read a connection. If either can't be started, neither runs, and
-/// the seat comes back. Fails as `start_reader` does.
+/// Starts the threads that write and read a connection. If either can't be started, neither runs,
+/// and the seat comes back. Fails as `start_reader` does.
 pub fn start_threads<
     W: Work<Item = Input> + Send + 'static,
     R: Threads + Wait + Copy + Send + Drop + 'static,

@@ -5,7 +5,8 @@ use Rattle.cb_pipes.specs.declared.log_line.LogLine.{LogLine}
 
 -- the line that tells how many lines were dropped
 abbrev pub count_text : List ℕ → ℕ → List ℕ
-count_text stamp dropped = stamp ++ codes "[WARN  cbrelay] " ++ decimal dropped ++ codes " lines of the log were dropped\n"
+count_text stamp dropped =
+    stamp ++ codes "[WARN  cbrelay] " ++ decimal dropped ++ codes " lines of the log were dropped\n"
 
 -- the same, if any were
 abbrev pub loss_text : List ℕ → ℕ → List ℕ
@@ -13,7 +14,9 @@ loss_text stamp dropped = if dropped == 0 then [] else count_text stamp dropped
 
 -- a line, behind the one that tells how many were dropped before it
 abbrev pub line_text : LogLine → List ℕ
-line_text line = loss_text (string_bytes line.stamp) line.dropped ++ string_bytes line.stamp ++ string_bytes line.text ++ 10 ∷ []
+line_text line =
+    loss_text (string_bytes line.stamp) line.dropped ++ string_bytes line.stamp
+    ++ string_bytes line.text ++ 10 ∷ []
 
 -- known lines grow by these
 abbrev pub Gets : Option (List LogLine) → Option (List LogLine) → List LogLine → Type 0

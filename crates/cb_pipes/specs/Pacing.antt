@@ -1,8 +1,8 @@
 -- How often lines of one kind are logged.
 use Rattle.std.specs.Prelude.{ℕ, ◌+◌, ◌-◌, ◌^◌, ◌<◌, ◌≤◌, ◌==◌, ◌⊎◌, if◌then◌else◌, List, [], ◌∷◌, ◌++◌, length, drop, min}
 
--- When the last lines were logged, the oldest first; how many others there were since these were told,
--- and when they are told.
+-- When the last lines were logged, the oldest first; how many others there were since these were
+-- told, and when they are told.
 pub record PaceState : Type 0 where
   pub times : List ℕ
   pub others : ℕ
@@ -34,4 +34,7 @@ told_at pace now = record pace { times = latest (pace.times ++ now ∷ []) }
 
 -- one more wasn't: the first of the others is told of a second later
 abbrev pub counts_at : PaceState → ℕ → PaceState
-counts_at pace now = record pace { others = min (pace.others + 1) (2 ^ 64 - 1); due = if pace.others == 0 then second_later now else pace.due }
+counts_at pace now = record pace {
+  others = min (pace.others + 1) (2 ^ 64 - 1);
+  due = if pace.others == 0 then second_later now else pace.due;
+}

@@ -54,7 +54,8 @@ impl LogLine {
     /// Appends the line alone.
     fn print_text(&self, out: &mut String) -> Result<(), AllocError>
         ensures text { OnOk result (string_bytes out.new
-            ≡ string_bytes out.old ++ string_bytes self.now.stamp ++ string_bytes self.now.text ++ 10 ∷ []) }
+            ≡ string_bytes out.old ++ string_bytes self.now.stamp ++ string_bytes self.now.text
+            ++ 10 ∷ []) }
     {
         let (stamp, text) = (self.stamp.as_str(), self.text.as_str());
         write!(out, "{stamp}{text}\n")?;

@@ -40,9 +40,9 @@ struct Work {
 }
 
 impl LogThread {
-    /// Waits until all lines are written, at most 2 seconds. If standard error takes them no more, the
-    /// thread is left behind, and cut off when the program's `main` returns. There must be no log any
-    /// more that goes this way.
+    /// Waits until all lines are written, at most 2 seconds. If standard error takes them no more,
+    /// the thread is left behind, and cut off when the program's `main` returns. There must be no
+    /// log any more that goes this way.
     pub fn end<R: Threads + Wait + Clock>(self, rt: &R) {
         let LogThread { thread, over } = self;
         match over.recv_timeout(rt, Duration::from_secs(END_SECONDS)) {

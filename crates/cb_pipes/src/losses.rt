@@ -40,8 +40,8 @@ impl Losses {
     }
 }
 
-/// Gives a lane a line. The line tells how many were dropped since the last one that the lane took. If
-/// the lane has no room, the line is dropped, and counts as one more.
+/// Gives a lane a line. The line tells how many were dropped since the last one that the lane took.
+/// If the lane has no room, the line is dropped, and counts as one more.
 pub fn offer<L: Lane>(lane: &mut L, losses: &mut Losses, stamp: String, text: String)
     ensures { (line : LogLine) × (line.stamp ≡ stamp) × (line.text ≡ text)
         × (line.dropped ≡ losses.old.dropped)
@@ -63,8 +63,8 @@ pub fn offer<L: Lane>(lane: &mut L, losses: &mut Losses, stamp: String, text: St
     }
 }
 
-/// A law: of lines of which some are dropped, each dropped one is counted by the next that goes out, and
-/// by no other. So what all tell, with what is left to be told, is how many were dropped.
+/// A law: of lines of which some are dropped, each dropped one is counted by the next that goes
+/// out, and by no other. So what all tell, with what is left to be told, is how many were dropped.
 #[tactic(auto, using(crate::proofs::Counting::counted_once))]
 pub fn dropped_lines_are_counted_once()
     ensures { (outcomes : List Bool) →

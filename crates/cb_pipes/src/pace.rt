@@ -5,15 +5,16 @@ ghost use Rattle.cb_pipes.specs.Pacing.{HasRoom, counts_at, new_pace, told_at};
 use std::alloc::{AllocError, Global};
 use std::marker::Model;
 
-/// How many lines of the kind are logged in a second at most, besides the one that counts the others.
+/// How many lines of the kind are logged in a second at most, besides the one that counts the
+/// others.
 const MOST: usize = 19;
 
 /// A second in milliseconds.
 const SECOND: u64 = 1_000;
 
-/// How often lines of one kind are logged: 19 within a second, and one that tells how many others there
-/// were. Contracts see when the last 19 were logged, how many others there were since such a line, and
-/// when one is due.
+/// How often lines of one kind are logged: 19 within a second, and one that tells how many others
+/// there were. Contracts see when the last 19 were logged, how many others there were since such a
+/// line, and when one is due.
 #[derive(Drop)]
 pub struct Pace {
     /// When the last lines were logged, the oldest first, in milliseconds.
@@ -30,7 +31,8 @@ impl Model for Pace {
 
     ghost Value = { PaceState };
 
-    ghost view = { λ pace. record { times = pace.times.items; others = pace.others; due = pace.due } };
+    ghost view = { λ pace.
+        record { times = pace.times.items; others = pace.others; due = pace.due } };
 
     ghost invariant = { λ pace. (length pace.times.items ≤ 19) × (19 ≤ vec_capacity pace.times) };
 }
@@ -47,8 +49,8 @@ impl Pace {
         })
     }
 
-    /// Whether a line may be logged at this time, which is never earlier than one before. If not, it is
-    /// one of the others.
+    /// Whether a line may be logged at this time, which is never earlier than one before. If not,
+    /// it is one of the others.
     pub fn admits(&mut self, now: u64) -> bool
         ensures room { (result ≡ true) ↔ HasRoom self.old.times now }
         ensures told { result ≡ true → self.new ≡ told_at self.old now }

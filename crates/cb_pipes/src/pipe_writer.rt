@@ -17,7 +17,7 @@ use std::time::Duration;
 const MOST_PIECES: usize = 64;
 
 /// For how many milliseconds a writer waits for its thread at a time.
-const LOOK_MILLIS: u64 = 20;
+const LOOK_MILLISECONDS: u64 = 20;
 
 /// How a writer waits for the pipe.
 #[derive(Clone, Copy)]
@@ -34,7 +34,7 @@ impl Patience {
     fn looks(self) -> u64 {
         match self {
             Patience::UntilEnd(milliseconds) | Patience::Always(milliseconds) => {
-                milliseconds / LOOK_MILLIS
+                milliseconds / LOOK_MILLISECONDS
             }
         }
     }
@@ -79,9 +79,10 @@ struct FarEnd {
     holding: u64,
 }
 
-/// A writer to a pipe. It writes itself, or has a thread of its own that writes, for which it waits as its
-/// patience says. After a write that failed, or for which it waited in vain, each one fails. The thread is
-/// left behind where it still writes then, and cut off when the program's `main` returns.
+/// A writer to a pipe. It writes itself, or has a thread of its own that writes, for which it waits
+/// as its patience says. After a write that failed, or for which it waited in vain, each one fails.
+/// The thread is left behind where it still writes then, and cut off when the program's `main`
+/// returns.
 #[derive(Drop)]
 pub struct PipeWriter<R, P> {
     rt: R,
@@ -111,8 +112,8 @@ impl<
     R: Threads + Wait + Clock + Copy + Send + Drop + 'static,
     P: Write + Copy + Send + Drop + 'static,
 > PipeWriter<R, P> {
-    /// A writer to this pipe with a thread of its own. If memory ran out, or no thread can be made, it
-    /// writes itself.
+    /// A writer to this pipe with a thread of its own. If memory ran out, or no thread can be made,
+    /// it writes itself.
     pub fn threaded(
         rt: R,
         alloc: Global,
@@ -179,7 +180,7 @@ fn send<R: Wait>(rt: &R, lane: &mut Lane, piece: Vec<u8>, pipes: &Pipes, patienc
 
 /// Waits until all pieces are written, as long as its patience says. Notes what failed.
 fn settle<R: Wait + Clock>(rt: &R, lane: &mut Lane, pipes: &Pipes, patience: Patience) {
-    let pause = Duration::from_millis(LOOK_MILLIS);
+    let pause = Duration::from_millis(LOOK_MILLISECONDS);
     let (mut looks, mut progress) = (0u64, pipes.progress());
     for _ in rt.forever() {
         if lane.sent == 0 || lane.failure.is_some() {

@@ -14,8 +14,8 @@ use std::fmt::Display;
 use std::rt::Clock;
 use std::sync::{Mutex, Wait};
 
-/// Gives each record, behind the time in UTC, to the thread that writes the log. It never waits for that
-/// thread: a line for which there is no room is dropped, and the next one tells how many were.
+/// Gives each record, behind the time in UTC, to the thread that writes the log. It never waits for
+/// that thread: a line for which there is no room is dropped, and the next one tells how many were.
 #[derive(Drop)]
 pub struct PipedLog<R: Drop> {
     rt: R,

@@ -23,7 +23,8 @@ impl Pipes {
         }
     }
 
-    /// The end of the process is asked for. A pipe that nobody reads is waited for a few seconds more.
+    /// The end of the process is asked for. A pipe that nobody reads is waited for a few seconds
+    /// more.
     pub fn ask_end(&self) {
         self.end_asked.store(true, Ordering::SeqCst);
     }
@@ -33,8 +34,8 @@ impl Pipes {
         self.end_asked.load(Ordering::SeqCst)
     }
 
-    /// Whether no line is to be answered now: an answer before isn't written yet, and the end wasn't asked
-    /// for.
+    /// Whether no line is to be answered now: an answer before isn't written yet, and the end
+    /// wasn't asked for.
     pub fn holds_answers(&self) -> bool {
         self.waiting.load(Ordering::SeqCst) > 0 && !self.is_end_asked()
     }

@@ -23,18 +23,23 @@ old_offer pooled = record { tx = pooled.tx; number = Some pooled.number }
 abbrev pub Folds : Unspent → List Tx → List Offer → List Offer → Type 0
 Folds u taken [] kept = kept ≡ []
 Folds u taken (offer ∷ offers) kept =
-    (Applies u taken offer.tx × ((rest : List Offer) × (kept ≡ offer ∷ rest) × Folds u (taken ++ offer.tx ∷ []) offers rest))
+    (Applies u taken offer.tx
+    × ((rest : List Offer) × (kept ≡ offer ∷ rest)
+    × Folds u (taken ++ offer.tx ∷ []) offers rest))
     ⊎ ((¬ Applies u taken offer.tx) × Folds u taken offers kept)
 
 -- the next number after these offers, of which each new one takes a number
 abbrev pub next_after : ℕ → List Offer → ℕ
 next_after next [] = next
-next_after next (offer ∷ offers) = next_after (if is_some offer.number then next else number_after next) offers
+next_after next (offer ∷ offers) =
+    next_after (if is_some offer.number then next else number_after next) offers
 
 -- Transactions from the pool keep their numbers, and new ones take the next ones.
 abbrev pub numbered : ℕ → List Offer → List Pooled
 numbered next [] = []
-numbered next (offer ∷ offers) = record { tx = offer.tx; number = unwrap_or offer.number next } ∷ numbered (if is_some offer.number then next else number_after next) offers
+numbered next (offer ∷ offers) =
+    record { tx = offer.tx; number = unwrap_or offer.number next }
+    ∷ numbered (if is_some offer.number then next else number_after next) offers
 
 -- The new pool has what applies in order: of the first transactions, and then of the old pool.
 pub record Refolds (u : Unspent) (first : List Tx) (old new : Listing) : Type 0 where
@@ -46,9 +51,11 @@ pub record Refolds (u : Unspent) (first : List Tx) (old new : Listing) : Type 0 
 -- The state of a loop over the offers `all`, of which `rest` is still to come. What `rest` and any
 -- later offers lead to, with the ones kept so far in front, is what `all` and those later offers
 -- lead to. The list has grown by the kept ones with their numbers.
-pub record Took (u : Unspent) (all rest : List Offer) (next : ℕ) (old now : List Pooled) (last : ℕ) : Type 0 where
+pub record Took (u : Unspent) (all rest : List Offer) (next : ℕ) (old now : List Pooled) (last : ℕ)
+    : Type 0 where
   pub kept : List Offer
-  pub folds : (more others : List Offer) → Folds u (txs_of now) (rest ++ more) others → Folds u (txs_of old) (all ++ more) (kept ++ others)
+  pub folds : (more others : List Offer) → Folds u (txs_of now) (rest ++ more) others
+      → Folds u (txs_of old) (all ++ more) (kept ++ others)
   pub list_is : now ≡ old ++ numbered next kept
   pub next_is : last ≡ next_after next kept
 

@@ -43,7 +43,8 @@ touched_by_all [] = 0
 touched_by_all (tx ∷ txs) = touched_by tx + touched_by_all txs
 
 -- A pool's transactions by their txids. `coins` is what they change in any UTXO set.
-pub record AreMembers (entries : List (Hash256 × Pooled)) (list : List Pooled) (coins : List (OutPoint × Option ℤ)) : Type 0 where
+pub record AreMembers (entries : List (Hash256 × Pooled)) (list : List Pooled)
+    (coins : List (OutPoint × Option ℤ)) : Type 0 where
   pub names : AllByRecursion (λ entry. entry.0 ≡ txid_of entry.1.tx) entries
   pub alone : AllByRecursion (λ pooled. StandsAlone pooled.tx) list
   pub few : length list ≤ 10000
@@ -51,4 +52,5 @@ pub record AreMembers (entries : List (Hash256 × Pooled)) (list : List Pooled) 
 
 -- The changes decide this outpoint: after them it has the same value, or none, in every UTXO set.
 abbrev pub IsChanged : List (OutPoint × Option ℤ) → OutPoint → Type 0
-IsChanged coins point = (value : Option ℤ) × ((u : Unspent) → map.get (changed u (changes_of coins)) point ≡ value)
+IsChanged coins point =
+    (value : Option ℤ) × ((u : Unspent) → map.get (changed u (changes_of coins)) point ≡ value)

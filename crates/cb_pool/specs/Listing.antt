@@ -20,11 +20,15 @@ number_after number = min (number + 1) 18446744073709551615
 
 -- one more transaction at the end, with the next number
 abbrev pub with_last : Listing → Tx → Listing
-with_last old tx = record { list = old.list ++ record { tx = tx; number = old.next } ∷ []; next = number_after old.next }
+with_last old tx = record {
+  list = old.list ++ record { tx = tx; number = old.next } ∷ [];
+  next = number_after old.next;
+}
 
 -- the txids of the transactions whose number is at least this one
 abbrev pub since_of : List Pooled → ℕ → List Hash256
-since_of list number = map (λ pooled. txid_of pooled.tx) (filter (λ pooled. nat_le number pooled.number) list)
+since_of list number =
+    map (λ pooled. txid_of pooled.tx) (filter (λ pooled. nat_le number pooled.number) list)
 
 -- the transactions in order, for how many more transactions there is room, and for how many more
 -- outputs that they spend or make
@@ -41,7 +45,8 @@ Differ (pooled ∷ list) = AllByRecursion (λ other. other.number ≢ pooled.num
 -- As long as the next number isn't the largest one of 64 bits, each number is below it, and no two
 -- are equal.
 abbrev pub AreNumbered : List Pooled → ℕ → Type 0
-AreNumbered list next = next < 18446744073709551615 → AllByRecursion (λ pooled. pooled.number < next) list × Differ list
+AreNumbered list next =
+    next < 18446744073709551615 → AllByRecursion (λ pooled. pooled.number < next) list × Differ list
 
 -- What contracts see of a plan for refolding: the transactions that are offered first, for how many
 -- transactions it has room, and for how many outputs that they spend or make.

@@ -50,7 +50,9 @@ pub record Applies (u : Unspent) (taken : List Tx) (tx : Tx) : Type 0 where
 -- The transaction passes its own checks and its txid is new, but it can't be spent after the
 -- others.
 abbrev pub CannotSpend : Unspent → List Tx → Tx → Fault → Type 0
-CannotSpend u taken tx fault = StandsAlone tx × (is_named_in taken (txid_of tx) ≡ false) × (spend u (taken ++ tx ∷ []) ≡ Err fault)
+CannotSpend u taken tx fault =
+    StandsAlone tx × (is_named_in taken (txid_of tx) ≡ false)
+    × (spend u (taken ++ tx ∷ []) ≡ Err fault)
 
 -- The first reason why the transaction doesn't pass its own checks.
 abbrev pub RefusesAlone : Tx → Fault → Type 0
@@ -65,5 +67,7 @@ Refuses u taken tx Known = StandsAlone tx × (is_named_in taken (txid_of tx) ≡
 Refuses u taken tx NoInput = CannotSpend u taken tx NoInput
 Refuses u taken tx Overspent = CannotSpend u taken tx Overspent
 Refuses u taken tx Remade = CannotSpend u taken tx Remade
-Refuses u taken tx PoolFull = StandsAlone tx × (is_named_in taken (txid_of tx) ≡ false) × IsOk (spend u (taken ++ tx ∷ [])) × (10000 ≤ length taken)
+Refuses u taken tx PoolFull =
+    StandsAlone tx × (is_named_in taken (txid_of tx) ≡ false) × IsOk (spend u (taken ++ tx ∷ []))
+    × (10000 ≤ length taken)
 Refuses u taken tx other = RefusesAlone tx other

@@ -43,7 +43,8 @@ Says (Some Unknown) was now = ⊤
 
 -- the marks tell where the two UTXO sets differ
 abbrev pub Tells : Marking → Unspent → Unspent → Type 0
-Tells marks was now = (point : OutPoint) → Says (mark_at marks point) (finite.get was point) (finite.get now point)
+Tells marks was now =
+    (point : OutPoint) → Says (mark_at marks point) (finite.get was point) (finite.get now point)
 
 -- no mark, or one that says that nothing differs
 abbrev pub IsLevel : Option Mark → Type 0
@@ -55,11 +56,16 @@ IsLevel (Some Unknown) = ⊥
 
 -- the outputs of these inputs have the mark, and all others the ones that they had
 abbrev pub AreMarked : List TxIn → Mark → Marking → Marking → Type 0
-AreMarked inputs mark old new = (point : OutPoint) → (IsNamed inputs point × (mark_at new point ≡ Some mark)) ⊎ ((¬ IsNamed inputs point) × (mark_at new point ≡ mark_at old point))
+AreMarked inputs mark old new =
+    (point : OutPoint)
+    → (IsNamed inputs point × (mark_at new point ≡ Some mark))
+    ⊎ ((¬ IsNamed inputs point) × (mark_at new point ≡ mark_at old point))
 
 -- the same of a transaction of a block; a coinbase spends nothing
 abbrev pub AreSpent : List TxIn → Marking → Marking → Type 0
-AreSpent inputs old new = ((is_coinbase inputs ≡ true) × (new ≡ old)) ⊎ ((is_coinbase inputs ≡ false) × AreMarked inputs Gone old new)
+AreSpent inputs old new =
+    ((is_coinbase inputs ≡ true) × (new ≡ old))
+    ⊎ ((is_coinbase inputs ≡ false) × AreMarked inputs Gone old new)
 
 -- the txid is among these
 abbrev pub is_gone : List Hash256 → Hash256 → Bool
@@ -72,31 +78,44 @@ staying gone list = filter (λ pooled. not (is_gone gone (txid_of pooled.tx))) l
 -- The marks lead from the UTXO set before a transaction of the pool to the one behind it, while the
 -- other UTXO set stays. What it touches has a mark.
 pub record Moves (tx : Tx) (old new : Marking) : Type 0 where
-  pub tells : (was now next : Unspent) → spend_tx was tx ≡ Ok next → Tells old was now → Tells new next now
-  pub marked : (point : OutPoint) → mark_at new point ≡ None → (mark_at old point ≡ None) × (¬ IsTouchedBy tx point)
+  pub tells : (was now next : Unspent) → spend_tx was tx ≡ Ok next → Tells old was now
+      → Tells new next now
+  pub marked : (point : OutPoint) → mark_at new point ≡ None
+      → (mark_at old point ≡ None) × (¬ IsTouchedBy tx point)
 
 -- What became of a transaction of the pool. It stays if nothing differs at the outputs that it
 -- touches. It leaves if one that it spends is gone; then what it spent is no longer known, and the
 -- marks lead from behind it.
 pub data Turned (tx : Tx) (old new : Marking) (gone more : List Hash256) : Type 0 where
-  stays : new ≡ old → more ≡ gone → ((point : OutPoint) → IsTouchedBy tx point → IsLevel (mark_at old point)) → Turned tx old new gone more
-  leaves : (point : OutPoint) → IsNamed tx.inputs point → mark_at old point ≡ Some Gone → ((txid : Hash256) → is_gone more txid ≡ (if same (txid_of tx) txid then true else is_gone gone txid)) → Moves tx old new → Turned tx old new gone more
+  stays : new ≡ old → more ≡ gone
+      → ((point : OutPoint) → IsTouchedBy tx point → IsLevel (mark_at old point))
+      → Turned tx old new gone more
+  leaves : (point : OutPoint) → IsNamed tx.inputs point → mark_at old point ≡ Some Gone
+      → ((txid : Hash256)
+      → is_gone more txid ≡ (if same (txid_of tx) txid then true else is_gone gone txid))
+      → Moves tx old new → Turned tx old new gone more
 
--- Behind these transactions and behind those of them that stay, an output without a mark is the same.
+-- Behind these transactions and behind those of them that stay, an output without a mark is the
+-- same.
 abbrev pub Agree : Marking → List Tx → List Tx → Type 0
-Agree marks all kept = (u : Unspent) (point : OutPoint) → mark_at marks point ≡ None → finite.get (after_txs u all) point ≡ finite.get (after_txs u kept) point
+Agree marks all kept =
+    (u : Unspent) (point : OutPoint) → mark_at marks point ≡ None
+    → finite.get (after_txs u all) point ≡ finite.get (after_txs u kept) point
 
 -- Behind these transactions an output with a mark is what the changes say.
 abbrev pub Covers : Marking → List (OutPoint × Option ℤ) → List Tx → Type 0
-Covers marks coins kept = (u : Unspent) (point : OutPoint) → is_some (mark_at marks point) ≡ true → finite.get (changed u (changes_of coins)) point ≡ finite.get (after_txs u kept) point
+Covers marks coins kept =
+    (u : Unspent) (point : OutPoint) → is_some (mark_at marks point) ≡ true
+    → finite.get (changed u (changes_of coins)) point ≡ finite.get (after_txs u kept) point
 
 -- the new pool's list is that of those that apply in order
 pub record StaysOf (after : Unspent) (list kept : List Pooled) : Type 0 where
-  pub refolds : (next : ℕ) → Refolds after [] (record { list = list; next = next }) (record { list = kept; next = next })
+  pub refolds : (next : ℕ)
+      → Refolds after [] (record { list = list; next = next }) (record { list = kept; next = next })
   pub spends : IsOk (spend after (txs_of kept))
 
--- What contracts see of a plan for thinning a pool out: the marks, the txids of those that leave, and
--- the changes of those that stay, at the outputs with marks.
+-- What contracts see of a plan for thinning a pool out: the marks, the txids of those that leave,
+-- and the changes of those that stay, at the outputs with marks.
 pub record Thin : Type 0 where
   pub marks : Marking
   pub gone : List Hash256

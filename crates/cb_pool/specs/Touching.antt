@@ -7,7 +7,8 @@ use Rattle.cb_pool.specs.Rules.{txid_of}
 
 -- a transaction spends or makes the output
 abbrev pub IsTouchedBy : Tx → OutPoint → Type 0
-IsTouchedBy tx point = IsNamed tx.inputs point ⊎ ((point.txid ≡ txid_of tx) × (point.index < length tx.outputs))
+IsTouchedBy tx point =
+    IsNamed tx.inputs point ⊎ ((point.txid ≡ txid_of tx) × (point.index < length tx.outputs))
 
 -- one of the transactions spends or makes the output
 abbrev pub IsTouched : List Tx → OutPoint → Type 0

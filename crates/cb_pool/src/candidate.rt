@@ -30,7 +30,8 @@ impl Model for Candidate {
 
     ghost view = { λ candidate. candidate.tx };
 
-    ghost invariant = { λ candidate. (candidate.txid ≡ txid_of candidate.tx) × StandsAlone candidate.tx };
+    ghost invariant = { λ candidate. (candidate.txid ≡ txid_of candidate.tx)
+        × StandsAlone candidate.tx };
 }
 
 impl Candidate {

@@ -46,7 +46,9 @@ impl Model for Marks {
 
     ghost view = { λ marks. marks.points.entries };
 
-    ghost invariant = { λ marks. (point : OutPoint) → is_some (mark_at marks.points.entries point) ≡ true → is_gone marks.txids.keys point.txid ≡ true };
+    ghost invariant = { λ marks. (point : OutPoint)
+        → is_some (mark_at marks.points.entries point) ≡ true
+        → is_gone marks.txids.keys point.txid ≡ true };
 }
 
 /// What becomes of the mark of an output that was not there and that a transaction of the pool
@@ -112,7 +114,8 @@ impl Marks {
 
     /// Whether one of these inputs spends an output that is gone.
     pub(crate) fn lose(&self, inputs: &[TxIn]) -> bool
-        ensures { IsTrue result → Any (λ input. mark_at self.now input.prev ≡ Some Gone) inputs.now }
+        ensures { IsTrue result
+            → Any (λ input. mark_at self.now input.prev ≡ Some Gone) inputs.now }
     {
         inputs.iter().any(|input| match self.mark_of(&input.prev) {
             Some(Mark::Gone) => true,
@@ -123,7 +126,8 @@ impl Marks {
     /// Whether no output that a transaction with this txid makes or that these inputs spend has a
     /// mark.
     pub(crate) fn pass(&self, txid: &Hash256, inputs: &[TxIn]) -> bool
-        ensures inputs { IsTrue result → All (λ input. mark_at self.now input.prev ≡ None) inputs.now }
+        ensures inputs { IsTrue result
+            → All (λ input. mark_at self.now input.prev ≡ None) inputs.now }
         ensures outputs { IsTrue result → (index : ℕ) →
             mark_at self.now (record { txid = txid.now; index = index }) ≡ None }
     {

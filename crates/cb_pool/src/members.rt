@@ -61,9 +61,15 @@ impl Model for Members {
 
     ghost use Rattle.cb_pool.specs.Leaving.{AreMembers};
 
-    ghost view = { λ members. record { list = index.values members.entries; places = index.spare members.entries; coins = spare members.coins } };
+    ghost view = { λ members.
+        record {
+          list = index.values members.entries;
+          places = index.spare members.entries;
+          coins = spare members.coins;
+        } };
 
-    ghost invariant = { λ members. AreMembers members.entries.entries (index.values members.entries) members.coins.entries };
+    ghost invariant = { λ members. AreMembers members.entries.entries (index.values members.entries)
+        members.coins.entries };
 }
 
 impl Members {

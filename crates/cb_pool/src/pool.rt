@@ -41,7 +41,8 @@ impl Model for Pool {
 
     ghost view = { λ pool. record { list = pool.members.list; next = pool.next } };
 
-    ghost invariant = { λ pool. AreNumbered pool.members.list pool.next × IfSome pool.named (λ named. named.items ≡ txs_of pool.members.list) };
+    ghost invariant = { λ pool. AreNumbered pool.members.list pool.next
+        × IfSome pool.named (λ named. named.items ≡ txs_of pool.members.list) };
 }
 
 impl Pool {

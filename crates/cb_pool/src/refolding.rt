@@ -29,7 +29,12 @@ impl Model for Refolding {
 
     ghost Value = { Plan };
 
-    ghost view = { λ plan. record { first = plan.first.items; places = plan.members.places; coins = plan.members.coins } };
+    ghost view = { λ plan.
+        record {
+          first = plan.first.items;
+          places = plan.members.places;
+          coins = plan.members.coins;
+        } };
 
     ghost invariant = { λ plan. plan.members.list ≡ [] };
 }

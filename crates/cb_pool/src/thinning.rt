@@ -40,7 +40,8 @@ impl Model for Thinning {
 
     ghost Value = { Thin };
 
-    ghost view = { λ plan. record { marks = plan.marks; gone = plan.gone.keys; coins = plan.coins.entries } };
+    ghost view = { λ plan.
+        record { marks = plan.marks; gone = plan.gone.keys; coins = plan.coins.entries } };
 }
 
 /// Notes what a transaction of a block spends. Fails only with `Fault::Memory`.
@@ -69,8 +70,8 @@ fn mark_tx(marks: &mut Marks, txid: Hash256, tx: &Tx) -> Result<(), Fault>
     Ok(())
 }
 
-/// Notes what a block changes in the new UTXO set. The answer is false if a transaction of the block
-/// has more than 4,294,967,295 outputs; then the marks say nothing. Fails only with
+/// Notes what a block changes in the new UTXO set. The answer is false if a transaction of the
+/// block has more than 4,294,967,295 outputs; then the marks say nothing. Fails only with
 /// `Fault::Memory`.
 fn mark_block(marks: &mut Marks, block: &SoundBlock) -> Result<bool, Fault>
     ensures tells { IfOk result (λ known. IsTrue known → (was now next : Unspent) →
@@ -163,8 +164,8 @@ fn note(
     Ok(())
 }
 
-/// Notes in `coins` what a transaction of the pool changes, if it stays and touches an output with a
-/// mark. Fails only with `Fault::Memory`.
+/// Notes in `coins` what a transaction of the pool changes, if it stays and touches an output with
+/// a mark. Fails only with `Fault::Memory`.
 fn note_pooled(
     coins: &mut HashMap<OutPoint, Option<i64>, Seed>,
     marks: &Marks,
@@ -231,7 +232,8 @@ fn take_out(entries: &mut IndexMap<Hash256, Pooled, Seed>, gone: &HashSet<Hash25
 {
     entries.retain(
         |txid: &Hash256, pooled: &mut Pooled| -> bool
-            ensures { (result ≡ not (is_gone gone.entry.now.keys txid.now)) × (pooled.new ≡ pooled.old) }
+            ensures { (result ≡ not (is_gone gone.entry.now.keys txid.now))
+                × (pooled.new ≡ pooled.old) }
         { !gone.contains(txid) },
     );
 }

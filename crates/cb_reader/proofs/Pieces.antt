@@ -6,9 +6,9 @@ use Rattle.cb_base.specs.declared.fault.Fault.{Fault}
 use Rattle.cb_wire.specs.declared.item.Item.{Item}
 use Rattle.cb_wire.specs.Stream.{Assembled, Ends, Stream}
 use Rattle.cb_wire.proofs.Streams.{front_at-nil}
-use Rattle.cb_io.proofs.Known.{Consumes-nothing, Consumes-then, Keeps-same}
-use Rattle.cb_io.specs.declared.read_end.ReadEnd.{ReadEnd}
-use Rattle.cb_io.specs.declared.read_end.ReadEnd.TheVariants as ends
+use Rattle.cb_base.proofs.Known.{Consumes-nothing, Consumes-then, Keeps-same}
+use Rattle.cb_base.specs.declared.read_end.ReadEnd.{ReadEnd}
+use Rattle.cb_base.specs.declared.read_end.ReadEnd.TheVariants as ends
 use Rattle.cb_reader.specs.declared.input.Input.{Input}
 use Rattle.cb_reader.specs.declared.input.Input.TheVariants as inputs
 use Rattle.cb_reader.specs.Input.{maybe, said}

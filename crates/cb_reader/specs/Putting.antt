@@ -1,7 +1,7 @@
 -- Putting inputs one after another, and ending the connection.
 use Rattle.std.specs.Prelude.{◌≡◌, ℕ, ◌≤◌, ◌-◌, ◌^◌, ◌⊎◌, Bool, true, false, List, ◌++◌}
-use Rattle.cb_io.specs.declared.read_end.ReadEnd.{ReadEnd}
-use Rattle.cb_io.specs.declared.read_end.ReadEnd.TheVariants as ends
+use Rattle.cb_base.specs.declared.read_end.ReadEnd.{ReadEnd}
+use Rattle.cb_base.specs.declared.read_end.ReadEnd.TheVariants as ends
 use Rattle.cb_reader.specs.declared.input.Input.{Input}
 
 -- What a reader's seat and its stop tell.
@@ -11,9 +11,15 @@ pub record SeatNow : Type 0 where
   pub counted : ℕ  -- how many puts and ends the seat counts
   pub stopped : Bool  -- whether the stop has answered true
 
-abbrev pub seat_now : {T P : Type 0} → (T → List Input) → (T → Bool) → (T → ℕ) → (P → Bool) → T → P → SeatNow
+abbrev pub seat_now : {T P : Type 0} → (T → List Input) → (T → Bool) → (T → ℕ) → (P → Bool) → T → P
+    → SeatNow
 seat_now queued has_ended counted has_stopped seat stop =
-    record { queued = queued seat; ended = has_ended seat; counted = counted seat; stopped = has_stopped stop }
+    record {
+      queued = queued seat;
+      ended = has_ended seat;
+      counted = counted seat;
+      stopped = has_stopped stop;
+    }
 
 -- Why nothing more can be put: the reader was stopped, or its seat counts 2^48 - 1 puts.
 abbrev pub HaltsSo : ReadEnd → SeatNow → Type 0
@@ -45,4 +51,5 @@ pub record PutAndEnded (old new : SeatNow) (inputs : List Input) : Type 0 where
 
 -- The connection was ended behind these inputs, and `end` is `why`. Or not all could be put.
 abbrev pub Closes : SeatNow → SeatNow → List Input → ReadEnd → ReadEnd → Type 0
-Closes old new inputs why end = ((end ≡ why) × PutAndEnded old new inputs) ⊎ PutSome old new inputs end
+Closes old new inputs why end =
+    ((end ≡ why) × PutAndEnded old new inputs) ⊎ PutSome old new inputs end

@@ -4,8 +4,8 @@ use Rattle.std.specs.Io.KnownBytes.{Consumes, IsAtEnd}
 use Rattle.cb_base.specs.declared.fault.Fault.{Fault}
 use Rattle.cb_wire.specs.declared.item.Item.{Item}
 use Rattle.cb_wire.specs.Stream.{Assembled, Stream}
-use Rattle.cb_io.specs.declared.read_end.ReadEnd.{ReadEnd}
-use Rattle.cb_io.specs.declared.read_end.ReadEnd.TheVariants as ends
+use Rattle.cb_base.specs.declared.read_end.ReadEnd.{ReadEnd}
+use Rattle.cb_base.specs.declared.read_end.ReadEnd.TheVariants as ends
 use Rattle.cb_reader.specs.declared.input.Input.{Input}
 use Rattle.cb_reader.specs.declared.input.Input.TheVariants as inputs
 use Rattle.cb_reader.specs.Input.{maybe, said}
@@ -42,7 +42,8 @@ pub record IsToPut (bytes : List ℕ) (items : List Item) (last : Option Input) 
 
 -- So far, in so many reads, the items of all bytes that were read were put. The assembler keeps the
 -- bytes behind them.
-pub record Heard (input remaining : Option (List ℕ)) (old now : SeatNow) (assembled : Assembled) (turns : ℕ) : Type 0 where
+pub record Heard (input remaining : Option (List ℕ)) (old now : SeatNow) (assembled : Assembled)
+    (turns : ℕ) : Type 0 where
   pub read : List ℕ
   pub consumed : Consumes input remaining read
   pub enough : turns ≤ length read
@@ -52,24 +53,28 @@ pub record Heard (input remaining : Option (List ℕ)) (old now : SeatNow) (asse
   pub put : PutAll old now (said items)
 
 -- The items that a piece completes, behind those of the bytes before, were put.
-pub record TookPiece (bytes piece : List ℕ) (items : List Item) (old new : SeatNow) (assembled : Assembled) : Type 0 where
+pub record TookPiece (bytes piece : List ℕ) (items : List Item) (old new : SeatNow)
+    (assembled : Assembled) : Type 0 where
   pub more : List Item
   pub stream : Stream (bytes ++ piece) (items ++ more) assembled.rest assembled.fault
   pub unbroken : assembled.fault ≡ None
   pub put : PutAll old new (said more)
 
 -- There is a last input, everything was put, and the connection was ended behind it.
-pub record Finished (old new : SeatNow) (inputs : List Input) (last : Option Input) (end : ReadEnd) : Type 0 where
+pub record Finished (old new : SeatNow) (inputs : List Input) (last : Option Input) (end : ReadEnd)
+    : Type 0 where
   pub put : PutAndEnded old new inputs
   pub some_last : last ≢ None
   pub why : end ≡ ends.Fault
 
 -- Reading ended in a piece.
-pub record EndedInPiece (bytes piece : List ℕ) (items : List Item) (old new : SeatNow) (end : ReadEnd) : Type 0 where
+pub record EndedInPiece (bytes piece : List ℕ) (items : List Item) (old new : SeatNow)
+    (end : ReadEnd) : Type 0 where
   pub more : List Item
   pub last : Option Input
   pub to_put : IsToPut (bytes ++ piece) (items ++ more) last
-  pub ended : Finished old new (said more ++ maybe last) last end ⊎ PutSome old new (said more ++ maybe last) end
+  pub ended : Finished old new (said more ++ maybe last) last end
+      ⊎ PutSome old new (said more ++ maybe last) end
 
 -- ---- the whole of it
 
@@ -85,32 +90,40 @@ pub record IsCut (now : SeatNow) (stopped : Bool) : Type 0 where
   pub stopped_is : now.stopped ≡ stopped
 
 -- Reading came to the source's end, and nothing was wrong.
-pub record IsEof (remaining : Option (List ℕ)) (failed_before failed : Bool) (last : Option Input) : Type 0 where
+pub record IsEof (remaining : Option (List ℕ)) (failed_before failed : Bool) (last : Option Input)
+    : Type 0 where
   pub at_end : IsAtEnd remaining
   pub unfailed : failed ≡ failed_before
   pub none_last : last ≡ None
 
 -- A read failed, and there is no last input. Or there is one, and no read failed.
 abbrev pub IsFault : Bool → Bool → Option Input → Type 0
-IsFault failed_before failed last = ((failed ≡ true) × (last ≡ None)) ⊎ ((failed ≡ failed_before) × (last ≢ None))
+IsFault failed_before failed last =
+    ((failed ≡ true) × (last ≡ None)) ⊎ ((failed ≡ failed_before) × (last ≢ None))
 
 -- 2^40 bytes or more were read, nothing was wrong, and everything was put.
-pub record IsLong (failed_before failed : Bool) (read : List ℕ) (last : Option Input) (later : List Input) : Type 0 where
+pub record IsLong (failed_before failed : Bool) (read : List ℕ) (last : Option Input)
+    (later : List Input) : Type 0 where
   pub enough : 2 ^ 40 ≤ length read
   pub unfailed : failed ≡ failed_before
   pub none_last : last ≡ None
   pub all : later ≡ []
 
 -- The reason why reading ended is true. The connection was ended at Eof and Fault, and only then.
-abbrev pub EndsSo : ReadEnd → Option (List ℕ) → Bool → Bool → SeatNow → List ℕ → Option Input → List Input → Type 0
-EndsSo ends.Eof remaining failed_before failed now read last later = IsEof remaining failed_before failed last × IsDone now later
-EndsSo ends.Fault remaining failed_before failed now read last later = IsFault failed_before failed last × IsDone now later
-EndsSo ends.Turns remaining failed_before failed now read last later = (IsLong failed_before failed read last later ⊎ (2 ^ 48 - 1 ≤ now.counted)) × IsCut now false
+abbrev pub EndsSo : ReadEnd → Option (List ℕ) → Bool → Bool → SeatNow → List ℕ → Option Input
+    → List Input → Type 0
+EndsSo ends.Eof remaining failed_before failed now read last later =
+    IsEof remaining failed_before failed last × IsDone now later
+EndsSo ends.Fault remaining failed_before failed now read last later =
+    IsFault failed_before failed last × IsDone now later
+EndsSo ends.Turns remaining failed_before failed now read last later =
+    (IsLong failed_before failed read last later ⊎ (2 ^ 48 - 1 ≤ now.counted)) × IsCut now false
 EndsSo ends.Stopped remaining failed_before failed now read last later = IsCut now true
 
 -- What a reader's thread did, from its source, seat and stop before (`input`, `failed_before`,
 -- `old`) to those after (`remaining`, `failed`, `new`).
-pub record Reads (input remaining : Option (List ℕ)) (failed_before failed : Bool) (old new : SeatNow) (end : ReadEnd) : Type 0 where
+pub record Reads (input remaining : Option (List ℕ)) (failed_before failed : Bool)
+    (old new : SeatNow) (end : ReadEnd) : Type 0 where
   -- The bytes that were read. If the source tells its bytes, it gave these.
   pub read : List ℕ
   pub consumed : Consumes input remaining read

@@ -8,7 +8,7 @@ mod reading;
 mod seat;
 mod stop;
 
-pub use cb_io::{ReadEnd, Source};
+pub use cb_base::{ReadEnd, Source};
 pub use input::Input;
 pub use reading::read_loop;
 pub use seat::Seat;

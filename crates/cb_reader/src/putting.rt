@@ -5,8 +5,7 @@ ghost use Rattle.cb_reader.specs.Putting.{Closes, HaltsSo, PutAll, PutSome, seat
 use crate::input::Input;
 use crate::seat::Seat;
 use crate::stop::Stop;
-use cb_base::Shared;
-use cb_io::ReadEnd;
+use cb_base::{ReadEnd, Shared};
 use cb_wire::Item;
 use std::sync::Wait;
 

@@ -16,4 +16,7 @@ judged_of block = if is_sound_block block then Sound block else Wrong
 
 -- The transactions fill the empty places in order. There must be as many as empty places.
 unfoldable pub completed_of : Unfilled → BlockTransactions → Result Filled Fault
-completed_of partial given = if length given.txs == length (missing 0 partial.slots) then Ok (judged_of (block_with partial given.txs)) else Err WrongCount
+completed_of partial given =
+    if length given.txs == length (missing 0 partial.slots)
+    then Ok (judged_of (block_with partial given.txs))
+    else Err WrongCount

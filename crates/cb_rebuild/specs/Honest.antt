@@ -24,24 +24,32 @@ use Rattle.cb_rebuild.specs.declared.rebuilding.Rebuilt.TheVariants.{Lacking, So
 
 -- The message is the compact block of a sound block under its nonce. The transactions at these
 -- places are prefilled, and no two short ids are equal.
-pub record IsHonestMessage (block : Block) (places : List ℕ) (message : HeaderAndShortIds) : Type 0 where
+pub record IsHonestMessage (block : Block) (places : List ℕ) (message : HeaderAndShortIds)
+    : Type 0 where
   pub sound : IsSoundBlock block
   pub rise : Rise 0 (length block.txs) places
   pub header : message.header ≡ block.header
   pub ids : message.txs.ids ≡ map (id_of block.header message.nonce) (left_out 0 places block.txs)
   pub differences_are : differences_of message.txs.prefilled ≡ differences 0 places
-  pub whole : All (λ given. slice_get block.txs given.place ≡ Some given.tx) (placed_from 0 message.txs.prefilled)
+  pub whole : All (λ given. slice_get block.txs given.place ≡ Some given.tx)
+      (placed_from 0 message.txs.prefilled)
   pub different : AreDifferent message.txs.ids
 
 -- The block's transactions at the requested places complete the block.
 abbrev pub IsCompletedBy : Block → Unfilled → BlockTransactionsRequest → Type 0
-IsCompletedBy block partial request = (given : BlockTransactions) → map (slice_get block.txs) (sums 0 request.differences) ≡ map Some given.txs → completed_of partial given ≡ Ok (filling.Sound block)
+IsCompletedBy block partial request =
+    (given : BlockTransactions)
+    → map (slice_get block.txs) (sums 0 request.differences) ≡ map Some given.txs
+    → completed_of partial given ≡ Ok (filling.Sound block)
 
 -- The result is the block, if a pair fills each place. Otherwise exactly the places that no pair
 -- fills are requested, under the block's hash, and the block's transactions there complete it.
 abbrev pub IsRebuiltTo : Block → ℕ → List ℕ → List Pair → Rebuilt → Type 0
-IsRebuiltTo block nonce places pairs (Sound told) = AreUnserved block nonce places pairs [] × (told ≡ block)
-IsRebuiltTo block nonce places pairs (Lacking partial request) = AreUnserved block nonce places pairs (sums 0 request.differences) × (request.block ≡ double_hash (header_text block.header)) × IsCompletedBy block partial request
+IsRebuiltTo block nonce places pairs (Sound told) =
+    AreUnserved block nonce places pairs [] × (told ≡ block)
+IsRebuiltTo block nonce places pairs (Lacking partial request) =
+    AreUnserved block nonce places pairs (sums 0 request.differences)
+    × (request.block ≡ double_hash (header_text block.header)) × IsCompletedBy block partial request
 IsRebuiltTo block nonce places pairs Useless = ⊥
 
 -- The result for a list without empty places.

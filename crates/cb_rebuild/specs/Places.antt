@@ -17,9 +17,12 @@ differences_of prefilled = map (λ given. given.difference) prefilled
 
 -- Whether the differences lead to places in the block.
 unfoldable pub has_places : ShortForm → Bool
-has_places form = list_all (λ place. nat_lt place (total_of form)) (sums 0 (differences_of form.prefilled))
+has_places form =
+    list_all (λ place. nat_lt place (total_of form)) (sums 0 (differences_of form.prefilled))
 
 -- The prefilled transactions with the places to which their differences lead, from `least` on.
 abbrev pub placed_from : ℕ → List PrefilledTransaction → List Prefilled
 placed_from least [] = []
-placed_from least (given ∷ more) = record { place = least + given.difference; tx = given.tx } ∷ placed_from (least + given.difference + 1) more
+placed_from least (given ∷ more) =
+    record { place = least + given.difference; tx = given.tx }
+    ∷ placed_from (least + given.difference + 1) more

@@ -1,5 +1,6 @@
--- Rebuilding a block from a compact block (BIP 152) and pairs, which are transactions of the mempool
--- with their short ids. The result is the block, or an incomplete one with a request, or useless.
+-- Rebuilding a block from a compact block (BIP 152) and pairs, which are transactions of the
+-- mempool with their short ids. The result is the block, or an incomplete one with a request, or
+-- useless.
 use Rattle.std.specs.Prelude.{ℕ, Bool, true, not, ◌&&◌, if◌then◌else◌, List, [], ◌∷◌}
 use Rattle.cb_base.specs.DoubleHash.{double_hash}
 use Rattle.cb_tx.specs.declared.tx.Tx.{Tx}
@@ -22,7 +23,10 @@ are_different (id ∷ others) = not (is_among id others) && are_different others
 
 -- The block as far as it is known: the header, and the transaction at each place, if any.
 unfoldable pub unfilled_of : HeaderAndShortIds → List Pair → Unfilled
-unfilled_of message pairs = record { header = message.header; slots = slots message.txs.ids (placed_from 0 message.txs.prefilled) pairs }
+unfilled_of message pairs = record {
+  header = message.header;
+  slots = slots message.txs.ids (placed_from 0 message.txs.prefilled) pairs;
+}
 
 -- The block with these transactions at its empty places, in order.
 abbrev pub block_with : Unfilled → List Tx → Block
@@ -35,7 +39,10 @@ whole_of block = if is_sound_block block then Sound block else Useless
 -- The request for the missing transactions: the hash of the header, and the empty places as
 -- differences.
 unfoldable pub request_of : Unfilled → BlockTransactionsRequest
-request_of partial = record { block = double_hash (header_text partial.header); differences = differences 0 (missing 0 partial.slots) }
+request_of partial = record {
+  block = double_hash (header_text partial.header);
+  differences = differences 0 (missing 0 partial.slots);
+}
 
 -- The result, by the empty places.
 abbrev pub told_by : Unfilled → List ℕ → Rebuilt
@@ -44,4 +51,7 @@ told_by partial (place ∷ others) = Lacking partial (request_of partial)
 
 -- Equal ids make the compact block useless. Otherwise the empty places decide.
 unfoldable pub rebuilt_of : HeaderAndShortIds → List Pair → Rebuilt
-rebuilt_of message pairs = if are_different message.txs.ids then told_by (unfilled_of message pairs) (missing 0 (unfilled_of message pairs).slots) else Useless
+rebuilt_of message pairs =
+    if are_different message.txs.ids
+    then told_by (unfilled_of message pairs) (missing 0 (unfilled_of message pairs).slots)
+    else Useless

@@ -18,4 +18,11 @@ whole_first [] = []
 whole_first (first ∷ others) = record { difference = 0; tx = first } ∷ []
 
 unfoldable pub shortened_of : Block → ℕ → HeaderAndShortIds
-shortened_of block nonce = record { header = block.header; nonce = nonce; txs = record { ids = map (id_of block.header nonce) (behind_first block.txs); prefilled = whole_first block.txs } }
+shortened_of block nonce = record {
+  header = block.header;
+  nonce = nonce;
+  txs = record {
+    ids = map (id_of block.header nonce) (behind_first block.txs);
+    prefilled = whole_first block.txs;
+  };
+}

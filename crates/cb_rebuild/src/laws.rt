@@ -80,8 +80,8 @@ pub fn what_lacks_is_asked_for()
         ↔ (slice_get partial.slots place ≡ Some None) }
 {}
 
-/// The compact block that we send of a sound block is an honest sender's, if no two of its short ids
-/// are equal.
+/// The compact block that we send of a sound block is an honest sender's, if no two of its short
+/// ids are equal.
 pub fn a_shortened_block_is_honest()
     ensures { (block : Block) (nonce : ℕ) → IsSoundBlock block →
         AreDifferent (shortened_of block nonce).txs.ids →

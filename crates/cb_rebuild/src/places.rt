@@ -7,9 +7,9 @@ use cb_compact::Prefilled;
 use cb_payload::CompactTxs;
 use std::alloc::Global;
 
-/// Checks that the prefilled transactions of a compact block have places in it (BIP 152): each index
-/// to which their differences lead is below the number of short ids and prefilled transactions
-/// together. Allocates nothing.
+/// Checks that the prefilled transactions of a compact block have places in it (BIP 152): each
+/// index to which their differences lead is below the number of short ids and prefilled
+/// transactions together. Allocates nothing.
 ///
 /// Fails only with `Fault::BadIndex`, exactly if one isn't.
 #[tactic(auto, unfolding(crate::specs::Places::has_places))]

@@ -54,7 +54,8 @@ fn see_hash(tx: &Tx)
     }
 }
 
-/// The same for each transaction. So each has at least 60 bytes, and a block at most 16,666 of them.
+/// The same for each transaction. So each has at least 60 bytes, and a block at most 16,666 of
+/// them.
 fn see_hashes(txs: &[Shared<Tx>])
     ensures { All SpendsByHash txs.now }
 {

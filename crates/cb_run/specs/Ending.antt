@@ -1,7 +1,7 @@
 -- How a run ends: the exit status, and the line on standard error.
 use Rattle.std.specs.Prelude.{◌≡◌, ℕ, Bool, true, List, [], codes, ⊤, Option}
 use Rattle.cb_run.specs.declared.ending.Status.{Status}
-use Rattle.cb_run.specs.declared.ending.Status.TheVariants.{Success, Usage, Refused, BadInput, NoMemory}
+use Rattle.cb_run.specs.declared.ending.Status.TheVariants.{Success, Usage, Refused, RunFailed, NoMemory}
 use Rattle.cb_run.specs.declared.ending.Halt.{Halt}
 use Rattle.cb_run.specs.declared.ending.Halt.TheVariants.{Memory, TooManyLines, ReadFailed, WriteFailed}
 use Rattle.cb_run.specs.Lines.{HasManyLines}
@@ -11,14 +11,14 @@ abbrev pub status_code : Status → ℕ
 status_code Success = 0
 status_code Usage = 1
 status_code Refused = 2
-status_code BadInput = 3
+status_code RunFailed = 3
 status_code NoMemory = 4
 
 abbrev pub halt_status : Halt → Status
 halt_status Memory = NoMemory
-halt_status TooManyLines = BadInput
-halt_status ReadFailed = BadInput
-halt_status WriteFailed = BadInput
+halt_status TooManyLines = RunFailed
+halt_status ReadFailed = RunFailed
+halt_status WriteFailed = RunFailed
 
 -- the line on standard error; empty if memory ran out, which the exit status tells
 abbrev pub halt_line : Halt → List ℕ

@@ -15,7 +15,8 @@ HasNoFeed bytes = All (λ byte. (byte == 10) ≡ false) bytes
 -- one, all bytes ahead went to the line.
 abbrev pub Moves : Bool → Cutting → Cutting → Type 0
 Moves true old new =
-    (front : List ℕ) × HasNoFeed front × (old.ahead ≡ front ++ (10 ∷ new.ahead)) × (new.line ≡ old.line ++ front)
+    (front : List ℕ) × HasNoFeed front × (old.ahead ≡ front ++ (10 ∷ new.ahead))
+    × (new.line ≡ old.line ++ front)
 Moves false old new = HasNoFeed old.ahead × (new.ahead ≡ []) × (new.line ≡ old.line ++ old.ahead)
 
 -- If the bytes to come are known, the line is the first of them, and `new` is what comes after it.

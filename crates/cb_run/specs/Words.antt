@@ -9,7 +9,8 @@ Writes word n = IsNumeral 10 word × (digits_value 10 word ≡ n)
 
 -- a name, one space and a number below the limit
 abbrev pub NamesOne : ℕ → List ℕ → List ℕ → ℕ → Type 0
-NamesOne limit text name n = (word : List ℕ) × Writes word n × (n < limit) × (text ≡ name ++ 32 ∷ word)
+NamesOne limit text name n =
+    (word : List ℕ) × Writes word n × (n < limit) × (text ≡ name ++ 32 ∷ word)
 
 -- ---- the same as functions of the text
 
@@ -24,4 +25,7 @@ is_numeral (c ∷ cs) = all_ascii_digits (c ∷ cs)
 
 -- the number that a word writes, if it writes one and the number is below the limit
 abbrev pub number_in : ℕ → List ℕ → Option ℕ
-number_in limit word = if is_numeral word && nat_lt (digits_value 10 word) limit then Some (digits_value 10 word) else None
+number_in limit word =
+    if is_numeral word && nat_lt (digits_value 10 word) limit
+    then Some (digits_value 10 word)
+    else None

@@ -14,9 +14,9 @@ pub enum Status {
     Usage,
     /// 2: an act was refused (`sim`).
     Refused,
-    /// 3: the input has a fault, or too many lines, or a read or a write failed. For `serve`: the
-    /// session closed for another reason than `Bye` or `Memory`.
-    BadInput,
+    /// 3: the input has a fault, or too many lines, or a read or a write failed, or an audit
+    /// failed. For `serve`: the session closed for another reason than `Bye` or `Memory`.
+    RunFailed,
     /// 4: an allocation failed.
     NoMemory,
 }
@@ -32,7 +32,7 @@ impl Status {
             Status::Success => 0,
             Status::Usage => 1,
             Status::Refused => 2,
-            Status::BadInput => 3,
+            Status::RunFailed => 3,
             Status::NoMemory => 4,
         }
     }
@@ -66,13 +66,13 @@ impl Halt {
         }
     }
 
-    /// The exit status of the run: `NoMemory` for `Memory`, else `BadInput`.
+    /// The exit status of the run: `NoMemory` for `Memory`, else `RunFailed`.
     pub fn status(self) -> Status
         ensures { result ≡ halt_status self }
     {
         match self {
             Halt::Memory => Status::NoMemory,
-            Halt::TooManyLines | Halt::ReadFailed | Halt::WriteFailed => Status::BadInput,
+            Halt::TooManyLines | Halt::ReadFailed | Halt::WriteFailed => Status::RunFailed,
         }
     }
 

@@ -8,7 +8,7 @@ ghost use Rattle.cb_run.specs.Lines.{Cutting, Moves, NextLine};
 ghost use Rattle.cb_run.specs.declared.ending.Halt.TheVariants.{Memory, ReadFailed};
 
 use crate::ending::Halt;
-use cb_io::Source;
+use cb_base::Source;
 use std::alloc::Global;
 use std::marker::Model;
 
@@ -33,9 +33,14 @@ impl Model for LineReader {
 
     ghost Value = { Cutting };
 
-    ghost view = { λ reader. record { line = reader.line.items; ahead = drop reader.used (take reader.filled reader.block.items) } };
+    ghost view = { λ reader.
+        record {
+          line = reader.line.items;
+          ahead = drop reader.used (take reader.filled reader.block.items);
+        } };
 
-    ghost invariant = { λ reader. (reader.used ≤ reader.filled) × (reader.filled ≤ vec_len reader.block) × (0 < vec_len reader.block) };
+    ghost invariant = { λ reader. (reader.used ≤ reader.filled)
+        × (reader.filled ≤ vec_len reader.block) × (0 < vec_len reader.block) };
 }
 
 impl LineReader {

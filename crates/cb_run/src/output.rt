@@ -5,7 +5,7 @@ ghost use Rattle.std.specs.Io.KnownBytes.{Appends};
 ghost use Rattle.cb_run.specs.declared.ending.Halt.TheVariants.{WriteFailed};
 
 use crate::ending::Halt;
-use cb_io::Sink;
+use cb_base::Sink;
 
 /// Writes all of a piece. Fails only with `Halt::WriteFailed`: a write failed or took no byte. A
 /// beginning of the piece may have been written then, and the sink has failed.
@@ -16,5 +16,5 @@ pub fn write_all<W: Sink>(writer: &mut W, piece: &[u8]) -> Result<(), Halt>
     ensures marked { OnErr result (W.has_failed writer.new ≡ true) }
     ensures stays { W.has_failed writer.old ≡ true → W.has_failed writer.new ≡ true }
 {
-    cb_io::write_all(writer, piece).map_err(|_| Halt::WriteFailed)
+    cb_base::write_all(writer, piece).map_err(|_| Halt::WriteFailed)
 }

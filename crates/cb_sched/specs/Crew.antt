@@ -27,7 +27,10 @@ is_open mark.Open = true
 
 -- nothing is queued, and all desks wait in the ring
 abbrev pub opening_crew : ℕ → ℕ → Crew
-opening_crew peers handlers = record { lines = replicate peers empty_line; desks = opening_desks peers handlers }
+opening_crew peers handlers = record {
+  lines = replicate peers empty_line;
+  desks = opening_desks peers handlers;
+}
 
 -- peer p's line
 abbrev pub line_of : Crew → ℕ → Line Mark
@@ -79,7 +82,8 @@ with_desks s desks = record { lines = s.lines; desks = desks }
 
 -- Putting m at the back of peer p's inbox leads from s to t.
 abbrev pub Puts : ℕ → Crew → ℕ → Mark → Crew → Type 0
-Puts capacity s p m t = MayPut capacity s p m × (t ≡ with_line s p (line_put is_end (line_of s p) m))
+Puts capacity s p m t =
+    MayPut capacity s p m × (t ≡ with_line s p (line_put is_end (line_of s p) m))
 
 -- The act leads from s to t.
 abbrev pub Step : ℕ → Crew → Act → Crew → Type 0
@@ -87,7 +91,8 @@ Step capacity s (act.Put p x) t = Puts capacity s p (mark.Item x) t
 Step capacity s (act.End p) t = Puts capacity s p mark.End t
 Step capacity s (act.Open p) t = Puts capacity s p mark.Open t
 Step capacity s (act.Claim k) t = MayClaim s k × (t ≡ with_desks s (claimed s.desks k))
-Step capacity s (act.Take k) t = MayTake s k × (t ≡ with_line s (desk_of s k) (line_taken (line_of s (desk_of s k))))
+Step capacity s (act.Take k) t =
+    MayTake s k × (t ≡ with_line s (desk_of s k) (line_taken (line_of s (desk_of s k))))
 Step capacity s (act.Give k) t = HoldsDesk s k × (t ≡ with_desks s (given s.desks k))
 
 -- These acts, one after another, lead from s to t.

@@ -9,7 +9,10 @@ pub record Desks : Type 0 where
 
 -- all desks wait, desk 0 at the front, and no handler holds one
 abbrev pub opening_desks : ℕ → ℕ → Desks
-opening_desks peers handlers = record { ring = range_with_len 0 peers; held = replicate handlers [] }
+opening_desks peers handlers = record {
+  ring = range_with_len 0 peers;
+  held = replicate handlers [];
+}
 
 -- what handler k holds
 abbrev pub held_by : Desks → ℕ → List ℕ
@@ -17,7 +20,10 @@ held_by desks k = slice_index_or desks.held k []
 
 -- after handler k took the desk at the front of the ring
 abbrev pub claimed : Desks → ℕ → Desks
-claimed desks k = record { ring = drop 1 desks.ring; held = slice_set desks.held k (take 1 desks.ring) }
+claimed desks k = record {
+  ring = drop 1 desks.ring;
+  held = slice_set desks.held k (take 1 desks.ring);
+}
 
 -- after handler k put its desk at the back of the ring
 abbrev pub given : Desks → ℕ → Desks
@@ -26,5 +32,9 @@ given desks k = record { ring = desks.ring ++ held_by desks k; held = slice_set 
 -- the arrangements of desks that acts lead to from the opening one
 pub data DesksReached (peers handlers : ℕ) : Desks → Type 0 where
   opening : DesksReached peers handlers (opening_desks peers handlers)
-  claim : (desks : Desks) (k : ℕ) (desk : ℕ) (rest : List ℕ) → DesksReached peers handlers desks → k < length desks.held → held_by desks k ≡ [] → desks.ring ≡ desk ∷ rest → DesksReached peers handlers (claimed desks k)
-  give : (desks : Desks) (k : ℕ) (desk : ℕ) → DesksReached peers handlers desks → k < length desks.held → held_by desks k ≡ desk ∷ [] → DesksReached peers handlers (given desks k)
+  claim : (desks : Desks) (k : ℕ) (desk : ℕ) (rest : List ℕ) → DesksReached peers handlers desks
+      → k < length desks.held → held_by desks k ≡ [] → desks.ring ≡ desk ∷ rest
+      → DesksReached peers handlers (claimed desks k)
+  give : (desks : Desks) (k : ℕ) (desk : ℕ) → DesksReached peers handlers desks
+      → k < length desks.held → held_by desks k ≡ desk ∷ []
+      → DesksReached peers handlers (given desks k)

@@ -15,11 +15,21 @@ empty_line = record { queued = []; inbox = []; taken = []; ended = false }
 
 -- after the reader put m at the back; an end mark ends the line
 abbrev pub line_put : {M : Type 0} → (M → Bool) → Line M → M → Line M
-line_put is_end line m = record { queued = line.queued ++ m ∷ []; inbox = line.inbox ++ m ∷ []; taken = line.taken; ended = is_end m }
+line_put is_end line m = record {
+  queued = line.queued ++ m ∷ [];
+  inbox = line.inbox ++ m ∷ [];
+  taken = line.taken;
+  ended = is_end m;
+}
 
 -- after the mark at the front of the inbox was taken
 abbrev pub line_taken : {M : Type 0} → Line M → Line M
-line_taken line = record { queued = line.queued; inbox = drop 1 line.inbox; taken = line.taken ++ take 1 line.inbox; ended = line.ended }
+line_taken line = record {
+  queued = line.queued;
+  inbox = drop 1 line.inbox;
+  taken = line.taken ++ take 1 line.inbox;
+  ended = line.ended;
+}
 
 -- how many connections these marks belong to: one more than there are open marks
 abbrev pub connections : {M : Type 0} → (M → Bool) → List M → ℕ
@@ -34,5 +44,7 @@ pub record MayFollow {M : Type 0} (is_open : M → Bool) (line : Line M) (m : M)
 -- the lines that puts and takes lead to from the empty one, whatever the capacity
 pub data LineReached {M : Type 0} (is_end is_open : M → Bool) : Line M → Type 0 where
   opening : LineReached is_end is_open empty_line
-  put : (line : Line M) (m : M) → LineReached is_end is_open line → MayFollow is_open line m → LineReached is_end is_open (line_put is_end line m)
-  take_front : (line : Line M) (m : M) (rest : List M) → LineReached is_end is_open line → line.inbox ≡ m ∷ rest → LineReached is_end is_open (line_taken line)
+  put : (line : Line M) (m : M) → LineReached is_end is_open line → MayFollow is_open line m
+      → LineReached is_end is_open (line_put is_end line m)
+  take_front : (line : Line M) (m : M) (rest : List M) → LineReached is_end is_open line
+      → line.inbox ≡ m ∷ rest → LineReached is_end is_open (line_taken line)

@@ -8,7 +8,10 @@ use Rattle.cb_sched.specs.Crew.{Machine, IsReached}
 abbrev pub machine_of : Inside → Machine
 machine_of a = record {
   capacity = a.capacity;
-  crew = record { lines = a.inboxes.items; desks = record { ring = a.ring.items; held = map option_to_list a.held.items } };
+  crew = record {
+    lines = a.inboxes.items;
+    desks = record { ring = a.ring.items; held = map option_to_list a.held.items };
+  };
 }
 
 -- Acts lead to the state, the ring has room for all desks, and the numbers of peers and handlers

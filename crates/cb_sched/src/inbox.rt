@@ -30,9 +30,16 @@ impl Model for Inbox {
 
     ghost Value = { Line Mark };
 
-    ghost view = { λ a. record { queued = a.marks.items; inbox = drop a.taken a.marks.items; taken = take a.taken a.marks.items; ended = a.ended } };
+    ghost view = { λ a.
+        record {
+          queued = a.marks.items;
+          inbox = drop a.taken a.marks.items;
+          taken = take a.taken a.marks.items;
+          ended = a.ended;
+        } };
 
-    ghost invariant = { λ a. (a.taken ≤ vec_len a.marks) × (a.connections ≡ line.connections is_open a.marks.items) × (a.connections ≤ 256) };
+    ghost invariant = { λ a. (a.taken ≤ vec_len a.marks)
+        × (a.connections ≡ line.connections is_open a.marks.items) × (a.connections ≤ 256) };
 }
 
 impl Inbox {

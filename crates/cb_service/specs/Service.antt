@@ -14,10 +14,12 @@ use Rattle.cb_service.specs.declared.promises.OfCrew.{OfCrew}
 use Rattle.cb_service.specs.declared.promises.OfReader.{OfReader}
 
 -- whose thread it is: the handler and its crew
-abbrev pub handler_of : {W M : Type 0} → PromisedHandle (HandlerState (DeskState W M)) (OfCrew W M) → HandlerState (DeskState W M)
+abbrev pub handler_of : {W M : Type 0} → PromisedHandle (HandlerState (DeskState W M)) (OfCrew W M)
+    → HandlerState (DeskState W M)
 handler_of thread = thread.promise.handler.value
 
-abbrev pub crew_of : {W M : Type 0} → PromisedHandle (HandlerState (DeskState W M)) (OfCrew W M) → CrewState
+abbrev pub crew_of : {W M : Type 0} → PromisedHandle (HandlerState (DeskState W M)) (OfCrew W M)
+    → CrewState
 crew_of thread = thread.promise.crew.value
 
 -- or its reader's inbox
@@ -34,7 +36,9 @@ HoldsSeat name (Some seat) = (seat.inbox ≡ name) × (length seat.queued < 2 ^ 
 HoldsSeat name None = ⊥
 
 -- a thread for each of these handlers of the crew, in their order
-pub record HandBack {W M : Type 0} (crew : CrewState) (threads : List (PromisedHandle (HandlerState (DeskState W M)) (OfCrew W M))) (handlers : List (HandlerState (DeskState W M))) : Type 0 where
+pub record HandBack {W M : Type 0} (crew : CrewState)
+    (threads : List (PromisedHandle (HandlerState (DeskState W M)) (OfCrew W M)))
+    (handlers : List (HandlerState (DeskState W M))) : Type 0 where
   pub handlers_are : map handler_of threads ≡ handlers
   pub crew_is : All (λ thread. crew_of thread ≡ crew) threads
 
@@ -54,4 +58,5 @@ EndsOrStays old new = (new ≡ old) ⊎ (new ≡ side.Ended (ended_of old))
 
 -- the same, and an end mark was queued behind fewer than 2^40 marks
 abbrev pub HasEnded : {M O : Type 0} → ReaderSide M O → ReaderSide M O → Type 0
-HasEnded old new = (new ≡ old) ⊎ ((new ≡ side.Ended (ended_of old)) × (length (queued_by old) < 2 ^ 40))
+HasEnded old new =
+    (new ≡ old) ⊎ ((new ≡ side.Ended (ended_of old)) × (length (queued_by old) < 2 ^ 40))

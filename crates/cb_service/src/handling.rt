@@ -21,9 +21,9 @@ impl AfterTurn for Nothing {
     fn after_turn<R: Wait>(&self, _rt: &R, _turn: Turn) {}
 }
 
-/// What handlers are told to do.
+/// What a handler's thread is set up with.
 #[derive(Clone, Copy, Drop)]
-pub struct Orders<H> {
+pub struct HandlerSetup<H> {
     /// How many marks a handler takes in a turn at most, 1 to 64.
     pub budget: u32,
     /// What is done after each turn.
@@ -88,8 +88,8 @@ impl Vigil {
 }
 
 /// What a handler's thread does. It makes turns until it is told to stop and a round is in vain, or
-/// it has made all its turns. It then returns its handler, after getting up, so that nobody wakes it
-/// any more. After each turn it calls the hook.
+/// it has made all its turns. It then returns its handler, after getting up, so that nobody wakes
+/// it any more. After each turn it calls the hook.
 ///
 /// So what is still queued when the last reader returns is shared by all handlers. It isn't left to
 /// the one thread that finishes the crew.
@@ -98,20 +98,20 @@ pub(crate) fn handle<W: Work, H: AfterTurn, R: Wait>(
     crew: &Crew<W>,
     mut handler: Handler<W>,
     signals: &Signals,
-    orders: &Orders<H>,
+    setup: &HandlerSetup<H>,
     bed: Bed,
 ) -> Handler<W>
     requires crew { IsHandlerOf crew.now handler }
-    requires budget { (1 ≤ orders.now.budget) × (orders.now.budget ≤ 64) }
+    requires budget { (1 ≤ setup.now.budget) × (setup.now.budget ≤ 64) }
     ensures crew { IsHandlerOf crew.now result }
     ensures room { result.room ≡ handler.room }
 {
-    let budget = orders.budget;
+    let budget = setup.budget;
     let mut vigil = Vigil::new(bed);
     for _ in rt.forever() {
         let stopped = signals.is_stopped();
         let turn = handler.turn(rt, crew, budget);
-        orders.hook.after_turn(rt, turn);
+        setup.hook.after_turn(rt, turn);
         match turn {
             Turn::Served(peer, _, _) => {
                 signals.make_room(peer);

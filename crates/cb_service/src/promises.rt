@@ -19,7 +19,8 @@ pub struct OfCrew<W: Work> {
 }
 
 impl<W: Work> Promise<Handler<W>> for OfCrew<W> {
-    ghost kept_by = { λ promise handler. IsHandlerOf promise.crew.value handler × (handler.room ≡ promise.handler.value.room) };
+    ghost kept_by = { λ promise handler. IsHandlerOf promise.crew.value handler
+        × (handler.room ≡ promise.handler.value.room) };
 }
 
 /// A promise: a reader's thread returns a side of this inbox.

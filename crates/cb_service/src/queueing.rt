@@ -137,9 +137,9 @@ pub struct Unopened<M: Drop, O: Opening + Drop> {
 /// Opens the next connection if the inbox has room, and wakes a handler that sleeps. The one before
 /// is ended first, if it lasts. It doesn't wait for room.
 ///
-/// Fails with `Fault::NoMore` if the peer has had 256 connections or the side has queued 2^40 marks,
-/// and with `Fault::Full` if the inbox was full at some moment of the call. The connection before may
-/// be ended then.
+/// Fails with `Fault::NoMore` if the peer has had 256 connections or the side has queued 2^40
+/// marks, and with `Fault::Full` if the inbox was full at some moment of the call. The connection
+/// before may be ended then.
 pub fn offer_open<M: Drop, O: Opening + Drop, R: Wait>(
     rt: &R,
     inbox: &Inbox<M, O>,
@@ -190,12 +190,12 @@ pub fn offer_open<M: Drop, O: Opening + Drop, R: Wait>(
     }
 }
 
-/// Opens the next connection, and waits while the inbox is full. The one before is ended first, if it
-/// lasts.
+/// Opens the next connection, and waits while the inbox is full. The one before is ended first, if
+/// it lasts.
 ///
 /// Fails if the peer has had 256 connections, if the side has queued 2^40 marks, or if the threads
-/// are told to return. The side then comes back, and `opening` is dropped. The connection before may
-/// be ended then.
+/// are told to return. The side then comes back, and `opening` is dropped. The connection before
+/// may be ended then.
 pub fn open<M: Drop, O: Opening + Drop, R: Wait>(
     rt: &R,
     inbox: &Inbox<M, O>,

@@ -7,8 +7,8 @@ use cb_crew::ReaderSide;
 use cb_inbox::{EndedSeat, Opening, ReaderSeat};
 use std::marker::Model;
 
-/// A reader's side of its peer's inbox, which knows how many marks it queued. Contracts see the side
-/// itself.
+/// A reader's side of its peer's inbox, which knows how many marks it queued. Contracts see the
+/// side itself.
 #[derive(Drop)]
 pub struct Side<M: Drop, O: Opening + Drop> {
     side: ReaderSide<M, O>,

@@ -17,27 +17,27 @@ const ASLEEP: u32 = 16;
 /// How the threads of a crew wait for each other. A handler sleeps while nothing is queued, and a
 /// reader while its inbox is full. No thread spins, and no sleep ends by itself.
 ///
-/// Who queues a mark or makes a tick due (1) does that, (2) loads `resting`, and (3) wakes each handler
-/// that it saw lie awake, and the first of those that it saw sleep whose bit of sleep it clears itself.
-/// So what is queued wakes one sleeper, however many there are. A handler that finds nothing to do
-/// (a) sets its first bit, and then does by turns two things: (b) it makes as many turns as there are
-/// desks, and (c) it sets its bit of sleep, sleeps, unless it was woken since its last sleep, and clears
-/// that bit. (d) It clears its first bit once a turn served something.
+/// Who queues a mark or makes a tick due (1) does that, (2) loads `resting`, and (3) wakes each
+/// handler that it saw lie awake, and the first of those that it saw sleep whose bit of sleep it
+/// clears itself. So what is queued wakes one sleeper, however many there are. A handler that finds
+/// nothing to do (a) sets its first bit, and then does by turns two things: (b) it makes as many
+/// turns as there are desks, and (c) it sets its bit of sleep, sleeps, unless it was woken since
+/// its last sleep, and clears that bit. (d) It clears its first bit once a turn served something.
 ///
 /// No wake-up is lost: some turn claims the mark's desk after (1), before all handlers sleep. All
 /// these loads and stores, the ring's and the inboxes' are in one order (`SeqCst`).
 ///
-/// - A handler that (2) saw lie awake is woken by (3), so it begins a (b) again before a sleep of it
-///   lasts. One that (2) saw do neither passes (a) after (2). So each of these makes all turns of a
-///   (b) after (1) before it sleeps for good.
-/// - If (2) saw some sleep, one of them begins a (b) after (2): the one whose bit (3) cleared, since
-///   (3) wakes it. If (3) cleared none, they were cleared since (2), by the handlers as they woke, or by
-///   others who wake them.
+/// - A handler that (2) saw lie awake is woken by (3), so it begins a (b) again before a sleep of
+///   it lasts. One that (2) saw do neither passes (a) after (2). So each of these makes all turns
+///   of a (b) after (1) before it sleeps for good.
+/// - If (2) saw some sleep, one of them begins a (b) after (2): the one whose bit (3) cleared,
+///   since (3) wakes it. If (3) cleared none, they were cleared since (2), by the handlers as they
+///   woke, or by others who wake them.
 /// - If the desk lies in the ring as such a (b) begins, a turn of it or of another handler claims
 ///   the desk: each claim moves it forward by a place, and none fails while it lies there.
 /// - If a handler holds the desk as (1) happens, it gives it back before it sleeps. Either that is
-///   before (2), so before each such (b) begins; or (2) saw it lie awake or do neither, and its own (b)
-///   begins afterwards.
+///   before (2), so before each such (b) begins; or (2) saw it lie awake or do neither, and its own
+///   (b) begins afterwards.
 #[derive(Drop)]
 pub struct Signals {
     stopped: AtomicBool,
@@ -145,8 +145,8 @@ impl Signals {
         }
     }
 
-    /// Wakes a peer's reader if it waits: its inbox has room, or it is to look at a stop flag of its
-    /// own.
+    /// Wakes a peer's reader if it waits: its inbox has room, or it is to look at a stop flag of
+    /// its own.
     pub fn make_room(&self, peer: u16) {
         if let Some(reader) = self.readers.get(usize::from(peer)) {
             reader.wake();

@@ -6,8 +6,8 @@ use crossbeam_utils::sync::{Parker, Unparker};
 use std::alloc::Global;
 use std::sync::{Mutex, Wait};
 
-/// Where a thread sleeps until another wakes it, on a parker. One thread at a time sleeps there; the
-/// lock is its own while it sleeps.
+/// Where a thread sleeps until another wakes it, on a parker. One thread at a time sleeps there;
+/// the lock is its own while it sleeps.
 #[derive(Drop)]
 pub struct Sleeper {
     parker: Mutex<Parker>,

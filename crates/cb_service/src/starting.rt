@@ -3,12 +3,12 @@ ghost use Rattle.cb_crew.specs.declared.reader_side.ReaderSide.TheVariants.{Live
 ghost use Rattle.cb_crew.specs.Crew.{IsHandlerOf, inbox_of};
 ghost use Rattle.cb_service.specs.Service.{HandBack, IsInboxAt, crew_of, handler_of, inbox_for};
 
-use crate::handling::{AfterTurn, Orders, handle};
+use crate::handling::{AfterTurn, HandlerSetup, handle};
 use crate::promises::{Handling, OfCrew, OfReader, Reading, join_handler};
 use crate::reader::{Reader, read_from};
-use crate::refusal::Refusal;
 use crate::side::Side;
 use crate::signals::Signals;
+use crate::thread_fault::ThreadFault;
 use cb_base::Shared;
 use cb_crew::{Crew, Fresh, Handler, ReaderSide, Work};
 use cb_inbox::{Opening, ReaderSeat};
@@ -24,21 +24,21 @@ use std::thread::Threads;
 #[derive(Drop)]
 pub struct NoHandler<W: Work> {
     pub handler: Handler<W>,
-    pub cause: Refusal,
+    pub cause: ThreadFault,
 }
 
 /// A reader's seat that got no thread, and why. The reader itself is dropped.
 #[derive(Drop)]
 pub struct NoReader<W: Work> {
     pub seat: ReaderSeat<W::Item, Fresh<W>>,
-    pub cause: Refusal,
+    pub cause: ThreadFault,
 }
 
 /// Starts a handler's thread, which may outlive the call. It returns its handler once the signals
 /// tell it to stop, or once it has made all its turns.
 ///
-/// Fails with `Refusal::Thread` if no thread can be made or the signals are for fewer handlers, and
-/// with `Refusal::Memory` if memory runs out. The handler then comes back.
+/// Fails with `ThreadFault::Thread` if no thread can be made or the signals are for fewer handlers,
+/// and with `ThreadFault::Memory` if memory runs out. The handler then comes back.
 pub fn start_handler<
     W: Work + Send + 'static,
     H: AfterTurn + Drop + Send + 'static,
@@ -48,12 +48,12 @@ pub fn start_handler<
     alloc: Global,
     crew: Shared<Crew<W>>,
     signals: Shared<Signals>,
-    orders: Orders<H>,
+    setup: HandlerSetup<H>,
     handler: Handler<W>,
 ) -> Result<Handling<W>, NoHandler<W>>
 where
     W::Item: Send + 'static,
-    requires budget { (1 ≤ orders.budget) × (orders.budget ≤ 64) }
+    requires budget { (1 ≤ setup.budget) × (setup.budget ≤ 64) }
     requires handler { IsHandlerOf crew handler }
     ensures started { IfOk result
         (λ thread. (crew_of thread ≡ crew) × (handler_of thread ≡ handler)) }
@@ -63,13 +63,13 @@ where
     let Some(bed) = signals.bed() else {
         return Err(NoHandler {
             handler,
-            cause: Refusal::Thread,
+            cause: ThreadFault::Thread,
         });
     };
     let Ok((off, flag)) = new_flag(alloc) else {
         return Err(NoHandler {
             handler,
-            cause: Refusal::Memory,
+            cause: ThreadFault::Memory,
         });
     };
     let promise = OfCrew {
@@ -81,14 +81,14 @@ where
         rt,
         promise,
         move || -> Handler<W>
-            requires { IsHandlerOf crew handler × (1 ≤ orders.budget) × (orders.budget ≤ 64) }
+            requires { IsHandlerOf crew handler × (1 ≤ setup.budget) × (setup.budget ≤ 64) }
             ensures { IsHandlerOf crew result × (result.room ≡ handler.room) }
         {
-            let (rt, crew, signals, orders) = (rt_of_thread, crew, signals, orders);
+            let (rt, crew, signals, setup) = (rt_of_thread, crew, signals, setup);
             if flag.load(Ordering::SeqCst) {
                 return handler;
             }
-            handle(&rt, &crew, handler, &signals, &orders, bed)
+            handle(&rt, &crew, handler, &signals, &setup, bed)
         },
     );
     match started {
@@ -98,15 +98,15 @@ where
             off.store(true, Ordering::SeqCst);
             Err(NoHandler {
                 handler: (refused.value)(),
-                cause: Refusal::Thread,
+                cause: ThreadFault::Thread,
             })
         }
     }
 }
 
-#[tactic(auto, using(crate::proofs::Threads::next_has))]
 /// Starts a thread for each of these handlers, whose hook is a clone of the given one. If one can't
 /// be started, tells all to return, and waits until those do that were; the handlers are dropped.
+#[tactic(auto, using(crate::proofs::Threads::next_has))]
 pub fn start_handlers<
     W: Work + Send + 'static,
     H: AfterTurn + Clone + Drop + Send + 'static,
@@ -116,18 +116,18 @@ pub fn start_handlers<
     alloc: Global,
     crew: &Shared<Crew<W>>,
     signals: &Shared<Signals>,
-    orders: &Orders<H>,
+    setup: &HandlerSetup<H>,
     handlers: Vec<Handler<W>>,
-) -> Result<Vec<Handling<W>>, Refusal>
+) -> Result<Vec<Handling<W>>, ThreadFault>
 where
     W::Item: Send + 'static,
-    requires budget { (1 ≤ orders.now.budget) × (orders.now.budget ≤ 64) }
+    requires budget { (1 ≤ setup.now.budget) × (setup.now.budget ≤ 64) }
     requires handlers { All (IsHandlerOf crew.now) handlers.items }
     ensures { IfOk result (λ threads. HandBack crew.now threads.items handlers.items) }
 {
     let mut threads = Vec::with_capacity(alloc, handlers.len())?;
     for handler in handlers {
-        match start_one(rt, alloc, crew, signals, orders, handler) {
+        match start_one(rt, alloc, crew, signals, setup, handler) {
             Ok(thread) => threads.push_reserved(thread),
             Err(cause) => {
                 signals.stop();
@@ -148,29 +148,33 @@ fn start_one<
     alloc: Global,
     crew: &Shared<Crew<W>>,
     signals: &Shared<Signals>,
-    orders: &Orders<H>,
+    setup: &HandlerSetup<H>,
     handler: Handler<W>,
-) -> Result<Handling<W>, Refusal>
+) -> Result<Handling<W>, ThreadFault>
 where
     W::Item: Send + 'static,
-    requires budget { (1 ≤ orders.now.budget) × (orders.now.budget ≤ 64) }
+    requires budget { (1 ≤ setup.now.budget) × (setup.now.budget ≤ 64) }
     requires handler { IsHandlerOf crew.now handler }
     ensures { IfOk result
         (λ thread. (crew_of thread ≡ crew.now) × (handler_of thread ≡ handler)) }
 {
-    let orders = Orders {
-        budget: orders.budget,
-        hook: orders.hook.clone()?,
+    let setup = HandlerSetup {
+        budget: setup.budget,
+        hook: setup.hook.clone()?,
     };
     let (crew, signals) = (crew.clone()?, signals.clone()?);
-    match start_handler(rt, alloc, crew, signals, orders, handler) {
+    match start_handler(rt, alloc, crew, signals, setup, handler) {
         Ok(thread) => Ok(thread),
         Err(refused) => Err(refused.cause),
     }
 }
 
 /// Waits until these threads return. Returns the given cause.
-fn joined<W: Work, R: Threads>(rt: &R, threads: Vec<Handling<W>>, cause: Refusal) -> Refusal {
+fn joined<W: Work, R: Threads>(
+    rt: &R,
+    threads: Vec<Handling<W>>,
+    cause: ThreadFault,
+) -> ThreadFault {
     for thread in threads {
         drop(join_handler(rt, thread));
     }
@@ -180,8 +184,8 @@ fn joined<W: Work, R: Threads>(rt: &R, threads: Vec<Handling<W>>, cause: Refusal
 /// Starts the thread of a peer's reader, which may outlive the call. It returns the reader's side
 /// once the reader has read all, or was told to stop.
 ///
-/// Fails with `Refusal::Thread` if no thread can be made, and with `Refusal::Memory` if memory runs
-/// out. The seat then comes back, and the reader is dropped.
+/// Fails with `ThreadFault::Thread` if no thread can be made, and with `ThreadFault::Memory` if
+/// memory runs out. The seat then comes back, and the reader is dropped.
 pub fn start_reader<
     W: Work + Send + 'static,
     D: Reader<W::Item, Fresh<W>> + Send + 'static,
@@ -207,7 +211,7 @@ where
     let Ok((off, flag)) = new_flag(alloc) else {
         return Err(NoReader {
             seat,
-            cause: Refusal::Memory,
+            cause: ThreadFault::Memory,
         });
     };
     let promise = OfReader {
@@ -236,15 +240,15 @@ where
             off.store(true, Ordering::SeqCst);
             Err(NoReader {
                 seat: live_seat(rt, (refused.value)()),
-                cause: Refusal::Thread,
+                cause: ThreadFault::Thread,
             })
         }
     }
 }
 
-/// The seat of a side whose connection lasts. A thread that wasn't started leaves it so, but no clause
-/// can tell that: it depends on a flag that threads share. If it were otherwise, this would wait for
-/// ever.
+/// The seat of a side whose connection lasts. A thread that wasn't started leaves it so, but no
+/// clause can tell that: it depends on a flag that threads share. If it were otherwise, this would
+/// wait for ever.
 fn live_seat<M: Drop, O: Opening + Drop, R: Wait>(rt: &R, side: Side<M, O>) -> ReaderSeat<M, O>
     ensures same { side ≡ Live result }
     ensures place { length result.queued < 2 ^ 48 }

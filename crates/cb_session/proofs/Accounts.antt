@@ -10,9 +10,9 @@ use Rattle.cb_base.specs.declared.fault.Fault.TheVariants.{JournalFull, Memory}
 use Rattle.cb_wire.specs.declared.message.Message.{Message}
 use Rattle.cb_wire.specs.Envelope.{envelope_text, text}
 use Rattle.cb_wire.specs.Stream.{texts}
-use Rattle.cb_outgoing.specs.Writing.{counted, IsTextOfLast, Wrote}
-use Rattle.cb_outgoing.proofs.Writes.{tells_still}
-use Rattle.cb_io.proofs.Known.{Appends-then}
+use Rattle.cb_talk.specs.Writing.{counted, IsTextOfLast, Wrote}
+use Rattle.cb_talk.proofs.Writes.{tells_still}
+use Rattle.cb_base.proofs.Known.{Appends-then}
 use Rattle.cb_journal.specs.declared.answer.Answer.{Answer}
 use Rattle.cb_journal.specs.declared.question.Question.{Question}
 use Rattle.cb_hall.specs.Badge.{BadgeState}
@@ -26,7 +26,7 @@ use Rattle.cb_peer_state.specs.Event.{Kind, begins, ends_at_once, is_hall_full, 
 use Rattle.cb_peer_state.specs.Session.{Stepped}
 use Rattle.cb_peer_state.specs.declared.session_state.SessionState.{SessionState}
 use Rattle.cb_peer_state.specs.State.{is_closed}
-use Rattle.cb_peer_laws.proofs.Steps.{no_question, none_pending, some_left}
+use Rattle.cb_peer_state.proofs.Steps.{no_question, none_pending, some_left}
 use Rattle.cb_trace.specs.Fold.{Account, EachOpen, account_of, account_step, entry_step, first_account, has_kind, inputs_of, number_of, replies, replies_to, sends, session_of}
 use Rattle.cb_trace.specs.Trace.{AsksPending, Grows, IsAsBefore, IsOpen, Readied, TraceSteps, TraceView, next_step}
 use Rattle.cb_trace.proofs.Entries.{entry_ends, entry_fewer, entry_over}

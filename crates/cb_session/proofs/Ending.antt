@@ -5,7 +5,7 @@ use Rattle.cb_base.specs.declared.fault.Fault.{Fault}
 use Rattle.cb_wire.specs.declared.message.Message.{Message}
 use Rattle.cb_wire.specs.Stream.{Assembled, Ends, texts}
 use Rattle.cb_wire.proofs.Streams.{front_at-nil}
-use Rattle.cb_io.proofs.Known.{Appends-nothing, Consumes-nothing, Keeps-same}
+use Rattle.cb_base.proofs.Known.{Appends-nothing, Consumes-nothing, Keeps-same}
 use Rattle.cb_hall.specs.Badge.{BadgeState}
 use Rattle.cb_hall.specs.Histories.{Reply}
 use Rattle.cb_peer_state.specs.declared.settings.Settings.{Settings}
@@ -17,8 +17,8 @@ use Rattle.cb_peer_state.specs.State.{is_closed}
 use Rattle.cb_trace.specs.Fold.{account_of, session_of}
 use Rattle.cb_trace.specs.Prompt.{NonePending}
 use Rattle.cb_trace.specs.Trace.{StandsFor, TraceView}
-use Rattle.cb_io.specs.declared.read_end.ReadEnd.{ReadEnd}
-use Rattle.cb_io.specs.declared.read_end.ReadEnd.TheVariants as ends
+use Rattle.cb_base.specs.declared.read_end.ReadEnd.{ReadEnd}
+use Rattle.cb_base.specs.declared.read_end.ReadEnd.TheVariants as ends
 use Rattle.cb_session.specs.Conversation.{Gave, IsAnswered, Origin, Progress, Settled, origin_of, progress}
 use Rattle.cb_session.specs.Serving.{Heard, HeardBy, IsInOrder, Serves, broken, end_mark, queue, said}
 use Rattle.cb_session.proofs.Accounts.{AccountsOf, IsOracle, open_kept}

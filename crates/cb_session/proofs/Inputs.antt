@@ -13,7 +13,7 @@ use Rattle.cb_wire.specs.declared.envelope.Front.TheVariants.{Partial, Broken, W
 use Rattle.cb_wire.specs.Envelope.{front_at}
 use Rattle.cb_wire.specs.Stream.{Assembled, Ends, Stream}
 use Rattle.cb_wire.proofs.Streams.{Stream-grows, reading_of}
-use Rattle.cb_io.proofs.Known.{Consumes-nothing, Consumes-then}
+use Rattle.cb_base.proofs.Known.{Consumes-nothing, Consumes-then}
 use Rattle.cb_hall.specs.Badge.{BadgeState}
 use Rattle.cb_hall.specs.Histories.{Reply}
 use Rattle.cb_peer_state.specs.declared.settings.Settings.{Settings}
@@ -27,8 +27,8 @@ use Rattle.cb_peer_state.specs.Event.{is_input, is_reader_end, kind_of}
 use Rattle.cb_peer_state.specs.State.{is_closed}
 use Rattle.cb_trace.specs.Fold.{Account, EachOpen, account_of, account_step, first_account, inputs_of, session_of}
 use Rattle.cb_trace.proofs.Entries.{entry_bye}
-use Rattle.cb_io.specs.declared.read_end.ReadEnd.{ReadEnd}
-use Rattle.cb_io.specs.declared.read_end.ReadEnd.TheVariants as ends
+use Rattle.cb_base.specs.declared.read_end.ReadEnd.{ReadEnd}
+use Rattle.cb_base.specs.declared.read_end.ReadEnd.TheVariants as ends
 use Rattle.cb_session.specs.Conversation.{Accounts, Gave, GaveItem, Origin, Progress, Settled}
 use Rattle.cb_session.specs.Serving.{EndsSo, Heard, HeardBy, IsInOrder, Pieced, Took, broken, end_mark, has_end, queue, said}
 use Rattle.cb_session.proofs.Accounts.{ok_err, open_kept, sent_lost}

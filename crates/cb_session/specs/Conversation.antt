@@ -4,7 +4,7 @@ use Rattle.cb_base.specs.declared.fault.Fault.{Fault}
 use Rattle.cb_base.specs.declared.fault.Fault.TheVariants.{JournalFull, Memory}
 use Rattle.cb_wire.specs.declared.item.Item.{Item}
 use Rattle.cb_wire.specs.Stream.{texts}
-use Rattle.cb_outgoing.specs.Writing.{Wrote}
+use Rattle.cb_talk.specs.Writing.{Wrote}
 use Rattle.cb_hall.specs.Badge.{BadgeState}
 use Rattle.cb_hall.specs.Histories.{Reply}
 use Rattle.cb_journal.specs.declared.question.Question.{Question}
@@ -38,7 +38,14 @@ pub record Origin (H : Type 0) : Type 0 where
 
 -- A conversation that began here and was given no tick.
 abbrev pub origin_of : {H : Type 0} → Settings → H → BadgeState → Option (List ℕ) → Bool → Origin H
-origin_of settings hall badge held failed = record { settings = settings; hall = hall; badge = badge; held = held; failed = failed; ticks = 0 }
+origin_of settings hall badge held failed = record {
+  settings = settings;
+  hall = hall;
+  badge = badge;
+  held = held;
+  failed = failed;
+  ticks = 0;
+}
 
 -- The session was given one more tick.
 abbrev pub with_tick : {H : Type 0} → Origin H → Origin H
@@ -66,8 +73,16 @@ pub record Progress (H : Type 0) : Type 0 where
   pub failed : Bool
   pub written : ℕ
 
-abbrev pub progress : {H : Type 0} → TraceView → H → BadgeState → Option (List ℕ) → Bool → ℕ → Progress H
-progress trace hall badge held failed written = record { trace = trace; hall = hall; badge = badge; held = held; failed = failed; written = written }
+abbrev pub progress : {H : Type 0} → TraceView → H → BadgeState → Option (List ℕ) → Bool → ℕ
+    → Progress H
+progress trace hall badge held failed written = record {
+  trace = trace;
+  hall = hall;
+  badge = badge;
+  held = held;
+  failed = failed;
+  written = written;
+}
 
 -- How far this conversation is, by what its sink holds and whether it has failed.
 abbrev pub at : {W H : Type 0} → (W → Option (List ℕ)) → (W → Bool) → Conversation W H → Progress H
@@ -87,13 +102,16 @@ HasNoPlace trace = (trace.room ≡ 0) ⊎ HadNoBase trace
 -- A conversation ran out of memory: its trace has no room for another entry or had no memory for a
 -- checkpoint, the hall refused a question with `Memory`, or messages were left unwritten.
 abbrev pub Lacked : {H : Type 0} → (H → BadgeState → Fault → Type 0) → Progress H → List ℕ → Type 0
-Lacked refused now missing = HasNoPlace now.trace ⊎ (refused now.hall now.badge Memory ⊎ (missing ≢ []))
+Lacked refused now missing =
+    HasNoPlace now.trace ⊎ (refused now.hall now.badge Memory ⊎ (missing ≢ []))
 
 -- The account of a conversation. These inputs were given. These bytes of what was sent are missing.
 -- `lost` says whether an event came that may leave bytes missing. `unkept` says whether something
 -- from the peer may have been dropped because memory ran out. `told` says what the hall answered,
 -- and `refused` what it refused.
-pub record Accounts {H : Type 0} (told : H → BadgeState → List Reply → H → BadgeState → Type 0) (refused : H → BadgeState → Fault → Type 0) (from : Origin H) (now : Progress H) (inputs : List Event) (missing : List ℕ) (lost unkept : Bool) : Type 0 where
+pub record Accounts {H : Type 0} (told : H → BadgeState → List Reply → H → BadgeState → Type 0)
+    (refused : H → BadgeState → Fault → Type 0) (from : Origin H) (now : Progress H)
+    (inputs : List Event) (missing : List ℕ) (lost unkept : Bool) : Type 0 where
   pub settings : now.trace.settings ≡ from.settings
   -- All entries since the beginning.
   pub history : List TraceEntry
@@ -109,18 +127,23 @@ pub record Accounts {H : Type 0} (told : H → BadgeState → List Reply → H �
   -- Each cause is true.
   pub write_fault : has_kind is_write_fault history ≡ true → now.failed ≡ true
   pub hall_full : has_kind is_hall_full history ≡ true → refused now.hall now.badge JournalFull
-  pub no_memory : has_kind is_no_memory history ≡ true → Lacked refused now missing ⊎ (unkept ≡ true)
+  pub no_memory : has_kind is_no_memory history ≡ true
+      → Lacked refused now missing ⊎ (unkept ≡ true)
   pub ticks_are : number_of is_tick history ≡ from.ticks
   pub losses : has_kind loses history ≡ lost
 
 -- The account while messages are still to be written.
-pub record Underway {H : Type 0} (told : H → BadgeState → List Reply → H → BadgeState → Type 0) (refused : H → BadgeState → Fault → Type 0) (from : Origin H) (now : Progress H) (inputs : List Event) (missing : List ℕ) (unkept : Bool) : Type 0 where
+pub record Underway {H : Type 0} (told : H → BadgeState → List Reply → H → BadgeState → Type 0)
+    (refused : H → BadgeState → Fault → Type 0) (from : Origin H) (now : Progress H)
+    (inputs : List Event) (missing : List ℕ) (unkept : Bool) : Type 0 where
   pub lost : Bool
   pub accounts : Accounts told refused from now inputs missing lost unkept
 
 -- The account with only these bytes (`later`) still to be written: everything else that was sent
 -- was written, unless a write failed or memory ran out.
-pub record Sent {H : Type 0} (told : H → BadgeState → List Reply → H → BadgeState → Type 0) (refused : H → BadgeState → Fault → Type 0) (from : Origin H) (now : Progress H) (inputs : List Event) (later : List ℕ) (unkept : Bool) : Type 0 where
+pub record Sent {H : Type 0} (told : H → BadgeState → List Reply → H → BadgeState → Type 0)
+    (refused : H → BadgeState → Fault → Type 0) (from : Origin H) (now : Progress H)
+    (inputs : List Event) (later : List ℕ) (unkept : Bool) : Type 0 where
   pub missing : List ℕ
   pub lost : Bool
   pub accounts : Accounts told refused from now inputs missing lost unkept
@@ -133,31 +156,42 @@ abbrev pub IsAnswered : TraceView → Type 0
 IsAnswered trace = is_closed trace.session.state ≡ false → trace.session.pending ≡ None
 
 -- The account with no message still to be written and no question open.
-pub record Settled {H : Type 0} (told : H → BadgeState → List Reply → H → BadgeState → Type 0) (refused : H → BadgeState → Fault → Type 0) (from : Origin H) (now : Progress H) (inputs : List Event) (unkept : Bool) : Type 0 where
+pub record Settled {H : Type 0} (told : H → BadgeState → List Reply → H → BadgeState → Type 0)
+    (refused : H → BadgeState → Fault → Type 0) (from : Origin H) (now : Progress H)
+    (inputs : List Event) (unkept : Bool) : Type 0 where
   pub sent : Sent told refused from now inputs [] unkept
   pub answered : IsAnswered now.trace
 
 -- The account between two inputs: no question is open, and only these bytes (`held_back`) are still
 -- to be written. While there are any, the hall has answered nothing.
-pub record Stands {H : Type 0} (told : H → BadgeState → List Reply → H → BadgeState → Type 0) (refused : H → BadgeState → Fault → Type 0) (from : Origin H) (now : Progress H) (inputs : List Event) (held_back : List ℕ) (unkept : Bool) : Type 0 where
+pub record Stands {H : Type 0} (told : H → BadgeState → List Reply → H → BadgeState → Type 0)
+    (refused : H → BadgeState → Fault → Type 0) (from : Origin H) (now : Progress H)
+    (inputs : List Event) (held_back : List ℕ) (unkept : Bool) : Type 0 where
   pub sent : Sent told refused from now inputs held_back unkept
   pub unasked : held_back ≢ [] → has_kind is_told sent.accounts.history ≡ false
   pub answered : IsAnswered now.trace
 
 -- An input was given. Or there was no room for it, and the session ended.
-pub record Gave {H : Type 0} (told : H → BadgeState → List Reply → H → BadgeState → Type 0) (refused : H → BadgeState → Fault → Type 0) (from : Origin H) (now : Progress H) (inputs : List Event) (event : Event) : Type 0 where
+pub record Gave {H : Type 0} (told : H → BadgeState → List Reply → H → BadgeState → Type 0)
+    (refused : H → BadgeState → Fault → Type 0) (from : Origin H) (now : Progress H)
+    (inputs : List Event) (event : Event) : Type 0 where
   pub given : List Event
   pub settled : Settled told refused from now given false
-  pub which : (given ≡ inputs ++ event ∷ []) ⊎ ((given ≡ inputs) × (is_closed now.trace.session.state ≡ true))
+  pub which : (given ≡ inputs ++ event ∷ [])
+      ⊎ ((given ≡ inputs) × (is_closed now.trace.session.state ≡ true))
 
 -- An item couldn't be kept, and the session ended.
-pub record Unkept {H : Type 0} (told : H → BadgeState → List Reply → H → BadgeState → Type 0) (refused : H → BadgeState → Fault → Type 0) (from : Origin H) (now : Progress H) (inputs : List Event) : Type 0 where
+pub record Unkept {H : Type 0} (told : H → BadgeState → List Reply → H → BadgeState → Type 0)
+    (refused : H → BadgeState → Fault → Type 0) (from : Origin H) (now : Progress H)
+    (inputs : List Event) : Type 0 where
   pub settled : Settled told refused from now inputs true
   pub closed : is_closed now.trace.session.state ≡ true
 
 -- An item was given, or it couldn't be kept.
-abbrev pub GaveItem : {H : Type 0} → (H → BadgeState → List Reply → H → BadgeState → Type 0) → (H → BadgeState → Fault → Type 0) → Origin H → Progress H → List Event → Item → Type 0
-GaveItem told refused from now inputs item = Gave told refused from now inputs (events.Said item) ⊎ Unkept told refused from now inputs
+abbrev pub GaveItem : {H : Type 0} → (H → BadgeState → List Reply → H → BadgeState → Type 0)
+    → (H → BadgeState → Fault → Type 0) → Origin H → Progress H → List Event → Item → Type 0
+GaveItem told refused from now inputs item =
+    Gave told refused from now inputs (events.Said item) ⊎ Unkept told refused from now inputs
 
 -- While the session isn't over, no write has failed.
 abbrev pub WritesOn : TraceView → Bool → Type 0
@@ -173,7 +207,9 @@ open_question trace = if is_closed trace.session.state then None else pending_qu
 
 -- While the session isn't over, this is the open question, or there is none to ask.
 abbrev pub MayAsk : TraceView → Option Question → Type 0
-MayAsk trace next = (question : Question) → next ≡ Some question → is_closed trace.session.state ≡ false → pending_question trace.session ≡ Some question
+MayAsk trace next =
+    (question : Question) → next ≡ Some question → is_closed trace.session.state ≡ false
+    → pending_question trace.session ≡ Some question
 
 -- While the session isn't over, this is its open question, or it has none.
 abbrev pub IsPending : TraceView → Option Question → Type 0
@@ -186,8 +222,14 @@ pub record IsLoss (event : Event) : Type 0 where
   pub ends : ends_at_once event ≡ true
 
 -- The outcome of a question to the hall, as an event. An answer fits the question.
-abbrev pub AnswerOf : {H : Type 0} → (H → BadgeState → List Reply → H → BadgeState → Type 0) → (H → BadgeState → Fault → Type 0) → H → BadgeState → H → BadgeState → Question → Event → Type 0
-AnswerOf told refused old had new has question (events.Told answer) = told old had (record { question = question; answer = answer } ∷ []) new has × (fits question answer ≡ true)
-AnswerOf told refused old had new has question events.HallFull = told old had [] new has × refused new has JournalFull
-AnswerOf told refused old had new has question events.NoMemory = told old had [] new has × refused new has Memory
+abbrev pub AnswerOf : {H : Type 0} → (H → BadgeState → List Reply → H → BadgeState → Type 0)
+    → (H → BadgeState → Fault → Type 0) → H → BadgeState → H → BadgeState → Question → Event
+    → Type 0
+AnswerOf told refused old had new has question (events.Told answer) =
+    told old had (record { question = question; answer = answer } ∷ []) new has
+    × (fits question answer ≡ true)
+AnswerOf told refused old had new has question events.HallFull =
+    told old had [] new has × refused new has JournalFull
+AnswerOf told refused old had new has question events.NoMemory =
+    told old had [] new has × refused new has Memory
 AnswerOf told refused old had new has question other = ⊥

@@ -17,8 +17,8 @@ use Rattle.cb_peer_state.specs.Event.{is_reader_end}
 use Rattle.cb_peer_state.specs.State.{is_closed}
 use Rattle.cb_trace.specs.Fold.{EachOpen, first_account, inputs_of, session_of}
 use Rattle.cb_trace.specs.Prompt.{IsPrompt}
-use Rattle.cb_io.specs.declared.read_end.ReadEnd.{ReadEnd}
-use Rattle.cb_io.specs.declared.read_end.ReadEnd.TheVariants as ends
+use Rattle.cb_base.specs.declared.read_end.ReadEnd.{ReadEnd}
+use Rattle.cb_base.specs.declared.read_end.ReadEnd.TheVariants as ends
 use Rattle.cb_session.specs.Conversation.{Origin, Progress, Settled}
 
 -- ---- what is to be processed
@@ -44,7 +44,8 @@ queue items fault end = said items ++ (broken fault ++ end_mark end)
 
 -- What was processed is a prefix of what was to be processed: each once and in order, and nothing
 -- after the session's end. If the peer's end closed the session, everything was processed.
-pub record IsInOrder (queued : List Event) (settings : Settings) (history : List TraceEntry) : Type 0 where
+pub record IsInOrder (queued : List Event) (settings : Settings) (history : List TraceEntry)
+    : Type 0 where
   pub later : List Event
   pub beginning : inputs_of history ++ later ≡ queued
   pub none_after : EachOpen (first_account settings) history
@@ -57,7 +58,9 @@ has_end history = list_any (λ entry. is_reader_end entry.event) history
 -- ---- items and pieces
 
 -- The first of these items were given, and all of them if the session isn't over.
-pub record Took {H : Type 0} (told : H → BadgeState → List Reply → H → BadgeState → Type 0) (refused : H → BadgeState → Fault → Type 0) (from : Origin H) (now : Progress H) (inputs : List Event) (items : List Item) : Type 0 where
+pub record Took {H : Type 0} (told : H → BadgeState → List Reply → H → BadgeState → Type 0)
+    (refused : H → BadgeState → Fault → Type 0) (from : Origin H) (now : Progress H)
+    (inputs : List Event) (items : List Item) : Type 0 where
   pub front : List Item
   pub rest : List Item
   pub parts : items ≡ front ++ rest
@@ -68,7 +71,8 @@ pub record Took {H : Type 0} (told : H → BadgeState → List Reply → H → B
   pub all : is_closed now.trace.session.state ≡ false → rest ≡ []
 
 -- Nothing is left to be given.
-pub record IsCaughtUp (rest : List ℕ) (fault : Option Fault) (later : List Event) (assembled : Assembled) : Type 0 where
+pub record IsCaughtUp (rest : List ℕ) (fault : Option Fault) (later : List Event)
+    (assembled : Assembled) : Type 0 where
   pub rest_is : rest ≡ assembled.rest
   pub fault_is : assembled.fault ≡ None
   pub no_fault : fault ≡ None
@@ -81,7 +85,9 @@ IsShort inputs items rest fault = (inputs ≢ said items ++ broken fault) ⊎ (r
 -- What a connection has heard of these bytes. The inputs given are a prefix of what the bytes
 -- spell. While the session isn't over, they are all of it, and the assembler keeps the remaining
 -- bytes.
-pub record Pieced {H : Type 0} (told : H → BadgeState → List Reply → H → BadgeState → Type 0) (refused : H → BadgeState → Fault → Type 0) (from : Origin H) (now : Progress H) (bytes : List ℕ) (assembled : Assembled) : Type 0 where
+pub record Pieced {H : Type 0} (told : H → BadgeState → List Reply → H → BadgeState → Type 0)
+    (refused : H → BadgeState → Fault → Type 0) (from : Origin H) (now : Progress H)
+    (bytes : List ℕ) (assembled : Assembled) : Type 0 where
   pub items : List Item
   pub rest : List ℕ
   pub fault : Option Fault
@@ -95,7 +101,10 @@ pub record Pieced {H : Type 0} (told : H → BadgeState → List Reply → H →
   pub going : is_closed now.trace.session.state ≡ false → IsCaughtUp rest fault later assembled
 
 -- The same for the bytes that a source gave, after a number of reads.
-pub record HeardBy {H : Type 0} (told : H → BadgeState → List Reply → H → BadgeState → Type 0) (refused : H → BadgeState → Fault → Type 0) (from : Origin H) (input remaining : Option (List ℕ)) (now : Progress H) (assembled : Assembled) (turns : ℕ) : Type 0 where
+pub record HeardBy {H : Type 0} (told : H → BadgeState → List Reply → H → BadgeState → Type 0)
+    (refused : H → BadgeState → Fault → Type 0) (from : Origin H)
+    (input remaining : Option (List ℕ)) (now : Progress H) (assembled : Assembled) (turns : ℕ)
+    : Type 0 where
   pub read : List ℕ
   pub consumed : Consumes input remaining read
   pub enough : turns ≤ length read
@@ -109,7 +118,10 @@ EndsSo ends.Turns remaining failed read = 2 ^ 40 ≤ length read
 EndsSo ends.Stopped remaining failed read = Unit {0}
 
 -- What a connection has heard when reading has ended.
-pub record Heard {H : Type 0} (told : H → BadgeState → List Reply → H → BadgeState → Type 0) (refused : H → BadgeState → Fault → Type 0) (from : Origin H) (input remaining : Option (List ℕ)) (failed : Bool) (now : Progress H) (end : ReadEnd) : Type 0 where
+pub record Heard {H : Type 0} (told : H → BadgeState → List Reply → H → BadgeState → Type 0)
+    (refused : H → BadgeState → Fault → Type 0) (from : Origin H)
+    (input remaining : Option (List ℕ)) (failed : Bool) (now : Progress H) (end : ReadEnd)
+    : Type 0 where
   pub read : List ℕ
   pub consumed : Consumes input remaining read
   pub assembled : Assembled
@@ -118,7 +130,10 @@ pub record Heard {H : Type 0} (told : H → BadgeState → List Reply → H → 
 
 -- The result of serving a connection: from its source before (`input`) to its source after
 -- (`remaining`).
-pub record Serves {H : Type 0} (told : H → BadgeState → List Reply → H → BadgeState → Type 0) (refused : H → BadgeState → Fault → Type 0) (from : Origin H) (input remaining : Option (List ℕ)) (read_failed : Bool) (now : Progress H) (end : ReadEnd) : Type 0 where
+pub record Serves {H : Type 0} (told : H → BadgeState → List Reply → H → BadgeState → Type 0)
+    (refused : H → BadgeState → Fault → Type 0) (from : Origin H)
+    (input remaining : Option (List ℕ)) (read_failed : Bool) (now : Progress H) (end : ReadEnd)
+    : Type 0 where
   -- The bytes read. If the source says which bytes it gives, it gave these.
   pub read : List ℕ
   pub consumed : Consumes input remaining read

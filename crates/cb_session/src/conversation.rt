@@ -3,7 +3,7 @@
 ghost use Rattle.std.specs.Prelude.{◌≡◌, ◌≢◌, ◌⊎◌, ◌<◌, ◌≤◌, ◌++◌, true, false, Bool, List, ℕ, [], length, Option, Some, None, IfSome, if◌then◌else◌};
 ghost use Rattle.cb_wire.specs.Stream.{texts};
 ghost use Rattle.cb_wire.specs.declared.item.Item.{Item};
-ghost use Rattle.cb_outgoing.specs.Writing.{IsOfSink};
+ghost use Rattle.cb_talk.specs.Writing.{IsOfSink};
 ghost use Rattle.cb_peer_state.specs.declared.event.Event.{Event};
 ghost use Rattle.cb_peer_state.specs.declared.event.Event.TheVariants as events;
 ghost use Rattle.cb_peer_state.specs.Event.{begins, ends_at_once, is_input, is_no_memory, is_write_fault, kind_of, loses};
@@ -14,8 +14,8 @@ ghost use Rattle.cb_session.specs.Conversation.{Accounts, AnswerOf, Gave, GaveIt
 use cb_base::{Fault, Shared};
 use cb_hall::Badge;
 use cb_journal::Question;
-use cb_outgoing::{MessageSink, Outgoing, WriteFault, write_out};
 use cb_peer::{Event, State};
+use cb_talk::{MessageSink, Outgoing, WriteFault, write_out};
 use cb_trace::{Oracle, Trace};
 use cb_wire::Item;
 use std::alloc::Global;
@@ -37,7 +37,8 @@ pub struct Conversation<'a, W, H> {
 }
 
 impl<'a, W: MessageSink, H: Oracle> Conversation<'a, W, H> {
-    /// A conversation over these, with `written` bytes already written. Messages are counted from 0.
+    /// A conversation over these, with `written` bytes already written. Messages are counted from
+    /// 0.
     pub fn new(
         trace: &'a mut Trace,
         writer: &'a mut W,

@@ -9,8 +9,8 @@ ghost use Rattle.cb_session.specs.Conversation.{Origin, SameReferences, Settled,
 ghost use Rattle.cb_session.specs.Serving.{Pieced, Took, said};
 
 use crate::conversation::Conversation;
-use cb_outgoing::MessageSink;
 use cb_peer::Event;
+use cb_talk::MessageSink;
 use cb_trace::Oracle;
 use cb_wire::{Assembler, Fed, Item};
 use std::alloc::Global;

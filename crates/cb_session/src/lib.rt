@@ -9,11 +9,11 @@ mod parts;
 mod reading;
 mod serving;
 
+pub use cb_base::{In, Out, ReadEnd, Sink, SinkFailure, Source};
 pub use cb_hall::{Badge, Hall};
-pub use cb_io::{In, Out, ReadEnd, Sink, SinkFailure, Source};
 pub use cb_journal::{Answer, Entry, Question};
-pub use cb_outgoing::{MessageSink, Outgoing, WriteEnd, WriteFault, write_out};
 pub use cb_peer::{CloseReason, Event, Pending, Session, Settings, Stage, State, Subject};
+pub use cb_talk::{MessageSink, Outgoing, WriteEnd, WriteFault, write_out};
 pub use cb_trace::{Counts, Oracle, Trace, TraceEntry};
 pub use conversation::Conversation;
 pub use parts::{Begun, begin_by, lose_by};

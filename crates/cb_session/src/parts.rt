@@ -10,8 +10,8 @@ ghost use Rattle.cb_session.specs.Conversation.{Origin, Stands, WritesOn, input_
 
 use crate::conversation::Conversation;
 use cb_hall::Badge;
-use cb_outgoing::{MessageSink, Outgoing};
 use cb_peer::Event;
+use cb_talk::{MessageSink, Outgoing};
 use cb_trace::{Oracle, Trace};
 use std::alloc::Global;
 
@@ -21,7 +21,8 @@ pub struct Begun {
     /// The messages that are still held back.
     pub unsent: Vec<Outgoing>,
     /// The number of messages written with the event: what was held back, and what the session
-    /// sent. The messages of a step that wasn't written whole aren't counted. `u64::MAX` if that is more.
+    /// sent. The messages of a step that wasn't written whole aren't counted. `u64::MAX` if that is
+    /// more.
     pub messages: u64,
 }
 

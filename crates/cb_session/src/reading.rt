@@ -6,8 +6,8 @@ ghost use Rattle.cb_session.specs.Serving.{Heard, HeardBy};
 
 use crate::conversation::Conversation;
 use crate::hearing::hear_piece;
-use cb_io::{ReadEnd, Source};
-use cb_outgoing::MessageSink;
+use cb_base::{ReadEnd, Source};
+use cb_talk::MessageSink;
 use cb_trace::Oracle;
 use cb_wire::Assembler;
 use std::alloc::Global;

@@ -7,11 +7,10 @@ ghost use Rattle.cb_session.specs.Serving.{Heard, Serves};
 
 use crate::conversation::Conversation;
 use crate::reading::Reading;
-use cb_base::Fault;
+use cb_base::{Fault, ReadEnd, Source};
 use cb_hall::{Badge, Hall};
-use cb_io::{ReadEnd, Source};
-use cb_outgoing::MessageSink;
 use cb_peer::{Event, Settings};
+use cb_talk::MessageSink;
 use cb_trace::{Oracle, Trace};
 use cb_wire::Assembler;
 use std::alloc::Global;

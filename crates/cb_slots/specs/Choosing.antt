@@ -12,9 +12,12 @@ pub record IsLowest {A : Type 0} (list : List A) (wanted : A) (first end place :
 
 -- At none of these places the list has the wanted value.
 abbrev pub HasNone : {A : Type 0} → List A → A → ℕ → ℕ → Type 0
-HasNone list wanted first end = (k : ℕ) → first ≤ k → k < end → k < length list → slice_index_or list k wanted ≢ wanted
+HasNone list wanted first end =
+    (k : ℕ) → first ≤ k → k < end → k < length list → slice_index_or list k wanted ≢ wanted
 
 -- Of the slots from `first` to before `end`, this one is the lowest that never had a socket. Or it
 -- is any of them, where each had one.
 abbrev pub IsChosen : List Bool → ℕ → ℕ → ℕ → Type 0
-IsChosen used first end slot = IsLowest used false first end slot ⊎ (HasNone used false first end × (first ≤ slot) × (slot < end))
+IsChosen used first end slot =
+    IsLowest used false first end slot
+    ⊎ (HasNone used false first end × (first ≤ slot) × (slot < end))

@@ -79,7 +79,8 @@ LastsIf waits (side.Ended seat) = waits ≡ false
 -- The slot has its side of this inbox, or the thread of a connection that doesn't wait has it.
 abbrev pub IsSeatingOf : {W M : Type 0} → TableId → Bool → Option (Seating W M) → Type 0
 IsSeatingOf name waits (Some (seating.Kept held)) = (inbox_of held ≡ name) × LastsIf waits held
-IsSeatingOf name waits (Some (seating.Lent thread)) = ((inbox_for thread).name ≡ name) × (waits ≡ false)
+IsSeatingOf name waits (Some (seating.Lent thread)) =
+    ((inbox_for thread).name ≡ name) × (waits ≡ false)
 IsSeatingOf name waits None = ⊥
 
 -- Nothing was asked under the badge.
@@ -94,7 +95,8 @@ IsUnspent (Some badge) = IsNew badge
 -- ---- the handlers' threads
 
 -- these threads have all handlers of the crew, the crew's first handler first
-pub record AreThreadsOf {W M : Type 0} (crew : CrewState) (threads : List (PromisedHandle (HandlerState (DeskState W M)) (OfCrew W M))) : Type 0 where
+pub record AreThreadsOf {W M : Type 0} (crew : CrewState)
+    (threads : List (PromisedHandle (HandlerState (DeskState W M)) (OfCrew W M))) : Type 0 where
   pub handlers : List (HandlerState (DeskState W M))
   pub have : HandBack crew threads handlers
   pub all : AreHandlersOf crew handlers

@@ -4,13 +4,13 @@ ghost use Rattle.cb_crew.specs.Crew.{AreHandlersOf, AreOpeningSeats, HasPlace, i
 ghost use Rattle.cb_slots.specs.Slot.{AreSlotsOf, AreThreadsOf, names_in, new_slot};
 
 use crate::fault::NodeFault;
-use crate::slot::{Common, Next, Slot};
+use crate::slot::{Common, NextConnection, Slot};
 use cb_base::{Fault, Shared};
 use cb_crew::{Crew, Fresh, Handler, NewCrew, ReaderSide, Work};
 use cb_inbox::ReaderSeat;
 use cb_peers::{Backlogs, CloseEnded, Link, Links};
 use cb_reader::Input;
-use cb_service::{Handling, Orders, Signals};
+use cb_service::{HandlerSetup, Handling, Signals};
 use std::alloc::Global;
 use std::marker::{Copy, Send};
 use std::sync::Wait;
@@ -60,7 +60,7 @@ pub fn shared<T: Drop>(alloc: Global, value: T) -> Result<Shared<T>, Fault>
 pub fn crew_slots<W: Work<Item = Input>, R: Wait>(
     rt: &R,
     alloc: Global,
-    firsts: Vec<Next<W>>,
+    firsts: Vec<NextConnection<W>>,
     handlers: u16,
 ) -> Result<Crewed<W>, Fault>
     requires firsts { (1 ≤ length firsts.items) × (length firsts.items ≤ 64) }
@@ -94,7 +94,7 @@ pub fn crew_slots<W: Work<Item = Input>, R: Wait>(
 fn new_crew<W: Work, R: Wait>(
     rt: &R,
     alloc: Global,
-    firsts: Vec<Next<W>>,
+    firsts: Vec<NextConnection<W>>,
     handlers: u16,
 ) -> Result<(NewCrew<W>, Vec<Shared<Link>>), Fault>
     requires firsts { (1 ≤ length firsts.items) × (length firsts.items ≤ 64) }
@@ -131,8 +131,8 @@ fn common_of<W: Work>(alloc: Global, crew: Crew<W>) -> Result<Common<W>, Fault>
     })
 }
 
-#[tactic(auto, using(crate::proofs::Placing::placing_none))]
 /// The slots of a new crew with these seats, none of which ever had a socket.
+#[tactic(auto, using(crate::proofs::Placing::placing_none))]
 fn slots_of<W: Work<Item = Input>>(
     alloc: Global,
     crew: &Crew<W>,
@@ -169,7 +169,7 @@ where
     ensures { IfOk result (λ threads. AreThreadsOf common.now.crew threads.items
         × (length threads.items ≡ length handlers.items)) }
 {
-    let orders = Orders {
+    let setup = HandlerSetup {
         budget: BUDGET,
         hook: CloseEnded {
             backlogs: common.backlogs.clone()?,
@@ -177,7 +177,7 @@ where
         },
     };
     let (crew, signals) = (&common.crew, &common.signals);
-    match cb_service::start_handlers(rt, alloc, crew, signals, &orders, handlers) {
+    match cb_service::start_handlers(rt, alloc, crew, signals, &setup, handlers) {
         Ok(threads) => Ok(threads),
         Err(refusal) => Err(NodeFault::from(refusal)),
     }

@@ -1,7 +1,7 @@
 ghost use Rattle.std.specs.Prelude.{◌≡◌};
 
 use cb_base::Fault;
-use cb_service::Refusal;
+use cb_service::ThreadFault;
 use std::alloc::AllocError;
 use std::io;
 use thiserror::Error;
@@ -56,16 +56,16 @@ impl From<Fault> for NodeFault {
     }
 }
 
-impl From<Refusal> for NodeFault {
+impl From<ThreadFault> for NodeFault {
     ghost use Rattle.std.specs.Prelude.{◌⊎◌};
     ghost use Rattle.cb_slots.specs.declared.fault.NodeFault.TheVariants.{Io, Memory};
 
     ghost from_gives = { λ _ fault. (fault ≡ Io) ⊎ (fault ≡ Memory) };
 
-    fn from(refusal: Refusal) -> NodeFault {
+    fn from(refusal: ThreadFault) -> NodeFault {
         match refusal {
-            Refusal::Memory => NodeFault::Memory,
-            Refusal::Thread => NodeFault::Io,
+            ThreadFault::Memory => NodeFault::Memory,
+            ThreadFault::Thread => NodeFault::Io,
         }
     }
 }

@@ -1,5 +1,5 @@
-//! The slots of a node, over any work: which one serves a connection, and the crew behind them. A slot
-//! serves one connection after another.
+//! The slots of a node, over any work: which one serves a connection, and the crew behind them. A
+//! slot serves one connection after another.
 #![tactic(auto)]
 
 mod choosing;
@@ -12,4 +12,4 @@ pub use choosing::{has_left, lowest_unused};
 pub use crewing::{Crewed, crew_slots, shared, sides_of, start_handlers};
 pub use fault::NodeFault;
 pub use listening::Listening;
-pub use slot::{Common, Next, Slot};
+pub use slot::{Common, NextConnection, Slot};

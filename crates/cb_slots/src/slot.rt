@@ -46,7 +46,7 @@ enum Seating<W: Work> {
 
 /// A connection that isn't opened yet.
 #[derive(Drop)]
-pub struct Next<W: Work> {
+pub struct NextConnection<W: Work> {
     /// What serves it.
     pub work: Fresh<W>,
     /// What its threads share with the node.
@@ -68,7 +68,7 @@ pub struct Slot<W: Work> {
     /// The badge of a connection that wasn't made ready, for another try.
     badge: Option<Badge>,
     /// A connection whose opening was refused, for another try.
-    next: Option<Next<W>>,
+    next: Option<NextConnection<W>>,
 }
 
 impl<W: Work> Model for Slot<W> {
@@ -77,9 +77,12 @@ impl<W: Work> Model for Slot<W> {
 
     ghost Value = { SlotState };
 
-    ghost view = { λ slot. record { inbox = slot.inbox.value; used = slot.used; waits = slot.waits } };
+    ghost view = { λ slot.
+        record { inbox = slot.inbox.value; used = slot.used; waits = slot.waits } };
 
-    ghost invariant = { λ slot. IsSeatingOf slot.inbox.value.name slot.waits slot.seating × IsUnspent slot.badge × (slot.number ≡ slot.inbox.value.peer) × (slot.used ≡ false → slot.waits ≡ true) };
+    ghost invariant = { λ slot. IsSeatingOf slot.inbox.value.name slot.waits slot.seating
+        × IsUnspent slot.badge × (slot.number ≡ slot.inbox.value.peer)
+        × (slot.used ≡ false → slot.waits ≡ true) };
 }
 
 impl<W: Work<Item = Input>> Slot<W> {
@@ -125,8 +128,8 @@ impl<W: Work<Item = Input>> Slot<W> {
         !self.used
     }
 
-    /// Whether the slot had a socket, the reader of its latest connection has returned or says that it
-    /// does, and that wasn't its last connection.
+    /// Whether the slot had a socket, the reader of its latest connection has returned or says that
+    /// it does, and that wasn't its last connection.
     pub fn is_left(&self) -> bool {
         let is_lent = matches!(&self.seating, Some(Seating::Lent(_)));
         self.used && !self.is_spent() && (!is_lent || self.latest.is_left())
@@ -173,7 +176,7 @@ impl<W: Work<Item = Input>> Slot<W> {
     }
 
     /// Keeps a connection that is to be opened.
-    pub fn prepare(&mut self, next: Next<W>)
+    pub fn prepare(&mut self, next: NextConnection<W>)
         ensures { self.new ≡ self.old }
     {
         self.next = Some(next);
@@ -192,9 +195,9 @@ impl<W: Work<Item = Input>> Slot<W> {
         };
     }
 
-    /// Opens the connection that stands ready. Returns whether it was opened: it waits for its socket
-    /// then. It isn't opened if the latest one lasts, if the inbox has no room, or if the slot has
-    /// had all its connections.
+    /// Opens the connection that stands ready. Returns whether it was opened: it waits for its
+    /// socket then. It isn't opened if the latest one lasts, if the inbox has no room, or if the
+    /// slot has had all its connections.
     pub fn open<R: Wait>(&mut self, rt: &R, crew: &Crew<W>, signals: &Signals) -> bool
         requires slot { IsInboxOf crew.now self.old.inbox }
         requires lasts { self.old.waits ≡ false }
@@ -216,7 +219,7 @@ impl<W: Work<Item = Input>> Slot<W> {
                     }
                     Err(Unopened { side, opening, .. }) => {
                         self.seating = Some(Seating::Kept(side));
-                        self.next = Some(Next {
+                        self.next = Some(NextConnection {
                             work: opening,
                             link: next.link,
                         });
@@ -232,8 +235,9 @@ impl<W: Work<Item = Input>> Slot<W> {
         }
     }
 
-    /// Gives the connection that waits its socket, and starts the threads that read and write it. If
-    /// that fails, the connection still waits. Its `version` tells this time, in seconds since 1970.
+    /// Gives the connection that waits its socket, and starts the threads that read and write it.
+    /// If that fails, the connection still waits. Its `version` tells this time, in seconds since
+    /// 1970.
     pub fn attach<R: Threads + Wait + Copy + Send + Drop + 'static>(
         &mut self,
         rt: &R,

@@ -14,7 +14,7 @@ use Rattle.cb_chain.specs.Best.{Stop, best, faulty, is_higher, missing, stopped_
 use Rattle.cb_chain.specs.Calls.{AcceptsBlock, block_entry, change_of, joined, no_change}
 use Rattle.cb_chain.specs.Entries.{Tree, block_hash}
 use Rattle.cb_chain.proofs.NewTip.{best_new, joined_err, joined_ok}
-use Rattle.cb_chain.proofs.SideNodes.{unspent_own}
+use Rattle.cb_chain.proofs.SideBranchIndexes.{unspent_own}
 use Rattle.cb_state.specs.State.{IsUnspent}
 
 abbrev Answer : Type 0

@@ -17,7 +17,7 @@ use Rattle.cb_pool.specs.Listing.{txs_of}
 use Rattle.cb_base.specs.declared.fault.Fault.{Fault}
 use Rattle.cb_base.specs.declared.fault.Fault.TheVariants.{BadWork, Memory, Mutated}
 use Rattle.cb_state.specs.Mining.{AreMined, CannotMine, HasLeastNonce, HasNoNonce, IsHeaderOver, IsMined, IsMostFitting, coinbase_of, next_height, with_nonce}
-use Rattle.cb_state.specs.State.{NodeState}
+use Rattle.cb_state.specs.State.{RelayState}
 use Rattle.cb_state.proofs.Fits.{take_next}
 
 -- one transaction more, and its name
@@ -32,7 +32,7 @@ names_next coinbase waiting count tx txids txid e is named =
 
 -- ---- the block and its header
 
-pub are_mined : (state : NodeState) (mark height count : ℕ) (coinbase other : Tx) → coinbase ≡ coinbase_of height mark → height ≡ next_height state.tree → other ≡ coinbase
+pub are_mined : (state : RelayState) (mark height count : ℕ) (coinbase other : Tx) → coinbase ≡ coinbase_of height mark → height ≡ next_height state.tree → other ≡ coinbase
     → IsMostFitting other (txs_of state.pool.list) count → AreMined state mark (coinbase ∷ take count (txs_of state.pool.list))
 are_mined state mark height count coinbase other made at same most =
     let waiting = txs_of state.pool.list in
@@ -54,17 +54,17 @@ over_worked tree txs header worked nonce is over =
     subst (IsHeaderOver tree txs) (sym is) (record { version = over.version; prev = over.prev; root = over.root; time = over.time; bits = over.bits })
 
 -- no nonce meets the target
-pub no_nonce : {T : Type 0} (state : NodeState) (mark : ℕ) (txs : List Tx) (header : Header) (result : Result T Fault) (fault : Fault) → result ≡ Err fault → fault ≡ BadWork
+pub no_nonce : {T : Type 0} (state : RelayState) (mark : ℕ) (txs : List Tx) (header : Header) (result : Result T Fault) (fault : Fault) → result ≡ Err fault → fault ≡ BadWork
     → AreMined state mark txs → IsHeaderOver state.tree txs header → HasNoNonce header → IfErr result (λ fault. (fault ≡ Memory) ⊎ CannotMine state mark fault)
 no_nonce state mark txs header result fault is bad are over none = rw is (inr (subst (CannotMine state mark) (sym bad) (txs, header, are, over, none)))
 
-pub is_mined : (state : NodeState) (mark : ℕ) (txs given : List Tx) (header : Header) (result : Result Block Fault) → given ≡ txs → AreMined state mark txs → IsHeaderOver state.tree txs header → HasLeastNonce header
+pub is_mined : (state : RelayState) (mark : ℕ) (txs given : List Tx) (header : Header) (result : Result Block Fault) → given ≡ txs → AreMined state mark txs → IsHeaderOver state.tree txs header → HasLeastNonce header
     → IfOk result (λ block. block ≡ record { header = header; txs = given }) → IfOk result (λ block. IsMined state mark block)
 is_mined state mark txs given header (Ok block) same are over least is =
     subst (IsMined state mark) (sym (is ∙ ap (λ (l : List Tx). record { header = header; txs = l }) same)) (record { txs = are; header = over; nonce = least })
 is_mined state mark txs given header (Err fault) same are over least is = is
 
-pub is_mutated : (state : NodeState) (mark : ℕ) (txs given : List Tx) (result : Result Block Fault) → given ≡ txs → AreMined state mark txs
+pub is_mutated : (state : RelayState) (mark : ℕ) (txs given : List Tx) (result : Result Block Fault) → given ≡ txs → AreMined state mark txs
     → IfErr result (λ fault. (fault ≡ Memory) ⊎ ((fault ≡ Mutated) × IsMutated (names (texts given)))) → IfErr result (λ fault. (fault ≡ Memory) ⊎ CannotMine state mark fault)
 is_mutated state mark txs given (Ok block) same are is = is
 is_mutated state mark txs given (Err fault) same are (inl memory) = inl memory

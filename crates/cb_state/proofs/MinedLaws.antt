@@ -24,7 +24,7 @@ use Rattle.cb_chain.specs.Entries.{Tree}
 use Rattle.cb_pool.specs.Listing.{txs_of}
 use Rattle.cb_pool.specs.Rules.{StandsAlone}
 use Rattle.cb_state.specs.Mining.{AreMined, HasLeastNonce, IsHeaderOver, IsMined, IsMostFitting, coinbase_of, next_height, with_nonce}
-use Rattle.cb_state.specs.State.{NodeState}
+use Rattle.cb_state.specs.State.{RelayState}
 use Rattle.cb_state.proofs.Fits.{coinbase_long}
 
 -- ---- the only one
@@ -40,7 +40,7 @@ same_count coinbase waiting m n a b =
           ]
     ]
 
-same_txs : (state : NodeState) (mark : ℕ) (a b : List Tx) → AreMined state mark a → AreMined state mark b → a ≡ b
+same_txs : (state : RelayState) (mark : ℕ) (a b : List Tx) → AreMined state mark a → AreMined state mark b → a ≡ b
 same_txs state mark a b is other =
     let coinbase = coinbase_of (next_height state.tree) mark in
     let waiting = txs_of state.pool.list in
@@ -66,7 +66,7 @@ same_nonce a b same is other =
           ]
     ]
 
-pub one_mined : (state : NodeState) (mark : ℕ) (a b : Block) → IsMined state mark a → IsMined state mark b → a ≡ b
+pub one_mined : (state : RelayState) (mark : ℕ) (a b : Block) → IsMined state mark a → IsMined state mark b → a ≡ b
 one_mined state mark a b is other =
     let txs : a.txs ≡ b.txs = same_txs state mark a.txs b.txs is.txs other.txs in
     let over : IsHeaderOver state.tree b.txs a.header = subst (λ (l : List Tx). IsHeaderOver state.tree l a.header) txs is.header in
@@ -94,7 +94,7 @@ coinbase_meets_rules height mark BadCoinbaseScript bad = go bad.1 where
   go (inr long) = absurd (omega (arith, long))
 coinbase_meets_rules height mark NullInput other = other.0 (refl, refl)
 
-pub meets_rules : (state : NodeState) (mark : ℕ) (block : Block) → All StandsAlone (txs_of state.pool.list) → length (header_text block.header) ≡ 80 → IsMined state mark block → MeetsBlockRules block
+pub meets_rules : (state : RelayState) (mark : ℕ) (block : Block) → All StandsAlone (txs_of state.pool.list) → length (header_text block.header) ≡ 80 → IsMined state mark block → MeetsBlockRules block
 unfolding block_text
 meets_rules state mark block alone long is =
     let coinbase = coinbase_of (next_height state.tree) mark in

@@ -7,10 +7,10 @@ use Rattle.std.proofs.lemmas.List.{append-nil, length-append, take-append-drop, 
 use Rattle.std.proofs.lemmas.List.Elements.{filter-append}
 use Rattle.cb_base.specs.declared.hash.Hash256.{Hash256}
 use Rattle.cb_chain.specs.Entries.{same}
-use Rattle.cb_chain.proofs.Nodes.{same-true}
+use Rattle.cb_chain.proofs.BlockIndexes.{same-true}
 use Rattle.cb_payload.specs.declared.inventory.Inventory.{Inventory}
 use Rattle.cb_payload.specs.declared.inventory.Inventory.TheVariants.{Tx, Block, CompactBlock, Other}
-use Rattle.cb_state.specs.State.{NodeState}
+use Rattle.cb_state.specs.State.{RelayState}
 use Rattle.cb_state.specs.Wanting.{is_listed, is_wanted, once, same_entry, wanted_of, with_entry, with_wanted}
 
 abbrev pub blocks_in : Option Hash256 → List Inventory
@@ -111,7 +111,7 @@ once_more (x ∷ xs) e =
     ]
 
 -- one entry more among those that are wanted
-pub wanted_more : (state : NodeState) (xs : List Inventory) (e : Inventory) → with_wanted state (wanted_of state xs) e ≡ wanted_of state (xs ++ e ∷ [])
+pub wanted_more : (state : RelayState) (xs : List Inventory) (e : Inventory) → with_wanted state (wanted_of state xs) e ≡ wanted_of state (xs ++ e ∷ [])
 wanted_more state xs e =
     let wants = is_wanted state in
     let grown : filter wants (once (xs ++ e ∷ [])) ≡ filter wants (cond (is_listed (once xs) e) (once xs) (once xs ++ e ∷ [])) = ap (filter wants) (once_more xs e) in
@@ -129,7 +129,7 @@ with_long : (b : Bool) (listed : List Inventory) (e : Inventory) → length (con
 with_long true listed e = omega arith
 with_long false listed e = omega (arith, length-append listed (e ∷ []))
 
-pub wanted_long : (state : NodeState) (listed : List Inventory) (e : Inventory) → length (with_wanted state listed e) ≤ length listed + 1
+pub wanted_long : (state : RelayState) (listed : List Inventory) (e : Inventory) → length (with_wanted state listed e) ≤ length listed + 1
 wanted_long state listed e =
     elim (cases_Bool (is_wanted state e)) [
       | inl is ↦ rw is (with_long (is_listed listed e) listed e)
@@ -150,14 +150,14 @@ none_left : (b : Bool) (listed : List Inventory) (e : Inventory) → cond b (wit
 none_left true listed e none = absurd (with_some listed e none)
 none_left false listed e none = (none, refl)
 
-none_before : (state : NodeState) (xs ys : List Inventory) → wanted_of state (xs ++ ys) ≡ [] → wanted_of state xs ≡ []
+none_before : (state : RelayState) (xs ys : List Inventory) → wanted_of state (xs ++ ys) ≡ [] → wanted_of state xs ≡ []
 none_before state xs [] none = ap (wanted_of state) (sym (append-nil xs)) ∙ none
 none_before state xs (e ∷ ys) none =
     let one : wanted_of state (xs ++ e ∷ []) ≡ [] = none_before state (xs ++ e ∷ []) ys (ap (wanted_of state) (append_assoc xs (e ∷ []) ys) ∙ none) in
     (none_left (is_wanted state e) (wanted_of state xs) e (wanted_more state xs e ∙ one)).0
 
 -- each of them isn't
-pub unwanted_at : (state : NodeState) (entries : List Inventory) (i : ℕ) (d : Inventory) → i < length entries → wanted_of state entries ≡ [] → is_wanted state (get_or entries i d) ≡ false
+pub unwanted_at : (state : RelayState) (entries : List Inventory) (i : ℕ) (d : Inventory) → i < length entries → wanted_of state entries ≡ [] → is_wanted state (get_or entries i d) ≡ false
 unwanted_at state entries i d lt none =
     let e = get_or entries i d in
     let all : wanted_of state (take (i + 1) entries ++ drop (i + 1) entries) ≡ [] = ap (wanted_of state) (take-append-drop (i + 1) entries) ∙ none in
@@ -170,14 +170,14 @@ none_noted keys listed hash e none empty = ap (list_any (same hash)) none ∙ sy
 
 -- ---- a turn of the loop
 
-pub listed_more : (state : NodeState) (entries : List Inventory) (i : ℕ) (d : Inventory) (old new : List Inventory) → i < length entries → old ≡ wanted_of state (take i entries) → new ≡ with_wanted state old (get_or entries i d)
+pub listed_more : (state : RelayState) (entries : List Inventory) (i : ℕ) (d : Inventory) (old new : List Inventory) → i < length entries → old ≡ wanted_of state (take i entries) → new ≡ with_wanted state old (get_or entries i d)
     → new ≡ wanted_of state (take (i + 1) entries)
 listed_more state entries i d old new lt is step =
     step ∙ ap (λ (l : List Inventory). with_wanted state l (get_or entries i d)) is
     ∙ wanted_more state (take i entries) (get_or entries i d)
     ∙ ap (wanted_of state) (sym (take_more entries i d lt))
 
-pub few_more : (state : NodeState) (old new : List Inventory) (e : Inventory) (i : ℕ) → length old ≤ i → new ≡ with_wanted state old e → length new ≤ i + 1
+pub few_more : (state : RelayState) (old new : List Inventory) (e : Inventory) (i : ℕ) → length old ≤ i → new ≡ with_wanted state old e → length new ≤ i + 1
 few_more state old new e i few step =
     let long : length new ≡ length (with_wanted state old e) = ap (λ (l : List Inventory). length l) step in
     omega (arith, long, wanted_long state old e)

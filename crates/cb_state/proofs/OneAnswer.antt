@@ -25,11 +25,11 @@ use Rattle.cb_state.specs.declared.connection.Connection.{Connection}
 use Rattle.cb_state.specs.declared.accepting.Heads.{Heads}
 use Rattle.cb_state.specs.declared.accepting.Taken.{Taken}
 use Rattle.cb_state.specs.Accepting.{Follows, TakesBlock, TakesHeads, TakesTx, TakesTxOver, announcers_after, became_tip, locator_for, refused_for, txs_put_off}
-use Rattle.cb_state.specs.State.{NodeState, IsUnspent}
+use Rattle.cb_state.specs.State.{RelayState, IsUnspent}
 
 -- ---- records by their fields
 
-same_state : (a b : NodeState) → a.tree ≡ b.tree → a.pool ≡ b.pool → a.announcers ≡ b.announcers → a ≡ b
+same_state : (a b : RelayState) → a.tree ≡ b.tree → a.pool ≡ b.pool → a.announcers ≡ b.announcers → a ≡ b
 same_state a b e f g = λ i. record { tree = e i; pool = f i; announcers = g i }
 
 same_taken : (a b : Taken) → a.refused ≡ b.refused → a.locator ≡ b.locator → a ≡ b
@@ -137,7 +137,7 @@ not_both u taken tx fault applies (Reason.named _ there _) = false≢true (sym a
 not_both u taken tx fault applies (Reason.unspendable _ _ e) = err_ok (spend u (taken ++ tx ∷ [])) fault e applies.spends
 not_both u taken tx fault applies (Reason.full _ _ _ many _) = let few = applies.fits in omega (arith, few, many)
 
-over : (u : Unspent) (old new other : NodeState) (tx : Tx) (refused again : Option Fault) → TakesTxOver u old tx refused new → TakesTxOver u old tx again other → (refused ≡ again) × (new ≡ other)
+over : (u : Unspent) (old new other : RelayState) (tx : Tx) (refused again : Option Fault) → TakesTxOver u old tx refused new → TakesTxOver u old tx again other → (refused ≡ again) × (new ≡ other)
 over u old new other tx None None a b = (refl, a.1 ∙ sym b.1)
 over u old new other tx None (Some fault) a b = absurd (not_both u (txs_of old.pool.list) tx fault a.0 (reason u (txs_of old.pool.list) tx fault b.0))
 over u old new other tx (Some fault) None a b = absurd (not_both u (txs_of old.pool.list) tx fault b.0 (reason u (txs_of old.pool.list) tx fault a.0))
@@ -145,14 +145,14 @@ over u old new other tx (Some fault) (Some again) a b =
     let taken = txs_of old.pool.list in
     (ap Some (one_reason u taken tx fault again (reason u taken tx fault a.0) (reason u taken tx again b.0)), a.1 ∙ sym b.1)
 
-pub one_tx : (old new other : NodeState) (tx : Tx) (refused again : Option Fault) → TakesTx old tx refused new → TakesTx old tx again other → (refused ≡ again) × (new ≡ other)
+pub one_tx : (old new other : RelayState) (tx : Tx) (refused again : Option Fault) → TakesTx old tx refused new → TakesTx old tx again other → (refused ≡ again) × (new ≡ other)
 one_tx old new other tx refused again a b =
     let same_u = one_unspent old.tree b.0 a.0 b.1 a.1 in
     over a.0 old new other tx refused again a.2 (subst (λ (u : Unspent). TakesTxOver u old tx again other) same_u b.2)
 
 -- ---- a block
 
-one_pool : (old new other : NodeState) (answer : Result Change Fault) → new.tree ≡ other.tree → Follows old answer new → Follows old answer other → new.pool ≡ other.pool
+one_pool : (old new other : RelayState) (answer : Result Change Fault) → new.tree ≡ other.tree → Follows old answer new → Follows old answer other → new.pool ≡ other.pool
 one_pool old new other answer tree (Follows.stays _ e) (Follows.stays _ f) = e ∙ sym f
 one_pool old new other answer tree (Follows.stays aside _) (Follows.folds _ _ tip _ _ _) = absurd (false≢true (sym aside ∙ tip))
 one_pool old new other answer tree (Follows.folds _ _ tip _ _ _) (Follows.stays aside _) = absurd (false≢true (sym aside ∙ tip))
@@ -165,7 +165,7 @@ one_pool old new other answer tree (Follows.folds change is _ u unspent folds) (
     (subst (λ (c : Change). Refolds w (txs_put_off old.tree c.off) old.pool other.pool) one_change folds2) in
     one_refold u (txs_put_off old.tree change.off) old.pool new.pool other.pool folds there
 
-pub one_taken : (old new other : NodeState) (block : Block) (from : Option Connection) (taken again : Taken) → TakesBlock old block from taken new → TakesBlock old block from again other
+pub one_taken : (old new other : RelayState) (block : Block) (from : Option Connection) (taken again : Taken) → TakesBlock old block from taken new → TakesBlock old block from again other
     → (taken ≡ again) × (new ≡ other)
 one_taken old new other block from taken again a b =
     let both = one_block old.tree new.tree other.tree block a.answer b.answer a.chain b.chain in
@@ -179,7 +179,7 @@ one_taken old new other block from taken again a b =
 
 -- ---- headers
 
-pub one_heads : (old new other : NodeState) (headers : List Header) (heads again : Heads) → TakesHeads old headers heads new → TakesHeads old headers again other → (heads ≡ again) × (new ≡ other)
+pub one_heads : (old new other : RelayState) (headers : List Header) (heads again : Heads) → TakesHeads old headers heads new → TakesHeads old headers again other → (heads ≡ again) × (new ≡ other)
 one_heads old new other headers heads again a b =
     let one = one_heading headers old.tree new.tree other.tree heads.refused again.refused a.met b.met a.chain b.chain in
     let lack : heads.lack ≡ again.lack = a.lack ∙ ap (filter (is_lacking new.tree)) one.1 ∙ ap (λ (t : Tree). filter (is_lacking t) b.met) one.2 ∙ sym b.lack in

@@ -30,7 +30,7 @@ use Rattle.cb_state.specs.declared.accepting.Taken.{Taken}
 use Rattle.cb_state.specs.Accepting.{Follows, MayLackMemory, TakesBlock, TakesHeads, TakesTx, TakesTxOver, announcers_after, became_tip, has_some, locator_for, txs_above, txs_in, txs_put_off}
 use Rattle.cb_state.specs.Judging.{RefusesHeading}
 use Rattle.cb_state.specs.Outlooks.{IsOutlookOn, IsReady, first_of}
-use Rattle.cb_state.specs.State.{NodeState, IsUnspent, WaitOn}
+use Rattle.cb_state.specs.State.{RelayState, IsUnspent, WaitOn}
 use Rattle.cb_state.proofs.Growing.{grown_on}
 
 -- A refusal is an error only for want of memory. What holds for want of memory then holds.
@@ -45,18 +45,18 @@ locator_stays old new stays =
 
 -- ---- a transaction
 
-pub tx_refused : (old : NodeState) (tx : Tx) (pool : Listing) (fault : Fault) (u : Unspent) (told : Result (Option Fault) Fault)
+pub tx_refused : (old : RelayState) (tx : Tx) (pool : Listing) (fault : Fault) (u : Unspent) (told : Result (Option Fault) Fault)
     → IsUnspent old.tree u → ((fault ≡ Memory) ⊎ Refuses u (txs_of old.pool.list) tx fault) → pool ≡ old.pool
     → IfOk told (λ refused. (refused ≡ Some fault) × (fault ≢ Memory))
     → IfOk told (λ refused. TakesTx old tx refused (record old { pool = pool }))
 tx_refused old tx pool fault u (Err error) unspent why same_pool ok = tt
 tx_refused old tx pool fault u (Ok told) unspent (inl memory) same_pool ok = absurd (ok.1 memory)
 tx_refused old tx pool fault u (Ok told) unspent (inr refuses) same_pool ok =
-    let new : NodeState = record old { pool = pool } in
+    let new : RelayState = record old { pool = pool } in
     let one : new ≡ old = ap (λ (p : Listing). record old { pool = p }) same_pool in
     (u, unspent, subst (λ (r : Option Fault). TakesTxOver u old tx r new) (sym ok.0) (refuses, one))
 
-pub tx_taken : (old : NodeState) (tx : Tx) (pool : Listing) (u : Unspent) → IsUnspent old.tree u → Applies u (txs_of old.pool.list) tx
+pub tx_taken : (old : RelayState) (tx : Tx) (pool : Listing) (u : Unspent) → IsUnspent old.tree u → Applies u (txs_of old.pool.list) tx
     → pool ≡ with_last old.pool tx → TakesTx old tx None (record old { pool = pool })
 tx_taken old tx pool u unspent applies is = (u, unspent, (applies, ap (λ (p : Listing). record old { pool = p }) is))
 
@@ -81,7 +81,7 @@ waits_over tree pool u is ok = λ other are.
     let same_u : u ≡ other = cc in
     subst (λ (w : Unspent). IsOk (spend w (txs_of pool.list))) same_u ok
 
-pub block_refused : (old : NodeState) (tree : Tree) (block : Block) (from : Option Connection) (fault : Fault) (locator : List Hash256) (told : Result Taken Fault)
+pub block_refused : (old : RelayState) (tree : Tree) (block : Block) (from : Option Connection) (fault : Fault) (locator : List Hash256) (told : Result Taken Fault)
     → (((fault ≡ Memory) × (tree ≡ old.tree)) ⊎ AcceptsBlock old.tree block (Err fault) tree) → laws.Stays old.tree tree → locator ≡ locator_of old.tree
     → IfOk told (λ taken. (taken.refused ≡ Some fault) × (taken.locator ≡ locator_for (Some fault) locator) × (fault ≢ Memory))
     → IfOk told (λ taken. TakesBlock old block from taken (record old { tree = tree }))
@@ -101,7 +101,7 @@ refused_by : (tree : Tree) (block : Block) (fault : Fault) → RefusesHeading tr
 refused_by tree block fault (RefusesHeading.without_work without is) = AcceptsBlock.without_work without (ap (λ (f : Fault). Err f) is) refl
 refused_by tree block fault (RefusesHeading.with_work work against) = AcceptsBlock.refused work fault against refl refl
 
-pub block_unheard : (old : NodeState) (block : Block) (from : Option Connection) (fault : Fault) (told : Result Taken Fault)
+pub block_unheard : (old : RelayState) (block : Block) (from : Option Connection) (fault : Fault) (told : Result Taken Fault)
     → RefusesHeading old.tree block.header fault
     → IfOk told (λ taken. (taken.refused ≡ Some fault) × (taken.locator ≡ locator_for (Some fault) (locator_of old.tree)))
     → IfOk told (λ taken. TakesBlock old block from taken old)
@@ -127,7 +127,7 @@ some_long : (hashes : List Hash256) → hashes ≢ [] → has_some hashes ≡ tr
 some_long [] some = absurd (some refl)
 some_long (hash ∷ hashes) some = refl
 
-pub block_aside : (old : NodeState) (tree : Tree) (block : Block) (from : Option Connection) (change : Change) (locator : List Hash256)
+pub block_aside : (old : RelayState) (tree : Tree) (block : Block) (from : Option Connection) (change : Change) (locator : List Hash256)
     → AcceptsBlock old.tree block (Ok change) tree → change.on ≡ [] → locator ≡ []
     → TakesBlock old block from (record { refused = None; locator = locator }) (record old { tree = tree })
 block_aside old tree block from change locator accepts none untold = record {
@@ -140,7 +140,7 @@ block_aside old tree block from change locator accepts none untold = record {
 }
 
 -- the outlook on the pool where the block becomes the tip, and none where it can't
-abbrev pub IsForeseen : NodeState → Block → Option Outlook → Type 0
+abbrev pub IsForeseen : RelayState → Block → Option Outlook → Type 0
 IsForeseen state block outlook = MatchOption outlook (¬ MayLead state.tree block.header.prev) (IsOutlookOn state block)
 
 -- the pool went by the outlook
@@ -148,12 +148,12 @@ abbrev pub Followed : Unspent → Listing → Listing → Option Outlook → Typ
 Followed u old new outlook = MatchOption outlook (new ≡ old) (λ o. Refolds u (first_of o) old new × IsOk (spend u (txs_of new.list)))
 
 -- what comes first is what was put off
-first_is : (state : NodeState) (block : Block) (outlook : Outlook) → IsOutlookOn state block outlook → first_of outlook ≡ txs_above state.tree block.header.prev
+first_is : (state : RelayState) (block : Block) (outlook : Outlook) → IsOutlookOn state block outlook → first_of outlook ≡ txs_above state.tree block.header.prev
 first_is state block Stays is = sym is.above
 first_is state block (Thins plan) is = sym is.above
 first_is state block (Folds plan) is = is.first
 
-pub block_leads : (old : NodeState) (tree : Tree) (pool : Listing) (announcers : List Connection) (block : Block) (from : Option Connection) (change : Change) (outlook : Option Outlook) (u : Unspent) (locator : List Hash256)
+pub block_leads : (old : RelayState) (tree : Tree) (pool : Listing) (announcers : List Connection) (block : Block) (from : Option Connection) (change : Change) (outlook : Option Outlook) (u : Unspent) (locator : List Hash256)
     → AcceptsBlock old.tree block (Ok change) tree → change.on ≢ []
     → (change.on ≢ [] → MayLead old.tree block.header.prev × (change.off ≡ reverse (map block_hash (headers_above old.tree block.header.prev))))
     → IsForeseen old block outlook → IsUnspent tree u → Followed u old.pool pool outlook → announcers ≡ announcers_after old.announcers true from → locator ≡ []
@@ -172,13 +172,13 @@ block_leads old tree pool announcers block from change (Some outlook) u locator 
       locator = untold;
     }
 
-pub leads_waits : (old : NodeState) (tree : Tree) (pool : Listing) (block : Block) (outlook : Option Outlook) (u : Unspent)
+pub leads_waits : (old : RelayState) (tree : Tree) (pool : Listing) (block : Block) (outlook : Option Outlook) (u : Unspent)
     → MayLead old.tree block.header.prev → IsForeseen old block outlook → IsUnspent tree u → Followed u old.pool pool outlook → WaitOn tree pool
 leads_waits old tree pool block None u leads foreseen unspent followed = absurd (foreseen leads)
 leads_waits old tree pool block (Some outlook) u leads foreseen unspent followed = waits_over tree pool u unspent followed.1
 
 -- the pool is ready for what was foreseen, once the chain has taken the block
-pub ready_for : (old : NodeState) (tree : Tree) (block : Block) (change : Change) (outlook : Option Outlook) (u : Unspent)
+pub ready_for : (old : RelayState) (tree : Tree) (block : Block) (change : Change) (outlook : Option Outlook) (u : Unspent)
     → AcceptsBlock old.tree block (Ok change) tree → change.on ≢ [] → IsForeseen old block outlook → IsUnspent tree u → IfSome outlook (IsReady u old.pool.list)
 ready_for old tree block change None u accepts some foreseen unspent = tt
 ready_for old tree block change (Some Stays) u accepts some foreseen unspent =
@@ -188,13 +188,13 @@ ready_for old tree block change (Some (Thins plan)) u accepts some foreseen unsp
 ready_for old tree block change (Some (Folds plan)) u accepts some foreseen unspent = foreseen.room
 
 -- what was foreseen of the whole state
-pub foreseen_for : (whole old : NodeState) (block : Block) (outlook : Option Outlook) → old ≡ whole → IsForeseen whole block outlook → IsForeseen old block outlook
-foreseen_for whole old block outlook same foreseen = subst (λ (state : NodeState). IsForeseen state block outlook) (sym same) foreseen
+pub foreseen_for : (whole old : RelayState) (block : Block) (outlook : Option Outlook) → old ≡ whole → IsForeseen whole block outlook → IsForeseen old block outlook
+foreseen_for whole old block outlook same foreseen = subst (λ (state : RelayState). IsForeseen state block outlook) (sym same) foreseen
 
 -- ---- headers
 
 -- the locator was read before the chain changed
-pub heads_taken : (old : NodeState) (tree : Tree) (headers : List Header) (heads : Heads) (met locator : List Hash256) → TakesHeaders old.tree headers heads.refused met tree → laws.Stays old.tree tree
+pub heads_taken : (old : RelayState) (tree : Tree) (headers : List Header) (heads : Heads) (met locator : List Hash256) → TakesHeaders old.tree headers heads.refused met tree → laws.Stays old.tree tree
     → locator ≡ locator_of old.tree → heads.lack ≡ filter (is_lacking tree) met → heads.locator ≡ locator_for heads.refused locator → TakesHeads old headers heads (record old { tree = tree })
 heads_taken old tree headers heads met locator takes stays read lack told =
     record {

@@ -15,7 +15,7 @@ use Rattle.cb_chain.specs.Calls.{AcceptsBlock, AcceptsHeader, bad_entry, block_e
 use Rattle.cb_chain.specs.Entries.{Entry, Tree, block_hash, genesis_hash, same, height_of, is_known, is_kept, is_marked}
 use Rattle.cb_chain.specs.History.{BlockCall, Call, HeaderCall, IsHistoric, IsHistory, IsStep}
 use Rattle.cb_chain.proofs.Marks.{marks_keep_height}
-use Rattle.cb_chain.proofs.SideNodes.{none_first}
+use Rattle.cb_chain.proofs.SideBranchIndexes.{none_first}
 
 abbrev pub AreLow : Tree → Type 0
 AreLow tree = (hash : Hash256) (height : ℕ) → height_of tree hash ≡ Some height → height ≤ 1000000000

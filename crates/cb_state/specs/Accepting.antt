@@ -23,7 +23,7 @@ use Rattle.cb_state.specs.declared.connection.Connection.{Connection}
 use Rattle.cb_state.specs.declared.accepting.Heads.{Heads}
 use Rattle.cb_state.specs.declared.accepting.Taken.{Taken}
 use Rattle.cb_state.specs.Announcers.{with_announcer}
-use Rattle.cb_state.specs.State.{NodeState, IsUnspent}
+use Rattle.cb_state.specs.State.{RelayState, IsUnspent}
 
 -- The chain's block locator is part of the answer if the parent isn't known.
 abbrev pub locator_for : Option Fault → List Hash256 → List Hash256
@@ -32,12 +32,13 @@ locator_for other locator = []
 
 -- A transaction is appended to the mempool, or is refused and changes nothing. `u` is the tip's
 -- UTXO set.
-abbrev pub TakesTxOver : Unspent → NodeState → Tx → Option Fault → NodeState → Type 0
-TakesTxOver u old tx None new = Applies u (txs_of old.pool.list) tx × (new ≡ record old { pool = with_last old.pool tx })
+abbrev pub TakesTxOver : Unspent → RelayState → Tx → Option Fault → RelayState → Type 0
+TakesTxOver u old tx None new =
+    Applies u (txs_of old.pool.list) tx × (new ≡ record old { pool = with_last old.pool tx })
 TakesTxOver u old tx (Some fault) new = Refuses u (txs_of old.pool.list) tx fault × (new ≡ old)
 
 -- The same over the UTXO set of the tip.
-abbrev pub TakesTx : NodeState → Tx → Option Fault → NodeState → Type 0
+abbrev pub TakesTx : RelayState → Tx → Option Fault → RelayState → Type 0
 TakesTx old tx refused new = (u : Unspent) × IsUnspent old.tree u × TakesTxOver u old tx refused new
 
 -- ---- a block
@@ -62,7 +63,7 @@ txs_above tree parent = txs_in tree (map block_hash (headers_above tree parent))
 
 -- A plan for the case that a block on this parent becomes the tip. The transactions above the fork
 -- point come first, and there is room for them and for the mempool.
-pub record IsPlanOn (state : NodeState) (parent : Hash256) (plan : Plan) : Type 0 where
+pub record IsPlanOn (state : RelayState) (parent : Hash256) (plan : Plan) : Type 0 where
   pub first : plan.first ≡ txs_above state.tree parent
   pub room : HasRoom plan state.pool.list
 
@@ -77,9 +78,10 @@ became_tip (Err fault) = false
 
 -- If the block became the tip, the mempool is rebuilt on the new UTXO set, with the transactions of
 -- disconnected blocks first. Otherwise the mempool stays.
-pub data Follows (old : NodeState) (answer : Result Change Fault) (new : NodeState) : Type 0 where
+pub data Follows (old : RelayState) (answer : Result Change Fault) (new : RelayState) : Type 0 where
   stays : became_tip answer ≡ false → new.pool ≡ old.pool → Follows old answer new
-  folds : (change : Change) → answer ≡ Ok change → became_tip answer ≡ true → (u : Unspent) → IsUnspent new.tree u
+  folds : (change : Change) → answer ≡ Ok change → became_tip answer ≡ true → (u : Unspent)
+      → IsUnspent new.tree u
       → Refolds u (txs_put_off old.tree change.off) old.pool new.pool → Follows old answer new
 
 -- Why the block was refused, if it was.
@@ -94,7 +96,8 @@ announcers_after announcers true (Some connection) = with_announcer announcers c
 announcers_after announcers became other = announcers
 
 -- A block is given to the state, with the connection to be rewarded for a new tip, if there is one.
-pub record TakesBlock (old : NodeState) (block : Block) (from : Option Connection) (taken : Taken) (new : NodeState) : Type 0 where
+pub record TakesBlock (old : RelayState) (block : Block) (from : Option Connection) (taken : Taken)
+    (new : RelayState) : Type 0 where
   pub answer : Result Change Fault
   pub chain : AcceptsBlock old.tree block answer new.tree
   pub pool : Follows old answer new
@@ -105,14 +108,16 @@ pub record TakesBlock (old : NodeState) (block : Block) (from : Option Connectio
 -- Memory may lack for a block: nothing speaks against its header, or its parent is missing, and a
 -- locator is told.
 abbrev pub MayLackMemory : Tree → Header → Type 0
-MayLackMemory tree header = HasWork header × ((block_fault tree header ≡ None) ⊎ (block_fault tree header ≡ Some NoParent))
+MayLackMemory tree header =
+    HasWork header × ((block_fault tree header ≡ None) ⊎ (block_fault tree header ≡ Some NoParent))
 
 -- ---- headers
 
 -- The chain takes the headers in order, and nothing else changes. `met` are the hashes of the
 -- headers that were accepted or already known. `lack` are those of them whose blocks are neither
 -- kept nor marked bad.
-pub record TakesHeads (old : NodeState) (headers : List Header) (heads : Heads) (new : NodeState) : Type 0 where
+pub record TakesHeads (old : RelayState) (headers : List Header) (heads : Heads) (new : RelayState)
+    : Type 0 where
   pub met : List Hash256
   pub chain : TakesHeaders old.tree headers heads.refused met new.tree
   pub pool : new.pool ≡ old.pool

@@ -8,7 +8,8 @@ same_connection a b = nat_eq a.peer b.peer && nat_eq a.generation b.generation
 
 abbrev pub is_among : List Connection → Connection → Bool
 is_among [] connection = false
-is_among (other ∷ others) connection = same_connection other connection || is_among others connection
+is_among (other ∷ others) connection =
+    same_connection other connection || is_among others connection
 
 abbrev pub without : List Connection → Connection → List Connection
 without announcers connection = filter (λ other. not (same_connection other connection)) announcers

@@ -26,4 +26,5 @@ parent_fault tree parent =
 -- Why a block with this header is refused before its transactions are looked at.
 pub data RefusesHeading (tree : Tree) (header : Header) (fault : Fault) : Type 0 where
   without_work : ¬ HasWork header → fault ≡ BadWork → RefusesHeading tree header fault
-  with_work : HasWork header → block_fault tree header ≡ Some fault → RefusesHeading tree header fault
+  with_work : HasWork header → block_fault tree header ≡ Some fault
+      → RefusesHeading tree header fault

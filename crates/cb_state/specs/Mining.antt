@@ -17,7 +17,7 @@ use Rattle.cb_chain.specs.Best.{best}
 use Rattle.cb_chain.specs.Entries.{Tree}
 use Rattle.cb_chain.specs.Laws.{height_in}
 use Rattle.cb_pool.specs.Listing.{txs_of}
-use Rattle.cb_state.specs.State.{NodeState}
+use Rattle.cb_state.specs.State.{RelayState}
 
 -- ---- the coinbase
 
@@ -25,14 +25,23 @@ use Rattle.cb_state.specs.State.{NodeState}
 -- then the mark. The mark makes two blocks of one height differ.
 abbrev pub coinbase_input : ℕ → ℕ → TxIn
 coinbase_input height mark =
-    record { prev = record { txid = record { 0 = replicate 32 0 }; index = 4294967295 }; script = to_le_bytes w32 height ++ mark ∷ []; sequence = 4294967295 }
+    record {
+      prev = record { txid = record { 0 = replicate 32 0 }; index = 4294967295 };
+      script = to_le_bytes w32 height ++ mark ∷ [];
+      sequence = 4294967295;
+    }
 
 -- 50 BTC that anyone may spend: the script is OP_1.
 abbrev pub subsidy : TxOut
 subsidy = record { value = pos 5000000000; script = 81 ∷ [] }
 
 abbrev pub coinbase_of : ℕ → ℕ → Tx
-coinbase_of height mark = record { version = pos 1; inputs = coinbase_input height mark ∷ []; outputs = subsidy ∷ []; lock_time = 0 }
+coinbase_of height mark = record {
+  version = pos 1;
+  inputs = coinbase_input height mark ∷ [];
+  outputs = subsidy ∷ [];
+  lock_time = 0;
+}
 
 -- ---- the transactions
 
@@ -45,14 +54,15 @@ FitInBlock txs = 80 + length (list_text tx_text txs) ≤ 1000000
 pub record IsMostFitting (coinbase : Tx) (waiting : List Tx) (count : ℕ) : Type 0 where
   pub within : count ≤ length waiting
   pub fit : FitInBlock (coinbase ∷ take count waiting)
-  pub most : (more : ℕ) → count < more → more ≤ length waiting → ¬ FitInBlock (coinbase ∷ take more waiting)
+  pub most : (more : ℕ) → count < more → more ≤ length waiting
+      → ¬ FitInBlock (coinbase ∷ take more waiting)
 
 -- The height of a block whose parent is the tip.
 abbrev pub next_height : Tree → ℕ
 next_height tree = height_in tree (best tree) + 1
 
 -- The coinbase, and after it as many of the mempool's first transactions as fit.
-abbrev pub AreMined : NodeState → ℕ → List Tx → Type 0
+abbrev pub AreMined : RelayState → ℕ → List Tx → Type 0
 AreMined state mark txs =
     let coinbase = coinbase_of (next_height state.tree) mark in
     let waiting = txs_of state.pool.list in
@@ -83,14 +93,17 @@ HasNoNonce header = (nonce : ℕ) → nonce < 4294967296 → ¬ HasWork (with_no
 
 -- ---- the block
 
-pub record IsMined (state : NodeState) (mark : ℕ) (block : Block) : Type 0 where
+pub record IsMined (state : RelayState) (mark : ℕ) (block : Block) : Type 0 where
   pub txs : AreMined state mark block.txs
   pub header : IsHeaderOver state.tree block.txs block.header
   pub nonce : HasLeastNonce block.header
 
 -- Why no block can be mined: two neighbours in the Merkle tree are equal (CVE-2012-2459), or no
 -- nonce meets the target.
-abbrev pub CannotMine : NodeState → ℕ → Fault → Type 0
-CannotMine state mark Mutated = (txs : List Tx) × AreMined state mark txs × IsMutated (names (texts txs))
-CannotMine state mark BadWork = (txs : List Tx) × (header : Header) × AreMined state mark txs × IsHeaderOver state.tree txs header × HasNoNonce header
+abbrev pub CannotMine : RelayState → ℕ → Fault → Type 0
+CannotMine state mark Mutated =
+    (txs : List Tx) × AreMined state mark txs × IsMutated (names (texts txs))
+CannotMine state mark BadWork =
+    (txs : List Tx) × (header : Header) × AreMined state mark txs
+    × IsHeaderOver state.tree txs header × HasNoNonce header
 CannotMine state mark other = ⊥

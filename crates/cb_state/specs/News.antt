@@ -10,7 +10,7 @@ use Rattle.cb_pool.specs.Listing.{since_of}
 use Rattle.cb_state.specs.declared.connection.Connection.{Connection}
 use Rattle.cb_state.specs.declared.news.News.{News}
 use Rattle.cb_state.specs.Announcers.{is_among}
-use Rattle.cb_state.specs.State.{NodeState}
+use Rattle.cb_state.specs.State.{RelayState}
 
 -- The headers of the active chain above its fork point with the tip told last, up to the tip. If no
 -- tip was told, there are none.
@@ -26,11 +26,15 @@ is_long headers = nat_lt 8 (length headers)
 abbrev pub announced : List Header → List Header
 announced headers = if is_long headers then drop (length headers - 1) headers else headers
 
-pub record IsNews (state : NodeState) (connection : Connection) (told : Option Hash256) (from : ℕ) (whole : Bool) (news : News) : Type 0 where
+pub record IsNews (state : RelayState) (connection : Connection) (told : Option Hash256) (from : ℕ)
+    (whole : Bool) (news : News) : Type 0 where
   pub tip : news.tip ≡ best state.tree
   pub path : news.path ≡ announced (way_from state.tree told)
   pub long : news.long ≡ is_long (way_from state.tree told)
-  pub block : news.block ≡ (if whole && nat_eq (length (way_from state.tree told)) 1 then block_of state.tree (best state.tree) else None)
+  pub block : news.block
+      ≡ (if whole && nat_eq (length (way_from state.tree told)) 1
+      then block_of state.tree (best state.tree)
+      else None)
   pub txids : news.txids ≡ since_of state.pool.list from
   pub next : news.next ≡ state.pool.next
   pub high : news.high ≡ is_among state.announcers connection

@@ -12,28 +12,30 @@ use Rattle.cb_pool.specs.Staying.{Thin, ThinsOut}
 use Rattle.cb_state.specs.declared.accepting.Outlook.{Outlook}
 use Rattle.cb_state.specs.declared.accepting.Outlook.TheVariants.{Folds, Stays, Thins}
 use Rattle.cb_state.specs.Accepting.{IsPlanOn, txs_above}
-use Rattle.cb_state.specs.State.{IsUnspent, NodeState}
+use Rattle.cb_state.specs.State.{IsUnspent, RelayState}
 
 -- The block's parent is the tip, so no block is disconnected. The mempool can still be spent in
 -- order after the block.
-pub record LeavesPool (state : NodeState) (block : Block) : Type 0 where
+pub record LeavesPool (state : RelayState) (block : Block) : Type 0 where
   pub on : block.header.prev ≡ best state.tree
   pub above : txs_above state.tree block.header.prev ≡ []
   pub unspent : Unspent
   pub behind_tip : IsUnspent state.tree unspent
-  pub wait : (after : Unspent) → spend unspent block.txs ≡ Ok after → IsOk (spend after (txs_of state.pool.list))
+  pub wait : (after : Unspent) → spend unspent block.txs ≡ Ok after
+      → IsOk (spend after (txs_of state.pool.list))
 
 -- The block's parent is the tip, so no block is disconnected. The plan keeps those of the mempool
 -- that apply in order after the block.
-pub record ThinsPool (state : NodeState) (block : Block) (plan : Thin) : Type 0 where
+pub record ThinsPool (state : RelayState) (block : Block) (plan : Thin) : Type 0 where
   pub on : block.header.prev ≡ best state.tree
   pub above : txs_above state.tree block.header.prev ≡ []
   pub unspent : Unspent
   pub behind_tip : IsUnspent state.tree unspent
-  pub thins : (after : Unspent) → spend unspent block.txs ≡ Ok after → ThinsOut after plan state.pool.list
+  pub thins : (after : Unspent) → spend unspent block.txs ≡ Ok after
+      → ThinsOut after plan state.pool.list
 
 -- The mempool stays, is thinned out, or is rebuilt by a plan.
-abbrev pub IsOutlookOn : NodeState → Block → Outlook → Type 0
+abbrev pub IsOutlookOn : RelayState → Block → Outlook → Type 0
 IsOutlookOn state block Stays = LeavesPool state block
 IsOutlookOn state block (Thins plan) = ThinsPool state block plan
 IsOutlookOn state block (Folds plan) = IsPlanOn state block.header.prev plan
@@ -44,8 +46,8 @@ first_of Stays = []
 first_of (Thins plan) = []
 first_of (Folds plan) = plan.first
 
--- The mempool can stay if its list can be spent in order. A plan must keep those that apply, or have
--- room for the list.
+-- The mempool can stay if its list can be spent in order. A plan must keep those that apply, or
+-- have room for the list.
 abbrev pub IsReady : Unspent → List Pooled → Outlook → Type 0
 IsReady u list Stays = IsOk (spend u (txs_of list))
 IsReady u list (Thins plan) = ThinsOut u plan list

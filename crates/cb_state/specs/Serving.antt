@@ -19,7 +19,7 @@ use Rattle.cb_payload.specs.declared.inventory.Inventory.TheVariants as entry
 use Rattle.cb_state.specs.declared.serving.Piece.{Piece}
 use Rattle.cb_state.specs.declared.serving.Piece.TheVariants as piece
 use Rattle.cb_state.specs.Parts.{txs_at}
-use Rattle.cb_state.specs.State.{NodeState}
+use Rattle.cb_state.specs.State.{RelayState}
 
 -- The block is at most `depth` below the tip's height. An unknown block counts as height 0.
 abbrev pub is_within : ℕ → Tree → Hash256 → Bool
@@ -39,14 +39,17 @@ short_piece near asked None = piece.Lacking asked
 short_piece near asked (Some block) = if near then piece.Short block else piece.Whole block
 
 -- The answer to one inventory entry. A block counts as near the tip at a depth of at most five.
-abbrev pub piece_of : NodeState → Inventory → Option Piece
-piece_of state (entry.Tx txid) = Some (tx_piece (entry.Tx txid) (named_in (txs_of state.pool.list) txid))
+abbrev pub piece_of : RelayState → Inventory → Option Piece
+piece_of state (entry.Tx txid) =
+    Some (tx_piece (entry.Tx txid) (named_in (txs_of state.pool.list) txid))
 piece_of state (entry.Block hash) = Some (whole_piece (entry.Block hash) (block_of state.tree hash))
-piece_of state (entry.CompactBlock hash) = Some (short_piece (is_within 5 state.tree hash) (entry.CompactBlock hash) (block_of state.tree hash))
+piece_of state (entry.CompactBlock hash) =
+    Some
+    (short_piece (is_within 5 state.tree hash) (entry.CompactBlock hash) (block_of state.tree hash))
 piece_of state (entry.Other kind hash) = None
 
 -- One piece for each entry of a known type, in order.
-abbrev pub pieces_of : NodeState → List Inventory → List Piece
+abbrev pub pieces_of : RelayState → List Inventory → List Piece
 pieces_of state entries = filter_map (piece_of state) entries
 
 -- ---- places of a block
@@ -60,7 +63,9 @@ are_below total places = list_all (λ place. nat_lt place total) places
 abbrev pub excerpt_at : Bool → Hash256 → List ℕ → blocks.Block → Excerpt
 excerpt_at near hash places block =
     if are_below (length block.txs) places
-    then (if near then excerpt.Part (record { hash = hash; txs = txs_at block.txs places }) else excerpt.Whole block)
+    then (if near
+    then excerpt.Part (record { hash = hash; txs = txs_at block.txs places })
+    else excerpt.Whole block)
     else excerpt.Refused BadIndex
 
 abbrev pub excerpt_there : Bool → Hash256 → List ℕ → Option blocks.Block → Excerpt
@@ -69,5 +74,7 @@ excerpt_there near hash places (Some block) = excerpt_at near hash places block
 
 -- The answer for a block and the differences of places. The block must be kept and not marked bad.
 -- Transactions are served up to ten below the tip.
-abbrev pub excerpt_of : NodeState → Hash256 → List ℕ → Excerpt
-excerpt_of state hash differences = excerpt_there (is_within 10 state.tree hash) hash (sums 0 differences) (block_of state.tree hash)
+abbrev pub excerpt_of : RelayState → Hash256 → List ℕ → Excerpt
+excerpt_of state hash differences =
+    excerpt_there (is_within 10 state.tree hash) hash (sums 0 differences)
+    (block_of state.tree hash)

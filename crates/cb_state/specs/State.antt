@@ -8,7 +8,7 @@ use Rattle.cb_pool.specs.Listing.{Listing, txs_of}
 use Rattle.cb_state.specs.declared.connection.Connection.{Connection}
 
 -- The header tree with the kept blocks, the mempool, and the announcers.
-pub record NodeState : Type 0 where
+pub record RelayState : Type 0 where
   pub tree : Tree
   pub pool : Listing
   pub announcers : List Connection
@@ -22,5 +22,5 @@ abbrev pub WaitOn : Tree → Listing → Type 0
 WaitOn tree pool = (u : Unspent) → IsUnspent tree u → IsOk (spend u (txs_of pool.list))
 
 -- The state at the start: the genesis block alone, an empty mempool and no announcers.
-abbrev pub opening : NodeState
+abbrev pub opening : RelayState
 opening = record { tree = []; pool = record { list = []; next = 0 }; announcers = [] }

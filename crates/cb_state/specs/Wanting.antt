@@ -11,7 +11,7 @@ use Rattle.cb_pool.specs.Rules.{is_named_in}
 use Rattle.cb_payload.specs.declared.inventory.Inventory.{Inventory}
 use Rattle.cb_payload.specs.declared.inventory.Inventory.TheVariants.{Tx, Block, CompactBlock, Other}
 use Rattle.cb_state.specs.declared.wanting.Need.{Need}
-use Rattle.cb_state.specs.State.{NodeState}
+use Rattle.cb_state.specs.State.{RelayState}
 
 abbrev pub same_entry : Inventory → Inventory → Bool
 same_entry (Tx a) (Tx b) = same a b
@@ -27,12 +27,12 @@ once (entry ∷ entries) = entry ∷ filter (λ other. not (same_entry entry oth
 
 -- Wanted are transactions that aren't in the mempool, and blocks that are neither kept nor marked
 -- bad.
-abbrev pub is_wanted : NodeState → Inventory → Bool
+abbrev pub is_wanted : RelayState → Inventory → Bool
 is_wanted state (Tx txid) = not (is_named_in (txs_of state.pool.list) txid)
 is_wanted state (Block hash) = is_lacking state.tree hash
 is_wanted state other = false
 
-abbrev pub wanted_of : NodeState → List Inventory → List Inventory
+abbrev pub wanted_of : RelayState → List Inventory → List Inventory
 wanted_of state entries = filter (is_wanted state) (once entries)
 
 abbrev pub is_block : Inventory → Bool
@@ -43,7 +43,7 @@ abbrev pub blocks_of : List Inventory → List Inventory
 blocks_of entries = filter is_block entries
 
 -- The header is known, and its parent is the tip.
-abbrev pub stands_on_tip : NodeState → Option Entry → Bool
+abbrev pub stands_on_tip : RelayState → Option Entry → Bool
 stands_on_tip state None = false
 stands_on_tip state (Some entry) = same entry.header.prev (best state.tree)
 
@@ -53,13 +53,15 @@ only_block (Block hash ∷ []) = Some hash
 only_block other = None
 
 -- There is exactly one block, and its parent is the tip.
-abbrev pub is_near : NodeState → List Inventory → Bool
-is_near state blocks = option_map_or (λ hash. stands_on_tip state (entry_of state.tree hash)) (only_block blocks) false
+abbrev pub is_near : RelayState → List Inventory → Bool
+is_near state blocks =
+    option_map_or (λ hash. stands_on_tip state (entry_of state.tree hash)) (only_block blocks) false
 
-pub record IsNeed (state : NodeState) (entries : List Inventory) (need : Need) : Type 0 where
+pub record IsNeed (state : RelayState) (entries : List Inventory) (need : Need) : Type 0 where
   pub wanted : need.entries ≡ wanted_of state entries
   pub near : need.near ≡ is_near state (blocks_of need.entries)
-  pub locator : need.locator ≡ (if list_any is_block need.entries then locator_of state.tree else [])
+  pub locator : need.locator
+      ≡ (if list_any is_block need.entries then locator_of state.tree else [])
 
 -- ---- while entries are gone through
 
@@ -71,7 +73,7 @@ abbrev pub with_entry : List Inventory → Inventory → List Inventory
 with_entry listed entry = if is_listed listed entry then listed else listed ++ entry ∷ []
 
 -- The same, if the entry is wanted.
-abbrev pub with_wanted : NodeState → List Inventory → Inventory → List Inventory
+abbrev pub with_wanted : RelayState → List Inventory → Inventory → List Inventory
 with_wanted state listed entry = if is_wanted state entry then with_entry listed entry else listed
 
 -- The two predicates tell exactly the listed txids and the listed block hashes.

@@ -16,7 +16,7 @@ use crate::announcers::Announcers;
 use crate::connection::Connection;
 use crate::judging::fault_of_block;
 use crate::locator::locator_of;
-use crate::state::State;
+use crate::state::Relay;
 use cb_base::{Fault, Hash256, Shared};
 use cb_block::{Header, SoundBlock};
 use cb_chain::{Chain, Hashes, kept_meet_rules};
@@ -159,12 +159,12 @@ fn thank(announcers: &mut Announcers, from: Option<Connection>)
     }
 }
 
-impl State {
+impl Relay {
     /// Adds a transaction to the mempool. Returns `None` if it was added, or else why it was
     /// refused (`Pool::insert` lists the reasons). A refused transaction changes nothing.
     ///
-    /// Fails only with `Fault::Memory`, and never if a check that needs no memory speaks against the
-    /// transaction; the state is then unchanged.
+    /// Fails only with `Fault::Memory`, and never if a check that needs no memory speaks against
+    /// the transaction; the state is then unchanged.
     pub fn take_tx(&mut self, tx: Shared<Tx>) -> Result<Option<Fault>, Fault>
         ensures taken { IfOk result (λ refused. TakesTx self.old tx refused self.new) }
         ensures err { OnErr result (self.new ≡ self.old) }

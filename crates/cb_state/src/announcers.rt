@@ -26,7 +26,8 @@ impl Model for Announcers {
 
     ghost view = { λ announcers. announcers.list.items };
 
-    ghost invariant = { λ announcers. (length announcers.list.items ≤ 3) × (4 ≤ vec_capacity announcers.list) };
+    ghost invariant = { λ announcers. (length announcers.list.items ≤ 3)
+        × (4 ≤ vec_capacity announcers.list) };
 }
 
 impl Announcers {

@@ -10,18 +10,19 @@ ghost use Rattle.cb_state.specs.declared.connection.Connection.{Connection};
 ghost use Rattle.cb_state.specs.declared.accepting.Heads.{Heads};
 ghost use Rattle.cb_state.specs.declared.accepting.Taken.{Taken};
 ghost use Rattle.cb_state.specs.Accepting.{TakesBlock, TakesHeads, TakesTx};
-ghost use Rattle.cb_state.specs.State.{NodeState};
+ghost use Rattle.cb_state.specs.State.{RelayState};
 
 /// The state before and the transaction, block or headers given determine the answer and the state
 /// after.
 pub fn one_answer()
-    ensures tx { (old new other : NodeState) (tx : Tx) (refused again : Option Fault)
+    ensures tx { (old new other : RelayState) (tx : Tx) (refused again : Option Fault)
         → TakesTx old tx refused new → TakesTx old tx again other →
         (refused ≡ again) × (new ≡ other) }
-    ensures block { (old new other : NodeState) (block : Block) (from : Option Connection) (taken again : Taken)
+    ensures block { (old new other : RelayState) (block : Block) (from : Option Connection)
+        (taken again : Taken)
         → TakesBlock old block from taken new → TakesBlock old block from again other →
         (taken ≡ again) × (new ≡ other) }
-    ensures headers { (old new other : NodeState) (headers : List Header) (heads again : Heads)
+    ensures headers { (old new other : RelayState) (headers : List Header) (heads again : Heads)
         → TakesHeads old headers heads new → TakesHeads old headers again other →
         (heads ≡ again) × (new ≡ other) }
 {}

@@ -27,5 +27,5 @@ pub use mining::{mined_meets_rules, one_mined_block};
 pub use news::{Announced, MOST_ANNOUNCED, News, Txids};
 pub use serving::{Piece, Pieces};
 pub use serving_places::{Excerpt, Part};
-pub use state::State;
+pub use state::Relay;
 pub use wanting::Need;

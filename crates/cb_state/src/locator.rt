@@ -2,7 +2,7 @@ ghost use Rattle.std.specs.Prelude.{◌≡◌, IfOk, IsOkUnless};
 ghost use Rattle.cb_base.specs.declared.fault.Fault.TheVariants.{Memory};
 ghost use Rattle.cb_chain.specs.Locator.{locator_of};
 
-use crate::state::State;
+use crate::state::Relay;
 use cb_base::Fault;
 use cb_chain::{Chain, has_history};
 use cb_payload::Locator;
@@ -19,7 +19,7 @@ pub(crate) fn locator_of(chain: &Chain) -> Result<Locator, Fault>
     Ok(Locator::from_few(hashes))
 }
 
-impl State {
+impl Relay {
     /// The chain's block locator (Bitcoin's protocol, `getheaders`). Fails only with
     /// `Fault::Memory`.
     pub fn locator(&self) -> Result<Locator, Fault>

@@ -4,13 +4,13 @@ ghost use Rattle.cb_compact.specs.ShortIds.{key_of};
 ghost use Rattle.cb_pool.specs.Listing.{txs_of};
 ghost use Rattle.cb_pool.specs.Matching.{pairs_of};
 
-use crate::state::State;
+use crate::state::Relay;
 use cb_base::{Fault, Shared};
 use cb_block::Header;
 use cb_compact::key;
 use cb_pool::{Pairs, ShortIds};
 
-impl State {
+impl Relay {
     /// Returns the mempool's transactions, as they are now, whose short ids are among `ids`
     /// (BIP 152). The short ids are keyed by `header` and `nonce`. `Pairs::list` hashes, looks up
     /// and copies the transactions later; nothing of that is done here. The state seen from outside

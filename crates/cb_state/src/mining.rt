@@ -6,10 +6,10 @@ ghost use Rattle.cb_block.specs.MerkleTree.{IsMutated, IsRoot};
 ghost use Rattle.cb_block.specs.Soundness.{names};
 ghost use Rattle.cb_pool.specs.Listing.{txs_of};
 ghost use Rattle.cb_block.specs.declared.block.Block.{Block};
-ghost use Rattle.cb_state.specs.State.{NodeState};
+ghost use Rattle.cb_state.specs.State.{RelayState};
 ghost use Rattle.cb_state.specs.Mining.{CannotMine, HasLeastNonce, HasNoNonce, IsMined, IsMostFitting, coinbase_of, next_height, with_nonce};
 
-use crate::state::State;
+use crate::state::Relay;
 use cb_base::{Fault, Hash256, Shared};
 use cb_block::{BITS, Block, Header, SoundBlock, Txs, check_header, root, sound_by};
 use cb_chain::{Chain, has_history};
@@ -181,7 +181,7 @@ fn sealed(
     }
 }
 
-impl State {
+impl Relay {
     /// Mines a regtest block on the tip. It holds a coinbase with a mark, and then the mempool's
     /// transactions from the first one on, as many as fit. Its header has the least nonce that
     /// meets its target. The state doesn't change.
@@ -214,12 +214,12 @@ impl State {
 
 /// A state and a mark determine the mined block.
 pub fn one_mined_block()
-    ensures { (state : NodeState) (mark : ℕ) (a b : Block) → IsMined state mark a →
+    ensures { (state : RelayState) (mark : ℕ) (a b : Block) → IsMined state mark a →
         IsMined state mark b → a ≡ b }
 {}
 
 /// A mined block meets the rules that a block meets by itself, without its chain.
-pub fn mined_meets_rules(state: &State, mark: u8, block: &SoundBlock)
+pub fn mined_meets_rules(state: &Relay, mark: u8, block: &SoundBlock)
     requires { IsMined state.now mark block.now }
     ensures { MeetsBlockRules block.now }
 {

@@ -7,7 +7,7 @@ ghost use Rattle.cb_state.specs.News.{IsNews, announced, way_from};
 
 use crate::bounded::{BoundedBlock, kept_block};
 use crate::connection::Connection;
-use crate::state::State;
+use crate::state::Relay;
 use cb_base::{Fault, Hash256};
 use cb_block::Header;
 use cb_payload::{Listed, MOST_ENTRIES};
@@ -57,7 +57,7 @@ fn to_announce(alloc: Global, way: Vec<Header>) -> Result<Announced, Fault>
     Ok(Listed::from_few(list))
 }
 
-impl State {
+impl Relay {
     /// Returns the news for a connection. `told` is the tip it was told last; without one, no
     /// headers are new. `from` is the arrival number of the first transaction it wasn't told.
     /// `whole` asks for the tip's block.

@@ -7,7 +7,7 @@ ghost use Rattle.cb_payload.specs.declared.inventory.Inventory.TheVariants as en
 ghost use Rattle.cb_state.specs.Serving.{is_within, piece_of, pieces_of, short_piece, tx_piece, whole_piece};
 
 use crate::bounded::{BoundedBlock, kept_block};
-use crate::state::State;
+use crate::state::Relay;
 use cb_base::{Fault, Hash256};
 use cb_payload::{Entries, Inventory, Listed, MOST_ENTRIES};
 use cb_pool::Candidate;
@@ -32,7 +32,7 @@ pub enum Piece {
 /// At most 50,000 pieces.
 pub type Pieces = Listed<Piece, MOST_ENTRIES>;
 
-impl State {
+impl Relay {
     /// Looks up inventory entries. Returns one piece for each entry of a known type, in order.
     /// Transactions and blocks are shared, not copied.
     ///

@@ -8,7 +8,7 @@ ghost use Rattle.cb_state.specs.Serving.{are_below, excerpt_at, excerpt_of};
 ghost use Rattle.cb_state.specs.declared.serving_places.Excerpt.TheVariants as excerpts;
 
 use crate::bounded::BoundedBlock;
-use crate::state::State;
+use crate::state::Relay;
 use cb_base::{Fault, Hash256, Shared};
 use cb_block::{Header, SoundBlock, Txs};
 use cb_chain::kept_meet_rules;
@@ -99,7 +99,7 @@ pub enum Excerpt {
     Whole(BoundedBlock),
 }
 
-impl State {
+impl Relay {
     /// Returns what a request for places of a block is answered with (BIP 152, `getblocktxn`). The
     /// places are given by their differences. If the block is at most ten below the tip, the answer
     /// is its transactions at these places, else the whole block. Transactions and blocks are

@@ -1,7 +1,7 @@
 ghost use Rattle.std.specs.Prelude.{◌≡◌, IfOk, IsOkUnless};
 ghost use Rattle.cb_base.specs.declared.fault.Fault.TheVariants.{Memory};
 ghost use Rattle.cb_state.specs.Announcers.{without_peer};
-ghost use Rattle.cb_state.specs.State.{NodeState, WaitOn, opening};
+ghost use Rattle.cb_state.specs.State.{RelayState, WaitOn, opening};
 
 use crate::announcers::Announcers;
 use crate::connection::Connection;
@@ -14,40 +14,41 @@ use std::marker::Model;
 /// The chain, the mempool (pool) over the UTXO set of its tip, and the announcers: the connections
 /// that are asked to announce new blocks as compact blocks. Its model is these three.
 #[derive(Drop)]
-pub struct State {
+pub struct Relay {
     pub(crate) alloc: Global,
     pub(crate) chain: Chain,
     pub(crate) pool: Pool,
     pub(crate) announcers: Announcers,
 }
 
-impl Model for State {
-    ghost use Rattle.cb_state.specs.State.{NodeState, WaitOn};
+impl Model for Relay {
+    ghost use Rattle.cb_state.specs.State.{RelayState, WaitOn};
 
-    ghost Value = { NodeState };
+    ghost Value = { RelayState };
 
-    ghost view = { λ state. record { tree = state.chain; pool = state.pool; announcers = state.announcers } };
+    ghost view = { λ state.
+        record { tree = state.chain; pool = state.pool; announcers = state.announcers } };
 
     ghost invariant = { λ state. WaitOn state.chain state.pool };
 }
 
-impl State {
+impl Relay {
     /// A state with the genesis block alone, an empty mempool and no announcers. Its tables have
     /// the fixed seed. Fails only with `Fault::Memory`.
-    pub fn new(alloc: Global) -> Result<State, Fault>
+    pub fn new(alloc: Global) -> Result<Relay, Fault>
         ensures opening { IfOk result (λ state. state ≡ opening) }
         ensures memory { IsOkUnless result Memory }
     {
-        State::with_seed(alloc, Seed::fixed())
+        Relay::with_seed(alloc, Seed::fixed())
     }
 
     /// A state with the genesis block alone, an empty mempool and no announcers. Its tables have
     /// this seed, which changes no result. Fails only with `Fault::Memory`.
-    pub fn with_seed(alloc: Global, seed: Seed) -> Result<State, Fault>
+    pub fn with_seed(alloc: Global, seed: Seed) -> Result<Relay, Fault>
         ensures opening { IfOk result (λ state. state ≡ opening) }
         ensures memory { IsOkUnless result Memory }
     {
-        Ok(State {
+        Ok(Relay {
             alloc,
             chain: Chain::with_seed(alloc, seed)?,
             pool: Pool::with_seed(alloc, seed),
@@ -87,11 +88,11 @@ impl State {
     }
 
     /// An equal state that shares the transactions and blocks. Fails only with `Fault::Memory`.
-    pub fn copy(&self) -> Result<State, Fault>
+    pub fn copy(&self) -> Result<Relay, Fault>
         ensures same { IfOk result (λ copy. copy ≡ self.now) }
         ensures memory { IsOkUnless result Memory }
     {
-        Ok(State {
+        Ok(Relay {
             alloc: self.alloc,
             chain: self.chain.copy()?,
             pool: self.pool.copy()?,

@@ -11,7 +11,7 @@ ghost use Rattle.cb_state.specs.Wanting.{AreNoted, IsNeed, blocks_of, is_block, 
 
 use crate::entry_seed::seed_of_entries;
 use crate::locator::locator_of;
-use crate::state::State;
+use crate::state::Relay;
 use cb_base::{Fault, Hash256, Seed};
 use cb_payload::{Entries, Inventory, Locator};
 use std::alloc::Global;
@@ -110,7 +110,7 @@ fn only_block(entries: &[Inventory]) -> Option<Hash256>
     only
 }
 
-impl State {
+impl Relay {
     /// Returns which entries are wanted: transactions that aren't in the mempool, and blocks that
     /// are neither kept nor marked bad. Entries of other types are never wanted. Each different
     /// entry is returned once, in order.
@@ -146,8 +146,8 @@ impl State {
         Ok(wanted.list)
     }
 
-    /// Appends an entry if it is wanted and isn't listed. Fails only with `Fault::Memory`, and never
-    /// if it isn't wanted.
+    /// Appends an entry if it is wanted and isn't listed. Fails only with `Fault::Memory`, and
+    /// never if it isn't wanted.
     fn look_at(&self, wanted: &mut Wanted, entry: Inventory) -> Result<(), Fault>
         requires { AreNoted (contains same wanted.old.txs)
             (contains same wanted.old.blocks) wanted.old.list.items }

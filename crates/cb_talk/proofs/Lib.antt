@@ -1,2 +1,4 @@
 pub mod Carried
 pub mod Nonces
+pub mod Queues
+pub mod Writes

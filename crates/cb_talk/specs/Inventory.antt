@@ -22,4 +22,8 @@ asking_txs request = GetBlockTxn request
 
 -- The request for the headers after a block locator, as many as the peer sends.
 abbrev pub asking_headers : List Hash256 → Message
-asking_headers locator = GetHeaders (record { version = 70014; locator = locator; stop = record { 0 = replicate 32 0 } })
+asking_headers locator = GetHeaders (record {
+  version = 70014;
+  locator = locator;
+  stop = record { 0 = replicate 32 0 };
+})

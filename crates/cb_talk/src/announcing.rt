@@ -2,8 +2,8 @@ ghost use Rattle.std.specs.Prelude.{◌≡◌, ◌∷◌, ◌≤◌, [], length,
 ghost use Rattle.cb_base.specs.declared.fault.Fault.TheVariants.{Memory};
 ghost use Rattle.cb_talk.specs.Announcing.{announcing, announcing_block, telling, tx_entry};
 
+use crate::Outgoing;
 use cb_base::{Fault, Hash256};
-use cb_outgoing::Outgoing;
 use cb_payload::{Entries, HeaderList, Inventory};
 use cb_state::{Announced, BoundedBlock, Txids};
 use cb_wire::Message;

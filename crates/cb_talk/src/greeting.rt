@@ -2,8 +2,8 @@ ghost use Rattle.std.specs.Prelude.{◌≡◌, IfOk, IsOk, IsOkUnless, []};
 ghost use Rattle.cb_base.specs.declared.fault.Fault.TheVariants.{Memory};
 ghost use Rattle.cb_talk.specs.Greeting.{our_version, wish, wishes};
 
+use crate::Outgoing;
 use cb_base::Fault;
-use cb_outgoing::Outgoing;
 use cb_payload::{Agent, CompactRelay, NetAddress, Version};
 use cb_wire::Message;
 use std::alloc::Global;

@@ -2,8 +2,8 @@ ghost use Rattle.std.specs.Prelude.{◌≡◌, ◌∷◌, [], IfOk, IsOkUnless, 
 ghost use Rattle.cb_base.specs.declared.fault.Fault.TheVariants.{Memory};
 ghost use Rattle.cb_talk.specs.Inventory.{asking_block, asking_for, asking_headers, asking_txs};
 
+use crate::Outgoing;
 use cb_base::{Fault, Hash256};
-use cb_outgoing::Outgoing;
 use cb_payload::{BlockTransactionsRequest, Entries, HeadersRequest, Inventory, Locator};
 use cb_wire::Message;
 use std::alloc::Global;

@@ -3,9 +3,9 @@ ghost use Rattle.cb_base.specs.declared.fault.Fault.TheVariants.{Memory};
 ghost use Rattle.cb_wire.specs.declared.message.Message.TheVariants.{Block, BlockTxn, Tx};
 ghost use Rattle.cb_talk.specs.Serving.{excerpt_told, lacking_in, nonce_behind, sent, served, served_as, shorts};
 
+use crate::Outgoing;
 use crate::announcing::announce_block;
 use cb_base::Fault;
-use cb_outgoing::Outgoing;
 use cb_payload::{BlockTransactions, Entries, Inventory};
 use cb_pool::Candidate;
 use cb_state::{BoundedBlock, Excerpt, Part, Piece, Pieces};

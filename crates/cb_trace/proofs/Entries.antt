@@ -14,7 +14,7 @@ use Rattle.cb_peer_state.specs.Event.{ends_at_once, is_reader_end}
 use Rattle.cb_peer_state.specs.Session.{Stepped, closes, open_step, stays, step_of}
 use Rattle.cb_peer_state.specs.declared.session_state.SessionState.{SessionState}
 use Rattle.cb_peer_state.specs.State.{is_closed}
-use Rattle.cb_peer_laws.proofs.Steps.{AsksIt, IsOver, Steps, closes_over, ends_by, goes_on, open_asks, open_bye, open_ends, open_fewer, open_over, open_settings, open_steps, passes}
+use Rattle.cb_peer_state.proofs.Steps.{AsksIt, IsOver, Steps, closes_over, ends_by, goes_on, open_asks, open_bye, open_ends, open_fewer, open_over, open_settings, open_steps, passes}
 use Rattle.cb_trace.specs.declared.trace.TraceEntry.{TraceEntry}
 use Rattle.cb_trace.specs.Fold.{entry_step}
 use Rattle.cb_trace.proofs.Folds.{entry_cases}

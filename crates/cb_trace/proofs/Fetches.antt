@@ -6,7 +6,7 @@ use Rattle.std.proofs.lemmas.Bool.{cases_Bool, or_cases, or_left, or_right}
 use Rattle.std.proofs.lemmas.List.Folds.{list_any-append}
 use Rattle.cb_base.specs.declared.hash.Hash256.{Hash256}
 use Rattle.cb_chain.specs.Entries.{block_hash, same}
-use Rattle.cb_chain.proofs.Nodes.{same-true}
+use Rattle.cb_chain.proofs.BlockIndexes.{same-true}
 use Rattle.cb_compact.specs.Slots.{Unfilled}
 use Rattle.cb_fetch.specs.Fetching.{FetchState, fallen_back, has, idle, is_fetched, landed, taking_on, wanting, wanting_all, with_flight, with_wanted}
 use Rattle.cb_payload.specs.declared.inventory.Inventory.{Inventory}

@@ -10,7 +10,7 @@ use Rattle.cb_hall.specs.Badge.{BadgeState}
 use Rattle.cb_hall.specs.Hall.{Grants}
 use Rattle.cb_peer_state.specs.Questions.{fits}
 
-reply_fits : (kicked : Bool) (old new : JournalState) (badge : BadgeState) (question : Question) (answer : Answer) → Replies kicked old.latest.node badge.connection question answer new.latest.node → fits question answer ≡ true
+reply_fits : (kicked : Bool) (old new : JournalState) (badge : BadgeState) (question : Question) (answer : Answer) → Replies kicked old.latest.relay badge.connection question answer new.latest.relay → fits question answer ≡ true
 reply_fits true old new badge question answer r = ap (fits question) r.0
 reply_fits false old new badge questions.Admit answer r = ap (fits questions.Admit) r.0
 reply_fits false old new badge (questions.Headers headers) answer r = ap (fits (questions.Headers headers)) r.1

@@ -26,17 +26,17 @@ use Rattle.cb_peer_state.specs.declared.state.Peer.{Peer}
 use Rattle.cb_peer_state.specs.declared.state.State.{State}
 use Rattle.cb_peer_state.specs.Questions.{fits, question_at, question_of, pending_question}
 use Rattle.cb_peer_state.specs.Event.{is_input, is_told, kind_of}
-use Rattle.cb_peer_laws.specs.Laws.{is_following, is_headers}
+use Rattle.cb_peer_state.specs.Laws.{is_following, is_headers}
 use Rattle.cb_peer_state.specs.Receiving.{Outcome, ends}
 use Rattle.cb_peer_state.specs.Replying.{answered, replied, resuming}
 use Rattle.cb_peer_state.specs.Session.{Stepped, arrives, closes, for_item, open_step, openings, pending_item, pending_of, stays, told}
 use Rattle.cb_peer_state.specs.declared.session_state.SessionState.{SessionState}
 use Rattle.cb_peer_state.specs.State.{freed, is_closed}
-use Rattle.cb_peer_laws.proofs.LawLemmas.{no_headers_unasked}
+use Rattle.cb_peer_state.proofs.LawLemmas.{no_headers_unasked}
 use Rattle.cb_peer_state.proofs.Cases.{sent_at_end}
 use Rattle.cb_peer_state.proofs.Resuming.{resuming_cases}
-use Rattle.cb_peer_laws.proofs.Behind.{found_more}
-use Rattle.cb_peer_laws.proofs.Steps.{no_question, open_over}
+use Rattle.cb_peer_state.proofs.Behind.{found_more}
+use Rattle.cb_peer_state.proofs.Steps.{no_question, open_over}
 use Rattle.cb_trace.specs.declared.trace.TraceEntry.{TraceEntry}
 use Rattle.cb_trace.specs.Fold.{Account, account_of, account_step, entry_step, first_account, inputs_of, replies, replies_to, sends, session_of}
 use Rattle.cb_trace.specs.Whole.{SendsWhatFollows, following, following_in, headers_in, says_send_headers}

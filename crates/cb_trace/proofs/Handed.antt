@@ -6,12 +6,12 @@ use Rattle.cb_block.specs.declared.block.Block.{Block}
 use Rattle.cb_block.specs.Blocks.{IsSoundBlock, texts}
 use Rattle.cb_block.proofs.Only.{only_one}
 use Rattle.cb_hall.specs.Histories.{Reply}
-use Rattle.cb_journal.specs.declared.question.Given.{Given}
+use Rattle.cb_journal.specs.declared.question.GivenBlock.{GivenBlock}
 use Rattle.cb_journal.specs.declared.question.Question.{Question}
 use Rattle.cb_journal.specs.declared.question.Question.TheVariants.{GiveBlock}
-use Rattle.cb_peer_laws.proofs.LawLemmas.{given_sound}
-use Rattle.cb_peer_laws.specs.Laws.{IsReached}
-use Rattle.cb_peer_laws.specs.Laws.IsReached.{opens}
+use Rattle.cb_peer_state.proofs.LawLemmas.{given_sound}
+use Rattle.cb_peer_state.specs.Laws.{IsReached}
+use Rattle.cb_peer_state.specs.Laws.IsReached.{opens}
 use Rattle.cb_peer_state.specs.declared.event.Event.{Event}
 use Rattle.cb_peer_state.specs.declared.event.Event.TheVariants.{Told}
 use Rattle.cb_peer_state.specs.declared.settings.Settings.{Settings}
@@ -26,7 +26,7 @@ pub only_sound : (b : Block) → IsSoundBlock b → IsOnlySound b
 only_sound b sound = record { sound = sound; only = λ others other apart. only_one b.header.root (texts b.txs) sound others other apart }
 
 -- the open question of a reachable session
-reached_given : (s : SessionState) (given : Given) → IsReached s → pending_question s ≡ Some (GiveBlock given) → IsOnlySound given.block
+reached_given : (s : SessionState) (given : GivenBlock) → IsReached s → pending_question s ≡ Some (GiveBlock given) → IsOnlySound given.block
 reached_given s given reached e = only_sound given.block (given_sound s given reached e)
 
 -- the block of a question, if it gives one
@@ -67,5 +67,5 @@ entry_given account entry gave =
 pub each_given : (settings : Settings) (entries : List TraceEntry) → All IsOnlySound (blocks_given settings entries)
 each_given settings entries = (kept GaveOnlySound entry_given settings entries (record { reached = opens settings; each = All-nil IsOnlySound })).each
 
-pub pending_given : (settings : Settings) (entries : List TraceEntry) (given : Given) → pending_question (session_of settings entries) ≡ Some (GiveBlock given) → IsOnlySound given.block
+pub pending_given : (settings : Settings) (entries : List TraceEntry) (given : GivenBlock) → pending_question (session_of settings entries) ≡ Some (GiveBlock given) → IsOnlySound given.block
 pending_given settings entries given e = reached_given (session_of settings entries) given (is_reached settings entries) e

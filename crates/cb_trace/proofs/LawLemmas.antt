@@ -26,7 +26,7 @@ use Rattle.cb_peer_state.specs.Replying.{answered}
 use Rattle.cb_peer_state.specs.Session.{Stepped, arrives, for_item, open_step, openings, pending_of, stays, told}
 use Rattle.cb_peer_state.specs.declared.session_state.SessionState.{SessionState}
 use Rattle.cb_peer_state.specs.State.{freed, is_closed}
-use Rattle.cb_peer_laws.proofs.Steps.{Comes, answered_comes, goes, next_left, nonces_of, owed_at, owed_by, stops}
+use Rattle.cb_peer_state.proofs.Steps.{Comes, answered_comes, goes, next_left, nonces_of, owed_at, owed_by, stops}
 use Rattle.cb_trace.specs.declared.trace.TraceEntry.{TraceEntry}
 use Rattle.cb_trace.specs.Fold.{Account, EachOpen, account_of, account_step, entry_step, first_account, inputs_of, session_of}
 use Rattle.cb_trace.specs.Prompt.{EachPrompt}

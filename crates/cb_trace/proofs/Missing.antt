@@ -5,7 +5,7 @@ use Rattle.std.proofs.lemmas.Bool.{cases_Bool, or_cases, or_left, or_right}
 use Rattle.std.proofs.lemmas.List.Folds.{list_any-append}
 use Rattle.cb_base.specs.declared.hash.Hash256.{Hash256}
 use Rattle.cb_chain.specs.Entries.{block_hash}
-use Rattle.cb_chain.proofs.Nodes.{same-refl}
+use Rattle.cb_chain.proofs.BlockIndexes.{same-refl}
 use Rattle.cb_compact.specs.Slots.{Unfilled}
 use Rattle.cb_fetch.specs.Fetching.{has}
 use Rattle.cb_hall.specs.Histories.{Reply}
@@ -25,7 +25,7 @@ use Rattle.cb_peer_state.specs.Replying.{answered}
 use Rattle.cb_peer_state.specs.Session.{Stepped, arrives, closes, for_item, open_step, openings, pending_of, stays, told}
 use Rattle.cb_peer_state.specs.declared.session_state.SessionState.{SessionState}
 use Rattle.cb_peer_state.specs.State.{freed}
-use Rattle.cb_peer_laws.specs.Laws.{asks_for_block}
+use Rattle.cb_peer_state.specs.Laws.{asks_for_block}
 use Rattle.cb_trace.specs.declared.trace.TraceEntry.{TraceEntry}
 use Rattle.cb_trace.specs.Fold.{Account, account_of, account_step, entry_step, replies, replies_to, sends, session_of}
 use Rattle.cb_trace.specs.Whole.{lacking_of, needed_in, tells_lacking, tells_missing, tells_needed}

@@ -58,8 +58,8 @@ use Rattle.cb_peer_state.specs.declared.session_state.SessionState.{SessionState
 use Rattle.cb_peer_state.specs.State.{dropping, is_closed, is_partial, is_ready, landing, next_nonce, unless_remembered, with_fallen, with_fetch, with_lacking, with_made, with_partial, with_resume_from}
 use Rattle.cb_peer_state.proofs.Cases.{by_test, ends_cases}
 use Rattle.cb_peer_state.proofs.Resuming.{resuming_cases}
-use Rattle.cb_peer_laws.proofs.Behind.{found_more, unless_all}
-use Rattle.cb_peer_laws.proofs.CompactSteps.{ready_open}
+use Rattle.cb_peer_state.proofs.Behind.{found_more, unless_all}
+use Rattle.cb_peer_state.proofs.CompactSteps.{ready_open}
 use Rattle.cb_trace.specs.Whole.{high_in, highs_in}
 use Rattle.cb_trace.proofs.Quiet.{again_none, IsRare, NoneOf, announcing_none, excerpt_none, greeting_none, more_none, none_of_both, parent_none, served_none, telling_none, tip_none}
 

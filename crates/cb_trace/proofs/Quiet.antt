@@ -34,7 +34,7 @@ use Rattle.cb_peer_state.specs.declared.settings.Settings.{Settings}
 use Rattle.cb_peer_state.specs.Receiving.{greeting}
 use Rattle.cb_peer_state.specs.Replying.{before_parent, differ, is_untold, more_behind, more_headers, tip_by, tip_told, wish_told, without_brought}
 use Rattle.cb_peer_state.specs.State.{unless_remembered}
-use Rattle.cb_peer_laws.proofs.Behind.{unless_all}
+use Rattle.cb_peer_state.proofs.Behind.{unless_all}
 use Rattle.cb_peer_state.specs.declared.session_state.SessionState.{SessionState}
 
 -- none of the messages meets the test

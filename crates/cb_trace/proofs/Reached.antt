@@ -7,8 +7,8 @@ use Rattle.cb_peer_state.specs.declared.settings.Settings.{Settings}
 use Rattle.cb_peer_state.specs.declared.event.Event.{Event}
 use Rattle.cb_peer_state.specs.declared.state.CloseReason.{CloseReason}
 use Rattle.cb_peer_state.specs.declared.state.CloseReason.TheVariants as reasons
-use Rattle.cb_peer_laws.specs.Laws.{IsReached}
-use Rattle.cb_peer_laws.specs.Laws.IsReached.{opens, steps, stops}
+use Rattle.cb_peer_state.specs.Laws.{IsReached}
+use Rattle.cb_peer_state.specs.Laws.IsReached.{opens, steps, stops}
 use Rattle.cb_peer_state.specs.Session.{Stepped, closes, open_step, stays, step_of}
 use Rattle.cb_peer_state.specs.declared.session_state.SessionState.{SessionState}
 use Rattle.cb_peer_state.specs.State.{is_closed}

@@ -59,8 +59,8 @@ use Rattle.cb_peer_state.specs.declared.session_state.SessionState.{SessionState
 use Rattle.cb_peer_state.specs.State.{dropping, is_partial, landing, next_nonce, remembers, unless_remembered, with_fallen, with_fetch, with_lacking, with_made, with_partial}
 use Rattle.cb_peer_state.proofs.Cases.{by_test, ends_cases}
 use Rattle.cb_peer_state.proofs.Resuming.{resuming_cases}
-use Rattle.cb_peer_laws.proofs.Behind.{any_more}
-use Rattle.cb_peer_laws.specs.Laws.{asks_for_block, names_block}
+use Rattle.cb_peer_state.proofs.Behind.{any_more}
+use Rattle.cb_peer_state.specs.Laws.{asks_for_block, names_block}
 use Rattle.cb_trace.specs.Whole.{lacking_of, missing_in, needed_in}
 use Rattle.cb_trace.proofs.Fetches.{Each, Fetches, Tests, rebuilding, all_taken, all_wanted, back_fetches, given_up_fetches, idle_fetches, lands_fetches, none_each, same_each, with_rebuilding}
 use Rattle.cb_trace.proofs.Quiet.{IsRare, NoneOf, excerpt_none, greeting_none, more_none, news_none, none_of_both, parent_none, request_none, served_none, unless_none}

@@ -22,7 +22,7 @@ use Rattle.cb_peer_state.specs.Outcomes.{Answers}
 use Rattle.cb_peer_state.specs.Session.{Stepped, is_light, spares, takes_no_memory}
 use Rattle.cb_peer_state.specs.declared.session_state.SessionState.{SessionState}
 use Rattle.cb_peer_state.specs.State.{is_closed, opening}
-use Rattle.cb_peer_laws.proofs.Steps.{AsksIt}
+use Rattle.cb_peer_state.proofs.Steps.{AsksIt}
 use Rattle.cb_trace.specs.Fold.{Account, account_of, account_step, entry_step, first_account, session_of}
 use Rattle.cb_trace.specs.Trace.{AreCounts, AsksPending, Grows, IsShed, IsTrace, LacksBase, NeedsBase, Rests, StandsFor, TraceSteps, TraceView, counts_with, held_of, is_due, next_step, weight_of}
 use Rattle.cb_trace.proofs.Folds.{EachOpen_more, account_of_more, count_is, counts_more, items_few, told_few}

@@ -15,7 +15,8 @@ use Rattle.cb_trace.specs.Fold.{replies}
 -- for its tree, and a different one hashed for the block's, with one hash (AreApart).
 pub record IsOnlySound (b : Block) : Type 0 where
   pub sound : IsSoundBlock b
-  pub only : (others : List (List ℕ)) → IsSound b.header.root others → AreApart (texts b.txs) others → others ≡ texts b.txs
+  pub only : (others : List (List ℕ)) → IsSound b.header.root others → AreApart (texts b.txs) others
+      → others ≡ texts b.txs
 
 -- The block that a question gives the hall.
 abbrev pub given_in : Question → Option Block

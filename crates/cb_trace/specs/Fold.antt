@@ -35,7 +35,8 @@ entry_step count s entry =
 
 -- The reply that an event is to the open question.
 abbrev pub replies_to : Option Question → Event → List Reply
-replies_to (Some question) (events.Told answer) = record { question = question; answer = answer } ∷ []
+replies_to (Some question) (events.Told answer) =
+    record { question = question; answer = answer } ∷ []
 replies_to pending event = []
 
 abbrev pub account_step : Account → TraceEntry → Account
@@ -48,7 +49,12 @@ account_step account entry =
     }
 
 abbrev pub first_account : Settings → Account
-first_account settings = record { session = opening settings; count = 0; sent = openings settings; replies = [] }
+first_account settings = record {
+  session = opening settings;
+  count = 0;
+  sent = openings settings;
+  replies = [];
+}
 
 -- The fold over all entries, from a new session.
 unfoldable pub account_of : Settings → List TraceEntry → Account
@@ -67,7 +73,8 @@ replies settings entries = (account_of settings entries).replies
 -- Each entry found a session that wasn't over: none follows the one that ends it.
 abbrev pub EachOpen : Account → List TraceEntry → Type 0
 EachOpen account [] = Unit {0}
-EachOpen account (entry ∷ entries) = (is_closed account.session.state ≡ false) × EachOpen (account_step account entry) entries
+EachOpen account (entry ∷ entries) =
+    (is_closed account.session.state ≡ false) × EachOpen (account_step account entry) entries
 
 -- Whether some entry's event is of such a kind.
 abbrev pub has_kind : (Kind → Bool) → List TraceEntry → Bool

@@ -19,7 +19,11 @@ use Rattle.cb_trace.specs.Fold.{Account, EachOpen, account_step, entry_step, fir
 
 -- The numbers of entries, of inputs and of answers.
 abbrev pub counts_of : List TraceEntry → Counts
-counts_of entries = record { entries = length entries; items = number_of is_input entries; told = number_of is_told entries }
+counts_of entries = record {
+  entries = length entries;
+  items = number_of is_input entries;
+  told = number_of is_told entries;
+}
 
 -- The numbers with one more entry.
 abbrev pub counts_with : Counts → Event → Counts
@@ -83,7 +87,9 @@ weight_of trace = held_of trace.entries + 256 * length trace.entries
 -- A checkpoint is due: no question is open, and there are 65,000 entries or more, or they hold more
 -- than 8,000,000 bytes.
 abbrev pub is_due : TraceView → Bool
-is_due trace = is_none trace.session.pending && (not (nat_lt (length trace.entries) 65000) || nat_lt 8000000 (held_of trace.entries))
+is_due trace =
+    is_none trace.session.pending
+    && (not (nat_lt (length trace.entries) 65000) || nat_lt 8000000 (held_of trace.entries))
 
 -- The step that the next entry of a trace makes.
 abbrev pub next_step : TraceView → TraceEntry → Stepped
@@ -97,25 +103,31 @@ pub record Grows (old new : TraceView) (entry : TraceEntry) : Type 0 where
   pub entries : new.entries ≡ old.entries ++ entry ∷ []
   pub session : new.session ≡ (next_step old entry).session
   pub room : new.room + 1 ≡ old.room
-  pub history : (history : List TraceEntry) → StandsFor old history → StandsFor new (history ++ entry ∷ [])
+  pub history : (history : List TraceEntry) → StandsFor old history
+      → StandsFor new (history ++ entry ∷ [])
 
 -- The question asked is the one that is open afterwards. If none is asked, none is open, or the
 -- session is unchanged because the event didn't fit.
 abbrev pub AsksPending : SessionState → SessionState → Option Question → Type 0
-AsksPending before after asked = (asked ≡ pending_question after) ⊎ ((asked ≡ None) × (after ≡ before))
+AsksPending before after asked =
+    (asked ≡ pending_question after) ⊎ ((asked ≡ None) × (after ≡ before))
 
 -- The trace was given an event, and returned what its session sent and asked. The entry is starved
 -- only if the step takes memory. An answer is never starved if it doesn't fit. Nor is one to which
--- nothing is hashed, copied or listed (`weighs_at` of cb_peer_state), nothing is sent, and nothing is
--- asked but for the locator or what is new.
-pub record TraceSteps (old new : TraceView) (event : Event) (sent : List Message) (asked : Option Question) : Type 0 where
+-- nothing is hashed, copied or listed (`weighs_at` of cb_peer_state), nothing is sent, and nothing
+-- is asked but for the locator or what is new.
+pub record TraceSteps (old new : TraceView) (event : Event) (sent : List Message)
+    (asked : Option Question) : Type 0 where
   pub starved : Bool
   pub grows : Grows old new (record { event = event; starved = starved })
   pub messages : sent ≡ (next_step old (record { event = event; starved = starved })).messages
   pub question : asked ≡ (next_step old (record { event = event; starved = starved })).question
   pub stands : AsksPending old.session new.session asked
   pub calm : takes_no_memory event ≡ true → starved ≡ false
-  pub silent : spares old.session event ≡ true → (next_step old (record { event = event; starved = false })).messages ≡ [] → is_light (next_step old (record { event = event; starved = false })).question ≡ true → starved ≡ false
+  pub silent : spares old.session event ≡ true
+      → (next_step old (record { event = event; starved = false })).messages ≡ []
+      → is_light (next_step old (record { event = event; starved = false })).question ≡ true
+      → starved ≡ false
 
 -- The trace stands for the same history with the same session.
 pub record IsAsBefore (old new : TraceView) : Type 0 where
@@ -128,10 +140,13 @@ pub record IsAsBefore (old new : TraceView) : Type 0 where
 -- session is the base and there are no entries. Otherwise base and entries are unchanged.
 pub record Rests (old new : TraceView) : Type 0 where
   pub same : IsAsBefore old new
-  pub taken : is_due old ≡ true → (new.base ≡ old.session) × (new.before ≡ old.total) × (new.entries ≡ [])
-  pub kept : is_due old ≡ false → (new.base ≡ old.base) × (new.before ≡ old.before) × (new.entries ≡ old.entries)
+  pub taken : is_due old ≡ true
+      → (new.base ≡ old.session) × (new.before ≡ old.total) × (new.entries ≡ [])
+  pub kept : is_due old ≡ false
+      → (new.base ≡ old.base) × (new.before ≡ old.before) × (new.entries ≡ old.entries)
 
--- The trace without its entries: the session is the base, and all numbers are kept. There is no room.
+-- The trace without its entries: the session is the base, and all numbers are kept. There is no
+-- room.
 pub record IsShed (old new : TraceView) : Type 0 where
   pub same : IsAsBefore old new
   pub base : new.base ≡ old.session
@@ -173,20 +188,28 @@ Readied old new false = RanOut old new ⊎ LacksBase old new
 
 -- The question that was open before an answer.
 abbrev pub asked_at : Account → TraceEntry → List (Option Question)
-asked_at account entry = if is_told (kind_of entry.event) then pending_question account.session ∷ [] else []
+asked_at account entry =
+    if is_told (kind_of entry.event) then pending_question account.session ∷ [] else []
 
 -- The questions that were open before each answer, in order, found by folding the entries again.
 abbrev pub asked_from : Account → List TraceEntry → List (Option Question)
 asked_from account [] = []
-asked_from account (entry ∷ entries) = asked_at account entry ++ asked_from (account_step account entry) entries
+asked_from account (entry ∷ entries) =
+    asked_at account entry ++ asked_from (account_step account entry) entries
 
 -- The fold's account at the base, as if nothing had been sent or answered before.
 abbrev pub base_account : TraceView → Account
-base_account trace = record { session = trace.base; count = trace.before.entries; sent = []; replies = [] }
+base_account trace = record {
+  session = trace.base;
+  count = trace.before.entries;
+  sent = [];
+  replies = [];
+}
 
 -- Of all answers of the history, these questions were open before the last ones. The number of
 -- earlier answers is the one that the trace keeps.
-pub record AskedLast (settings : Settings) (history : List TraceEntry) (told : ℕ) (asked : List (Option Question)) : Type 0 where
+pub record AskedLast (settings : Settings) (history : List TraceEntry) (told : ℕ)
+    (asked : List (Option Question)) : Type 0 where
   pub earlier : List (Option Question)
   pub parts : asked_from (first_account settings) history ≡ earlier ++ asked
   pub number : length earlier ≡ told

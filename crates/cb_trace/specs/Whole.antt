@@ -31,7 +31,8 @@ number_sent test sent = length (filter test sent)
 -- The session met the test before the entries or after one of them.
 abbrev pub came_to : (SessionState → Bool) → Account → List TraceEntry → Bool
 came_to test account [] = test account.session
-came_to test account (entry ∷ entries) = test account.session || came_to test (account_step account entry) entries
+came_to test account (entry ∷ entries) =
+    test account.session || came_to test (account_step account entry) entries
 
 -- ---- blocks announced by their headers (BIP 130)
 
@@ -69,7 +70,8 @@ following reply = following_in reply.question reply.answer
 -- order. They are all of them while the session isn't over.
 pub record SendsWhatFollows (settings : Settings) (entries : List TraceEntry) : Type 0 where
   pub unsent : List (List Header)
-  pub parts : filter_map following (replies settings entries) ≡ filter_map headers_in (sends settings entries) ++ unsent
+  pub parts : filter_map following (replies settings entries)
+      ≡ filter_map headers_in (sends settings entries) ++ unsent
   pub all : is_closed (session_of settings entries).state ≡ false → unsent ≡ []
 
 -- ---- blocks being downloaded
@@ -88,7 +90,8 @@ lacking_of question answer = []
 -- The block whose header alone was asked about, if the answer lists a missing block. A session asks
 -- so about a compact block (BIP 152).
 abbrev pub missing_in : Question → Answer → List Hash256
-missing_in (questions.Headers (header ∷ [])) (answers.Heads heads) = if is_nil heads.lack then [] else block_hash header ∷ []
+missing_in (questions.Headers (header ∷ [])) (answers.Heads heads) =
+    if is_nil heads.lack then [] else block_hash header ∷ []
 missing_in question answer = []
 
 -- The hall was asked about the header of this block alone, and the block was missing.
@@ -98,10 +101,12 @@ tells_missing hash reply = has (missing_in reply.question reply.answer) hash
 -- The hall listed this block as needed or as missing, or it was missing when the hall was asked
 -- about its header alone.
 abbrev pub tells_needed : Hash256 → Reply → Bool
-tells_needed hash reply = has (needed_in reply.question reply.answer) hash || tells_missing hash reply
+tells_needed hash reply =
+    has (needed_in reply.question reply.answer) hash || tells_missing hash reply
 
 abbrev pub tells_lacking : Hash256 → Reply → Bool
-tells_lacking hash reply = has (lacking_of reply.question reply.answer) hash || tells_missing hash reply
+tells_lacking hash reply =
+    has (lacking_of reply.question reply.answer) hash || tells_missing hash reply
 
 -- ---- compact blocks (BIP 152)
 
@@ -117,4 +122,5 @@ highs_in sent = filter_map high_in sent
 abbrev pub AreAlternating : List Bool → Type 0
 AreAlternating [] = Unit {0}
 AreAlternating (first ∷ []) = Unit {0}
-AreAlternating (first ∷ (next ∷ others)) = (differ first next ≡ true) × AreAlternating (next ∷ others)
+AreAlternating (first ∷ (next ∷ others)) =
+    (differ first next ≡ true) × AreAlternating (next ∷ others)

@@ -5,11 +5,11 @@ ghost use Rattle.cb_base.specs.declared.hash.Hash256.{Hash256};
 ghost use Rattle.cb_chain.specs.Entries.{block_hash};
 ghost use Rattle.cb_compact.specs.Slots.{Unfilled};
 ghost use Rattle.cb_fetch.specs.Fetching.{has};
-ghost use Rattle.cb_journal.specs.declared.question.Given.{Given};
+ghost use Rattle.cb_journal.specs.declared.question.GivenBlock.{GivenBlock};
 ghost use Rattle.cb_journal.specs.declared.question.Question.TheVariants as questions;
 ghost use Rattle.cb_peer_state.specs.declared.settings.Settings.{Settings};
 ghost use Rattle.cb_peer_state.specs.Questions.{pending_question, questions_left};
-ghost use Rattle.cb_peer_laws.specs.Laws.{IsReached, asks_for_block};
+ghost use Rattle.cb_peer_state.specs.Laws.{IsReached, asks_for_block};
 ghost use Rattle.cb_talk.specs.Serving.{nonces_from, nonces_in};
 ghost use Rattle.cb_trace.specs.declared.trace.TraceEntry.{TraceEntry};
 ghost use Rattle.cb_trace.specs.Blocks.{IsOnlySound, blocks_given};
@@ -88,7 +88,7 @@ pub fn blocks_are_fetched_as_told()
 pub fn each_block_given_is_the_only_sound_list()
     ensures given { (settings : Settings) (entries : List TraceEntry) →
         All IsOnlySound (blocks_given settings entries) }
-    ensures pending { (settings : Settings) (entries : List TraceEntry) (given : Given) →
+    ensures pending { (settings : Settings) (entries : List TraceEntry) (given : GivenBlock) →
         pending_question (session_of settings entries) ≡ Some (questions.GiveBlock given) →
         IsOnlySound given.block }
 {}

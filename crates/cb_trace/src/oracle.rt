@@ -42,19 +42,24 @@ pub trait Oracle {
     ghost told_none: { (a : Self) (x : BadgeState) → told a x [] a x };
 
     /// If some replies were given, and then others, all of them were given, in this order.
-    ghost told_then: { (a b c : Self) (x y z : BadgeState) (first next : List Reply) → told a x first b y → told b y next c z → told a x (first ++ next) c z };
+    ghost told_then: { (a b c : Self) (x y z : BadgeState) (first next : List Reply)
+        → told a x first b y → told b y next c z → told a x (first ++ next) c z };
 
     /// An oracle that grants no more questions never grants one again.
-    ghost full_stays: { (a b : Self) (x y : BadgeState) (replies : List Reply) → told a x replies b y → refused a x JournalFull → refused b y JournalFull };
+    ghost full_stays: { (a b : Self) (x y : BadgeState) (replies : List Reply)
+        → told a x replies b y → refused a x JournalFull → refused b y JournalFull };
 
     /// The badge counts the replies.
-    ghost counts: { (a b : Self) (x y : BadgeState) (replies : List Reply) → told a x replies b y → y.count ≡ x.count + length replies };
+    ghost counts: { (a b : Self) (x y : BadgeState) (replies : List Reply) → told a x replies b y
+        → y.count ≡ x.count + length replies };
 
     /// The badge stays that of its connection.
-    ghost same_connection: { (a b : Self) (x y : BadgeState) (replies : List Reply) → told a x replies b y → y.connection ≡ x.connection };
+    ghost same_connection: { (a b : Self) (x y : BadgeState) (replies : List Reply)
+        → told a x replies b y → y.connection ≡ x.connection };
 
     /// A badge that was marked full stays marked.
-    ghost mark_stays: { (a b : Self) (x y : BadgeState) (replies : List Reply) → told a x replies b y → x.full ≡ true → y.full ≡ true };
+    ghost mark_stays: { (a b : Self) (x y : BadgeState) (replies : List Reply)
+        → told a x replies b y → x.full ≡ true → y.full ≡ true };
 }
 
 impl Oracle for Hall {

@@ -9,8 +9,8 @@ ghost use Rattle.cb_trace.specs.Fold.{entry_step};
 use crate::asking::questions_asked;
 use cb_base::{Fault, Seed};
 use cb_journal::Question;
-use cb_outgoing::Outgoing;
 use cb_peer::{CloseReason, Event, Session, Settings, State};
+use cb_talk::Outgoing;
 use std::alloc::Global;
 use std::marker::Model;
 
@@ -85,9 +85,29 @@ impl Model for Trace {
 
     ghost Value = { TraceView };
 
-    ghost view = { λ trace. record { settings = trace.settings; base = trace.base; before = trace.before; entries = trace.entries.items; session = trace.session; total = trace.total; room = vec_capacity trace.entries - vec_len trace.entries } };
+    ghost view = { λ trace.
+        record {
+          settings = trace.settings;
+          base = trace.base;
+          before = trace.before;
+          entries = trace.entries.items;
+          session = trace.session;
+          total = trace.total;
+          room = vec_capacity trace.entries
+              - vec_len trace.entries;
+        } };
 
-    ghost invariant = { λ trace. IsTrace (record { settings = trace.settings; base = trace.base; before = trace.before; entries = trace.entries.items; session = trace.session; total = trace.total; room = vec_capacity trace.entries - vec_len trace.entries })
+    ghost invariant = { λ trace. IsTrace
+        (record {
+          settings = trace.settings;
+          base = trace.base;
+          before = trace.before;
+          entries = trace.entries.items;
+          session = trace.session;
+          total = trace.total;
+          room = vec_capacity trace.entries
+              - vec_len trace.entries;
+        })
         × (trace.held ≡ min (held_of trace.entries.items) (2 ^ 64 - 1)) };
 }
 
@@ -239,8 +259,8 @@ impl Trace {
     }
 
     /// Drops the entries of a trace whose session is over, if they take more than `most` bytes
-    /// (`weight_of`). The session is the base then, and all numbers stay. Otherwise nothing changes.
-    /// Returns how many bytes the entries take now.
+    /// (`weight_of`). The session is the base then, and all numbers stay. Otherwise nothing
+    /// changes. Returns how many bytes the entries take now.
     ///
     /// Never fails: the copy of a session that is over takes no memory.
     pub fn shed(&mut self, most: u64) -> u64

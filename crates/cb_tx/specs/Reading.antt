@@ -49,7 +49,14 @@ input_at bytes = do
   index ← number_at w32 txid.1
   script ← script_at index.1
   sequence ← number_at w32 script.1
-  Ok (record { prev = record { txid = txid.0; index = index.0 }; script = script.0; sequence = sequence.0 }, sequence.1)
+  Ok (
+    record {
+      prev = record { txid = txid.0; index = index.0 };
+      script = script.0;
+      sequence = sequence.0;
+    },
+    sequence.1,
+  )
 
 unfoldable pub output_at : List ℕ → Read TxOut
 output_at bytes = do
@@ -64,7 +71,15 @@ tx_at bytes = do
   inputs ← list_at 41 input_at version.1
   outputs ← list_at 9 output_at inputs.1
   lock_time ← number_at w32 outputs.1
-  Ok (record { version = version.0; inputs = inputs.0; outputs = outputs.0; lock_time = lock_time.0 }, lock_time.1)
+  Ok (
+    record {
+      version = version.0;
+      inputs = inputs.0;
+      outputs = outputs.0;
+      lock_time = lock_time.0;
+    },
+    lock_time.1,
+  )
 
 -- the version, then the count of inputs
 unfoldable pub first_count_at : List ℕ → Read ℕ
@@ -79,7 +94,8 @@ CountsSome least bytes = (n : ℕ × List ℕ) × (count_at least bytes ≡ Ok n
 -- Reading a transaction allocates: it has inputs, or it has none and a count of outputs that counts
 -- some.
 abbrev pub TakesMemory : List ℕ → Type 0
-TakesMemory bytes = (n : ℕ × List ℕ) × (first_count_at bytes ≡ Ok n) × ((0 < n.0) ⊎ CountsSome 9 n.1)
+TakesMemory bytes =
+    (n : ℕ × List ℕ) × (first_count_at bytes ≡ Ok n) × ((0 < n.0) ⊎ CountsSome 9 n.1)
 
 -- A step of a reader that allocates returned what the definition says, or memory ran out. After a
 -- fault, the bytes that are left (new) can be any.

@@ -33,7 +33,8 @@ value_sum outputs = fold (λ sum output. sum +ℤ output.value) (pos 0) outputs
 -- two inputs, at different indexes, spend the same output
 abbrev pub SpendsTwice : List TxIn → Type 0
 SpendsTwice inputs = (prev : OutPoint) × (i : ℕ) × (j : ℕ) × (i < j)
-    × (slice_get (map (λ input. input.prev) inputs) i ≡ Some prev) × (slice_get (map (λ input. input.prev) inputs) j ≡ Some prev)
+    × (slice_get (map (λ input. input.prev) inputs) i ≡ Some prev)
+    × (slice_get (map (λ input. input.prev) inputs) j ≡ Some prev)
 
 -- the script of the first input has fewer than 2 bytes or more than 100
 abbrev pub HasBadScript : List TxIn → Type 0

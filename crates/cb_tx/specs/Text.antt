@@ -15,7 +15,9 @@ script_text bytes = compact_text (length bytes) ++ bytes
 
 -- an input: the output that it spends, the script and the sequence number
 unfoldable pub input_text : TxIn → List ℕ
-input_text i = i.prev.txid.0 ++ (to_le_bytes w32 i.prev.index ++ (script_text i.script ++ to_le_bytes w32 i.sequence))
+input_text i =
+    i.prev.txid.0
+    ++ (to_le_bytes w32 i.prev.index ++ (script_text i.script ++ to_le_bytes w32 i.sequence))
 
 -- an output: the value and the script
 unfoldable pub output_text : TxOut → List ℕ
@@ -27,7 +29,10 @@ list_text text items = compact_text (length items) ++ flat_map text items
 
 -- a transaction
 unfoldable pub tx_text : Tx → List ℕ
-tx_text t = to_le_bytes w32 (cast_unsigned w32 t.version) ++ (list_text input_text t.inputs ++ (list_text output_text t.outputs ++ to_le_bytes w32 t.lock_time))
+tx_text t =
+    to_le_bytes w32 (cast_unsigned w32 t.version)
+    ++ (list_text input_text t.inputs
+    ++ (list_text output_text t.outputs ++ to_le_bytes w32 t.lock_time))
 
 -- an outpoint, and those that inputs spend, one after the other
 abbrev pub point_text : OutPoint → List ℕ

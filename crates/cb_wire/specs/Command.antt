@@ -7,7 +7,9 @@ use Rattle.cb_wire.specs.declared.command.Command.TheVariants.{Version, Verack, 
 
 -- the known commands
 abbrev pub known_commands : List Command
-known_commands = Version ∷ Verack ∷ Ping ∷ Pong ∷ SendHeaders ∷ SendCmpct ∷ Inv ∷ GetData ∷ NotFound ∷ Headers ∷ GetHeaders ∷ Tx ∷ Block ∷ CmpctBlock ∷ GetBlockTxn ∷ BlockTxn ∷ []
+known_commands =
+    Version ∷ Verack ∷ Ping ∷ Pong ∷ SendHeaders ∷ SendCmpct ∷ Inv ∷ GetData ∷ NotFound ∷ Headers
+    ∷ GetHeaders ∷ Tx ∷ Block ∷ CmpctBlock ∷ GetBlockTxn ∷ BlockTxn ∷ []
 
 abbrev pub command_name : Command → List ℕ
 command_name Version = codes "version"
@@ -59,5 +61,6 @@ name_length field = position_or_len (λ byte. byte == 0) field
 -- command, and only zeros follow.
 unfoldable pub command_in : List ℕ → Option (List ℕ)
 command_in field =
-    if is_command (take (name_length field) field) && list_all (λ byte. byte == 0) (drop (name_length field) field)
+    if is_command (take (name_length field) field)
+    && list_all (λ byte. byte == 0) (drop (name_length field) field)
     then Some (take (name_length field) field) else None

@@ -26,7 +26,9 @@ checksum payload = take 4 (double_hash payload).0
 
 -- the envelope of a payload and its command's name
 unfoldable pub envelope_text : List ℕ → List ℕ → List ℕ
-envelope_text name payload = magic ++ (command_field name ++ (to_le_bytes w32 (length payload) ++ (checksum payload ++ payload)))
+envelope_text name payload =
+    magic
+    ++ (command_field name ++ (to_le_bytes w32 (length payload) ++ (checksum payload ++ payload)))
 
 -- the text of a message: its whole envelope
 abbrev pub text : Message → List ℕ
@@ -76,7 +78,9 @@ item_named None payload = Damaged
 -- the item of an envelope, from its header of 24 bytes and its payload
 abbrev pub item_from : List ℕ → List ℕ → Item
 item_from header payload =
-    if bytes_eq (drop 20 header) (checksum payload) then item_named (command_in (take 12 (drop 4 header))) payload else Damaged
+    if bytes_eq (drop 20 header) (checksum payload)
+    then item_named (command_in (take 12 (drop 4 header))) payload
+    else Damaged
 
 -- the item of the envelope at the front, whose payload has n bytes
 unfoldable pub item_at : ℕ → List ℕ → Item

@@ -122,17 +122,27 @@ payload_at known.Verack bytes = whole (Verack, bytes)
 payload_at known.Ping bytes = number_at w64 bytes >>= λ nonce. whole (Ping nonce.0, nonce.1)
 payload_at known.Pong bytes = number_at w64 bytes >>= λ nonce. whole (Pong nonce.0, nonce.1)
 payload_at known.SendHeaders bytes = whole (SendHeaders, bytes)
-payload_at known.SendCmpct bytes = requests.compact_relay_at bytes >>= λ relay. whole (SendCmpct relay.0, relay.1)
-payload_at known.Inv bytes = listed_at 50000 36 entry_at bytes >>= λ entries. whole (Inv entries.0, entries.1)
-payload_at known.GetData bytes = listed_at 50000 36 entry_at bytes >>= λ entries. whole (GetData entries.0, entries.1)
-payload_at known.NotFound bytes = listed_at 50000 36 entry_at bytes >>= λ entries. whole (NotFound entries.0, entries.1)
-payload_at known.Headers bytes = listed_at 2000 81 blocks.listed_header_at bytes >>= λ headers. whole (Headers headers.0, headers.1)
-payload_at known.GetHeaders bytes = requests.request_at bytes >>= λ request. whole (GetHeaders request.0, request.1)
+payload_at known.SendCmpct bytes =
+    requests.compact_relay_at bytes >>= λ relay. whole (SendCmpct relay.0, relay.1)
+payload_at known.Inv bytes =
+    listed_at 50000 36 entry_at bytes >>= λ entries. whole (Inv entries.0, entries.1)
+payload_at known.GetData bytes =
+    listed_at 50000 36 entry_at bytes >>= λ entries. whole (GetData entries.0, entries.1)
+payload_at known.NotFound bytes =
+    listed_at 50000 36 entry_at bytes >>= λ entries. whole (NotFound entries.0, entries.1)
+payload_at known.Headers bytes =
+    listed_at 2000 81 blocks.listed_header_at bytes
+    >>= λ headers. whole (Headers headers.0, headers.1)
+payload_at known.GetHeaders bytes =
+    requests.request_at bytes >>= λ request. whole (GetHeaders request.0, request.1)
 payload_at known.Tx bytes = transactions.tx_at bytes >>= λ tx. whole (Tx tx.0, tx.1)
 payload_at known.Block bytes = blocks.block_at bytes >>= λ block. whole (Block block.0, block.1)
-payload_at known.CmpctBlock bytes = compacts.compact_block_at bytes >>= λ block. whole (CmpctBlock block.0, block.1)
-payload_at known.GetBlockTxn bytes = fetched.txs_request_at bytes >>= λ request. whole (GetBlockTxn request.0, request.1)
-payload_at known.BlockTxn bytes = fetched.block_txs_at bytes >>= λ txs. whole (BlockTxn txs.0, txs.1)
+payload_at known.CmpctBlock bytes =
+    compacts.compact_block_at bytes >>= λ block. whole (CmpctBlock block.0, block.1)
+payload_at known.GetBlockTxn bytes =
+    fetched.txs_request_at bytes >>= λ request. whole (GetBlockTxn request.0, request.1)
+payload_at known.BlockTxn bytes =
+    fetched.block_txs_at bytes >>= λ txs. whole (BlockTxn txs.0, txs.1)
 
 -- the same for any name: the payload of an unknown command is kept as it is
 abbrev pub message_under : Option Command → List ℕ → List ℕ → Result Message Fault

@@ -16,4 +16,5 @@ pub record Cuts (bytes payload after : List ℕ) : Type 0 where
 abbrev pub Foretells : List ℕ → List Hash256 → Type 0
 Foretells bytes [] = Unit {0}
 Foretells bytes (hash ∷ hashes) =
-    (size : ℕ) × (front_at bytes ≡ Whole size) × (hash ≡ double_hash (take size (drop 24 bytes))) × Foretells (drop (24 + size) bytes) hashes
+    (size : ℕ) × (front_at bytes ≡ Whole size) × (hash ≡ double_hash (take size (drop 24 bytes)))
+    × Foretells (drop (24 + size) bytes) hashes

@@ -21,7 +21,8 @@ Ends (Whole length) bytes rest fault = ⊥
 abbrev pub Stream : List ℕ → List Item → List ℕ → Option Fault → Type 0
 Stream bytes [] rest fault = Ends (front_at bytes) bytes rest fault
 Stream bytes (item ∷ items) rest fault =
-    (length : ℕ) × (front_at bytes ≡ Whole length) × (item ≡ item_at length bytes) × Stream (drop (24 + length) bytes) items rest fault
+    (length : ℕ) × (front_at bytes ≡ Whole length) × (item ≡ item_at length bytes)
+    × Stream (drop (24 + length) bytes) items rest fault
 
 -- the envelopes of messages, one after another
 abbrev pub texts : List Message → List ℕ

@@ -17,8 +17,8 @@ use std::marker::Model;
 /// them are as long as one read.
 const MOST_COPIED: usize = 16_384;
 
-/// Hashes the payloads of a stream's envelopes, one after another. Where four whole envelopes follow
-/// one another, their payloads are hashed side by side.
+/// Hashes the payloads of a stream's envelopes, one after another. Where four whole envelopes
+/// follow one another, their payloads are hashed side by side.
 ///
 /// For the prover its value is the list of the hashes that were made beforehand.
 #[derive(Drop)]
@@ -82,8 +82,8 @@ struct FourPayloads<'a> {
     fourth: &'a [u8],
 }
 
-/// The payloads of the four envelopes at the front, if these are whole and no payload is longer than
-/// `MOST_COPIED`.
+/// The payloads of the four envelopes at the front, if these are whole and no payload is longer
+/// than `MOST_COPIED`.
 fn four_payloads(bytes: &[u8]) -> Option<FourPayloads<'_>>
     ensures { IfSome result (λ four. Foretells bytes.now
         (double_hash four.first.now ∷ double_hash four.second.now ∷ double_hash four.third.now

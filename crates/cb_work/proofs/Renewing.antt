@@ -15,7 +15,7 @@ use Rattle.cb_trace.specs.declared.trace.Counts.{Counts}
 use Rattle.cb_trace.specs.declared.trace.TraceEntry.{TraceEntry}
 use Rattle.cb_trace.specs.Fold.{account_of, has_kind, inputs_of, number_of, replies, sends}
 use Rattle.cb_trace.specs.Trace.{StandsFor, TraceView}
-use Rattle.cb_outgoing.specs.Writing.{counted}
+use Rattle.cb_talk.specs.Writing.{counted}
 use Rattle.cb_crew.specs.declared.work.Given.{Given}
 use Rattle.cb_crew.specs.declared.work.Given.TheVariants as given
 use Rattle.cb_reader.specs.declared.input.Input.{Input}

@@ -12,4 +12,5 @@ counter number = min number (2 ^ 64 - 1)
 -- These two counters are those of the answers: how often the flag was looked at, and how often it
 -- was set.
 abbrev pub HasLooked : ℕ → ℕ → List Bool → Type 0
-HasLooked looked found answers = (looked ≡ counter (length answers)) × (found ≡ counter (ticks_in answers))
+HasLooked looked found answers =
+    (looked ≡ counter (length answers)) × (found ≡ counter (ticks_in answers))

@@ -33,8 +33,18 @@ pub record WorkState (S H F : Type 0) : Type 0 where
   pub written : ℕ
   pub unsent : List Message
 
-abbrev pub work_state : {S H F : Type 0} → TraceView → BadgeState → ℕ → S → H → F → ℕ → List Message → WorkState S H F
-work_state trace badge slot sink hall flags written unsent = record { trace = trace; badge = badge; slot = slot; sink = sink; hall = hall; flags = flags; written = written; unsent = unsent }
+abbrev pub work_state : {S H F : Type 0} → TraceView → BadgeState → ℕ → S → H → F → ℕ → List Message
+    → WorkState S H F
+work_state trace badge slot sink hall flags written unsent = record {
+  trace = trace;
+  badge = badge;
+  slot = slot;
+  sink = sink;
+  hall = hall;
+  flags = flags;
+  written = written;
+  unsent = unsent;
+}
 
 -- The work's session is over.
 abbrev pub is_over : {S H F : Type 0} → WorkState S H F → Bool
@@ -77,38 +87,59 @@ HoldsNothing (Some bytes) = bytes ≡ []
 -- nothing was asked, and a sink that held this and hadn't failed. Since then its session was given
 -- so many ticks.
 abbrev pub beginning : {S H F : Type 0} → WorkState S H F → H → Option (List ℕ) → ℕ → Origin H
-beginning work hall held ticks = record { settings = work.trace.settings; hall = hall; badge = fresh_badge work.badge.connection; held = held; failed = false; ticks = ticks }
+beginning work hall held ticks = record {
+  settings = work.trace.settings;
+  hall = hall;
+  badge = fresh_badge work.badge.connection;
+  held = held;
+  failed = false;
+  ticks = ticks;
+}
 
 -- How far a work is.
-abbrev pub reached : {S H F : Type 0} → (S → Option (List ℕ)) → (S → Bool) → WorkState S H F → Progress H
-reached contents has_failed work = progress work.trace work.hall work.badge (contents work.sink) (has_failed work.sink) work.written
+abbrev pub reached : {S H F : Type 0} → (S → Option (List ℕ)) → (S → Bool) → WorkState S H F
+    → Progress H
+reached contents has_failed work =
+    progress work.trace work.hall work.badge (contents work.sink) (has_failed work.sink)
+    work.written
 
 -- The work served exactly these items, and its session was given so many ticks. Its session is the
 -- fold of what it was given; each item had its answers before the next came, and none was left
 -- waiting; what was written is a prefix of what the session sends, which lacks only what is held
 -- back (`Stands`). If memory ran out for what the peer sent, the session is over. Until the first
 -- tick or item, all that the session opens with is held back.
-pub record Serves {S H F : Type 0} (told : H → BadgeState → List Reply → H → BadgeState → Type 0) (refused : H → BadgeState → Fault → Type 0) (contents : S → Option (List ℕ)) (has_failed : S → Bool) (work : WorkState S H F) (items : List (Given Input)) (ticks : ℕ) : Type 0 where
+pub record Serves {S H F : Type 0} (told : H → BadgeState → List Reply → H → BadgeState → Type 0)
+    (refused : H → BadgeState → Fault → Type 0) (contents : S → Option (List ℕ))
+    (has_failed : S → Bool) (work : WorkState S H F) (items : List (Given Input)) (ticks : ℕ)
+    : Type 0 where
   pub hall : H
   pub sink : S  -- the sink as it was in the beginning
   pub empty : HoldsNothing (contents sink)
   pub unfailed : has_failed sink ≡ false
-  pub stands : Stands told refused (beginning work hall (contents sink) ticks) (reached contents has_failed work) (events_of items) (texts work.unsent) (was_starved items)
+  pub stands : Stands told refused (beginning work hall (contents sink) ticks)
+      (reached contents has_failed work) (events_of items) (texts work.unsent) (was_starved items)
   pub starved : was_starved items ≡ true → is_over work ≡ true
   pub waits : items ≡ [] → ticks ≡ 0 → work.unsent ≡ openings work.trace.settings
 
 -- The work was given exactly these items.
-abbrev pub WasGiven : {S H F : Type 0} → (H → BadgeState → List Reply → H → BadgeState → Type 0) → (H → BadgeState → Fault → Type 0) → (S → Option (List ℕ)) → (S → Bool) → WorkState S H F → List (Given Input) → Type 0
-WasGiven told refused contents has_failed work items = (ticks : ℕ) × Serves told refused contents has_failed work items ticks
+abbrev pub WasGiven : {S H F : Type 0} → (H → BadgeState → List Reply → H → BadgeState → Type 0)
+    → (H → BadgeState → Fault → Type 0) → (S → Option (List ℕ)) → (S → Bool) → WorkState S H F
+    → List (Given Input) → Type 0
+WasGiven told refused contents has_failed work items =
+    (ticks : ℕ) × Serves told refused contents has_failed work items ticks
 
 -- As many ticks were given as looks found the tick flag set. Or one fewer: there was no place for
 -- that tick, and the session is over.
 abbrev pub EachTick : ℕ → List Bool → Bool → Type 0
-EachTick ticks answers closed = (ticks ≡ ticks_in answers) ⊎ ((ticks + 1 ≡ ticks_in answers) × (closed ≡ true))
+EachTick ticks answers closed =
+    (ticks ≡ ticks_in answers) ⊎ ((ticks + 1 ≡ ticks_in answers) × (closed ≡ true))
 
--- The work was ticked as often as the list is long: it looked at its tick flag so often. Its session
--- was given a tick each time the flag was set.
-pub record WasTicked {S H F : Type 0} (told : H → BadgeState → List Reply → H → BadgeState → Type 0) (refused : H → BadgeState → Fault → Type 0) (contents : S → Option (List ℕ)) (has_failed : S → Bool) (looks : F → List Bool → Type 0) (work : WorkState S H F) (at : List ℕ) : Type 0 where
+-- The work was ticked as often as the list is long: it looked at its tick flag so often. Its
+-- session was given a tick each time the flag was set.
+pub record WasTicked {S H F : Type 0} (told : H → BadgeState → List Reply → H → BadgeState → Type 0)
+    (refused : H → BadgeState → Fault → Type 0) (contents : S → Option (List ℕ))
+    (has_failed : S → Bool) (looks : F → List Bool → Type 0) (work : WorkState S H F) (at : List ℕ)
+    : Type 0 where
   pub answers : List Bool
   pub looked : looks work.flags answers
   pub often : length answers ≡ length at
@@ -119,7 +150,10 @@ pub record WasTicked {S H F : Type 0} (told : H → BadgeState → List Reply �
 
 -- What every work keeps. Its sink is its peer's slot's. If its session is over, the stop flag is
 -- set. It has an account of all that it was given.
-pub record IsPeerWork {S H F : Type 0} (told : H → BadgeState → List Reply → H → BadgeState → Type 0) (refused : H → BadgeState → Fault → Type 0) (contents : S → Option (List ℕ)) (has_failed : S → Bool) (is_stopped : F → Bool) (work : WorkState S H F) : Type 0 where
+pub record IsPeerWork {S H F : Type 0}
+    (told : H → BadgeState → List Reply → H → BadgeState → Type 0)
+    (refused : H → BadgeState → Fault → Type 0) (contents : S → Option (List ℕ))
+    (has_failed : S → Bool) (is_stopped : F → Bool) (work : WorkState S H F) : Type 0 where
   pub slot : work.slot ≡ work.badge.connection.peer
   pub stopped : is_over work ≡ true → is_stopped work.flags ≡ true
   pub items : List (Given Input)
@@ -129,7 +163,8 @@ pub record IsPeerWork {S H F : Type 0} (told : H → BadgeState → List Reply �
 -- ---- one step
 
 -- The work serves the same connection into the same slot, and didn't look at its tick flag.
-pub record IsSamePeer {S H F : Type 0} (looks : F → List Bool → Type 0) (old new : WorkState S H F) : Type 0 where
+pub record IsSamePeer {S H F : Type 0} (looks : F → List Bool → Type 0) (old new : WorkState S H F)
+    : Type 0 where
   pub connection : new.badge.connection ≡ old.badge.connection
   pub slot : new.slot ≡ old.slot
   pub looked : (answers : List Bool) → looks old.flags answers → looks new.flags answers
@@ -151,9 +186,20 @@ ticks_after ticks events.Tick = ticks + 1
 ticks_after ticks other = ticks
 
 -- Whatever the work served, it served that and this event.
-abbrev pub ServesNext : {S H F : Type 0} → (H → BadgeState → List Reply → H → BadgeState → Type 0) → (H → BadgeState → Fault → Type 0) → (S → Option (List ℕ)) → (S → Bool) → WorkState S H F → Event → WorkState S H F → Type 0
-ServesNext told refused contents has_failed old event new = (items : List (Given Input)) (ticks : ℕ) → Serves told refused contents has_failed old items ticks → Serves told refused contents has_failed new (items_after items event) (ticks_after ticks event)
+abbrev pub ServesNext : {S H F : Type 0} → (H → BadgeState → List Reply → H → BadgeState → Type 0)
+    → (H → BadgeState → Fault → Type 0) → (S → Option (List ℕ)) → (S → Bool) → WorkState S H F
+    → Event → WorkState S H F → Type 0
+ServesNext told refused contents has_failed old event new =
+    (items : List (Given Input)) (ticks : ℕ)
+    → Serves told refused contents has_failed old items ticks
+    → Serves told refused contents has_failed new (items_after items event)
+    (ticks_after ticks event)
 
 -- Whatever the work served, it is all that it served still.
-abbrev pub ServesOn : {S H F : Type 0} → (H → BadgeState → List Reply → H → BadgeState → Type 0) → (H → BadgeState → Fault → Type 0) → (S → Option (List ℕ)) → (S → Bool) → WorkState S H F → WorkState S H F → Type 0
-ServesOn told refused contents has_failed old new = (items : List (Given Input)) (ticks : ℕ) → Serves told refused contents has_failed old items ticks → Serves told refused contents has_failed new items ticks
+abbrev pub ServesOn : {S H F : Type 0} → (H → BadgeState → List Reply → H → BadgeState → Type 0)
+    → (H → BadgeState → Fault → Type 0) → (S → Option (List ℕ)) → (S → Bool) → WorkState S H F
+    → WorkState S H F → Type 0
+ServesOn told refused contents has_failed old new =
+    (items : List (Given Input)) (ticks : ℕ)
+    → Serves told refused contents has_failed old items ticks
+    → Serves told refused contents has_failed new items ticks

@@ -64,8 +64,8 @@ impl ConnectionStatus {
         }
     }
 
-    /// Tells the time at which the connection is made, in seconds since 1970. Its session's `version`
-    /// has this time, if nothing came of the connection before.
+    /// Tells the time at which the connection is made, in seconds since 1970. Its session's
+    /// `version` has this time, if nothing came of the connection before.
     pub fn set_made(&self, time: i64) {
         self.made.store(time, Ordering::SeqCst);
         self.is_made.store(true, Ordering::SeqCst);
@@ -276,13 +276,13 @@ impl Flags for PeerFlags {
         self.stopped = true;
     }
 
-    fn tell(&mut self, traffic: &Traffic) {
+    fn count_traffic(&mut self, traffic: &Traffic) {
         self.status.count(traffic);
     }
 }
 
-/// The number that stands for how far a session is: 0 to 2 while it goes on, and from 3 on why it is
-/// over.
+/// The number that stands for how far a session is: 0 to 2 while it goes on, and from 3 on why it
+/// is over.
 fn state_code(state: State) -> u64 {
     match state {
         State::Start => 0,

@@ -26,7 +26,7 @@ pub trait Flags: Drop {
         ensures stopped { is_stopped self.new ≡ true };
 
     /// Counts what one step moved, and notes how far the session is. No flag changes.
-    fn tell(&mut self, traffic: &Traffic)
+    fn count_traffic(&mut self, traffic: &Traffic)
         ensures looks { (answers : List Bool) → looks self.old answers → looks self.new answers }
         ensures stopped { is_stopped self.new ≡ is_stopped self.old };
 }

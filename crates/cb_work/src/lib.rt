@@ -13,9 +13,9 @@ mod traffic;
 
 pub use cb_crew::{Given, Work};
 pub use cb_hall::{Badge, Hall};
-pub use cb_outgoing::MessageSink;
 pub use cb_peer::Settings;
 pub use cb_reader::Input;
+pub use cb_talk::MessageSink;
 pub use cb_trace::{Oracle, Trace};
 pub use connection_status::{ConnectionStatus, PeerFlags};
 pub use flags::Flags;

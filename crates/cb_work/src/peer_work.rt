@@ -17,11 +17,11 @@ use crate::traffic::Traffic;
 use cb_base::Fault;
 use cb_crew::{Given, Work};
 use cb_hall::Badge;
-use cb_outgoing::{MessageSink, Outgoing};
 use cb_peer::{Event, Settings};
 use cb_reader::Input;
 use cb_session::{begin_by, lose_by};
 use cb_state::Connection;
+use cb_talk::{MessageSink, Outgoing};
 use cb_trace::{Oracle, Trace};
 use std::alloc::Global;
 use std::marker::Model;
@@ -55,9 +55,12 @@ impl<S: MessageSink + Drop, H: Oracle + Drop, F: Flags> Model for PeerWork<S, H,
 
     ghost Value = { WorkState S H F };
 
-    ghost view = { λ work. work_state work.trace work.badge work.outlet.slot work.outlet.sink work.hall work.flags work.written work.unsent.items };
+    ghost view = { λ work. work_state work.trace work.badge work.outlet.slot work.outlet.sink
+        work.hall work.flags work.written work.unsent.items };
 
-    ghost invariant = { λ work. IsPeerWork H.told H.refused S.contents S.has_failed F.is_stopped (work_state work.trace work.badge work.outlet.slot work.outlet.sink work.hall work.flags work.written work.unsent.items) };
+    ghost invariant = { λ work. IsPeerWork H.told H.refused S.contents S.has_failed F.is_stopped
+        (work_state work.trace work.badge work.outlet.slot work.outlet.sink work.hall work.flags
+        work.written work.unsent.items) };
 }
 
 /// A work that couldn't be made. What it was to be made of comes back.
@@ -251,7 +254,8 @@ impl<S: MessageSink + Drop, H: Oracle + Drop, F: Flags> PeerWork<S, H, F> {
         requires begins { begins (kind_of event) ≡ true }
         ensures ended { ends_at_once event ≡ true → is_over self.new ≡ true }
         ensures same { IsSamePeer F.looks self.old self.new }
-        ensures serves { ServesNext H.told H.refused S.contents S.has_failed self.old event self.new }
+        ensures serves { ServesNext H.told H.refused S.contents S.has_failed self.old event
+            self.new }
     {
         let unsent = mem::replace(&mut self.unsent, Vec::new(self.alloc));
         let begun = begin_by(
@@ -324,7 +328,7 @@ impl<S: MessageSink + Drop, H: Oracle + Drop, F: Flags> PeerWork<S, H, F> {
         ensures serves { ServesOn H.told H.refused S.contents S.has_failed self.old self.new }
     {
         let block = self.rebuilding.brought(&carried, self.trace.entries());
-        self.flags.tell(&Traffic {
+        self.flags.count_traffic(&Traffic {
             messages: carried.messages,
             payload: carried.payload,
             written: self.written.saturating_sub(written),
@@ -340,7 +344,8 @@ impl<S: MessageSink + Drop, H: Oracle + Drop, F: Flags> Work for PeerWork<S, H, 
 
     ghost given = { λ work items. WasGiven H.told H.refused S.contents S.has_failed work items };
 
-    ghost ticked = { λ work at. WasTicked H.told H.refused S.contents S.has_failed F.looks work at };
+    ghost ticked = { λ work at. WasTicked H.told H.refused S.contents S.has_failed F.looks work
+        at };
 
     ghost primed = { λ work. IsPrimed work };
 
@@ -413,7 +418,7 @@ fn stop_if_over<F: Flags>(trace: &Trace, flags: &mut F)
 {
     let state = trace.state();
     if state.is_closed() {
-        flags.tell(&Traffic::nothing(state));
+        flags.count_traffic(&Traffic::nothing(state));
         flags.stop();
     }
 }

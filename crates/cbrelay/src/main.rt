@@ -1,9 +1,8 @@
 //! The program `cbrelay`: passes its arguments and standard streams to the crate `cb_command`.
 #![tactic(auto)]
 
-use cb_base::{Seed, Shared};
+use cb_base::{In, Out, Seed, Shared};
 use cb_command::{names_node, refuse_for_memory, refuse_foreign, refuse_unseeded, seeded_command};
-use cb_io::{In, Out};
 use cb_pipes::{Patience, PipeWriter, Pipes};
 use std::alloc::{AllocError, Global};
 use std::io::{ErrorKind, Write};
@@ -15,11 +14,11 @@ use std::rt::Clock;
 use std::sync::Wait;
 use std::thread::Threads;
 
-/// For how many milliseconds standard output may take nothing once the end of a node was asked for, and
-/// standard error at any time.
-const OUTPUT_MILLIS: u64 = 2_000;
+/// For how many milliseconds standard output may take nothing once the end of a node was asked for,
+/// and standard error at any time.
+const OUTPUT_MILLISECONDS: u64 = 2_000;
 
-const ERRORS_MILLIS: u64 = 1_000;
+const ERRORS_MILLISECONDS: u64 = 1_000;
 
 /// The seed of this run's tables, from the system's random source; `None` if that fails.
 fn random_seed(rt: &HostRuntime) -> Option<Seed> {
@@ -50,7 +49,8 @@ fn writer_to<
 }
 
 /// Passes the arguments, standard input, standard output and standard error to `seeded_command`,
-/// with a seed of this run. If a node is to run, threads write to standard output and standard error.
+/// with a seed of this run. If a node is to run, threads write to standard output and standard
+/// error.
 fn main(rt: HostRuntime) -> ExitCode {
     // The proof of a call for the host needs the kinds of its sockets named here.
     let _sockets: Option<(TcpListener, TcpStream)> = None;
@@ -80,8 +80,8 @@ fn main(rt: HostRuntime) -> ExitCode {
     };
     let runs_node = names_node(words.as_slice());
     let mut reader = In::new(rt.reader());
-    let of_answers = Patience::UntilEnd(OUTPUT_MILLIS);
-    let of_messages = Patience::Always(ERRORS_MILLIS);
+    let of_answers = Patience::UntilEnd(OUTPUT_MILLISECONDS);
+    let of_messages = Patience::Always(ERRORS_MILLISECONDS);
     let mut writer = writer_to(rt, alloc, rt.stdout(), of_output, of_answers, runs_node);
     let mut errors = writer_to(rt, alloc, rt.stderr(), of_errors, of_messages, runs_node);
     let status = seeded_command(

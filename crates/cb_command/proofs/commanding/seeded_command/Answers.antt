@@ -1,9 +1,9 @@
 use Rattle.std.proofs.Common.{rules, ◌≡◌, ◌⊎◌, Result, ap, map, refl, sym, inl, inr, ◌∙◌, arith}
 use Rattle.std.specs.Prelude.{string_bytes}
 use Rattle.clap.specs.Words.{kind_of}
-use Rattle.cb_sim.specs.SimInput.{SimulatesKnown}
-use Rattle.cb_run_nodes.specs.Summary.{RunsKnown}
-use Rattle.cb_run_nodes.specs.declared.running.RunOrders.{RunOrders}
+use Rattle.cb_run.specs.SimInput.{SimulatesKnown}
+use Rattle.cb_driver.specs.Summary.{RunsKnown}
+use Rattle.cb_driver.specs.declared.running.RunOrders.{RunOrders}
 use Rattle.cb_command.specs.Command.{Halts, RunsNode}
 use Rattle.cb_command.specs.declared.commanding.Task.TheVariants.{Decode, Serve, Sim, Run, Node}
 use Rattle.cb_command.specs.declared.node_words.BadWords.{BadWords}

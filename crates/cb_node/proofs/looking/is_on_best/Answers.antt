@@ -3,7 +3,7 @@ use Rattle.std.specs.Prelude.{slice_get}
 use Rattle.std.proofs.lemmas.Bool.{false≢true}
 use Rattle.cb_base.specs.declared.hash.Hash256.{Hash256}
 use Rattle.cb_chain.specs.Entries.{same}
-use Rattle.cb_chain.proofs.Nodes.{same-true, same-refl}
+use Rattle.cb_chain.proofs.BlockIndexes.{same-true, same-refl}
 use Rattle.cb_node.proofs.OnBest.{tip_on, last_on, next_on, prev_on}
 use Rattle.cb_node.proofs.looking.is_on_best.Goals as goal
 

@@ -1,7 +1,10 @@
 use Rattle.cb_node_process.proofs.Endings.{told_all}
 use Rattle.cb_node_process.proofs.running.run.Goals as goal
 
-pub returns-in-Ok-ended-clause-told : goal.returns-in-Ok-ended-clause-told
-returns-in-Ok-ended-clause-told g c =
-    told_all c.tell_end.result (g.W.Sink.contents c.args.writer.now) (g.W.Sink.contents c.serve-ended.new.writer) (g.W.Sink.contents c.tell_end.new.writer) c.finish-verdict.result.0 c.is_well-well.result c.in-Ok-ended.served.well c.finish-verdict.result.1
-    c.in-Ok-ended.ensures.told c.is_well-well.ensures c.tell_end.ensures.told c.tell_end.ensures.fully c.tell_end.ensures.status
+pub returns-in-Ok-served : goal.returns-in-Ok-served
+returns-in-Ok-served g c = record {
+  told =
+      told_all c.tell_end.result (g.W.Sink.contents c.args.writer.now) (g.W.Sink.contents c.serve-served.new.writer) (g.W.Sink.contents c.tell_end.new.writer) c.finish-verdict.result.0 c.is_well-well.result c.in-Ok-served.well c.finish-verdict.result.1
+      c.in-Ok-served.ensures.told c.is_well-well.ensures c.tell_end.ensures.told c.tell_end.ensures.fully c.tell_end.ensures.status;
+  halts = c.tell_end.ensures.halts;
+}

@@ -1,28 +1,42 @@
-use Rattle.std.proofs.Common.{◌≡◌, ◌≢◌, true, false}
-use Rattle.cb_node_process.specs.declared.answering.After.TheVariants as after
-use Rattle.cb_node_process.specs.declared.running.Next.TheVariants as next
-use Rattle.cb_node_process.proofs.Runs.{next_broken, next_line, opened, opened_more}
+use Rattle.std.proofs.Common.{◌≡◌, true}
+use Rattle.cb_node_process.proofs.Runs.{opened, opened_still, reply_failed, reply_more}
 use Rattle.cb_node_process.proofs.running.serve.Goals as goal
 
 pub loop-init : goal.loop-init
-loop-init g c = opened (true ≡ true) (g.W.Sink.contents c.args.writer.now) (g.W.Sink.contents c.print.new.writer) c.args.process.now.address c.in_ok-print.ensures.told
+loop-init g c = opened (true ≡ true) (g.W.Sink.contents c.args.writer.now) (g.W.Sink.contents c.write_reply.new.writer) c.args.process.now.address c.in_ok-write_reply.ensures.told
 
-pub loop-preserved-in-Line-Next : goal.loop-preserved-in-Line-Next
-loop-preserved-in-Line-Next g c =
-    opened_more (c.loop.well ≡ true) (c.in_ok-advance.field-0 ≢ next.Line after.Failed) (c.loop.well ≡ true) (g.W.Sink.contents c.args.writer.now) (g.W.Sink.contents c.loop.writer) (g.W.Sink.contents c.advance.new.writer) (λ w. w) (λ w. next_line c.in_ok-advance.field-0 c.in-Line-Next.field-0 c.in-Line-Next.is (λ e. absurd cc)) c.loop.invariant c.in_ok-advance.ensures.told
+pub loop-preserved-in_ok-write_reply-in-Reply : goal.loop-preserved-in_ok-write_reply-in-Reply
+loop-preserved-in_ok-write_reply-in-Reply g c =
+    reply_more c.loop.well (g.W.Sink.contents c.args.writer.now) (g.W.Sink.contents c.loop.writer) (g.W.Sink.contents c.heed_failure.new.writer) (g.W.Sink.contents c.write_reply-in-Reply.new.writer)
+    c.in-Reply.reply c.loop.invariant c.in_ok-heed_failure.ensures.told c.in-Reply.ensures c.in_ok-write_reply-in-Reply.ensures.told
 
-pub loop-preserved-in-Line-Failed : goal.loop-preserved-in-Line-Failed
-loop-preserved-in-Line-Failed g c =
-    opened_more (c.loop.well ≡ true) (c.in_ok-advance.field-0 ≢ next.Line after.Failed) (false ≡ true) (g.W.Sink.contents c.args.writer.now) (g.W.Sink.contents c.loop.writer) (g.W.Sink.contents c.advance.new.writer) (λ w. absurd cc) (λ w. absurd cc) c.loop.invariant c.in_ok-advance.ensures.told
+pub loop-preserved-in_ok-write_reply-in-Reply-2 : goal.loop-preserved-in_ok-write_reply-in-Reply-2
+loop-preserved-in_ok-write_reply-in-Reply-2 g c =
+    reply_more c.loop.well (g.W.Sink.contents c.args.writer.now) (g.W.Sink.contents c.loop.writer) (g.W.Sink.contents c.heed_failure.new.writer) (g.W.Sink.contents c.write_reply-in-Reply.new.writer)
+    c.in-Reply.reply c.loop.invariant c.in_ok-heed_failure.ensures.told c.in-Reply.ensures c.in_ok-write_reply-in-Reply.ensures.told
+
+pub loop-preserved-in_ok-write_reply-in-Reply-3 : goal.loop-preserved-in_ok-write_reply-in-Reply-3
+loop-preserved-in_ok-write_reply-in-Reply-3 g c =
+    reply_more c.loop.well (g.W.Sink.contents c.args.writer.now) (g.W.Sink.contents c.loop.writer) (g.W.Sink.contents c.heed_failure.new.writer) (g.W.Sink.contents c.write_reply-in-Reply.new.writer)
+    c.in-Reply.reply c.loop.invariant c.in_ok-heed_failure.ensures.told c.in-Reply.ensures c.in_ok-write_reply-in-Reply.ensures.told
+
+pub loop-preserved-in_ok-write_reply-in-Failed : goal.loop-preserved-in_ok-write_reply-in-Failed
+loop-preserved-in_ok-write_reply-in-Failed g c =
+    reply_failed (c.loop.well ≡ true) (g.W.Sink.contents c.args.writer.now) (g.W.Sink.contents c.loop.writer) (g.W.Sink.contents c.heed_failure.new.writer) (g.W.Sink.contents c.write_reply-in-Failed.new.writer)
+    c.in-Failed.reply c.loop.invariant c.in_ok-heed_failure.ensures.told c.in-Failed.ensures c.in_ok-write_reply-in-Failed.ensures.told
+
+pub loop-preserved-in_ok-write_reply-in-Failed-2 : goal.loop-preserved-in_ok-write_reply-in-Failed-2
+loop-preserved-in_ok-write_reply-in-Failed-2 g c =
+    reply_failed (c.loop.well ≡ true) (g.W.Sink.contents c.args.writer.now) (g.W.Sink.contents c.loop.writer) (g.W.Sink.contents c.heed_failure.new.writer) (g.W.Sink.contents c.write_reply-in-Failed.new.writer)
+    c.in-Failed.reply c.loop.invariant c.in_ok-heed_failure.ensures.told c.in-Failed.ensures c.in_ok-write_reply-in-Failed.ensures.told
 
 pub loop-preserved : goal.loop-preserved
 loop-preserved g c =
-    opened_more (c.loop.well ≡ true) (c.in_ok-advance.field-0 ≢ next.Line after.Failed) (c.loop.well ≡ true) (g.W.Sink.contents c.args.writer.now) (g.W.Sink.contents c.loop.writer) (g.W.Sink.contents c.advance.new.writer) (λ w. w) (λ w. next_line c.in_ok-advance.field-0 c.in-Line-Dial.field-0 c.in-Line-Dial.is (λ e. absurd cc)) c.loop.invariant c.in_ok-advance.ensures.told
+    reply_failed (c.loop.well ≡ true) (g.W.Sink.contents c.args.writer.now) (g.W.Sink.contents c.loop.writer) (g.W.Sink.contents c.heed_failure.new.writer) (g.W.Sink.contents c.write_reply-in-Failed.new.writer)
+    c.in-Failed.reply c.loop.invariant c.in_ok-heed_failure.ensures.told c.in-Failed.ensures c.in_ok-write_reply-in-Failed.ensures.told
 
-pub returns-in-Line-End-clause-told : goal.returns-in-Line-End-clause-told
-returns-in-Line-End-clause-told g c =
-    opened_more (c.loop.well ≡ true) (c.in_ok-advance.field-0 ≢ next.Line after.Failed) (c.loop.well ≡ true) (g.W.Sink.contents c.args.writer.now) (g.W.Sink.contents c.loop.writer) (g.W.Sink.contents c.advance.new.writer) (λ w. w) (λ w. next_line c.in_ok-advance.field-0 c.in-Line-End.field-0 c.in-Line-End.is (λ e. absurd cc)) c.loop.invariant c.in_ok-advance.ensures.told
+pub loop-preserved-in-Silence : goal.loop-preserved-in-Silence
+loop-preserved-in-Silence g c = opened_still (c.loop.well ≡ true) (g.W.Sink.contents c.args.writer.now) (g.W.Sink.contents c.loop.writer) (g.W.Sink.contents c.heed_failure.new.writer) c.loop.invariant c.in_ok-heed_failure.ensures.told
 
-pub returns-in-Broken-clause-told : goal.returns-in-Broken-clause-told
-returns-in-Broken-clause-told g c =
-    opened_more (c.loop.well ≡ true) (c.in_ok-advance.field-0 ≢ next.Line after.Failed) (c.loop.well ≡ true) (g.W.Sink.contents c.args.writer.now) (g.W.Sink.contents c.loop.writer) (g.W.Sink.contents c.advance.new.writer) (λ w. w) (λ w. next_broken c.in_ok-advance.field-0 c.in-Broken.broken c.in-Broken.is) c.loop.invariant c.in_ok-advance.ensures.told
+pub returns-in-End-clause-told : goal.returns-in-End-clause-told
+returns-in-End-clause-told g c = opened_still (c.loop.well ≡ true) (g.W.Sink.contents c.args.writer.now) (g.W.Sink.contents c.loop.writer) (g.W.Sink.contents c.heed_failure.new.writer) c.loop.invariant c.in_ok-heed_failure.ensures.told

@@ -1,6 +1,6 @@
 use Rattle.std.proofs.Common.{rules, ◌≡◌, ◌≤◌, ◌<◌, List, ℕ, length, refl, sym, subst, ◌∙◌, arith, inl}
 use Rattle.std.specs.Io.KnownBytes.{Consumes}
-use Rattle.cb_io.specs.declared.read_end.ReadEnd.TheVariants as ends
+use Rattle.cb_base.specs.declared.read_end.ReadEnd.TheVariants as ends
 use Rattle.cb_reader.proofs.Pieces.{Keeps-none, heard_asked, heard_first, heard_more, or_failed, or_unfailed, reads_closed, reads_piece}
 use Rattle.cb_reader.proofs.reading.read_pieces.Goals as goal
 

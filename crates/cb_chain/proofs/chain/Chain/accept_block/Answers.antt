@@ -1,4 +1,4 @@
-use Rattle.std.proofs.Common.{rules, ◌≡◌, ◌∷◌, ◌∙◌, IfErr, IfOk, Ok, Err, Result, ap, inl, inr, refl, sym, subst, None, Option, Some, Bool, true, false, cond, not, ◌≢◌}
+use Rattle.std.proofs.Common.{rules, ◌≡◌, ◌∷◌, ◌++◌, [], ◌∙◌, IfErr, IfOk, Ok, Err, Result, ap, inl, inr, refl, sym, subst, None, Some, Bool, true, false, cond, not, ◌≢◌}
 use Rattle.std.proofs.lemmas.Result.{err_from_is_err_and}
 use Rattle.std.specs.Prelude.{◌⊎◌, slice_index_or}
 use Rattle.cb_base.specs.declared.fault.Fault.{Fault}
@@ -9,19 +9,23 @@ use Rattle.cb_block.specs.Blocks.{MeetsBlockRules}
 use Rattle.cb_block.specs.Work.{HasWork}
 use Rattle.cb_ledger.proofs.Lengths.{few_outputs}
 use Rattle.cb_chain.specs.declared.change.Change.{Change}
-use Rattle.cb_chain.specs.declared.node.BareNode.{BareNode}
-use Rattle.cb_chain.specs.Marking.{Node, node_of}
+use Rattle.cb_chain.specs.declared.block_index.BareIndex.{BareIndex}
+use Rattle.cb_chain.specs.Marking.{BlockIndex, index_of}
 use Rattle.cb_chain.specs.Calls.AcceptsBlock.{meets_rules, refused, without_work}
 use Rattle.cb_chain.specs.Calls.{AcceptsBlock, bad_entry, block_fault, is_full_under, joined}
 use Rattle.cb_chain.specs.Entries.{Entry, Tree, block_hash, is_kept, is_marked}
 use Rattle.cb_chain.specs.History.{IsHistoric, IsHistory}
-use Rattle.cb_chain.specs.Keeping.{IsNode, IsSpot, entry_from, tree_of}
-use Rattle.cb_chain.proofs.SideNodes.{Grows, bad_on, bare_best, bare_node, block_free, grows_tree, told_broken, told_refused}
+use Rattle.cb_chain.specs.SideBranches.{IsChain}
+use Rattle.cb_chain.specs.Laws.{Stays}
+use Rattle.cb_chain.specs.Keeping.{IsIndex, IsSpot, entry_from, tree_of}
+use Rattle.cb_chain.proofs.SideBranchIndexes.{Grows, bad_on, bare_best, bare_index, block_free, grows_tree, told_broken, told_refused}
 use Rattle.cb_chain.proofs.Histories.{historic_block, historic_joined, history_block, history_joined}
 use Rattle.cb_chain.proofs.Reached.{planted_after}
+use Rattle.cb_chain.proofs.Starts.{chain_as}
 use Rattle.cb_chain.proofs.Stays.{block_stays, join_leads, join_stays}
 use Rattle.cb_chain.proofs.Undos.{grows_chain}
 use Rattle.cb_chain.proofs.chain.Chain.accept_block.Goals as goal
+use Rattle.cb_chain.proofs.chain.Chain.accept_block.Goals.{After-mark_header}
 
 -- its header has no work
 pub returns-in_err-hash-clause-err : goal.returns-in_err-hash-clause-err
@@ -166,97 +170,78 @@ returns-in-Ok-clause-stays c =
     join_stays c.args.self.now c.join.new.self c.args.block c.join.result are (subst HasWork header has) (subst (λ (h : Header). block_fault c.args.self.now h ≡ None) header none) c.in-Ok.ensures.exact ok
     (subst (λ (b : Block). IfErr c.join.result (λ fault. ((fault ≡ Memory) × (c.join.new.self ≡ c.args.self.now)) ⊎ ((Err fault, c.join.new.self) ≡ joined c.args.self.now b))) c.new.ensures c.join.ensures.err) c.join.ensures.moves
 
--- memory is wanting
-pub returns-in-Err-clause-err : goal.returns-in-Err-clause-err
-returns-in-Err-clause-err c = inl (search rules, refl)
-
-pub returns-in-Err-clause-history : goal.returns-in-Err-clause-history
-returns-in-Err-clause-history c = λ calls past. inl (search rules, past)
-
-pub returns-in-Err-clause-unchanged : goal.returns-in-Err-clause-unchanged
-returns-in-Err-clause-unchanged c = λ _. refl
-
-pub returns-in-Err-clause-unpaid : goal.returns-in-Err-clause-unpaid
-returns-in-Err-clause-unpaid c = λ _.
-    let header : c.block-2.result.now.header ≡ c.args.block.header = ap (λ (b : Block). b.header) c.block-2.ensures.same in
-    let has : HasWork c.block-2.result.now.header = c.in_ok-hash.ensures.1 in
-    let none : block_fault c.args.self.now c.block-2.result.now.header ≡ None = c.in_ok-spot.ensures.none in
-    (subst HasWork header has, subst (λ (h : Header). block_fault c.args.self.now h ≡ None) header none)
-
-pub returns-in_err-reserve-in-Err-2-clause-err : goal.returns-in_err-reserve-in-Err-2-clause-err
-returns-in_err-reserve-in-Err-2-clause-err c =
-    let p = err_from_is_err_and c.from_residual-in_err-reserve-in-Err-2.result c.from_residual-in_err-reserve-in-Err-2.ensures.1 in
-    rw (p.1, p.2) (inl (c.in_err-reserve-in-Err-2.ensures.memory, ap tree_of c.reserve.ensures.same ∙ c.self.view_is))
-
-pub returns-in_err-reserve-in-Err-2-clause-history : goal.returns-in_err-reserve-in-Err-2-clause-history
-returns-in_err-reserve-in-Err-2-clause-history c = λ calls past.
-    let p = err_from_is_err_and c.from_residual-in_err-reserve-in-Err-2.result c.from_residual-in_err-reserve-in-Err-2.ensures.1 in
-    rw (p.1, p.2) (inl (c.in_err-reserve-in-Err-2.ensures.memory, subst (IsHistory calls) (sym (ap tree_of c.reserve.ensures.same ∙ c.self.view_is)) past))
-
-pub returns-in_err-reserve-in-Err-2-clause-unchanged : goal.returns-in_err-reserve-in-Err-2-clause-unchanged
-returns-in_err-reserve-in-Err-2-clause-unchanged c = λ _. ap tree_of c.reserve.ensures.same ∙ c.self.view_is
-
-pub returns-in_err-reserve-in-Err-2-clause-unpaid : goal.returns-in_err-reserve-in-Err-2-clause-unpaid
-returns-in_err-reserve-in-Err-2-clause-unpaid c = λ _.
-    let header : c.block-2.result.now.header ≡ c.args.block.header = ap (λ (b : Block). b.header) c.block-2.ensures.same in
-    let has : HasWork c.block-2.result.now.header = c.in_ok-hash.ensures.1 in
-    let none : block_fault c.args.self.now c.block-2.result.now.header ≡ None = c.in_ok-spot.ensures.none in
-    (subst HasWork header has, subst (λ (h : Header). block_fault c.args.self.now h ≡ None) header none)
-
-pub invariant_of-self-in-Err-2 : goal.invariant_of-self-in-Err-2
-invariant_of-self-in-Err-2 c =
+-- it breaks a rule, or memory is wanting
+pub mark_header-requires : goal.mark_header-requires
+mark_header-requires c =
     let spot : IsSpot c.in_ok-spot.spot c.block-2.result.now.header c.args.self.now = c.in_ok-spot.ensures.ok in
     let none : block_fault c.args.self.now c.block-2.result.now.header ≡ None = c.in_ok-spot.ensures.none in
-    let one : IsNode (node_of c.node.result true) c.args.self.now =
-    subst (λ (n : Node). IsNode n c.args.self.now) (sym (ap (λ (b : BareNode). node_of b true) c.node.ensures)) (bare_node c.in_ok-spot.spot c.block-2.result.now.header c.args.self.now true spot (block_free c.args.self.now c.block-2.result.now.header none).once)
+    let one : IsIndex (index_of c.block_index.result true) c.args.self.now =
+    subst (λ (n : BlockIndex). IsIndex n c.args.self.now) (sym (ap (λ (b : BareIndex). index_of b true) c.block_index.ensures)) (bare_index c.in_ok-spot.spot c.block-2.result.now.header c.args.self.now true spot (block_free c.args.self.now c.block-2.result.now.header none).once)
     in
-    let grows : Grows c.self.inside.tree.nodes c.reserve.new.self.nodes c.args.self.now (node_of c.node.result true) =
-    record { is = c.in_ok-reserve-in-Err-2.ensures.tree; same = c.in_ok-reserve-in-Err-2.ensures.same; view = c.self.view_is; one = one }
-    in
-    let header : c.block-2.result.now.header ≡ c.args.block.header = ap (λ (b : Block). b.header) c.block-2.ensures.same in
-    let has : HasWork c.block-2.result.now.header = c.in_ok-hash.ensures.1 in
-    let entry : entry_from (node_of c.node.result true) ≡ bad_entry c.args.block.header = ap entry_from (ap (λ (b : BareNode). node_of b true) c.node.ensures) ∙ bad_on c.in_ok-spot.spot c.args.block.header (spot.header ∙ header) in
-    let grown : tree_of c.add.new.self.nodes ≡ bad_entry c.args.block.header ∷ c.args.self.now =
-    grows_tree c.self.inside.tree.nodes c.reserve.new.self.nodes c.add.new.self.nodes c.args.self.now (node_of c.node.result true) grows c.add.ensures.nodes ∙ ap (λ (e : Entry). e ∷ c.args.self.now) entry
-    in
-    let other : ¬ c.in-Err.fault ≡ Memory = search rules in
-    let told : AcceptsBlock c.args.self.now c.args.block (Err c.in-Err.fault) (tree_of c.add.new.self.nodes) =
-    told_broken c.args.self.now (tree_of c.add.new.self.nodes) c.args.block c.in-Err.fault (subst HasWork header has) (subst (λ (h : Header). block_fault c.args.self.now h ≡ None) header none) other c.in-Err.ensures.exact
-    grown
-    in (
-      grows_chain c.self.inside.tree.nodes c.reserve.new.self.nodes c.add.new.self.nodes c.args.self.now (node_of c.node.result true) c.self.inside.active.items c.self.inside.tree.undos c.reserve.new.self.undos c.add.new.self.undos
-          c.self.inside.ledger.unspent c.self.inside.side grows c.add.ensures.nodes c.in_ok-reserve-in-Err-2.ensures.undos c.add.ensures.undos (bare_best (entry_from (node_of c.node.result true)) c.args.self.now (ap (λ (n : Node). n.kept) (ap (λ (b : BareNode). node_of b true) c.node.ensures))) c.self.invariant.0,
-      historic_block c.args.self.now (tree_of c.add.new.self.nodes) c.args.block (Err c.in-Err.fault) c.block-2.ensures.sound (subst IsHistoric c.self.view_is c.self.invariant.1) told,
-    )
+    subst (IsIndex (index_of c.block_index.result true)) (sym c.self.view_is) one
 
-pub returns : goal.returns
-returns c =
+-- the header is in the tree, marked bad
+record IsMarkedBad (c : After-mark_header) : Type 0 where
+  told : AcceptsBlock c.args.self.now c.args.block (Err c.mark_header.result) (tree_of c.mark_header.new.tree.block_indexes)
+  chain : IsChain (tree_of c.mark_header.new.tree.block_indexes) c.self.inside.active.items c.mark_header.new.tree.undos c.self.inside.ledger.unspent c.self.inside.side_branch
+
+marked_bad : (c : After-mark_header) → c.mark_header.result ≡ c.in-Err.fault → c.in-Err.fault ≢ Memory → c.mark_header.new.tree.block_indexes ≡ c.self.inside.tree.block_indexes ++ index_of c.block_index.result true ∷ []
+    → c.mark_header.new.tree.undos ≡ c.self.inside.tree.undos ++ None ∷ [] → IsMarkedBad c
+marked_bad c is other block_indexes undos =
     let spot : IsSpot c.in_ok-spot.spot c.block-2.result.now.header c.args.self.now = c.in_ok-spot.ensures.ok in
     let none : block_fault c.args.self.now c.block-2.result.now.header ≡ None = c.in_ok-spot.ensures.none in
-    let one : IsNode (node_of c.node.result true) c.args.self.now =
-    subst (λ (n : Node). IsNode n c.args.self.now) (sym (ap (λ (b : BareNode). node_of b true) c.node.ensures)) (bare_node c.in_ok-spot.spot c.block-2.result.now.header c.args.self.now true spot (block_free c.args.self.now c.block-2.result.now.header none).once)
+    let one : IsIndex (index_of c.block_index.result true) c.args.self.now =
+    subst (λ (n : BlockIndex). IsIndex n c.args.self.now) (sym (ap (λ (b : BareIndex). index_of b true) c.block_index.ensures)) (bare_index c.in_ok-spot.spot c.block-2.result.now.header c.args.self.now true spot (block_free c.args.self.now c.block-2.result.now.header none).once)
     in
-    let grows : Grows c.self.inside.tree.nodes c.reserve.new.self.nodes c.args.self.now (node_of c.node.result true) =
-    record { is = c.in_ok-reserve-in-Err-2.ensures.tree; same = c.in_ok-reserve-in-Err-2.ensures.same; view = c.self.view_is; one = one }
-    in
+    let was = c.self.inside.tree in
+    let grows : Grows was.block_indexes was.block_indexes c.args.self.now (index_of c.block_index.result true) = record { is = c.mark_header.ensures.tree; same = refl; view = c.self.view_is; one = one } in
     let header : c.block-2.result.now.header ≡ c.args.block.header = ap (λ (b : Block). b.header) c.block-2.ensures.same in
     let has : HasWork c.block-2.result.now.header = c.in_ok-hash.ensures.1 in
-    let entry : entry_from (node_of c.node.result true) ≡ bad_entry c.args.block.header = ap entry_from (ap (λ (b : BareNode). node_of b true) c.node.ensures) ∙ bad_on c.in_ok-spot.spot c.args.block.header (spot.header ∙ header) in
-    let grown : tree_of c.add.new.self.nodes ≡ bad_entry c.args.block.header ∷ c.args.self.now =
-    grows_tree c.self.inside.tree.nodes c.reserve.new.self.nodes c.add.new.self.nodes c.args.self.now (node_of c.node.result true) grows c.add.ensures.nodes ∙ ap (λ (e : Entry). e ∷ c.args.self.now) entry
+    let entry : entry_from (index_of c.block_index.result true) ≡ bad_entry c.args.block.header = ap entry_from (ap (λ (b : BareIndex). index_of b true) c.block_index.ensures) ∙ bad_on c.in_ok-spot.spot c.args.block.header (spot.header ∙ header) in
+    let grown : tree_of c.mark_header.new.tree.block_indexes ≡ bad_entry c.args.block.header ∷ c.args.self.now =
+    grows_tree was.block_indexes was.block_indexes c.mark_header.new.tree.block_indexes c.args.self.now (index_of c.block_index.result true) grows block_indexes ∙ ap (λ (e : Entry). e ∷ c.args.self.now) entry
     in
-    let other : ¬ c.in-Err.fault ≡ Memory = search rules in
-    let told : AcceptsBlock c.args.self.now c.args.block (Err c.in-Err.fault) (tree_of c.add.new.self.nodes) =
-    told_broken c.args.self.now (tree_of c.add.new.self.nodes) c.args.block c.in-Err.fault (subst HasWork header has) (subst (λ (h : Header). block_fault c.args.self.now h ≡ None) header none) other c.in-Err.ensures.exact
+    let told : AcceptsBlock c.args.self.now c.args.block (Err c.in-Err.fault) (tree_of c.mark_header.new.tree.block_indexes) =
+    told_broken c.args.self.now (tree_of c.mark_header.new.tree.block_indexes) c.args.block c.in-Err.fault (subst HasWork header has) (subst (λ (h : Header). block_fault c.args.self.now h ≡ None) header none) other c.in-Err.ensures.exact
     grown
     in
     record {
-      ok = tt;
-      moves = tt;
-      leads = tt;
-      stays = λ _. block_stays c.args.self.now (tree_of c.add.new.self.nodes) c.args.block (Err c.in-Err.fault) (planted_after c.args.self.now (subst IsHistoric c.self.view_is c.self.invariant.1)) told tt tt;
-      err = inr told;
-      history = λ calls past. inr (c.args.self.now, past, (c.block-2.ensures.sound, Err c.in-Err.fault, told));
-      unchanged = λ e. let same : c.in-Err.fault ≡ Memory = cc in absurd (other same);
-      unpaid = λ e. let same : c.in-Err.fault ≡ Memory = cc in absurd (other same);
+      told = subst (λ (f : Fault). AcceptsBlock c.args.self.now c.args.block (Err f) (tree_of c.mark_header.new.tree.block_indexes)) (sym is) told;
+      chain =
+          grows_chain was.block_indexes was.block_indexes c.mark_header.new.tree.block_indexes c.args.self.now (index_of c.block_index.result true) c.self.inside.active.items was.undos was.undos c.mark_header.new.tree.undos
+          c.self.inside.ledger.unspent c.self.inside.side_branch grows block_indexes refl undos (bare_best (entry_from (index_of c.block_index.result true)) c.args.self.now (ap (λ (n : BlockIndex). n.kept) (ap (λ (b : BareIndex). index_of b true) c.block_index.ensures))) c.self.invariant.0;
     }
+
+pub invariant_of-self : goal.invariant_of-self
+invariant_of-self c =
+    let was = c.self.inside in
+    elim c.mark_header.ensures.added [
+      | inl same ↦ (
+        chain_as c.mark_header.new.tree.block_indexes was.tree.block_indexes was.active.items was.active.items was.tree.undos c.mark_header.new.tree.undos was.ledger.unspent was.ledger.unspent was.side_branch was.side_branch same.1 refl same.2 refl refl c.self.invariant.0,
+        subst IsHistoric (sym (ap tree_of same.1)) c.self.invariant.1,
+      )
+      | inr marked ↦
+          let bad = marked_bad c marked.0 marked.1 marked.2 marked.3 in
+          (bad.chain, historic_block c.args.self.now (tree_of c.mark_header.new.tree.block_indexes) c.args.block (Err c.mark_header.result) c.block-2.ensures.sound (subst IsHistoric c.self.view_is c.self.invariant.1) bad.told)
+    ]
+
+pub returns-in-Err-clause-err : goal.returns-in-Err-clause-err
+returns-in-Err-clause-err c =
+    elim c.mark_header.ensures.added [
+      | inl same ↦ inl (same.0, ap tree_of same.1 ∙ c.self.view_is)
+      | inr marked ↦ inr (marked_bad c marked.0 marked.1 marked.2 marked.3).told
+    ]
+
+pub returns-in-Err-clause-history : goal.returns-in-Err-clause-history
+returns-in-Err-clause-history c = λ calls past.
+    elim c.mark_header.ensures.added [
+      | inl same ↦ inl (same.0, subst (IsHistory calls) (sym (ap tree_of same.1 ∙ c.self.view_is)) past)
+      | inr marked ↦ inr (c.args.self.now, past, (c.block-2.ensures.sound, Err c.mark_header.result, (marked_bad c marked.0 marked.1 marked.2 marked.3).told))
+    ]
+
+pub returns-in-Err-clause-stays : goal.returns-in-Err-clause-stays
+returns-in-Err-clause-stays c = λ _.
+    elim c.mark_header.ensures.added [
+      | inl same ↦ subst (Stays c.args.self.now) (sym (ap tree_of same.1 ∙ c.self.view_is)) (refl, refl)
+      | inr marked ↦ block_stays c.args.self.now (tree_of c.mark_header.new.tree.block_indexes) c.args.block (Err c.mark_header.result) (planted_after c.args.self.now (subst IsHistoric c.self.view_is c.self.invariant.1)) (marked_bad c marked.0 marked.1 marked.2 marked.3).told tt tt
+    ]

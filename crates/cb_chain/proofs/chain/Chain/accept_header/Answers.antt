@@ -1,13 +1,13 @@
 use Rattle.std.proofs.Common.{◌≡◌, ◌∷◌, ◌∙◌, Err, None, Some, ap, inr, refl, sym, subst, false}
 use Rattle.std.proofs.lemmas.Result.{err_from_is_err_and}
-use Rattle.cb_chain.specs.declared.node.BareNode.{BareNode}
-use Rattle.cb_chain.specs.Marking.{Node, node_of}
+use Rattle.cb_chain.specs.declared.block_index.BareIndex.{BareIndex}
+use Rattle.cb_chain.specs.Marking.{BlockIndex, index_of}
 use Rattle.cb_chain.specs.Calls.AcceptsHeader.{kept, refused, without_work}
 use Rattle.cb_chain.specs.Calls.{AcceptsHeader, header_entry, header_fault}
 use Rattle.cb_chain.specs.Entries.{Entry, Tree}
 use Rattle.cb_chain.specs.History.{IsHistoric}
-use Rattle.cb_chain.specs.Keeping.{IsNode, IsSpot, entry_from, tree_of}
-use Rattle.cb_chain.proofs.SideNodes.{Grows, bare_best, bare_node, bare_on, grows_tree, header_free}
+use Rattle.cb_chain.specs.Keeping.{IsIndex, IsSpot, entry_from, tree_of}
+use Rattle.cb_chain.proofs.SideBranchIndexes.{Grows, bare_best, bare_index, bare_on, grows_tree, header_free}
 use Rattle.cb_chain.proofs.Histories.{historic_header, history_header}
 use Rattle.cb_chain.proofs.Undos.{grows_chain}
 use Rattle.cb_chain.proofs.chain.Chain.accept_header.Goals.{After-from_residual-in_err-spot}
@@ -24,20 +24,20 @@ pub invariant_of-self-2 : goal.invariant_of-self-2
 invariant_of-self-2 c =
     let spot : IsSpot c.in_ok-spot.spot c.args.header c.args.self.now = subst (IsSpot c.in_ok-spot.spot c.args.header) c.self.view_is c.in_ok-spot.ensures.ok in
     let none : header_fault c.args.self.now c.args.header ≡ None = subst (λ (t : Tree). header_fault t c.args.header ≡ None) c.self.view_is c.in_ok-spot.ensures.none in
-    let one : IsNode (node_of c.node.result false) c.args.self.now =
-    subst (λ (n : Node). IsNode n c.args.self.now) (sym (ap (λ (b : BareNode). node_of b false) c.node.ensures)) (bare_node c.in_ok-spot.spot c.args.header c.args.self.now false spot (header_free c.args.self.now c.args.header none))
+    let one : IsIndex (index_of c.block_index.result false) c.args.self.now =
+    subst (λ (n : BlockIndex). IsIndex n c.args.self.now) (sym (ap (λ (b : BareIndex). index_of b false) c.block_index.ensures)) (bare_index c.in_ok-spot.spot c.args.header c.args.self.now false spot (header_free c.args.self.now c.args.header none))
     in
-    let grows : Grows c.self.inside.tree.nodes c.reserve.new.self.nodes c.args.self.now (node_of c.node.result false) =
+    let grows : Grows c.self.inside.tree.block_indexes c.reserve.new.self.block_indexes c.args.self.now (index_of c.block_index.result false) =
     record { is = c.in_ok-reserve.ensures.tree; same = c.in_ok-reserve.ensures.same; view = c.self.view_is; one = one }
     in
-    let entry : entry_from (node_of c.node.result false) ≡ header_entry c.args.header = ap entry_from (ap (λ (b : BareNode). node_of b false) c.node.ensures) ∙ bare_on c.in_ok-spot.spot c.args.header spot.header in
-    let grown : tree_of c.add.new.self.nodes ≡ header_entry c.args.header ∷ c.args.self.now =
-    grows_tree c.self.inside.tree.nodes c.reserve.new.self.nodes c.add.new.self.nodes c.args.self.now (node_of c.node.result false) grows c.add.ensures.nodes ∙ ap (λ (e : Entry). e ∷ c.args.self.now) entry
+    let entry : entry_from (index_of c.block_index.result false) ≡ header_entry c.args.header = ap entry_from (ap (λ (b : BareIndex). index_of b false) c.block_index.ensures) ∙ bare_on c.in_ok-spot.spot c.args.header spot.header in
+    let grown : tree_of c.add.new.self.block_indexes ≡ header_entry c.args.header ∷ c.args.self.now =
+    grows_tree c.self.inside.tree.block_indexes c.reserve.new.self.block_indexes c.add.new.self.block_indexes c.args.self.now (index_of c.block_index.result false) grows c.add.ensures.block_indexes ∙ ap (λ (e : Entry). e ∷ c.args.self.now) entry
     in
-    let told : AcceptsHeader c.args.self.now c.args.header None (tree_of c.add.new.self.nodes) = kept c.in_ok-hash.ensures.1 none refl grown in (
-      grows_chain c.self.inside.tree.nodes c.reserve.new.self.nodes c.add.new.self.nodes c.args.self.now (node_of c.node.result false) c.self.inside.active.items c.self.inside.tree.undos c.reserve.new.self.undos c.add.new.self.undos
-          c.self.inside.ledger.unspent c.self.inside.side grows c.add.ensures.nodes c.in_ok-reserve.ensures.undos c.add.ensures.undos (bare_best (entry_from (node_of c.node.result false)) c.args.self.now (ap (λ (n : Node). n.kept) (ap (λ (b : BareNode). node_of b false) c.node.ensures))) c.self.invariant.0,
-      historic_header c.args.self.now (tree_of c.add.new.self.nodes) c.args.header None (subst IsHistoric c.self.view_is c.self.invariant.1) told,
+    let told : AcceptsHeader c.args.self.now c.args.header None (tree_of c.add.new.self.block_indexes) = kept c.in_ok-hash.ensures.1 none refl grown in (
+      grows_chain c.self.inside.tree.block_indexes c.reserve.new.self.block_indexes c.add.new.self.block_indexes c.args.self.now (index_of c.block_index.result false) c.self.inside.active.items c.self.inside.tree.undos c.reserve.new.self.undos c.add.new.self.undos
+          c.self.inside.ledger.unspent c.self.inside.side_branch grows c.add.ensures.block_indexes c.in_ok-reserve.ensures.undos c.add.ensures.undos (bare_best (entry_from (index_of c.block_index.result false)) c.args.self.now (ap (λ (n : BlockIndex). n.kept) (ap (λ (b : BareIndex). index_of b false) c.block_index.ensures))) c.self.invariant.0,
+      historic_header c.args.self.now (tree_of c.add.new.self.block_indexes) c.args.header None (subst IsHistoric c.self.view_is c.self.invariant.1) told,
     )
 
 pub returns-in_err-spot-clause-history : goal.returns-in_err-spot-clause-history

@@ -9,5 +9,5 @@ use Rattle.cb_chain.proofs.chain.Chain.lead.Goals as goal
 pub extend-requires-clause-tip : goal.extend-requires-clause-tip
 extend-requires-clause-tip c =
     let was = c.self.inside in
-    let tip = tip_at (tree_of was.tree.nodes) was.active.items (c.len.result - 1) c.index.result.now c.self.invariant.0.places (omega (arith, c.len.ensures, was.active.ok.0)) c.index.ensures in
+    let tip = tip_at (tree_of was.tree.block_indexes) was.active.items (c.len.result - 1) c.index.result.now c.self.invariant.0.places (omega (arith, c.len.ensures, was.active.ok.0)) c.index.ensures in
     place_one c.args.self.now c.args.kept.header.prev (best c.args.self.now) c.args.spot.parent c.requires.spot.parent (subst (λ (t : Tree). place_of t (best t) ≡ Some c.args.spot.parent) c.self.view_is (tip ∙ ap Some (sym c.if-spot-index.true)))

@@ -5,8 +5,8 @@ use Rattle.cb_chain.proofs.tree.Tree.len.Goals as goal
 
 pub returns : goal.returns
 returns c =
-    let bares = c.self.inside.nodes.nodes in
+    let bares = c.self.inside.block_indexes.block_indexes in
     let marks = c.self.inside.marks.items in
     let long : length bares ≡ length marks = omega (arith, c.self.invariant.3, c.self.inside.marks.ok.0) in
     let count : c.len.result ≡ length marks = omega (arith, c.len.ensures, c.self.inside.marks.ok.0) in
-    count ∙ sym (length_with bares marks long) ∙ ap (λ (g : Grown). length g.nodes) c.self.view_is
+    count ∙ sym (length_with bares marks long) ∙ ap (λ (g : Grown). length g.block_indexes) c.self.view_is

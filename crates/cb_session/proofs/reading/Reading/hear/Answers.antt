@@ -1,8 +1,8 @@
 use Rattle.std.proofs.Common.{List, ℕ, refl, sym, ap, subst, ◌∙◌, arith}
 use Rattle.std.specs.Io.KnownBytes.{Consumes}
-use Rattle.cb_io.proofs.Known.{Keeps-same}
+use Rattle.cb_base.proofs.Known.{Keeps-same}
 use Rattle.cb_peer_state.specs.State.{is_closed}
-use Rattle.cb_io.specs.declared.read_end.ReadEnd.TheVariants as ends
+use Rattle.cb_base.specs.declared.read_end.ReadEnd.TheVariants as ends
 use Rattle.cb_session.proofs.Inputs.{heard_end, heard_more, Keeps-none, or_failed}
 use Rattle.cb_session.proofs.reading.Reading.hear.Goals as goal
 

@@ -1,0 +1,4 @@
+pub mod Found
+pub mod OrderRead
+pub mod ScriptRead
+pub mod Texts

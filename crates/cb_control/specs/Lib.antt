@@ -1,0 +1,10 @@
+pub mod Answering
+pub mod Counters
+pub mod OrderLine
+pub mod OrderReading
+pub mod Outcomes
+pub mod Refusals
+pub mod ReplyText
+pub mod ScriptLine
+pub mod ScriptReading
+pub mod Written

@@ -1,0 +1,43 @@
+//! What an audit answers.
+ghost use Rattle.std.specs.Prelude.{◌≡◌, ◌↔◌, IsTrue};
+ghost use Rattle.cb_control.specs.Outcomes.{agreement};
+
+use cb_run::Halt;
+
+/// What an audit answers: whether the hall's journal and the traces of its connections tell one
+/// history.
+#[derive(Clone, Copy)]
+pub enum Verdict {
+    /// They do.
+    Yes,
+    /// The hall granted a connection another number of questions than its trace has answers: its
+    /// slot and its generation.
+    Count(u16, u64),
+    /// A question or an answer of a connection differs: its slot, its generation, and the place,
+    /// counted from 0.
+    Differs(u16, u64, u64),
+    /// The traces don't come in the order of their connections.
+    OutOfOrder,
+    /// Memory ran out.
+    Memory,
+}
+
+impl Verdict {
+    /// Whether it is yes.
+    pub fn is_yes(self) -> bool
+        ensures { IsTrue result ↔ (self ≡ Verdict.Yes) }
+    {
+        matches!(self, Verdict::Yes)
+    }
+
+    /// Whether it is yes. Fails with `Halt::Memory` if memory ran out for it.
+    pub fn agrees(self) -> Result<bool, Halt>
+        ensures { result ≡ agreement self }
+    {
+        match self {
+            Verdict::Yes => Ok(true),
+            Verdict::Memory => Err(Halt::Memory),
+            _ => Ok(false),
+        }
+    }
+}

@@ -1,0 +1,4 @@
+pub mod Auditing
+pub mod Deeds
+pub mod Playing
+pub mod Summary

@@ -1,0 +1,25 @@
+//! Driving nodes. What the commands `run` and `node` share: what they need of their surroundings,
+//! what a node does for a line of either, why it refuses, and the audit of a node that has ended.
+//! And the command `run`, which plays a script with nodes that are joined over loopback sockets.
+#![tactic(auto)]
+
+mod auditing;
+mod deeds;
+mod host;
+mod moving;
+mod nodes;
+mod playing;
+mod refusing;
+mod report;
+mod running;
+mod stats;
+
+pub use auditing::audit_end;
+pub use deeds::{perform, tip_of};
+pub use host::Host;
+pub use moving::moved_of;
+pub use nodes::{Nodes, Sizes};
+pub use playing::{Played, play};
+pub use refusing::refusal_of;
+pub use report::NodeReport;
+pub use running::{RunOrders, run_nodes};

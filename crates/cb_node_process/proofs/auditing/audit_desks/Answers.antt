@@ -1,8 +1,0 @@
-use Rattle.std.proofs.Common.{List, subst, ◌∙◌}
-use Rattle.cb_audit.specs.Order.{AuditedTrace}
-use Rattle.cb_node_process.specs.Auditing.{TellsVerdict}
-use Rattle.cb_node_process.proofs.auditing.audit_desks.Goals as goal
-
-pub returns-in-Ok : goal.returns-in-Ok
-returns-in-Ok g c =
-    record { told = subst (λ (traces : List AuditedTrace). TellsVerdict c.args.hall.now traces c.audit_all.result) (c.as_slice.ensures.value ∙ c.in-Ok.ensures.all) c.audit_all.ensures.told }

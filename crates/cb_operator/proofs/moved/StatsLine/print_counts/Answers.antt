@@ -1,6 +1,0 @@
-use Rattle.std.proofs.Common.{string_bytes}
-use Rattle.cb_operator.proofs.Texts.{counts}
-use Rattle.cb_operator.proofs.moved.StatsLine.print_counts.Goals as goal
-
-pub returns-clause-text : goal.returns-clause-text
-returns-clause-text c = counts (string_bytes c.args.out.now) (string_bytes c.write.new.self) c.args.self.now c.in_ok-write.ensures.bytes

@@ -1,6 +1,0 @@
-use Rattle.std.proofs.Common.{string_bytes}
-use Rattle.cb_operator.proofs.Texts.{differs}
-use Rattle.cb_operator.proofs.refusal.print_differing.Goals as goal
-
-pub returns-clause-text : goal.returns-clause-text
-returns-clause-text c = differs (string_bytes c.args.out.now) (string_bytes c.writeln.new.self) c.args.slot c.args.generation c.args.place c.in_ok-writeln.ensures.bytes

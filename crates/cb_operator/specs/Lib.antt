@@ -1,3 +1,0 @@
-pub mod Answering
-pub mod OperatorLine
-pub mod Replies

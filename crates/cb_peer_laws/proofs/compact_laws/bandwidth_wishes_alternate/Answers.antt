@@ -1,5 +1,0 @@
-use Rattle.cb_peer_laws.proofs.CompactLaws.{wishes_of}
-use Rattle.cb_peer_laws.proofs.compact_laws.bandwidth_wishes_alternate.Goals as goal
-
-pub returns : goal.returns
-returns c = wishes_of

@@ -1,5 +1,0 @@
-use Rattle.cb_peer_laws.proofs.LawLemmas.{given_sound}
-use Rattle.cb_peer_laws.proofs.laws.sound_blocks_are_given.Goals as goal
-
-pub returns : goal.returns
-returns c = given_sound

@@ -1,7 +1,0 @@
-use Rattle.std.proofs.Common.{rules, string_bytes}
-use Rattle.cb_run_nodes.proofs.Reporting.{printed}
-use Rattle.cb_run_nodes.proofs.report.NodeReport.print.Goals as goal
-
-pub returns-clause-text : goal.returns-clause-text
-returns-clause-text c =
-    printed (string_bytes c.args.out.now) (string_bytes c.writeln.new.self) (string_bytes c.in_ok-tip.tip) c.verdict-agrees.result.now c.args.self.now (search rules) c.verdict-agrees.ensures c.in_ok-writeln.ensures.bytes

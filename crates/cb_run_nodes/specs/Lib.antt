@@ -1,3 +1,0 @@
-pub mod Auditing
-pub mod Playing
-pub mod Summary

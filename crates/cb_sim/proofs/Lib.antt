@@ -1,4 +1,0 @@
-pub mod SimLines
-pub mod SimRead
-pub mod SimReportLemmas
-pub mod SimRunLemmas

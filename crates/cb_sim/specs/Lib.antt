@@ -1,4 +1,0 @@
-pub mod SimInput
-pub mod SimLine
-pub mod SimReport
-pub mod SimRun
