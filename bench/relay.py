@@ -34,7 +34,7 @@ from bench.tools.bars import picture
 from bench.tools.command_line import usage
 from bench.tools.full_blocks import FullChain
 from bench.tools.namespaces import Namespace, alone, linked
-from bench.tools.process_talk import NodeProcess, shown
+from bench.tools.process_talk import NodeProcess, counted, shown
 from bench.tools.programs import ROOT, built
 
 # Whom each node dials, and which one is given the block.
@@ -121,7 +121,8 @@ class Network:
 
     def end(self):
         for node in self.nodes:
-            if node.close("quit") != (0, ["audit yes"]):
+            status, told = node.close("quit")
+            if status or len(told) != 1 or counted(told[0]) is None:
                 raise ValueError("an audit doesn't say yes")
 
 

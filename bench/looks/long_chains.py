@@ -145,13 +145,13 @@ class LongChains(ProcessLooks):
             began = time.monotonic()
             for node, height in zip((second, first), anew):
                 self.comes(f"height {height}", second, lambda height=height: second.tip()[0] >= height)
-                self.look("restart", node.say("restart"), "audit yes")
+                self.says_yes("restart", node.say("restart"), drops=None)
                 self.begins("restart", "restarted tip", node.line())
             self.comes("the tip", second, lambda: second.tip() == tip)
             self.came("node, begun anew" if anew else "node", LONG, time.monotonic() - began)
             if not anew:
                 self.costs("node", between.headers, LONG)
-            self.ends(second)
+            self.ends(second, asked=True, drops=None)
 
     def a_node_that_mines(self):
         """A node mines a block ten times a second while another one downloads its chain."""
@@ -165,8 +165,8 @@ class LongChains(ProcessLooks):
                     time.sleep(0.1)
                 self.comes("the tip", second, lambda: second.tip() == first.tip())
                 self.costs("a node that mines", between.headers, first.tip()[0], MEANWHILE)
-                self.ends(second)
-            self.ends(first)
+                self.ends(second, asked=True, drops=None)
+            self.ends(first, asked=True, drops=None)
 
     # ---- the client library
 
@@ -182,7 +182,7 @@ class LongChains(ProcessLooks):
             self.comes("the tip", node, lambda: node.tip()[1] == b2lx(offered.blocks[-1].GetHash()))
             self.came(what, len(offered.blocks), time.monotonic() - began)
             self.costs(what, offered.headers, len(offered.blocks), limit)
-            self.ends(node, "quit")
+            self.ends(node, "quit", drops=None)
 
     def five_thousand(self):
         self.offered("5,000 headers", lambda offered: offered.serve())

@@ -108,7 +108,7 @@ class ManyPeers(ProcessLooks):
                             node.say(f"kick {one.slot}")
             self.look("connections that came to their end", sum(it.result() for it in playing), PEERS * CONNECTIONS)
             self.comes("their sessions' end", node, lambda: node.peers() == [])
-            self.ends(node)
+            self.ends(node, asked=True, drops=None)
 
 
 def differs(got, wanted):

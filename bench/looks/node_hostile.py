@@ -90,9 +90,9 @@ class Hostile(ProcessLooks):
                 took, spent = time.monotonic() - began, node.processor_ms() - spent
                 print(f"{self.name}: {took:.1f} s, {spent:.0f} ms of the processor, memory {before / 1e6:.0f} MB before, "
                       f"{node.memory('VmHWM') / 1e6:.0f} MB at the most, {node.memory() / 1e6:.0f} MB at last")
-                self.ends(other)
+                self.ends(other, drops=None)
             if ends:
-                self.ends(node)
+                self.ends(node, drops=None)
 
     def block_in_time(self, node, other):
         """A block that the node mines comes to the other in time."""
@@ -350,7 +350,7 @@ class Hostile(ProcessLooks):
             print(f"{self.name}: {time.monotonic() - began:.0f} s, {node.processor_ms() - spent:.0f} ms of the processor, "
                   f"memory {node.memory() / 1e6:.0f} MB")
             began = time.monotonic()
-            self.look("restart", node.say("restart"), "audit yes")
+            self.says_yes("restart", node.say("restart"))
             self.begins("restart, further on", "restarted tip", node.line())
             print(f"{self.name}: restart took {time.monotonic() - began:.1f} s, memory {node.memory() / 1e6:.0f} MB behind it")
             with dialled(port) as peer:

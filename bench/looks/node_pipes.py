@@ -152,7 +152,7 @@ class Pipes(ProcessLooks):
             process.stdin.flush()
             self.ends_soon(process, 0)
             told = process.stdout.read().decode().splitlines()
-            self.look("the last line", told[-1], "audit yes")
+            self.says_yes("the last line", told[-1])
 
     # ---- the log
 

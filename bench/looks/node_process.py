@@ -6,6 +6,7 @@ It needs the built program (crates/cbrelay/out/cbrelay, as ./build leaves it), p
 
 - Blocks go both ways between two nodes, and transactions from one to the other. Each line is answered, and each that can't be is refused.
 - A connection that ends is made again. `restart` goes on over the same chain and mempool.
+- Each audit says yes, compared some answers where a block came, and none was dropped, but by a checkpoint.
 - A port in use, a peer that is never reached, an output that is closed or full, and words that can't be followed are told, with status 3
   or 1. A listener that accepts nothing holds up neither lines nor peers. Descriptors that run out are told once a second.
 - A node to which nothing happens costs little. Its `version` tells the time of the connection, and not that of the start.
@@ -72,11 +73,11 @@ class Processes(ProcessLooks):
                 self.comes("the last block comes", one, lambda: one.tip() == other.tip())
                 self.told_of_both(one, other, address)
                 self.logs(one, rf"^\d{{4}}-\d\d-\d\dT\d\d:\d\d:\d\dZ \[INFO +cbrelay\] tip 4 {one.tip()[1]}")
-                self.ends(other)
+                self.ends(other, asked=True)
                 self.logs(other, rf"connection to {address} in slot {DIALLED} closed: NodeEnded")
                 self.logs(one, "closed: Bye")
                 self.look("peers of the one that is left", one.peers(), [])
-            self.ends(one, "quit")
+            self.ends(one, "quit", drops=True)
 
     def told_of_both(self, one, other, address):
         """What two linked nodes tell of their blocks and of each other."""
@@ -114,8 +115,8 @@ class Processes(ProcessLooks):
             self.comes("the mined block comes", one, lambda: one.tip() == other.tip())
             self.look("the mempool behind it", one.list("pool"), [])
             self.look("its transactions", one.say(f"block {one.tip()[1]}").split()[-1], "2")
-            self.ends(one)
-            self.ends(other)
+            self.ends(one, asked=True)
+            self.ends(other, asked=True)
 
     def lines_are_refused(self):
         """Lines that can't be read, and calls that the node refuses."""
@@ -148,8 +149,8 @@ class Processes(ProcessLooks):
                 self.comes("it is made again", one, lambda: (DIALLED + 1, 1, "to") in [peer.place() for peer in one.peers()])
                 other.say("mine")
                 self.comes("the block comes", one, lambda: one.tip() == other.tip())
-                self.ends(other)
-            self.ends(one)
+                self.ends(other, asked=True)
+            self.ends(one, asked=True)
 
     def nodes_begin_anew(self):
         """`restart` ends the node with an audit, and goes on over its chain and mempool at its address."""
@@ -162,15 +163,15 @@ class Processes(ProcessLooks):
                 self.comes("it is connected", one, lambda: [peer.slot for peer in one.peers()] == [0])
                 self.look("submit-block", one.say(f"submit-block {block.text.hex()}"), f"submitted {shown(block.header.name)}")
                 self.look("tx", one.say(f"tx {tx.text.hex()}"), f"tx {shown(tx.name)}")
-                self.look("restart", one.say("restart"), "audit yes")
+                self.says_yes("restart", one.say("restart"))
                 self.look("behind restart", one.line(), f"restarted tip 1 {shown(block.header.name)}")
                 self.logs(one, "in slot 0 closed: NodeEnded")
                 self.look("its mempool", one.list("pool"), [shown(tx.name)])
                 self.comes("it is connected again", other, lambda: DIALLED + 1 in [peer.slot for peer in other.peers()])
                 one.say("mine")
                 self.comes("the block comes", other, lambda: other.tip() == one.tip())
-                self.ends(one)
-                self.ends(other)
+                self.ends(one, asked=True)
+                self.ends(other, asked=True)
 
     # ---- what can't be done
 
@@ -190,7 +191,7 @@ class Processes(ProcessLooks):
             one.address()
             for seconds in (1, 2):
                 self.logs(one, f"no connection to 127.0.0.1:{port}: it doesn't answer; again in {seconds} s")
-            self.look("the end", one.close(), (3, ["audit yes"]))
+            self.ends(one, status=3)
             self.logs(one, f"127.0.0.1:{port} was never reached")
 
     def an_output_that_takes_nothing(self):
@@ -232,7 +233,7 @@ class Processes(ProcessLooks):
                     self.comes("the block comes", other, lambda: other.tip() == node.tip())
                     self.look("whether it comes before a dial's end", watch.seconds() < 5, True)
                     self.ends(other)
-                self.look("the end", node.close(), (3, ["audit yes"]))
+                self.ends(node, status=3, asked=True)
                 self.look("the log", [line for line in node.logged if line], [])
             for one in held:
                 one.close()

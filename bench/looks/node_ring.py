@@ -81,14 +81,15 @@ class Ring(ProcessLooks):
             self.look("a kick", told in (f"kicked {slot}", "error no slot"), True)
 
     def restart(self, place):
-        self.look("restart", self.nodes[place].say("restart"), "audit yes")
+        self.says_yes("restart", self.nodes[place].say("restart"), drops=None)
         self.begins("restart, further on", "restarted tip", self.nodes[place].line())
 
     def quit(self, place):
         """Ends a process and starts another, which knows nothing. It may not have reached its peer, which its status tells."""
         self.note_cost(self.nodes[place])
         status, told = self.nodes[place].close("quit")
-        self.look("quit", (status in (0, 3), told), (True, ["audit yes"]))
+        self.look("quit", (status in (0, 3), len(told)), (True, 1))
+        self.says_yes("its audit", told[-1] if told else None, drops=None)
         self.nodes[place] = self.start(place)
 
     def link(self, place):
@@ -114,7 +115,7 @@ class Ring(ProcessLooks):
             self.comes(f"the tip {tip[0]}", node, lambda node=node: node.tip() == tip)
         for node in self.nodes:
             self.note_cost(node)
-            self.ends(node)
+            self.ends(node, drops=None)
         acts = ", ".join(f"{kind} {count}" for kind, count in sorted(self.done.items()))
         print(f"{self.name}: height {tip[0]}; done: {acts}; {self.spent:.0f} ms of the processor in all, "
               f"at most {self.most / 1e6:.0f} MB in a process")

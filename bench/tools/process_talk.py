@@ -14,8 +14,8 @@ from bench.tools.node_talk import MOVED
 # How a line of `peers` is told: a slot and a generation, a direction and an address, a phase, and what the connection moved.
 PEER = re.compile(rf"slot (\d+) connection (\d+) (from|to) (\S+) (start|greeted|ready|over) ({MOVED})")
 
-# How a process ends well: its status, and what it prints at last.
-WELL = (0, ["audit yes"])
+# A yes of an audit: how many answers it compared, and how many a checkpoint had dropped before.
+YES = re.compile(r"audit yes (\d+) answers, (\d+) dropped")
 
 
 def closed_port():
@@ -23,6 +23,12 @@ def closed_port():
     with socket.socket() as one:
         one.bind(("127.0.0.1", 0))
         return one.getsockname()[1]
+
+
+def counted(line):
+    """How many answers an audit that says yes compared, and how many were dropped before. None if it doesn't say yes."""
+    told = YES.fullmatch(line or "")
+    return (int(told[1]), int(told[2])) if told else None
 
 
 def shown(name):
@@ -240,6 +246,15 @@ class ProcessLooks(Looks):
         """This is found in a line of the log."""
         self.look(f"a line of the log with {pattern}", node.until_logged(pattern), True)
 
-    def ends(self, node, line=None):
-        """A node's process ends well: by this line, or by the end of input."""
-        self.look("a process's end", node.close(line), WELL)
+    def says_yes(self, what, line, asked=False, drops=False):
+        """An audit says yes. It compared some answer, where one was asked for, and each, unless it may be (None) or is known (True) that some
+        were dropped before."""
+        told = counted(line)
+        good = told is not None and (told[0] > 0 or not asked) and (drops is None or (told[1] > 0) == drops)
+        self.look(what, "yes" if good else line, "yes")
+
+    def ends(self, node, line=None, status=0, asked=False, drops=False):
+        """A node's process ends by this line or by the end of input, with this status. Its audit says yes, and nothing else is told."""
+        ended, told = node.close(line)
+        self.look("a process's end", (ended, len(told)), (status, 1))
+        self.says_yes("its audit", told[-1] if told else None, asked, drops)

@@ -1,6 +1,5 @@
 ghost use Rattle.std.specs.Prelude.{◌≡◌, ◌<◌, ◌^◌, length};
 ghost use Rattle.cb_crew.specs.Crew.{inbox_of};
-ghost use Rattle.cb_service.specs.Service.{HoldsSeat};
 
 use crate::beginning::Beginning;
 use crate::settings::Settings;
@@ -8,7 +7,7 @@ use crate::work::HashWork;
 use cb_base::Fault;
 use cb_crew::Fresh;
 use cb_inbox::{Inbox, Opening, ReaderSeat};
-use cb_service::{Reader, Side, Signals, end, open, put};
+use cb_service::{Reader, Side, Signals, Untold, end, open, put};
 use std::alloc::Global;
 use std::sync::Wait;
 use std::thread::Parker;
@@ -48,22 +47,20 @@ pub fn numbers_of(
     })
 }
 
-impl<O: Opening + Drop> Reader<u64, O> for Numbers<O> {
+impl<O: Opening + Drop> Reader<u64, O, Untold> for Numbers<O> {
     fn read<R: Wait>(
         self,
         rt: &R,
         inbox: &Inbox<u64, O>,
         seat: &mut Option<ReaderSeat<u64, O>>,
         signals: &Signals,
-    ) -> Side<u64, O>
-        requires seat { HoldsSeat inbox.now.name seat.old }
-        ensures inbox { inbox_of result ≡ inbox.now.name }
-    {
+    ) -> (Side<u64, O>, Untold) {
         let Some(seat) = seat.take() else {
             unreachable!()
         };
         wait(rt, self.pause);
-        read_all(rt, inbox, seat, signals, self.items, self.later)
+        let side = read_all(rt, inbox, seat, signals, self.items, self.later);
+        (side, Untold)
     }
 }
 

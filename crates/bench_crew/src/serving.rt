@@ -2,7 +2,8 @@
 //! tells the handlers to, and finishes the crew.
 ghost use Rattle.std.specs.Prelude.{◌≡◌, ◌≤◌, ◌<◌, ◌^◌, [], length, map, vec_capacity, All, IfOk};
 ghost use Rattle.cb_crew.specs.Crew.{AreHandlersOf, AreOpeningSeats, AreSidesOf, HasPlace, inbox_of, names_of};
-ghost use Rattle.cb_service.specs.Service.{IsInboxAt, inbox_for};
+ghost use Rattle.cb_service.specs.Readers.{inbox_for};
+ghost use Rattle.cb_service.specs.Service.{IsInboxAt};
 ghost use Rattle.bench_crew.specs.Settings.{IsWithin};
 ghost use Rattle.bench_crew.specs.Readers.{names_for};
 
@@ -13,7 +14,7 @@ use cb_base::{Fault, Shared};
 use cb_crew::{Crew, Desk, Fresh, NewCrew, ReaderSide};
 use cb_inbox::ReaderSeat;
 use cb_service::{
-    HandlerSetup, Nothing, Reading, Signals, ThreadFault, join_handlers, join_reader,
+    HandlerSetup, Nothing, Reading, Signals, ThreadFault, Untold, join_handlers, join_reader,
     start_handlers, start_reader,
 };
 use std::alloc::Global;
@@ -103,7 +104,7 @@ fn start_readers<R: Threads + Wait + Copy + Send + Drop + 'static>(
     settings: &Settings,
     common: &Common,
     seats: Vec<ReaderSeat<u64, Fresh<HashWork>>>,
-) -> Result<Vec<Reading<HashWork>>, ThreadFault>
+) -> Result<Vec<Reading<HashWork, Untold>>, ThreadFault>
     requires { AreOpeningSeats common.now.crew seats.items }
     ensures { IfOk result (λ threads. names_for threads.items ≡ names_of common.now.crew) }
 {
@@ -130,7 +131,7 @@ fn start_one<R: Threads + Wait + Copy + Send + Drop + 'static>(
     common: &Common,
     peer: u16,
     seat: ReaderSeat<u64, Fresh<HashWork>>,
-) -> Result<Reading<HashWork>, ThreadFault>
+) -> Result<Reading<HashWork, Untold>, ThreadFault>
     requires peer { peer < length common.now.crew.inboxes }
     requires inbox { IsInboxAt common.now.crew peer seat.inbox }
     requires place { length seat.queued < 2 ^ 48 }
@@ -145,7 +146,11 @@ fn start_one<R: Threads + Wait + Copy + Send + Drop + 'static>(
 }
 
 /// Waits until these threads return. Returns the given cause.
-fn joined<R: Threads>(rt: &R, threads: Vec<Reading<HashWork>>, cause: ThreadFault) -> ThreadFault {
+fn joined<R: Threads>(
+    rt: &R,
+    threads: Vec<Reading<HashWork, Untold>>,
+    cause: ThreadFault,
+) -> ThreadFault {
     for thread in threads {
         drop(join_reader(rt, thread));
     }
@@ -156,7 +161,7 @@ fn joined<R: Threads>(rt: &R, threads: Vec<Reading<HashWork>>, cause: ThreadFaul
 /// have room.
 fn join_readers<R: Threads>(
     rt: &R,
-    threads: Vec<Reading<HashWork>>,
+    threads: Vec<Reading<HashWork, Untold>>,
     sides: Vec<ReaderSide<u64, Fresh<HashWork>>>,
 ) -> Vec<ReaderSide<u64, Fresh<HashWork>>>
     requires { (sides.items ≡ []) × (length threads.items ≤ vec_capacity sides) }
@@ -165,7 +170,7 @@ fn join_readers<R: Threads>(
 {
     let mut sides = sides;
     for thread in threads {
-        sides.push_reserved(join_reader(rt, thread).into_side());
+        sides.push_reserved(join_reader(rt, thread).side.into_side());
     }
     sides
 }

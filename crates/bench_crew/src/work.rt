@@ -35,7 +35,8 @@ impl HashWork {
     pub fn first(alloc: Global, count: u16, rounds: u32) -> Result<Vec<HashWork>, Fault>
         ensures { IfOk result
             (λ works. (length works.items ≡ count)
-            × All (IsFresh was_given (λ work at. Unit {0}) is_over) works.items) }
+            × All (IsFresh was_given (λ work at. Unit {0}) is_over (λ work. Unit {0}))
+            works.items) }
     {
         let mut works = Vec::new(alloc);
         for peer in 0..count {
@@ -63,6 +64,9 @@ impl Work for HashWork {
     ghost primed = { λ work. ⊤ };
 
     ghost is_closed = { is_over };
+
+    // There is nothing to let go of.
+    ghost is_whole = { λ work. Unit {0} };
 
     // A tally takes a few bytes.
     ghost weight = { λ work. 0 };

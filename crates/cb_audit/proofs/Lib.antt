@@ -1,4 +1,6 @@
 pub mod Accounts
+pub mod Badges
+pub mod CoveredAnswers
 pub mod FaultNumbers
 pub mod Journals
 pub mod Listing

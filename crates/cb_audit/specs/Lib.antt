@@ -2,6 +2,7 @@ pub mod Answers
 pub mod Audit
 pub mod Comparing
 pub mod Counting
+pub mod Covering
 pub mod Desks
 pub mod Faults
 pub mod Heard

@@ -4,6 +4,7 @@ ghost use Rattle.cb_audit.specs.Order.{AreInOrder};
 use crate::audited::Audited;
 use crate::comparing::compare;
 use crate::counting::first_uneven;
+use crate::covering::{Compared, covered};
 use cb_hall::Hall;
 use cb_state::Connection;
 use std::alloc::Global;
@@ -28,13 +29,14 @@ pub enum Split {
 /// are, also those before the bases of hall and traces. Then each question of the journal is
 /// compared with the question that its session had open, and the hall's answer to it, which is
 /// found by replaying the journal, with the one that the session was told. What the hall or a trace
-/// has dropped can't be compared.
+/// has dropped can't be compared. Returns how many answers were compared, and how many were
+/// dropped.
 ///
 /// Fails with the first of these:
 /// - `Split::Count` with the first connection whose numbers differ;
 /// - `Split::Differs` with the first connection whose questions or answers differ, and the first
 ///   place that does; or `Split::Memory`.
-pub fn audit(alloc: Global, hall: &Hall, audited: &[Audited]) -> Result<(), Split>
+pub fn audit(alloc: Global, hall: &Hall, audited: &[Audited]) -> Result<Compared, Split>
     requires order { AreInOrder audited.now }
     ensures { Audits hall.now audited.now result }
 {
@@ -43,7 +45,7 @@ pub fn audit(alloc: Global, hall: &Hall, audited: &[Audited]) -> Result<(), Spli
         return Err(Split::Count(connection));
     }
     match compare(alloc, journal, audited) {
-        Ok(None) => Ok(()),
+        Ok(None) => Ok(covered(journal.base().connections(), audited)),
         Ok(Some(found)) => Err(Split::Differs(found.connection, found.place)),
         Err(_) => Err(Split::Memory),
     }

@@ -10,6 +10,7 @@ mod audited;
 mod auditing;
 mod comparing;
 mod counting;
+mod covering;
 mod desk_counting;
 mod desks;
 mod heard;
@@ -25,5 +26,6 @@ mod turns;
 
 pub use audited::{Audited, are_in_order};
 pub use auditing::{Split, audit};
+pub use covering::Compared;
 pub use desks::{audit_desks, traces};
 pub use laws::each_answer_has_its_question;

@@ -8,6 +8,7 @@ use Rattle.cb_run.specs.declared.ending.Halt.{Halt}
 use Rattle.cb_run.specs.declared.ending.Halt.TheVariants.{Memory, TooManyLines, ReadFailed, WriteFailed}
 use Rattle.cb_run.specs.Ending.{HasCause, status_code, halt_status, halt_line}
 use Rattle.cb_run.specs.Report.{ReportsKnown}
+use Rattle.cb_control.specs.declared.verdict.Verdict.{Verdict}
 use Rattle.cb_command.specs.declared.node_words.BadWords.{BadWords}
 use Rattle.cb_command.specs.NodeWords.{bad_words_text}
 use Rattle.cb_command.specs.Peer.{closed_text, reason_status}
@@ -85,14 +86,14 @@ EndsNode write_failed told tells errors_failed code =
     (halt : Halt) × HasNodeCause write_failed errors_failed halt
     × EndsEarly told tells errors_failed code halt
 
--- `node` printed all that a run prints, and told standard error nothing (`Same`); or it told why it
--- didn't begin, with status 3; or it ended early.
-abbrev pub RunsNode : Type 0 → Option (List ℕ) → Option (List ℕ) → Bool → Option (List ℕ)
-    → Option (List ℕ) → Bool → Result NodeOrders BadWords → ℕ → Type 0
-RunsNode Same held holds write_failed told tells errors_failed (Ok orders) code =
-    (TellsAll held holds code × Same)
+-- `node` printed all that a run prints, its last audit too (`IsAudit`), and told standard error
+-- nothing (`Same`); or it told why it didn't begin, with status 3; or it ended early.
+abbrev pub RunsNode : (Verdict → Type 0) → Type 0 → Option (List ℕ) → Option (List ℕ) → Bool
+    → Option (List ℕ) → Option (List ℕ) → Bool → Result NodeOrders BadWords → ℕ → Type 0
+RunsNode IsAudit Same held holds write_failed told tells errors_failed (Ok orders) code =
+    (TellsAll IsAudit held holds code × Same)
     ⊎ (((fault : StartFault) × Appends told tells (deaf_text orders.listen fault) × (code ≡ 3))
     ⊎ EndsNode write_failed told tells errors_failed code)
-RunsNode Same held holds write_failed told tells errors_failed (Err bad) code =
+RunsNode IsAudit Same held holds write_failed told tells errors_failed (Err bad) code =
     (Appends told tells (bad_words_text bad) × (code ≡ 3))
     ⊎ EndsNode write_failed told tells errors_failed code

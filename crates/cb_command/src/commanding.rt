@@ -11,7 +11,8 @@ ghost use Rattle.cb_run.specs.Ending.{halt_status};
 ghost use Rattle.cb_command.specs.Peer.{WasServed};
 ghost use Rattle.cb_run.specs.SimInput.{SimulatesKnown};
 ghost use Rattle.cb_command.specs.Words.{AreRefused, AreWithin, ByTask, IsWithin, flag, plain_program, program, scripted_program, sized, task_in, task_named};
-ghost use Rattle.cb_driver.specs.Summary.{RunsKnown};
+ghost use Rattle.cb_driver.specs.Auditing.{IsOfAnEnd};
+ghost use Rattle.cb_driver.specs.Summary.{AreReported, RunsKnown};
 ghost use Rattle.cb_node_process.specs.declared.orders.NodeOrders.{NodeOrders};
 ghost use Rattle.cb_command.specs.NodeWords.{IsNodeOrders, bad_words_text};
 ghost use Rattle.cb_command.specs.declared.node_words.BadWords.{BadWords};
@@ -139,14 +140,14 @@ pub fn command<N: ProcessHost, R: Source, W: MessageSink, E: Sink>(
         (W.contents writer.new) result × (errors.new ≡ errors.old))
         ⊎ Halts (R.remaining reader.old) (R.has_failed reader.new) (W.has_failed writer.new)
         (E.contents errors.old) (E.contents errors.new) (E.has_failed errors.new) result)
-        ((RunsKnown orders.sizes.nodes orders.stats (R.remaining reader.old)
+        ((RunsKnown (AreReported N) orders.sizes.nodes orders.stats (R.remaining reader.old)
         (W.contents writer.old) (W.contents writer.new) result × (errors.new ≡ errors.old))
         ⊎ Halts (R.remaining reader.old) (R.has_failed reader.new) (W.has_failed writer.new)
         (E.contents errors.old) (E.contents errors.new) (E.has_failed errors.new) result)
         ((reader.new ≡ reader.old)
-        × RunsNode (errors.new ≡ errors.old) (W.contents writer.old) (W.contents writer.new)
-        (W.has_failed writer.new) (E.contents errors.old) (E.contents errors.new)
-        (E.has_failed errors.new) node result)))) }
+        × RunsNode (IsOfAnEnd N) (errors.new ≡ errors.old) (W.contents writer.old)
+        (W.contents writer.new) (W.has_failed writer.new) (E.contents errors.old)
+        (E.contents errors.new) (E.has_failed errors.new) node result)))) }
     // The words and their commands.
     ensures named { (orders : RunOrders) (node : Result NodeOrders BadWords) (name : List ℕ) →
         (task_in orders node (name ∷ []) ≡ Task.Decode)
@@ -220,14 +221,14 @@ pub fn seeded_command<N: ProcessHost, R: Source, W: MessageSink, E: Sink>(
         (W.contents writer.new) result × (errors.new ≡ errors.old))
         ⊎ Halts (R.remaining reader.old) (R.has_failed reader.new) (W.has_failed writer.new)
         (E.contents errors.old) (E.contents errors.new) (E.has_failed errors.new) result)
-        ((RunsKnown orders.sizes.nodes orders.stats (R.remaining reader.old)
+        ((RunsKnown (AreReported N) orders.sizes.nodes orders.stats (R.remaining reader.old)
         (W.contents writer.old) (W.contents writer.new) result × (errors.new ≡ errors.old))
         ⊎ Halts (R.remaining reader.old) (R.has_failed reader.new) (W.has_failed writer.new)
         (E.contents errors.old) (E.contents errors.new) (E.has_failed errors.new) result)
         ((reader.new ≡ reader.old)
-        × RunsNode (errors.new ≡ errors.old) (W.contents writer.old) (W.contents writer.new)
-        (W.has_failed writer.new) (E.contents errors.old) (E.contents errors.new)
-        (E.has_failed errors.new) node result)))) }
+        × RunsNode (IsOfAnEnd N) (errors.new ≡ errors.old) (W.contents writer.old)
+        (W.contents writer.new) (W.has_failed writer.new) (E.contents errors.old)
+        (E.contents errors.new) (E.has_failed errors.new) node result)))) }
 {
     match task_of(alloc, words.as_slice()) {
         Ok(Task::Decode) => settle(code_of(decode(alloc, reader, writer)), errors),
@@ -289,7 +290,7 @@ fn start_node<N: ProcessHost, W: Sink, E: Sink>(
     errors: &mut E,
 ) -> u8
     requires { IfOk node IsNodeOrders }
-    ensures runs { RunsNode (errors.new ≡ errors.old) (W.contents writer.old)
+    ensures runs { RunsNode (IsOfAnEnd N) (errors.new ≡ errors.old) (W.contents writer.old)
         (W.contents writer.new) (W.has_failed writer.new) (E.contents errors.old)
         (E.contents errors.new) (E.has_failed errors.new) node result }
 {

@@ -53,9 +53,14 @@ abbrev pub tally_after : Tally → Option Refusal → Tally
 tally_after tally None = tally
 tally_after tally (Some refusal) = tally_with tally (refusal_status refusal)
 
+-- the audit says yes
+abbrev pub says_yes : Verdict → Bool
+says_yes (verdicts.Yes answers dropped) = true
+says_yes other = false
+
 -- what the report of a node's end tells of its audit, if memory was enough for it
 abbrev pub agreement : Verdict → Result Bool Halt
-agreement verdicts.Yes = Ok true
+agreement (verdicts.Yes answers dropped) = Ok true
 agreement verdicts.Memory = Err halts.Memory
 agreement other = Ok false
 

@@ -84,9 +84,11 @@ peer_text peer =
 abbrev pub list_text : {A : Type 0} → List ℕ → (A → List ℕ) → List A → List ℕ
 list_text word line all = (word ++ (decimal (length all) ++ codes "\n")) ++ flat_map line all
 
--- what an audit answers
+-- what an audit answers; a yes with how many answers were compared, and how many were dropped
 abbrev pub verdict_text : Verdict → List ℕ
-verdict_text verdicts.Yes = codes "audit yes\n"
+verdict_text (verdicts.Yes answers dropped) =
+    codes "audit yes "
+    ++ (decimal answers ++ (codes " answers, " ++ (decimal dropped ++ codes " dropped\n")))
 verdict_text (verdicts.Count slot generation) =
     codes "audit no count slot "
     ++ (decimal slot ++ (codes " connection " ++ (decimal generation ++ codes "\n")))

@@ -74,7 +74,9 @@ fn print_verdict(verdict: Verdict, out: &mut String) -> Result<(), Fault>
     ensures memory { IsOkUnless result Memory }
 {
     match verdict {
-        Verdict::Yes => writeln!(out, "audit yes")?,
+        Verdict::Yes(answers, dropped) => {
+            writeln!(out, "audit yes {answers} answers, {dropped} dropped")?;
+        }
         Verdict::Count(slot, generation) => {
             writeln!(out, "audit no count slot {slot} connection {generation}")?;
         }

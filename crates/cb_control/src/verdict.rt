@@ -1,6 +1,6 @@
 //! What an audit answers.
-ghost use Rattle.std.specs.Prelude.{◌≡◌, ◌↔◌, IsTrue};
-ghost use Rattle.cb_control.specs.Outcomes.{agreement};
+ghost use Rattle.std.specs.Prelude.{◌≡◌};
+ghost use Rattle.cb_control.specs.Outcomes.{agreement, says_yes};
 
 use cb_run::Halt;
 
@@ -8,8 +8,9 @@ use cb_run::Halt;
 /// history.
 #[derive(Clone, Copy)]
 pub enum Verdict {
-    /// They do.
-    Yes,
+    /// They do: how many answers were compared, and how many couldn't be, since a checkpoint had
+    /// dropped them.
+    Yes(u128, u128),
     /// The hall granted a connection another number of questions than its trace has answers: its
     /// slot and its generation.
     Count(u16, u64),
@@ -25,9 +26,9 @@ pub enum Verdict {
 impl Verdict {
     /// Whether it is yes.
     pub fn is_yes(self) -> bool
-        ensures { IsTrue result ↔ (self ≡ Verdict.Yes) }
+        ensures { result ≡ says_yes self }
     {
-        matches!(self, Verdict::Yes)
+        matches!(self, Verdict::Yes(_, _))
     }
 
     /// Whether it is yes. Fails with `Halt::Memory` if memory ran out for it.
@@ -35,7 +36,7 @@ impl Verdict {
         ensures { result ≡ agreement self }
     {
         match self {
-            Verdict::Yes => Ok(true),
+            Verdict::Yes(_, _) => Ok(true),
             Verdict::Memory => Err(Halt::Memory),
             _ => Ok(false),
         }

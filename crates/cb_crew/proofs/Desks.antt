@@ -4,7 +4,7 @@ use Rattle.std.specs.List.{AllZip, count_by}
 use Rattle.std.proofs.lemmas.Bool.{false≢true, cases_lt}
 use Rattle.std.proofs.lemmas.List.{append-nil, append_assoc, length-append, map-append}
 use Rattle.std.proofs.lemmas.List.Elements.{All-push}
-use Rattle.std.proofs.lemmas.List.Sums.{sum_by-append, sum_by_push}
+use Rattle.std.proofs.lemmas.List.Sums.{sum_by-append, sum_by-cons, sum_by_push}
 use Rattle.std.proofs.lemmas.Grind.{flat_map-append}
 use Rattle.cb_sched.specs.Line.{connections}
 use Rattle.cb_sched.specs.Laws.{IsBeginning, OpensFollowEnds}
@@ -19,10 +19,11 @@ use Rattle.cb_crew.specs.declared.work.Given.{Given}
 use Rattle.cb_crew.specs.declared.desk.Step.{Step}
 use Rattle.cb_crew.specs.declared.desk.Step.TheVariants as step
 use Rattle.cb_crew.specs.Past.{IsPushed}
-use Rattle.cb_crew.specs.Work.{AreWorksOf, IsEnd, IsFresh, IsKeptOrLetGo, WorksOn, brought_by, connections_of, first_of, given_by, openings_of}
-use Rattle.cb_crew.specs.Desk.{DeskState, HasServed, HasTaken, IsDesk, IsSameDesk, IsSameLine, IsServed, Stepped, desk_state, first_label}
+use Rattle.cb_crew.specs.Work.{AreWorksOf, IsEnd, IsFresh, IsGivenNone, IsKeptOrLetGo, WorksOn, brought_by, connections_of, first_of, given_by, last_of, openings_of}
+use Rattle.cb_crew.specs.Desk.{DeskState, Gives, HasServed, HasTaken, IsDesk, IsSameDesk, IsSameLine, IsServed, Opens, PassesOver, Stepped, desk_state, first_label}
+use Rattle.cb_crew.proofs.Counting.{begin_both, begin_more, connections_on, connections_some, given_again, given_more, given_none, given_still, last_again, last_onto, one_given, sum_onto, zip_some}
 use Rattle.cb_crew.proofs.LettingGo.{kept_closed}
-use Rattle.cb_crew.proofs.Works.{onto_last, connections_more, connections_again, zip_all, zip_flip, zip_push, zip_last, zip_swap, zip_then, follows_front, opens_last, works_more, works_passed, works_kept, works_fresh, works_count}
+use Rattle.cb_crew.proofs.Works.{onto_last, connections_more, connections_again, zip_all, zip_flip, zip_push, zip_refl, zip_last, zip_swap, zip_then, zip_weaker, follows_front, opens_last, works_more, works_passed, works_kept, works_fresh, works_count}
 
 -- what is closed where it isn't open
 closed_if : (b c : Bool) → (b ≡ false → c ≡ false) → c ≡ true → b ≡ true
@@ -120,12 +121,12 @@ module _ {W M : Type 0} (label : W → ℕ) (given : W → List (Given M) → Ty
       (sym (opens_last is_end is_open false taken mark front) ∙ opens, omega (arith, few s.reached, ap (connections is_open) (whole ∙ ap (λ ms. ms ++ s.line.inbox) (sym all)), sum_by-append {X = Queued M W} (λ m. cond (is_open m) 1 0) (taken ++ mark ∷ []) s.line.inbox, connections_push is_open taken mark, ap {B = ℕ} (λ (b : Bool). cond b 1 0) opens))
 
   -- an open mark was taken, and nothing let go
-  desk_opened : (ticked : W → List ℕ → Type 0) (inbox : InboxState) (seat now : SeatState (Queued M W)) (old new opening : W) (past : List W) (mark : Queued M W) → mark ≡ queued.Open opening → label new ≡ label opening → now ≡ taken_more seat mark → is_open mark ≡ true → has_ended seat.taken ≡ true → IsFresh given ticked is_closed new → IsDesk label given is_closed (desk_state inbox seat old past) → IsDesk label given is_closed (desk_state inbox now new (past ++ old ∷ []))
-  desk_opened ticked inbox seat now old new opening past mark brings labelled took opens behind fresh d = record {
+  desk_opened : (ticked : W → List ℕ → Type 0) (is_whole : W → Type 0) (inbox : InboxState) (seat now : SeatState (Queued M W)) (old new opening : W) (past : List W) (mark : Queued M W) → mark ≡ queued.Open opening → label new ≡ label opening → now ≡ taken_more seat mark → is_open mark ≡ true → has_ended seat.taken ≡ true → IsFresh given ticked is_closed is_whole new → IsDesk label given is_closed (desk_state inbox seat old past) → IsDesk label given is_closed (desk_state inbox now new (past ++ old ∷ []))
+  desk_opened ticked is_whole inbox seat now old new opening past mark brings labelled took opens behind fresh d = record {
     whose = subst (λ ms. AreWorksOf label (label (first_of (past ++ old ∷ []) new)) ms ((past ++ old ∷ []) ++ new ∷ [])) (ap (λ m. seat.taken ++ m ∷ []) (sym brings) ∙ sym (ap (λ (s : SeatState (Queued M W)). s.taken) took)) (whose_opened label seat.taken past old new opening labelled d.whose);
     works = subst (λ (s : SeatState (Queued M W)). AllZip (WorksOn given is_closed) ((past ++ old ∷ []) ++ new ∷ []) (connections_of s.taken)) (sym took)
         (subst (AllZip (WorksOn given is_closed) ((past ++ old ∷ []) ++ new ∷ [])) (sym (connections_again seat.taken mark opens))
-        (zip_push (WorksOn given is_closed) (past ++ old ∷ []) (connections_of seat.taken) new [] d.works (works_fresh given is_closed ticked new fresh)));
+        (zip_push (WorksOn given is_closed) (past ++ old ∷ []) (connections_of seat.taken) new [] d.works (works_fresh given is_closed ticked is_whole new fresh)));
     past_closed = All-push (λ work. is_closed work ≡ true) past old d.past_closed (d.ended behind);
     ended = λ e. absurd (false≢true (sym (ap (λ (s : SeatState (Queued M W)). has_ended s.taken) took ∙ (ended_now seat.taken mark ∙ no_end mark opens)) ∙ e));
   }
@@ -171,12 +172,12 @@ module _ {W M : Type 0} (label : W → ℕ) (given : W → List (Given M) → Ty
         }
 
     -- an open mark was taken: the work is past, and the next connection's work takes its place
-    pub desk_pushed : (inbox : InboxState) (seat now : SeatState (Queued M W)) (old new opening : W) (past works : List W) → label new ≡ label opening → now ≡ taken_more seat (queued.Open opening) → has_ended seat.taken ≡ true → IsFresh given ticked is_closed new → IsPushed label given ticked is_closed weight old past works
+    pub desk_pushed : (is_whole : W → Type 0) (inbox : InboxState) (seat now : SeatState (Queued M W)) (old new opening : W) (past works : List W) → label new ≡ label opening → now ≡ taken_more seat (queued.Open opening) → has_ended seat.taken ≡ true → IsFresh given ticked is_closed is_whole new → IsPushed label given ticked is_closed weight old past works
         → IsDesk label given is_closed (desk_state inbox seat old past) → IsDesk label given is_closed (desk_state inbox now new works)
-    desk_pushed inbox seat now old new opening past works labelled took behind fresh pushed d =
+    desk_pushed is_whole inbox seat now old new opening past works labelled took behind fresh pushed d =
         let kept = pushed.became.0 in
         let same = desk_kept inbox seat seat old pushed.latest past refl (kept_label old pushed.latest kept) (λ live. absurd (false≢true (sym live ∙ kept_closed label given ticked is_closed weight old pushed.latest kept (d.ended behind)))) (kept_given old pushed.latest kept) d in
-        desk_let_go inbox now new (past ++ pushed.latest ∷ []) works pushed.past.each (desk_opened ticked inbox seat now pushed.latest new opening past (queued.Open opening) refl labelled took refl behind fresh same)
+        desk_let_go inbox now new (past ++ pushed.latest ∷ []) works pushed.past.each (desk_opened ticked is_whole inbox seat now pushed.latest new opening past (queued.Open opening) refl labelled took refl behind fresh same)
 
     -- the first connection's work has its label still
     pub first_pushed : (old new : DeskState W M) → IsPushed label given ticked is_closed weight old.work old.past new.past → first_label label new ≡ first_label label old
@@ -202,23 +203,28 @@ opens_push marks mark = sum_by_push (λ m. cond (is_open m) 1 0) marks mark
 opens_same : {M O : Type 0} (marks : List (Queued M O)) (mark : Queued M O) → is_open mark ≡ false → count_by is_open (marks ++ mark ∷ []) ≡ count_by is_open marks
 opens_same marks mark stays = omega (arith, opens_push marks mark, ap {B = ℕ} (λ (b : Bool). cond b 1 0) stays)
 
-at_most_one : (b : Bool) → cond b 1 0 ≤ 1
-at_most_one true = omega arith
-at_most_one false = omega arith
+-- what is open where it doesn't close
+open_if : (b c : Bool) → (b ≡ true → c ≡ true) → c ≡ false → b ≡ false
+open_if true c stays open_ = absurd (false≢true (sym open_ ∙ stays refl))
+open_if false c stays open_ = refl
 
-module _ {W M : Type 0} (is_closed : W → Bool) where
-  pub taken_none : (old new : DeskState W M) → new.taken ≡ old.taken → (is_closed old.work ≡ true → is_closed new.work ≡ true) → HasTaken is_closed old new 0 0
-  taken_none old new same stays = record {
+module _ {W M : Type 0} (given : W → List (Given M) → Type 0) (is_closed : W → Bool) where
+  pub taken_none : (old new : DeskState W M) → new.taken ≡ old.taken → new.past ≡ old.past → IsGivenNone given old.work new.work → (is_closed old.work ≡ true → is_closed new.work ≡ true) → HasTaken given is_closed old new 0 0
+  taken_none old new same past none stays = record {
     marks = [];
     taken = same ∙ sym (append-nil old.taken);
     count = refl;
-    opens = omega arith;
+    gave = [] ∷ [];
+    works = given_none given old new past none;
+    sum = omega (arith, sum_by-cons (length {A = Given M}) [] []);
+    begin = (([], refl), tt);
+    all = λ _. refl;
     behind = λ _ one. absurd (omega (arith, one));
     stays = λ closed _. stays closed;
   }
 
-  pub served_none : (old new : DeskState W M) → IsSameLine old new → (is_closed old.work ≡ true → is_closed new.work ≡ true) → HasServed is_closed old new 0 0
-  served_none old new same stays = record { same = same.0; has = taken_none old new same.1 stays }
+  pub served_none : (old new : DeskState W M) → IsSameLine old new → new.past ≡ old.past → IsGivenNone given old.work new.work → (is_closed old.work ≡ true → is_closed new.work ≡ true) → HasServed given is_closed old new 0 0
+  served_none old new same past none stays = record { same = same.0; has = taken_none old new same.1 past none stays }
 
   same_more : (old mid new : DeskState W M) → IsSameDesk old mid → IsSameDesk mid new → IsSameDesk old new
   same_more old mid new a b = (b.0 ∙ a.0, b.1 ∙ a.1)
@@ -227,46 +233,74 @@ module _ {W M : Type 0} (is_closed : W → Bool) where
   more_taken old mid new marks mark was took = took ∙ (ap (λ ms. ms ++ mark ∷ []) was ∙ append_assoc old.taken marks (mark ∷ []))
 
   -- a mark was given to the work, which was open
-  taken_worked : (old mid new : DeskState W M) (worked passed : ℕ) (mark : Queued M W) → new.taken ≡ mid.taken ++ mark ∷ [] → is_open mark ≡ false → is_closed mid.work ≡ false → HasTaken is_closed old mid worked passed → HasTaken is_closed old new (worked + 1) passed
-  taken_worked old mid new worked passed mark took shut live h =
-      let same = opens_same h.marks mark shut in
+  taken_worked : (old mid new : DeskState W M) (worked passed : ℕ) (mark : Queued M W) → new.taken ≡ mid.taken ++ mark ∷ [] → Gives given is_closed mid new mark → HasTaken given is_closed old mid worked passed → HasTaken given is_closed old new (worked + 1) passed
+  taken_worked old mid new worked passed mark took s h =
+      let same = opens_same h.marks mark s.item in
       let some : is_closed old.work ≡ true → 1 ≤ count_by is_open h.marks = λ closed. elim (cases_lt 0 (count_by is_open h.marks)) [
         | inl lt ↦ omega (arith, lt)
-        | inr le ↦ absurd (false≢true (sym live ∙ h.stays closed (omega (arith, le))))
+        | inr le ↦ absurd (false≢true (sym s.live ∙ h.stays closed (omega (arith, le))))
       ] in
+      let on = connections_on h.marks mark s.item in
       record {
         marks = h.marks ++ mark ∷ [];
         taken = more_taken old mid new h.marks mark h.taken took;
         count = omega (arith, h.count, length-append h.marks (mark ∷ []));
-        opens = omega (arith, h.opens, same, length-append h.marks (mark ∷ []));
+        gave = onto_last h.gave (given_by mark);
+        works = given_more given old mid new h.gave (given_by mark) s.past s.gave h.works;
+        sum = omega (arith, sum_onto h.gave (given_by mark), one_given mark s.item, h.sum);
+        begin = subst (AllZip IsBeginning (onto_last h.gave (given_by mark))) (sym on) (begin_both h.gave (connections_of h.marks) (given_by mark) (h.all s.live) h.begin);
+        all = λ _. last_onto h.gave (given_by mark) ∙ (ap (λ gs. gs ++ given_by mark) (h.all s.live) ∙ (sym (last_onto (connections_of h.marks) (given_by mark)) ∙ ap last_of (sym on)));
         behind = λ closed _. omega (arith, some closed, same);
         stays = λ closed none. absurd (omega (arith, some closed, same, none));
       }
 
-  -- a mark was passed over
-  taken_passed : (old mid new : DeskState W M) (worked passed : ℕ) (mark : Queued M W) → new.taken ≡ mid.taken ++ mark ∷ [] → (is_open mark ≡ true) ⊎ (is_closed new.work ≡ true) → HasTaken is_closed old mid worked passed → HasTaken is_closed old new worked (passed + 1)
-  taken_passed old mid new worked passed mark took why h =
-      let more = opens_push h.marks mark in
+  -- a closed work was given nothing
+  taken_over : (old mid new : DeskState W M) (worked passed : ℕ) (mark : Queued M W) → new.taken ≡ mid.taken ++ mark ∷ [] → PassesOver given is_closed mid new mark → HasTaken given is_closed old mid worked passed → HasTaken given is_closed old new worked (passed + 1)
+  taken_over old mid new worked passed mark took s h =
       record {
         marks = h.marks ++ mark ∷ [];
         taken = more_taken old mid new h.marks mark h.taken took;
         count = omega (arith, h.count, length-append h.marks (mark ∷ []));
-        opens = omega (arith, h.opens, more, at_most_one (is_open mark), length-append h.marks (mark ∷ []));
-        behind = λ closed one. omega (arith, h.behind closed one, more);
-        stays = λ _ none. elim why [
-          | inl opens ↦ absurd (omega (arith, none, more, ap {B = ℕ} (λ (b : Bool). cond b 1 0) opens))
-          | inr closed ↦ closed
-        ];
+        gave = h.gave;
+        works = given_still given old mid new h.gave s.past s.gave h.works;
+        sum = h.sum;
+        begin = subst (AllZip IsBeginning h.gave) (sym (connections_on h.marks mark s.item)) (begin_more h.gave (connections_of h.marks) (given_by mark) (connections_some h.marks) h.begin);
+        all = λ live. absurd (false≢true (sym live ∙ s.closed));
+        behind = λ closed one. omega (arith, h.behind closed one, opens_same h.marks mark s.item);
+        stays = λ _ _. s.closed;
       }
 
-  pub served_worked : (old mid new : DeskState W M) (worked passed : ℕ) → HasServed is_closed old mid worked passed → Stepped is_closed mid new step.Worked → HasServed is_closed old new (worked + 1) passed
-  served_worked old mid new worked passed h s = record { same = same_more old mid new h.same s.0; has = taken_worked old mid new worked passed s.1.0 s.1.1 s.1.2 s.1.3 h.has }
+  -- an open mark brought the next work
+  taken_open : (old mid new : DeskState W M) (worked passed : ℕ) (mark : Queued M W) → new.taken ≡ mid.taken ++ mark ∷ [] → Opens given mid new mark → HasTaken given is_closed old mid worked passed → HasTaken given is_closed old new worked (passed + 1)
+  taken_open old mid new worked passed mark took s h =
+      let more = opens_push h.marks mark in
+      let one = ap {B = ℕ} (λ (b : Bool). cond b 1 0) s.opens in
+      let on = connections_again h.marks mark s.opens in
+      record {
+        marks = h.marks ++ mark ∷ [];
+        taken = more_taken old mid new h.marks mark h.taken took;
+        count = omega (arith, h.count, length-append h.marks (mark ∷ []));
+        gave = h.gave ++ [] ∷ [];
+        works = given_again given old mid new h.gave (zip_some IsBeginning h.gave (connections_of h.marks) h.begin (connections_some h.marks)) s.past s.nothing h.works;
+        sum = omega (arith, sum_by_push (length {A = Given M}) h.gave [], h.sum);
+        begin = subst (AllZip IsBeginning (h.gave ++ [] ∷ [])) (sym on) (zip_push IsBeginning h.gave (connections_of h.marks) [] [] h.begin ([], refl));
+        all = λ _. last_again h.gave [] ∙ (sym (last_again (connections_of h.marks) []) ∙ ap last_of (sym on));
+        behind = λ _ _. omega (arith, more, one);
+        stays = λ _ none. absurd (omega (arith, none, more, one));
+      }
 
-  pub served_passed : (old mid new : DeskState W M) (worked passed : ℕ) → HasServed is_closed old mid worked passed → Stepped is_closed mid new step.Passed → HasServed is_closed old new worked (passed + 1)
+  pub served_worked : (old mid new : DeskState W M) (worked passed : ℕ) → HasServed given is_closed old mid worked passed → Stepped given is_closed mid new step.Worked → HasServed given is_closed old new (worked + 1) passed
+  served_worked old mid new worked passed h s = record { same = same_more old mid new h.same s.0; has = taken_worked old mid new worked passed s.1.0 s.1.1 s.1.2 h.has }
+
+  taken_passed : (old mid new : DeskState W M) (worked passed : ℕ) (mark : Queued M W) → new.taken ≡ mid.taken ++ mark ∷ [] → Opens given mid new mark ⊎ PassesOver given is_closed mid new mark → HasTaken given is_closed old mid worked passed → HasTaken given is_closed old new worked (passed + 1)
+  taken_passed old mid new worked passed mark took (inl opens) h = taken_open old mid new worked passed mark took opens h
+  taken_passed old mid new worked passed mark took (inr over) h = taken_over old mid new worked passed mark took over h
+
+  pub served_passed : (old mid new : DeskState W M) (worked passed : ℕ) → HasServed given is_closed old mid worked passed → Stepped given is_closed mid new step.Passed → HasServed given is_closed old new worked (passed + 1)
   served_passed old mid new worked passed h s = record { same = same_more old mid new h.same s.0; has = taken_passed old mid new worked passed s.1.0 s.1.1 s.1.2 h.has }
 
   -- nothing was left
-  pub served_empty : (old mid new : DeskState W M) (budget worked passed : ℕ) → HasServed is_closed old mid worked passed → worked + passed ≤ budget → Stepped is_closed mid new step.Empty → IsServed is_closed old new budget worked passed
+  pub served_empty : (old mid new : DeskState W M) (budget worked passed : ℕ) → HasServed given is_closed old mid worked passed → worked + passed ≤ budget → Stepped given is_closed mid new step.Empty → IsServed given is_closed old new budget worked passed
   served_empty old mid new budget worked passed h within s = record {
     has = record {
       same = same_more old mid new h.same s.0.0;
@@ -274,7 +308,11 @@ module _ {W M : Type 0} (is_closed : W → Bool) where
         marks = h.has.marks;
         taken = s.0.1 ∙ h.has.taken;
         count = h.has.count;
-        opens = h.has.opens;
+        gave = h.has.gave;
+        works = given_still given old mid new h.has.gave s.3 s.4 h.has.works;
+        sum = h.has.sum;
+        begin = h.has.begin;
+        all = λ live. h.has.all (open_if (is_closed mid.work) (is_closed new.work) s.2 live);
         behind = h.has.behind;
         stays = λ closed none. s.2 (h.has.stays closed none);
       };
@@ -284,7 +322,7 @@ module _ {W M : Type 0} (is_closed : W → Bool) where
   }
 
   -- the work closed
-  pub served_closed : (old mid new : DeskState W M) (budget worked passed : ℕ) → HasServed is_closed old mid worked passed → worked + passed < budget → Stepped is_closed mid new step.Worked → is_closed new.work ≡ true → IsServed is_closed old new budget (worked + 1) passed
+  pub served_closed : (old mid new : DeskState W M) (budget worked passed : ℕ) → HasServed given is_closed old mid worked passed → worked + passed < budget → Stepped given is_closed mid new step.Worked → is_closed new.work ≡ true → IsServed given is_closed old new budget (worked + 1) passed
   served_closed old mid new budget worked passed h within s closed = record {
     has = served_worked old mid new worked passed h s;
     within = omega (arith, within);
@@ -292,11 +330,60 @@ module _ {W M : Type 0} (is_closed : W → Bool) where
   }
 
   -- the budget is spent
-  pub served_whole : (old new : DeskState W M) (budget worked passed : ℕ) → HasServed is_closed old new worked passed → worked + passed ≡ budget → IsServed is_closed old new budget worked passed
+  pub served_whole : (old new : DeskState W M) (budget worked passed : ℕ) → HasServed given is_closed old new worked passed → worked + passed ≡ budget → IsServed given is_closed old new budget worked passed
   served_whole old new budget worked passed h all = record { has = h; within = omega (arith, all); all_told = λ less. absurd (omega (arith, all, less)) }
 
   -- what a step took comes to what was taken
-  pub stepped_on : (old mid new : DeskState W M) (done : Step) → IsSameDesk old mid → IsBeginning old.taken mid.taken → Stepped is_closed mid new done → IsSameDesk old new × IsBeginning old.taken new.taken
+  pub stepped_on : (old mid new : DeskState W M) (done : Step) → IsSameDesk old mid → IsBeginning old.taken mid.taken → Stepped given is_closed mid new done → IsSameDesk old new × IsBeginning old.taken new.taken
   stepped_on old mid new step.Worked same begin s = (same_more old mid new same s.0, (begin.0 ++ s.1.0 ∷ [], s.1.1 ∙ (ap (λ ms. ms ++ s.1.0 ∷ []) begin.1 ∙ append_assoc old.taken begin.0 (s.1.0 ∷ []))))
   stepped_on old mid new step.Passed same begin s = (same_more old mid new same s.0, (begin.0 ++ s.1.0 ∷ [], s.1.1 ∙ (ap (λ ms. ms ++ s.1.0 ∷ []) begin.1 ∙ append_assoc old.taken begin.0 (s.1.0 ∷ []))))
   stepped_on old mid new step.Empty same begin s = (same_more old mid new same s.0.0, (begin.0, s.0.1 ∙ begin.1))
+
+  -- ---- one step
+
+  -- a mark that is no open mark was given to its work if that was ready, and else passed over
+  pub stepped_given : (inbox : InboxState) (seat now : SeatState (Queued M W)) (old mid new : W) (past : List W) (mark : Queued M W) (item : Given M) (ready : Bool) (done : Step) → now ≡ taken_more seat mark → is_open mark ≡ false → given_by mark ≡ item ∷ []
+      → (ready ≡ true → is_closed old ≡ false) → (ready ≡ false → is_closed mid ≡ true) → ((items : List (Given M)) → given old items → given mid items)
+      → (ready ≡ true → done ≡ step.Worked) → (ready ≡ true → (items : List (Given M)) → given mid items → given new (items ++ item ∷ [])) → (ready ≡ false → done ≡ step.Passed) → (ready ≡ false → new ≡ mid)
+      → Stepped given is_closed (desk_state inbox seat old past) (desk_state inbox now new past) done
+  stepped_given inbox seat now old mid new past mark item true done took stays gives live closed still worked more passed same =
+      subst (Stepped given is_closed (desk_state inbox seat old past) (desk_state inbox now new past)) (sym (worked refl)) (
+        (refl, ap (λ (s : SeatState (Queued M W)). s.queued) took),
+        (
+          mark,
+          ap (λ (s : SeatState (Queued M W)). s.taken) took,
+          record { item = stays; live = live refl; past = refl; gave = λ items was. subst (λ gs. given new (items ++ gs)) (sym gives) (more refl items (still items was)) },
+        ),
+      )
+  stepped_given inbox seat now old mid new past mark item false done took stays gives live closed still worked more passed same =
+      subst (Stepped given is_closed (desk_state inbox seat old past) (desk_state inbox now new past)) (sym (passed refl)) (
+        (refl, ap (λ (s : SeatState (Queued M W)). s.queued) took),
+        (
+          mark,
+          ap (λ (s : SeatState (Queued M W)). s.taken) took,
+          inr (record { item = stays; closed = ap is_closed (same refl) ∙ closed refl; past = refl; gave = λ items was. subst (λ (w : W). given w items) (sym (same refl)) (still items was) }),
+        ),
+      )
+
+  -- nothing was queued
+  pub stepped_empty : (inbox : InboxState) (seat now : SeatState (Queued M W)) (old new : W) (past : List W) → now ≡ seat → IsBeginning seat.queued seat.taken → (is_closed new ≡ false → is_closed old ≡ false) → ((items : List (Given M)) → given old items → given new items) → Stepped given is_closed (desk_state inbox seat old past) (desk_state inbox now new past) step.Empty
+  stepped_empty inbox seat now old new past same begin live still = (((refl, ap (λ (s : SeatState (Queued M W)). s.queued) same), ap (λ (s : SeatState (Queued M W)). s.taken) same), begin, closed_if (is_closed new) (is_closed old) live, refl, still)
+
+  -- an open mark brought a work
+  pub stepped_open : (label : W → ℕ) (ticked : W → List ℕ → Type 0) (weight : W → ℕ) (inbox : InboxState) (seat now : SeatState (Queued M W)) (old new next : W) (past works : List W) → now ≡ taken_more seat (queued.Open next) → new ≡ next → given new [] → IsPushed label given ticked is_closed weight old past works → Stepped given is_closed (desk_state inbox seat old past) (desk_state inbox now new works) step.Passed
+  stepped_open label ticked weight inbox seat now old new next past works took same nothing pushed =
+      let kept = kept_given label given is_closed ticked weight in (
+        (refl, ap (λ (s : SeatState (Queued M W)). s.queued) took),
+        (
+          queued.Open next,
+          ap (λ (s : SeatState (Queued M W)). s.taken) took,
+          inl (record {
+            opens = refl;
+            brought = ap (λ (w : W). w ∷ []) (sym same);
+            nothing = nothing;
+            past = zip_then (IsGivenNone given) (IsGivenNone given) (IsGivenNone given) (λ x y z a b items was. b items (a items was)) (past ++ old ∷ []) (past ++ pushed.latest ∷ []) works
+                (zip_push (IsGivenNone given) past past old pushed.latest (zip_refl (IsGivenNone given) (λ _ items was. was) past) (kept old pushed.latest pushed.became.0))
+                (zip_weaker (IsKeptOrLetGo label given ticked is_closed weight) (IsGivenNone given) kept (past ++ pushed.latest ∷ []) works pushed.past.each);
+          }),
+        ),
+      )

@@ -3,23 +3,28 @@ use Rattle.std.proofs.Common.{◌≡◌, ℕ, ◌+◌, ◌<◌, ◌≤◌, Bool,
 use Rattle.std.specs.List.{All, AllZip, range_with_len}
 use Rattle.std.proofs.Math.Seq.{map-set_same, get_or-append_seam}
 use Rattle.std.proofs.lemmas.List.{append-nil, append_assoc, get_or-map, length-append, length-map, nil_from_length, take_more_set, take_all}
+use Rattle.std.proofs.lemmas.List.Elements.{All-nil, All-push}
 use Rattle.std.proofs.lemmas.Simd.{map-map}
 use Rattle.cb_inbox.specs.Seat.{InboxState}
 use Rattle.cb_crew.specs.declared.work.Given.{Given}
 use Rattle.cb_crew.specs.declared.reader_side.ReaderSide.{ReaderSide}
-use Rattle.cb_crew.specs.Desk.{DeskState, first_label}
+use Rattle.cb_crew.specs.Desk.{DeskState, KeepsWorks, NotTicked, first_label}
 use Rattle.cb_crew.specs.Ring.{DeskName, Shown}
 use Rattle.cb_crew.specs.Turn.{shown_desk}
 use Rattle.cb_crew.specs.Crew.{CrewState, AreInOrder, AreSidesOf, HasPlace, all_queued, inbox_of, names_of}
 use Rattle.cb_crew.specs.Headline.{IsFinished, IsSettled}
 use Rattle.cb_crew.proofs.Crews.{front_is}
-use Rattle.cb_crew.proofs.Works.{zip_push}
+use Rattle.cb_crew.proofs.Ticks.{unticked_step, unticked_same}
+use Rattle.cb_crew.proofs.Works.{zip_push, zip_refl, zip_set}
 
 -- what stands at a place of a list that is lent
 pub place_is : {X : Type 0} (xs ys : List X) (k : ℕ) (a b : X) → b ≡ a → a ≡ get_or xs k a → xs ≡ ys → b ≡ get_or ys k b
 place_is xs ys k a b same is lists = subst (λ x. x ≡ get_or ys k x) (sym same) (is ∙ ap (λ zs. get_or zs k a) lists)
 
-module _ {W M : Type 0} (label : W → ℕ) (was_given : W → List (Given M) → Type 0) (is_closed : W → Bool) where
+module _ {W M : Type 0} (label : W → ℕ) (was_given : W → List (Given M) → Type 0) (ticked : W → List ℕ → Type 0) (is_closed : W → Bool) (is_whole : W → Type 0) (weight : W → ℕ) where
+  abbrev Keeping : DeskState W M → Type 0
+  Keeping = KeepsWorks label was_given ticked is_closed is_whole weight
+
   -- of the first desks all is settled, in the order of the crew's peers
   pub record IsSettledTo (crew : CrewState) (sides rest : List (ReaderSide M W)) (desks : List (DeskState W M)) (k : ℕ) : Type 0 where
     pub done : List (ReaderSide M W)
@@ -31,6 +36,10 @@ module _ {W M : Type 0} (label : W → ℕ) (was_given : W → List (Given M) �
     pub labels : map (first_label label) desks ≡ crew.labels
     pub inboxes : map inbox_of sides ≡ names_of crew
     pub places : All HasPlace rest
+    pub kept : All Keeping (take k desks)
+    pub before : List (DeskState W M)
+    pub taken_out : AreInOrder crew (map (shown_desk label is_closed) before)
+    pub unticked : AllZip (NotTicked ticked) before desks
 
   shown_names : (desks : List (DeskState W M)) → map (λ (d : DeskState W M). (shown_desk label is_closed d).name) desks ≡ map (λ (s : Shown (DeskState W M)). s.name) (map (shown_desk label is_closed) desks)
   shown_names desks = sym (map-map (λ (s : Shown (DeskState W M)). s.name) (shown_desk label is_closed) desks)
@@ -47,6 +56,10 @@ module _ {W M : Type 0} (label : W → ℕ) (was_given : W → List (Given M) �
     labels = sym (map-map (λ (n : DeskName). n.label) (λ (d : DeskState W M). (shown_desk label is_closed d).name) desks) ∙ (ap (map (λ (n : DeskName). n.label)) (shown_names desks) ∙ order.names.labels);
     inboxes = are.inboxes;
     places = are.places;
+    kept = All-nil Keeping;
+    before = desks;
+    taken_out = order;
+    unticked = zip_refl (NotTicked ticked) (unticked_same ticked) desks;
   }
 
   pub settled_start : (crew : CrewState) (sides rest : List (ReaderSide M W)) (desks : List (DeskState W M)) (k : ℕ) → AreSidesOf crew sides → AreInOrder crew (map (shown_desk label is_closed) desks) → rest ≡ sides → k ≡ 0 → IsSettledTo crew sides rest desks k
@@ -78,8 +91,8 @@ module _ {W M : Type 0} (label : W → ℕ) (was_given : W → List (Given M) �
   next_has_place crew sides rest later side desks k s is = (front_is HasPlace rest later side is s.places).0
 
   -- one desk more is settled
-  pub settled_next : (crew : CrewState) (sides rest later : List (ReaderSide M W)) (side : ReaderSide M W) (desks more : List (DeskState W M)) (k : ℕ) (old new : DeskState W M) → IsSettledTo crew sides rest desks k → rest ≡ side ∷ later → old ≡ get_or desks k old → more ≡ set desks k new → new.inbox ≡ old.inbox → first_label label new ≡ first_label label old → IsSettled label was_given is_closed (all_queued side) new → IsSettledTo crew sides later more (k + 1)
-  settled_next crew sides rest later side desks more k old new s is old_is more_is same labelled settled =
+  pub settled_next : (crew : CrewState) (sides rest later : List (ReaderSide M W)) (side : ReaderSide M W) (desks more : List (DeskState W M)) (k : ℕ) (old new : DeskState W M) → IsSettledTo crew sides rest desks k → rest ≡ side ∷ later → old ≡ get_or desks k old → more ≡ set desks k new → new.inbox ≡ old.inbox → first_label label new ≡ first_label label old → IsSettled label was_given is_closed (all_queued side) new → Keeping new → NotTicked ticked old new → IsSettledTo crew sides later more (k + 1)
+  settled_next crew sides rest later side desks more k old new s is old_is more_is same labelled settled kept unticked =
       let at = next_place crew sides rest later side desks k s is in
       subst (λ ds. IsSettledTo crew sides later ds (k + 1)) (sym more_is) (record {
         done = s.done ++ side ∷ [];
@@ -91,10 +104,14 @@ module _ {W M : Type 0} (label : W → ℕ) (was_given : W → List (Given M) �
         labels = map-set_same (first_label label) desks k new old (labelled ∙ ap (first_label label) old_is) ∙ s.labels;
         inboxes = s.inboxes;
         places = (front_is HasPlace rest later side is s.places).1;
+        kept = subst (All Keeping) (sym (take_more_set desks k new at.1)) (All-push Keeping (take k desks) new s.kept kept);
+        before = s.before;
+        taken_out = s.taken_out;
+        unticked = zip_set (NotTicked ticked) s.before desks k new old at.1 (λ desk still. unticked_step ticked desk old new (subst (NotTicked ticked desk) (sym old_is) still) unticked) s.unticked;
       })
 
   -- all are settled
-  pub settled_all : (crew : CrewState) (sides rest : List (ReaderSide M W)) (desks : List (DeskState W M)) (k : ℕ) → IsSettledTo crew sides rest desks k → length rest ≡ 0 → IsFinished label was_given is_closed crew sides desks
+  pub settled_all : (crew : CrewState) (sides rest : List (ReaderSide M W)) (desks : List (DeskState W M)) (k : ℕ) → IsSettledTo crew sides rest desks k → length rest ≡ 0 → IsFinished label was_given ticked is_closed is_whole weight crew sides desks
   settled_all crew sides rest desks k s none =
       let all : sides ≡ s.done = s.parts ∙ (ap (λ ss. s.done ++ ss) (nil_from_length rest none) ∙ append-nil s.done) in
       let many : length desks ≤ k = omega (arith, desks_count crew desks s.names, ap length all, s.count, ap length s.inboxes, length-map sides inbox_of, length-map crew.inboxes (λ (i : InboxState). i.name)) in
@@ -103,4 +120,8 @@ module _ {W M : Type 0} (label : W → ℕ) (was_given : W → List (Given M) �
         names = s.names;
         labels = s.labels;
         settled = subst (λ ss. AllZip (λ side desk. IsSettled label was_given is_closed (all_queued side) desk) ss desks) (sym all) (subst (AllZip (λ side desk. IsSettled label was_given is_closed (all_queued side) desk) s.done) (take_all k desks many) s.settled);
+        kept = subst (All Keeping) (take_all k desks many) s.kept;
+        before = s.before;
+        taken_out = s.taken_out;
+        unticked = s.unticked;
       }

@@ -3,14 +3,16 @@ use Rattle.std.proofs.Common.{◌≡◌, ℕ, zero, suc, inl, inr, ◌+◌, ◌-
 use Rattle.std.specs.List.{sum_by}
 use Rattle.std.proofs.lemmas.Bool.{cases_lt, false≢true}
 use Rattle.std.proofs.lemmas.List.{append-nil, append_assoc, drop_all, drop-set-lt, length-append, length-set, take-append-le, take_more_set}
-use Rattle.std.proofs.lemmas.List.Elements.{All-append, All-cons, All-nil, length_all_zip}
+use Rattle.std.proofs.lemmas.List.Elements.{All-append, All-cons, All-nil, All-push, length_all_zip}
 use Rattle.std.proofs.lemmas.List.Sums.{get_or-le-sum_by, sum_by-append, sum_by-cons, sum_by-set, sum_by-take-drop, sum_by_push}
 use Rattle.cb_crew.specs.declared.work.Given.{Given}
-use Rattle.cb_crew.specs.Desk.{DeskState, NotTicked, PastAfter}
+use Rattle.cb_inbox.specs.Seat.{InboxState, SeatState}
+use Rattle.cb_inbox.specs.declared.queued.Queued.{Queued}
+use Rattle.cb_crew.specs.Desk.{DeskState, KeepsWorks, NotTicked, PastAfter, desk_state}
 use Rattle.cb_crew.specs.Past.{IsPushed, Keeps, OldestLetGo, StaysIfFew}
 use Rattle.cb_crew.specs.Work.{HasLetGo, IsKeptOrLetGo, IsUnticked, first_of}
 use Rattle.cb_crew.proofs.Ticks.{works_next}
-use Rattle.cb_crew.proofs.Works.{zip_refl, zip_then, zip_append, zip_set, zip_weaker}
+use Rattle.cb_crew.proofs.Works.{zip_push, zip_refl, zip_then, zip_append, zip_set, zip_weaker}
 
 -- a work that was closed wasn't ready, and so wasn't given anything
 pub passed_still : {W : Type 0} {was now : W} {closed : Bool} (ready : Bool) → closed ≡ true → (ready ≡ true → closed ≡ false) → (ready ≡ false → now ≡ was) → now ≡ was
@@ -162,3 +164,40 @@ module _ {W M : Type 0} (label : W → ℕ) (given : W → List (Given M) → Ty
         (past_then ((old.past ++ a.ended) ++ b.ended) (mid.past ++ b.ended) new.past (past_more (old.past ++ a.ended) mid.past b.ended a.past) b.past);
     closed = λ closed. stays_then old.work mid.work new.work a.ended b.ended (a.closed closed) b.closed closed;
   }
+
+  -- ---- what a desk's works keep
+
+  -- the last stays, as far as the bound lets it
+  last_stays : (past : List W) (work latest : W) (from : ℕ) → (weight work ≤ 1000000 → latest ≡ work) → sum_by weight (drop from (past ++ work ∷ [])) ≤ 1000000 → drop from (past ++ latest ∷ []) ≡ drop from (past ++ work ∷ [])
+  last_stays [] work latest zero stays few = ap (λ w. w ∷ []) (stays (omega (arith, few, sum_by-cons weight work [])))
+  last_stays [] work latest (suc from) stays few = refl
+  last_stays (x ∷ past) work latest zero stays few = ap (λ w. x ∷ (past ++ w ∷ [])) (stays (omega (arith, few, sum_by-cons weight x (past ++ work ∷ []), sum_by_push weight past work)))
+  last_stays (x ∷ past) work latest (suc from) stays few = last_stays past work latest from stays few
+
+  past_last : (past : List W) (work latest : W) → StaysIfFew label given ticked is_closed weight work latest → LetGo (past ++ work ∷ []) (past ++ latest ∷ [])
+  past_last past work latest stays = record {
+    each = zip_push Kept past past work latest (zip_refl Kept (λ _. inl refl) past) stays.0;
+    latest = λ from few. last_stays past work latest from stays.1 few;
+  }
+
+  module _ (is_whole : W → Type 0) where
+    abbrev Keeping : DeskState W M → Type 0
+    Keeping = KeepsWorks label given ticked is_closed is_whole weight
+
+    -- none is past
+    pub keeps_first : (inbox : InboxState) (seat : SeatState (Queued M W)) (work : W) → is_whole work → Keeping (desk_state inbox seat work [])
+    keeps_first inbox seat work whole = record { latest = whole; ended = []; whole = All-nil is_whole; past = past_same [] }
+
+    -- no connection ended
+    pub keeps_on : (old new : DeskState W M) → new.past ≡ old.past → (is_whole old.work → is_whole new.work) → Keeping old → Keeping new
+    keeps_on old new same still k = record { latest = still k.latest; ended = k.ended; whole = k.whole; past = subst (LetGo k.ended) (sym same) k.past }
+
+    -- one did
+    pub keeps_pushed : (old new : DeskState W M) → IsPushed label given ticked is_closed weight old.work old.past new.past → is_whole new.work → Keeping old → Keeping new
+    keeps_pushed old new pushed whole k = record {
+      latest = whole;
+      ended = k.ended ++ old.work ∷ [];
+      whole = All-push is_whole k.ended old.work k.whole k.latest;
+      past = past_then (k.ended ++ old.work ∷ []) (old.past ++ old.work ∷ []) new.past (past_more k.ended old.past (old.work ∷ []) k.past)
+          (past_then (old.past ++ old.work ∷ []) (old.past ++ pushed.latest ∷ []) new.past (past_last old.past old.work pushed.latest pushed.became) pushed.past);
+    }

@@ -1,3 +1,4 @@
+mod Counting
 mod Crews
 mod Finishing
 mod Settling

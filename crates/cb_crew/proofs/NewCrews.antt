@@ -70,6 +70,10 @@ pub record IsMaking {X : Type 0} (crew : CrewState) (left : List InboxState) (la
 pub making_first : {X : Type 0} (crew : CrewState) (hand : HandState X) → IsOpeningHandOf crew hand → IsMaking crew crew.inboxes crew.labels hand
 making_first crew hand is = rw is record { ring_is = refl; hands_is = refl; handlers_is = refl; stage_is = refl; free = refl; made = []; split = refl; names_is = refl; labels_split = refl }
 
+-- the same of equal lists
+pub making_start : {X : Type 0} (crew : CrewState) (left : List InboxState) (labels : List ℕ) (hand : HandState X) → IsOpeningHandOf crew hand → left ≡ crew.inboxes → labels ≡ crew.labels → IsMaking crew left labels hand
+making_start crew left labels hand opening left_is labels_is = subst (λ ls. IsMaking crew left ls hand) (sym labels_is) (subst (λ is. IsMaking crew is crew.labels hand) (sym left_is) (making_first crew hand opening))
+
 stands_next : (made next : List InboxState) (inbox : InboxState) → get_or (made ++ inbox ∷ next) (length made) inbox ≡ inbox
 stands_next [] next inbox = refl
 stands_next (i ∷ is) next inbox = stands_next is next inbox

@@ -1,11 +1,13 @@
 -- What was ticked, as a desk is served mark by mark.
-use Rattle.std.proofs.Common.{◌≡◌, ℕ, Bool, List, [], ◌∷◌, ◌++◌, length, All, sym, ap, subst, ◌∙◌}
+use Rattle.std.proofs.Common.{◌≡◌, ℕ, Bool, List, [], ◌∷◌, ◌++◌, length, All, refl, sym, ap, subst, ◌∙◌}
 use Rattle.std.specs.List.{AllZip}
 use Rattle.std.proofs.lemmas.List.{append_assoc}
 use Rattle.std.proofs.lemmas.List.Elements.{All-append, All-cons, All-nil}
 use Rattle.cb_crew.specs.declared.work.Given.{Given}
 use Rattle.cb_crew.specs.Work.{IsTicked, IsUnticked}
-use Rattle.cb_crew.specs.Desk.{DeskState, NotTicked, TickedOnce, WorksAfter}
+use Rattle.cb_inbox.specs.declared.queued.Queued.{Queued}
+use Rattle.cb_inbox.specs.Seat.{SeatState}
+use Rattle.cb_crew.specs.Desk.{DeskState, NotTicked, TickedOnce, WorksAfter, desk_told}
 use Rattle.cb_crew.proofs.Works.{zip_all, zip_parts, zip_push, zip_refl, zip_then}
 
 abbrev Never : {W : Type 0} → (W → List ℕ → Type 0) → W → Type 0
@@ -62,3 +64,13 @@ module _ {W M : Type 0} (given : W → List (Given M) → Type 0) (ticked : W �
 
 pub unticked_step : {W M : Type 0} (ticked : W → List ℕ → Type 0) (old mid new : DeskState W M) → NotTicked ticked old mid → NotTicked ticked mid new → NotTicked ticked old new
 unticked_step ticked old mid new a b = works_step ticked (IsUnticked ticked) old mid new (λ latest now is kept at t. kept at (is at t)) a b
+
+-- nothing was done
+pub unticked_same : {W M : Type 0} (ticked : W → List ℕ → Type 0) (desk : DeskState W M) → NotTicked ticked desk desk
+unticked_same ticked desk = works_same ticked (IsUnticked ticked) desk desk refl (λ at t. t)
+
+-- a desk was told something and was served
+pub unticked_told : {W M : Type 0} (ticked : W → List ℕ → Type 0) (desk told served new : DeskState W M) (note : SeatState (Queued M W)) → told ≡ desk_told desk note → NotTicked ticked told served → new ≡ served → NotTicked ticked desk new
+unticked_told ticked desk told served new note told_is unticked same =
+    let t = subst (λ d. NotTicked ticked d new) told_is (subst (NotTicked ticked told) (sym same) unticked) in
+    record { earlier = t.earlier; latest = t.latest; later = t.later; works = t.works; earlier_none = t.earlier_none; became = t.became; later_none = t.later_none }

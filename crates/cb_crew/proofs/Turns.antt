@@ -11,8 +11,8 @@ use Rattle.cb_crew.specs.Ring.{DeskName, HandState, Shown, IsHeld, IsOfCrew, cla
 use Rattle.cb_crew.specs.Turn.{shown_desk, Counts, Did, GivesTicked, Hears, IsClaimed, IsNoteOf, Serves, ServesDesk, Ticks, TurnsDesk}
 
 -- what was taken, as a turn tells of it
-pub serves_desk : {W M : Type 0} (label : W → ℕ) (is_closed : W → Bool) (old new : DeskState W M) (peer worked passed : ℕ) → old.inbox.peer ≡ peer → first_label label new ≡ first_label label old → HasServed is_closed old new worked passed → ServesDesk label is_closed old new peer worked passed
-serves_desk label is_closed old new peer worked passed peer_is first h = record {
+pub serves_desk : {W M : Type 0} (label : W → ℕ) (given : W → List (Given M) → Type 0) (is_closed : W → Bool) (old new : DeskState W M) (peer worked passed : ℕ) → old.inbox.peer ≡ peer → first_label label new ≡ first_label label old → HasServed given is_closed old new worked passed → ServesDesk label given is_closed old new peer worked passed
+serves_desk label given is_closed old new peer worked passed peer_is first h = record {
   peer_is = peer_is;
   same_first = first;
   same_inbox = h.same.0;
@@ -29,7 +29,7 @@ note_is names s peer note of at same =
     ∙ (ap (λ k. get_or (map (λ (n : DeskName). n.inbox) names) k note.inbox) (sym same)
     ∙ (get_or-map (λ (n : DeskName). n.inbox) names s.peer s.name note.inbox here ∙ ap (λ (n : DeskName). n.inbox) of.named))
 
-module _ {W M : Type 0} (label : W → ℕ) (is_closed : W → Bool) where
+module _ {W M : Type 0} (label : W → ℕ) (given : W → List (Given M) → Type 0) (is_closed : W → Bool) where
   -- what was claimed is held
   pub claimed_is : (old hand : HandState (DeskState W M)) (desk : DeskState W M) → hand ≡ claimed_hand old (shown_desk label is_closed desk) → IsClaimed label hand desk
   claimed_is old hand desk is = record { before = shown_desk label is_closed desk; only = ap (λ (h : HandState (DeskState W M)). h.held) is; peer_is = refl; inbox_is = refl; label_is = refl; taken_is = refl }
@@ -49,7 +49,7 @@ module _ {W M : Type 0} (label : W → ℕ) (is_closed : W → Bool) where
   }
 
   -- what was served is held still
-  pub held_is : (hand : HandState (DeskState W M)) (desk after : DeskState W M) (budget : ℕ) (done : Turn) → IsClaimed label hand desk → TurnsDesk label is_closed desk after budget done → IsHeld hand.held (shown_desk label is_closed after)
+  pub held_is : (hand : HandState (DeskState W M)) (desk after : DeskState W M) (budget : ℕ) (done : Turn) → IsClaimed label hand desk → TurnsDesk label given is_closed desk after budget done → IsHeld hand.held (shown_desk label is_closed after)
   held_is hand desk after budget (turn.Served peer worked passed) c t = still desk after c t.0.same_inbox t.0.same_first
   held_is hand desk after budget (turn.Idle peer) c t = still desk after c t.0.same_inbox t.0.same_first
   held_is hand desk after budget (turn.Shut peer) c t = still desk after c t.0.same_inbox t.0.same_first
@@ -67,7 +67,7 @@ module _ {W M : Type 0} (label : W → ℕ) (is_closed : W → Bool) where
   }
 
   -- its inbox is the same
-  pub inbox_of_turn : (desk after : DeskState W M) (budget : ℕ) (done : Turn) → TurnsDesk label is_closed desk after budget done → after.inbox ≡ desk.inbox
+  pub inbox_of_turn : (desk after : DeskState W M) (budget : ℕ) (done : Turn) → TurnsDesk label given is_closed desk after budget done → after.inbox ≡ desk.inbox
   inbox_of_turn desk after budget (turn.Served peer worked passed) t = t.0.same_inbox
   inbox_of_turn desk after budget (turn.Idle peer) t = t.0.same_inbox
   inbox_of_turn desk after budget (turn.Shut peer) t = t.0.same_inbox
@@ -80,27 +80,27 @@ module _ {W M : Type 0} (label : W → ℕ) (is_closed : W → Bool) where
 
   -- ---- how many marks were taken
 
-  told_taken : (desk after : DeskState W M) (note : SeatState (Queued M W)) (worked passed : ℕ) → HasTaken is_closed (desk_told desk note) after worked passed → HasTaken is_closed desk after worked passed
-  told_taken desk after note worked passed h = record { marks = h.marks; taken = h.taken; count = h.count; opens = h.opens; behind = h.behind; stays = h.stays }
+  told_taken : (desk after : DeskState W M) (note : SeatState (Queued M W)) (worked passed : ℕ) → HasTaken given is_closed (desk_told desk note) after worked passed → HasTaken given is_closed desk after worked passed
+  told_taken desk after note worked passed h = record { marks = h.marks; taken = h.taken; count = h.count; gave = h.gave; works = h.works; sum = h.sum; begin = h.begin; all = h.all; behind = h.behind; stays = h.stays }
 
   -- whether its seat was told something before makes no difference
-  heard_taken : (desk heard after : DeskState W M) (peer : ℕ) (note : SeatState (Queued M W)) (back : Option (SeatState (Queued M W))) (worked passed : ℕ) → Hears desk heard peer note back → HasTaken is_closed heard after worked passed → HasTaken is_closed desk after worked passed
-  heard_taken desk heard after peer note back worked passed (inl told) h = told_taken desk after note worked passed (subst (λ d. HasTaken is_closed d after worked passed) told.2 h)
-  heard_taken desk heard after peer note back worked passed (inr other) h = subst (λ d. HasTaken is_closed d after worked passed) other.2 h
+  heard_taken : (desk heard after : DeskState W M) (peer : ℕ) (note : SeatState (Queued M W)) (back : Option (SeatState (Queued M W))) (worked passed : ℕ) → Hears desk heard peer note back → HasTaken given is_closed heard after worked passed → HasTaken given is_closed desk after worked passed
+  heard_taken desk heard after peer note back worked passed (inl told) h = told_taken desk after note worked passed (subst (λ d. HasTaken given is_closed d after worked passed) told.2 h)
+  heard_taken desk heard after peer note back worked passed (inr other) h = subst (λ d. HasTaken given is_closed d after worked passed) other.2 h
 
   -- a turn that had a desk
-  pub turn_counts : (old hand new : HandState (DeskState W M)) (desk : DeskState W M) (budget : ℕ) (done : Turn) → hand ≡ claimed_hand old (shown_desk label is_closed desk) → Serves label is_closed hand new desk budget done → Counts label is_closed old new done
-  turn_counts old hand new desk budget (turn.Served peer worked passed) is s = did (λ d e. HasTaken is_closed d e worked passed) old hand new desk s.0 is s.1 s.2.0.same_inbox s.2.0.has
-  turn_counts old hand new desk budget (turn.Idle peer) is s = did (λ d e. HasTaken is_closed d e 0 0) old hand new desk s.0 is s.1 s.2.0.same_inbox s.2.0.has
-  turn_counts old hand new desk budget (turn.Shut peer) is s = did (λ d e. HasTaken is_closed d e 0 0) old hand new desk s.0 is s.1 s.2.0.same_inbox s.2.0.has
+  pub turn_counts : (old hand new : HandState (DeskState W M)) (desk : DeskState W M) (budget : ℕ) (done : Turn) → hand ≡ claimed_hand old (shown_desk label is_closed desk) → Serves label given is_closed hand new desk budget done → Counts label given is_closed old new done
+  turn_counts old hand new desk budget (turn.Served peer worked passed) is s = did (λ d e. HasTaken given is_closed d e worked passed) old hand new desk s.0 is s.1 s.2.0.same_inbox s.2.0.has
+  turn_counts old hand new desk budget (turn.Idle peer) is s = did (λ d e. HasTaken given is_closed d e 0 0) old hand new desk s.0 is s.1 s.2.0.same_inbox s.2.0.has
+  turn_counts old hand new desk budget (turn.Shut peer) is s = did (λ d e. HasTaken given is_closed d e 0 0) old hand new desk s.0 is s.1 s.2.0.same_inbox s.2.0.has
   turn_counts old hand new desk budget turn.NoDesk is s = tt
   turn_counts old hand new desk budget turn.Spent is s = tt
 
   -- the same where its seat was told something
-  pub heard_counts : (old hand new : HandState (DeskState W M)) (desk heard : DeskState W M) (peer budget : ℕ) (note : SeatState (Queued M W)) (back : Option (SeatState (Queued M W))) (done : Turn) → Hears desk heard peer note back → hand ≡ claimed_hand old (shown_desk label is_closed desk) → Serves label is_closed hand new heard budget done → Counts label is_closed old new done
-  heard_counts old hand new desk heard peer budget note back (turn.Served of worked passed) hears is s = did (λ d e. HasTaken is_closed d e worked passed) old hand new desk s.0 is s.1 (s.2.0.same_inbox ∙ heard_inbox desk heard peer note back hears) (heard_taken desk heard s.0 peer note back worked passed hears s.2.0.has)
-  heard_counts old hand new desk heard peer budget note back (turn.Idle of) hears is s = did (λ d e. HasTaken is_closed d e 0 0) old hand new desk s.0 is s.1 (s.2.0.same_inbox ∙ heard_inbox desk heard peer note back hears) (heard_taken desk heard s.0 peer note back 0 0 hears s.2.0.has)
-  heard_counts old hand new desk heard peer budget note back (turn.Shut of) hears is s = did (λ d e. HasTaken is_closed d e 0 0) old hand new desk s.0 is s.1 (s.2.0.same_inbox ∙ heard_inbox desk heard peer note back hears) (heard_taken desk heard s.0 peer note back 0 0 hears s.2.0.has)
+  pub heard_counts : (old hand new : HandState (DeskState W M)) (desk heard : DeskState W M) (peer budget : ℕ) (note : SeatState (Queued M W)) (back : Option (SeatState (Queued M W))) (done : Turn) → Hears desk heard peer note back → hand ≡ claimed_hand old (shown_desk label is_closed desk) → Serves label given is_closed hand new heard budget done → Counts label given is_closed old new done
+  heard_counts old hand new desk heard peer budget note back (turn.Served of worked passed) hears is s = did (λ d e. HasTaken given is_closed d e worked passed) old hand new desk s.0 is s.1 (s.2.0.same_inbox ∙ heard_inbox desk heard peer note back hears) (heard_taken desk heard s.0 peer note back worked passed hears s.2.0.has)
+  heard_counts old hand new desk heard peer budget note back (turn.Idle of) hears is s = did (λ d e. HasTaken given is_closed d e 0 0) old hand new desk s.0 is s.1 (s.2.0.same_inbox ∙ heard_inbox desk heard peer note back hears) (heard_taken desk heard s.0 peer note back 0 0 hears s.2.0.has)
+  heard_counts old hand new desk heard peer budget note back (turn.Shut of) hears is s = did (λ d e. HasTaken given is_closed d e 0 0) old hand new desk s.0 is s.1 (s.2.0.same_inbox ∙ heard_inbox desk heard peer note back hears) (heard_taken desk heard s.0 peer note back 0 0 hears s.2.0.has)
   heard_counts old hand new desk heard peer budget note back turn.NoDesk hears is s = tt
   heard_counts old hand new desk heard peer budget note back turn.Spent hears is s = tt
 
@@ -117,8 +117,8 @@ module _ {W M : Type 0} (label : W → ℕ) (given : W → List (Given M) → Ty
 
   -- a turn that had a desk
   pub turn_ticks : (old hand new : HandState (DeskState W M)) (desk : DeskState W M) (done : Turn) → hand ≡ claimed_hand old (shown_desk label is_closed desk) → GivesTicked label given ticked is_closed hand new desk → Ticks label given ticked is_closed old new done
-  turn_ticks old hand new desk (turn.Served peer worked passed) is g = did label is_closed (TickedOnce given ticked is_closed) old hand new desk g.0 is g.1 g.2 g.3
-  turn_ticks old hand new desk (turn.Idle peer) is g = did label is_closed (TickedOnce given ticked is_closed) old hand new desk g.0 is g.1 g.2 g.3
-  turn_ticks old hand new desk (turn.Shut peer) is g = did label is_closed (TickedOnce given ticked is_closed) old hand new desk g.0 is g.1 g.2 g.3
+  turn_ticks old hand new desk (turn.Served peer worked passed) is g = did label given is_closed (TickedOnce given ticked is_closed) old hand new desk g.0 is g.1 g.2 g.3
+  turn_ticks old hand new desk (turn.Idle peer) is g = did label given is_closed (TickedOnce given ticked is_closed) old hand new desk g.0 is g.1 g.2 g.3
+  turn_ticks old hand new desk (turn.Shut peer) is g = did label given is_closed (TickedOnce given ticked is_closed) old hand new desk g.0 is g.1 g.2 g.3
   turn_ticks old hand new desk turn.NoDesk is g = tt
   turn_ticks old hand new desk turn.Spent is g = tt

@@ -82,7 +82,7 @@ zip_push R [] (b ∷ ys) x y all r = absurd all
 zip_push R (a ∷ xs) [] x y all r = absurd all
 zip_push R (a ∷ xs) (b ∷ ys) x y all r = (all.0, zip_push R xs ys x y all.1 r)
 
-zip_none : {A B : Type 0} (R : A → B → Type 0) (xs : List A) (x : A) → AllZip R (xs ++ x ∷ []) [] → ⊥
+pub zip_none : {A B : Type 0} (R : A → B → Type 0) (xs : List A) (x : A) → AllZip R (xs ++ x ∷ []) [] → ⊥
 zip_none R [] x all = all
 zip_none R (a ∷ xs) x all = all
 
@@ -214,8 +214,8 @@ module _ {W M : Type 0} (given : W → List (Given M) → Type 0) (is_closed : W
   works_kept old new connection live step w = record { items = w.items; are_given = step w.items w.are_given; begin = w.begin; whole = λ is. w.whole (live is) }
 
   -- it begins a connection
-  pub works_fresh : (ticked : W → List ℕ → Type 0) (work : W) → IsFresh given ticked is_closed work → WorksOn given is_closed work []
-  works_fresh ticked work fresh = record { items = []; are_given = fresh.nothing; begin = ([], refl); whole = λ _. refl }
+  pub works_fresh : (ticked : W → List ℕ → Type 0) (is_whole : W → Type 0) (work : W) → IsFresh given ticked is_closed is_whole work → WorksOn given is_closed work []
+  works_fresh ticked is_whole work fresh = record { items = []; are_given = fresh.nothing; begin = ([], refl); whole = λ _. refl }
 
   -- as many works as connections
   pub works_count : {O : Type 0} (works : List W) (marks : List (Queued M O)) → AllZip (WorksOn given is_closed) works (connections_of marks) → length works ≡ connections is_open marks

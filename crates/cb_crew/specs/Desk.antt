@@ -1,7 +1,7 @@
 -- A peer's desk: what was taken from its inbox, and what the works of its connections were given of
 -- that.
 use Rattle.std.specs.Prelude.{◌≡◌, ℕ, ◌+◌, ◌<◌, ◌≤◌, ◌⊎◌, Bool, true, false, List, [], ◌∷◌, ◌++◌, length, All}
-use Rattle.std.specs.List.{AllZip, count_by}
+use Rattle.std.specs.List.{AllZip, count_by, sum_by}
 use Rattle.cb_sched.specs.Laws.{IsBeginning}
 use Rattle.cb_inbox.specs.declared.queued.Queued.{Queued}
 use Rattle.cb_inbox.specs.Queued.{is_open, has_ended}
@@ -11,7 +11,7 @@ use Rattle.cb_crew.specs.declared.work.Given.{Given}
 use Rattle.cb_crew.specs.declared.desk.Step.{Step}
 use Rattle.cb_crew.specs.declared.desk.Step.TheVariants as step
 use Rattle.cb_crew.specs.Past.{OldestLetGo, StaysIfFew}
-use Rattle.cb_crew.specs.Work.{AreWorksOf, IsTicked, IsUnticked, WorksOn, connections_of, first_of}
+use Rattle.cb_crew.specs.Work.{AreWorksOf, IsGivenMore, IsGivenNone, IsTicked, IsUnticked, WorksOn, brought_by, connections_of, first_of, given_by, go_on, last_of}
 
 pub record DeskState (W M : Type 0) : Type 0 where
   pub inbox : InboxState
@@ -58,6 +58,17 @@ pub record IsDesk {W M : Type 0} (label : W → ℕ) (given : W → List (Given 
   pub past_closed : All (λ work. is_closed work ≡ true) d.past
   pub ended : has_ended d.taken ≡ true → is_closed d.work ≡ true
 
+-- What the works of a desk keep. The latest work let go of nothing. Each past work came to the past
+-- ones whole, as `ended` tells: it had let go of nothing. Since then the oldest let go, and the
+-- latest are whole still as far as 1,000,000 bytes go.
+pub record KeepsWorks {W M : Type 0} (label : W → ℕ) (given : W → List (Given M) → Type 0)
+    (ticked : W → List ℕ → Type 0) (is_closed : W → Bool) (is_whole : W → Type 0) (weight : W → ℕ)
+    (d : DeskState W M) : Type 0 where
+  pub latest : is_whole d.work
+  pub ended : List W
+  pub whole : All is_whole ended
+  pub past : OldestLetGo label given ticked is_closed weight ended d.past
+
 -- the inbox is the same, and the seat was told nothing new
 abbrev pub IsSameDesk : {W M : Type 0} → DeskState W M → DeskState W M → Type 0
 IsSameDesk old new = (new.inbox ≡ old.inbox) × (new.queued ≡ old.queued)
@@ -66,45 +77,87 @@ IsSameDesk old new = (new.inbox ≡ old.inbox) × (new.queued ≡ old.queued)
 abbrev pub IsSameLine : {W M : Type 0} → DeskState W M → DeskState W M → Type 0
 IsSameLine old new = IsSameDesk old new × (new.taken ≡ old.taken)
 
+-- This mark was taken, and given to the latest work, which was open.
+pub record Gives {W M : Type 0} (given : W → List (Given M) → Type 0) (is_closed : W → Bool)
+    (old new : DeskState W M) (mark : Queued M W) : Type 0 where
+  pub item : is_open mark ≡ false
+  pub live : is_closed old.work ≡ false
+  pub past : new.past ≡ old.past
+  pub gave : IsGivenMore given (given_by mark) old.work new.work
+
+-- This mark came to a closed work, which was given nothing.
+pub record PassesOver {W M : Type 0} (given : W → List (Given M) → Type 0) (is_closed : W → Bool)
+    (old new : DeskState W M) (mark : Queued M W) : Type 0 where
+  pub item : is_open mark ≡ false
+  pub closed : is_closed new.work ≡ true
+  pub past : new.past ≡ old.past
+  pub gave : IsGivenNone given old.work new.work
+
+-- This is an open mark. The latest work is past, and the work that the mark brought is the latest.
+-- No work was given anything.
+pub record Opens {W M : Type 0} (given : W → List (Given M) → Type 0) (old new : DeskState W M)
+    (mark : Queued M W) : Type 0 where
+  pub opens : is_open mark ≡ true
+  pub brought : brought_by mark ≡ new.work ∷ []
+  pub nothing : given new.work []
+  pub past : AllZip (IsGivenNone given) (old.past ++ old.work ∷ []) new.past
+
 -- What a step did. Worked: a mark was taken and given to a work that was open. Passed: a mark was
--- taken and passed over, since it is an open mark or the work is closed. Empty: nothing was taken,
--- since all that the seat was told was queued had been taken.
-abbrev pub Stepped : {W M : Type 0} → (W → Bool) → DeskState W M → DeskState W M → Step → Type 0
-Stepped {W} {M} is_closed old new step.Worked =
-    IsSameDesk old new
-    × ((mark : Queued M W) × (new.taken ≡ old.taken ++ mark ∷ []) × (is_open mark ≡ false)
-    × (is_closed old.work ≡ false))
-Stepped {W} {M} is_closed old new step.Passed =
+-- taken and given to no work, since it is an open mark or the work is closed. Empty: nothing was
+-- taken, since all that the seat was told was queued had been taken.
+abbrev pub Stepped : {W M : Type 0} → (W → List (Given M) → Type 0) → (W → Bool) → DeskState W M
+    → DeskState W M → Step → Type 0
+Stepped {W} {M} given is_closed old new step.Worked =
     IsSameDesk old new
     × ((mark : Queued M W) × (new.taken ≡ old.taken ++ mark ∷ [])
-    × ((is_open mark ≡ true) ⊎ (is_closed new.work ≡ true)))
-Stepped {W} {M} is_closed old new step.Empty =
+    × Gives given is_closed old new mark)
+Stepped {W} {M} given is_closed old new step.Passed =
+    IsSameDesk old new
+    × ((mark : Queued M W) × (new.taken ≡ old.taken ++ mark ∷ [])
+    × (Opens given old new mark ⊎ PassesOver given is_closed old new mark))
+Stepped {W} {M} given is_closed old new step.Empty =
     IsSameLine old new × IsBeginning old.queued old.taken
-    × (is_closed old.work ≡ true → is_closed new.work ≡ true)
+    × (is_closed old.work ≡ true → is_closed new.work ≡ true) × (new.past ≡ old.past)
+    × IsGivenNone given old.work new.work
 
--- So many marks were taken, in order. Some were given to works and some passed over, among these
--- all open marks. If the work was closed before, only a work that an open mark brought was given
--- anything; without an open mark the work is still closed.
-pub record HasTaken {W M : Type 0} (is_closed : W → Bool) (old new : DeskState W M)
-    (worked passed : ℕ) : Type 0 where
+-- The works were given this. `gave` has a list for the latest work and one for each work that came
+-- since. Whatever the works had been given, the latest was given the first of these lists behind
+-- that, each work that came since its own list, and no other work anything.
+abbrev pub WereGiven : {W M : Type 0} → (W → List (Given M) → Type 0) → DeskState W M
+    → DeskState W M → List (List (Given M)) → Type 0
+WereGiven {W} {M} given old new gave =
+    (had : List (List (Given M))) → AllZip given (old.past ++ old.work ∷ []) had
+    → AllZip given (new.past ++ new.work ∷ []) (go_on had gave)
+
+-- So many marks were taken, in order. Those that count as worked were given to works, as `gave`
+-- tells: each work was given a beginning of what the marks give to its connection, and all of that
+-- if it is open. The others were passed over: all open marks, and what came to a closed work. If
+-- the work was closed before, only a work that an open mark brought was given anything; without an
+-- open mark it is closed still.
+pub record HasTaken {W M : Type 0} (given : W → List (Given M) → Type 0) (is_closed : W → Bool)
+    (old new : DeskState W M) (worked passed : ℕ) : Type 0 where
   pub marks : List (Queued M W)
   pub taken : new.taken ≡ old.taken ++ marks
   pub count : length marks ≡ worked + passed
-  pub opens : worked + count_by is_open marks ≤ length marks
+  pub gave : List (List (Given M))
+  pub works : WereGiven given old new gave
+  pub sum : sum_by length gave ≡ worked
+  pub begin : AllZip IsBeginning gave (connections_of marks)
+  pub all : is_closed new.work ≡ false → last_of gave ≡ last_of (connections_of marks)
   pub behind : is_closed old.work ≡ true → 1 ≤ worked → 1 ≤ count_by is_open marks
   pub stays : is_closed old.work ≡ true → count_by is_open marks ≡ 0 → is_closed new.work ≡ true
 
 -- The same, of the same inbox, and the seat was told nothing new.
-pub record HasServed {W M : Type 0} (is_closed : W → Bool) (old new : DeskState W M)
-    (worked passed : ℕ) : Type 0 where
+pub record HasServed {W M : Type 0} (given : W → List (Given M) → Type 0) (is_closed : W → Bool)
+    (old new : DeskState W M) (worked passed : ℕ) : Type 0 where
   pub same : IsSameDesk old new
-  pub has : HasTaken is_closed old new worked passed
+  pub has : HasTaken given is_closed old new worked passed
 
 -- The same within a budget. Fewer marks than the budget were taken only if all that the seat was
 -- told was queued has been taken, or something was given to a work and the work is closed now.
-pub record IsServed {W M : Type 0} (is_closed : W → Bool) (old new : DeskState W M)
-    (budget worked passed : ℕ) : Type 0 where
-  pub has : HasServed is_closed old new worked passed
+pub record IsServed {W M : Type 0} (given : W → List (Given M) → Type 0) (is_closed : W → Bool)
+    (old new : DeskState W M) (budget worked passed : ℕ) : Type 0 where
+  pub has : HasServed given is_closed old new worked passed
   pub within : worked + passed ≤ budget
   pub all_told : worked + passed < budget
       → IsBeginning new.queued new.taken ⊎ ((1 ≤ worked) × (is_closed new.work ≡ true))

@@ -7,8 +7,9 @@ use Rattle.cb_crew.specs.declared.work.Given.{Given}
 use Rattle.cb_crew.specs.declared.work.Given.TheVariants as given
 use Rattle.cb_crew.specs.declared.reader_side.ReaderSide.{ReaderSide}
 use Rattle.cb_crew.specs.Work.{AreWorksOf, connections_of}
-use Rattle.cb_crew.specs.Desk.{DeskState, first_label}
-use Rattle.cb_crew.specs.Crew.{CrewState, names_of, all_queued}
+use Rattle.cb_crew.specs.Desk.{DeskState, KeepsWorks, NotTicked, first_label}
+use Rattle.cb_crew.specs.Turn.{shown_desk}
+use Rattle.cb_crew.specs.Crew.{AreInOrder, CrewState, names_of, all_queued}
 
 -- nothing comes after an end
 abbrev pub NothingAfterEnd : {M : Type 0} → List (Given M) → Type 0
@@ -47,12 +48,18 @@ pub record IsSettled {W M : Type 0} (label : W → ℕ) (was_given : W → List 
       (works_of desk)
 
 -- The desks of all peers, in order. Each has served all that the peer's reader queued. Its first
--- work is the one with which the crew was made for this peer.
+-- work is the one with which the crew was made for this peer. Its latest work let go of nothing,
+-- and its past works let go only as far as the bound of 1,000,000 bytes asks. The desks came
+-- without a tick from the desks `before`, which are the crew's in the order of their peers.
 pub record IsFinished {W M : Type 0} (label : W → ℕ) (was_given : W → List (Given M) → Type 0)
-    (is_closed : W → Bool) (crew : CrewState) (sides : List (ReaderSide M W))
-    (desks : List (DeskState W M)) : Type 0 where
+    (ticked : W → List ℕ → Type 0) (is_closed : W → Bool) (is_whole : W → Type 0) (weight : W → ℕ)
+    (crew : CrewState) (sides : List (ReaderSide M W)) (desks : List (DeskState W M)) : Type 0 where
   pub peers : map (λ desk. desk.inbox.peer) desks ≡ range_with_len 0 (length crew.inboxes)
   pub names : map (λ desk. desk.inbox.name) desks ≡ names_of crew
   pub labels : map (first_label label) desks ≡ crew.labels
   pub settled : AllZip (λ side desk. IsSettled label was_given is_closed (all_queued side) desk)
       sides desks
+  pub kept : All (KeepsWorks label was_given ticked is_closed is_whole weight) desks
+  pub before : List (DeskState W M)
+  pub taken_out : AreInOrder crew (map (shown_desk label is_closed) before)
+  pub unticked : AllZip (NotTicked ticked) before desks

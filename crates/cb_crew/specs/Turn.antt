@@ -111,30 +111,32 @@ Hears old new peer note back =
 
 -- The desk was served: so many marks were given to works and passed over. Its first work's label,
 -- its inbox and what its seat was told are unchanged.
-pub record ServesDesk {W M : Type 0} (label : W → ℕ) (is_closed : W → Bool)
-    (old new : DeskState W M) (peer worked passed : ℕ) : Type 0 where
+pub record ServesDesk {W M : Type 0} (label : W → ℕ) (given : W → List (Given M) → Type 0)
+    (is_closed : W → Bool) (old new : DeskState W M) (peer worked passed : ℕ) : Type 0 where
   pub peer_is : old.inbox.peer ≡ peer
   pub same_first : first_label label new ≡ first_label label old
   pub same_inbox : new.inbox ≡ old.inbox
   pub same_told : new.queued ≡ old.queued
   pub taken_is : length new.taken ≡ length old.taken + (worked + passed)
-  pub has : HasTaken is_closed old new worked passed
+  pub has : HasTaken given is_closed old new worked passed
 
 abbrev pub HasNoneLeft : {W M : Type 0} → DeskState W M → Type 0
 HasNoneLeft desk = length desk.queued ≤ length desk.taken
 
-abbrev pub TurnsDesk : {W M : Type 0} → (W → ℕ) → (W → Bool) → DeskState W M → DeskState W M → ℕ
-    → Turn → Type 0
-TurnsDesk label is_closed old new budget (turn.Served peer worked passed) =
-    ServesDesk label is_closed old new peer worked passed × (1 ≤ worked + passed)
+abbrev pub TurnsDesk : {W M : Type 0} → (W → ℕ) → (W → List (Given M) → Type 0) → (W → Bool)
+    → DeskState W M → DeskState W M → ℕ → Turn → Type 0
+TurnsDesk label given is_closed old new budget (turn.Served peer worked passed) =
+    ServesDesk label given is_closed old new peer worked passed × (1 ≤ worked + passed)
     × (worked + passed ≤ budget)
     × (worked + passed < budget → HasNoneLeft new ⊎ ((1 ≤ worked) × (is_closed new.work ≡ true)))
-TurnsDesk label is_closed old new budget (turn.Idle peer) =
-    ServesDesk label is_closed old new peer 0 0 × HasNoneLeft new × (is_closed new.work ≡ false)
-TurnsDesk label is_closed old new budget (turn.Shut peer) =
-    ServesDesk label is_closed old new peer 0 0 × HasNoneLeft new × (is_closed new.work ≡ true)
-TurnsDesk label is_closed old new budget turn.NoDesk = ⊥
-TurnsDesk label is_closed old new budget turn.Spent = ⊥
+TurnsDesk label given is_closed old new budget (turn.Idle peer) =
+    ServesDesk label given is_closed old new peer 0 0 × HasNoneLeft new
+    × (is_closed new.work ≡ false)
+TurnsDesk label given is_closed old new budget (turn.Shut peer) =
+    ServesDesk label given is_closed old new peer 0 0 × HasNoneLeft new
+    × (is_closed new.work ≡ true)
+TurnsDesk label given is_closed old new budget turn.NoDesk = ⊥
+TurnsDesk label given is_closed old new budget turn.Spent = ⊥
 
 -- the hand holds this desk, and nothing was taken from its inbox since it was claimed
 pub record IsClaimed {W M : Type 0} (label : W → ℕ) (hand : HandState (DeskState W M))
@@ -147,11 +149,11 @@ pub record IsClaimed {W M : Type 0} (label : W → ℕ) (hand : HandState (DeskS
   pub taken_is : length desk.taken ≡ before.taken
 
 -- The desk was served and given back.
-abbrev pub Serves : {W M : Type 0} → (W → ℕ) → (W → Bool) → HandState (DeskState W M)
-    → HandState (DeskState W M) → DeskState W M → ℕ → Turn → Type 0
-Serves {W} {M} label is_closed old new desk budget done =
+abbrev pub Serves : {W M : Type 0} → (W → ℕ) → (W → List (Given M) → Type 0) → (W → Bool)
+    → HandState (DeskState W M) → HandState (DeskState W M) → DeskState W M → ℕ → Turn → Type 0
+Serves {W} {M} label given is_closed old new desk budget done =
     (after : DeskState W M) × (new ≡ given_hand old (shown_desk label is_closed after))
-    × TurnsDesk label is_closed desk after budget done
+    × TurnsDesk label given is_closed desk after budget done
 
 -- ---- the desk that a turn claims and gives back
 
@@ -181,18 +183,18 @@ Ticks label given ticked is_closed old new (turn.Shut peer) =
 Ticks label given ticked is_closed old new turn.NoDesk = Unit {0}
 Ticks label given ticked is_closed old new turn.Spent = Unit {0}
 
--- In each turn that had a desk, so many of its marks were taken; some were given to works and some
--- passed over.
-abbrev pub Counts : {W M : Type 0} → (W → ℕ) → (W → Bool) → HandState (DeskState W M)
-    → HandState (DeskState W M) → Turn → Type 0
-Counts label is_closed old new (turn.Served peer worked passed) =
-    Did label is_closed (λ desk after. HasTaken is_closed desk after worked passed) old new
-Counts label is_closed old new (turn.Idle peer) =
-    Did label is_closed (λ desk after. HasTaken is_closed desk after 0 0) old new
-Counts label is_closed old new (turn.Shut peer) =
-    Did label is_closed (λ desk after. HasTaken is_closed desk after 0 0) old new
-Counts label is_closed old new turn.NoDesk = Unit {0}
-Counts label is_closed old new turn.Spent = Unit {0}
+-- In each turn that had a desk, so many of its marks were taken. As many as the turn tells were
+-- given to works, the others were open marks or came to a closed work.
+abbrev pub Counts : {W M : Type 0} → (W → ℕ) → (W → List (Given M) → Type 0) → (W → Bool)
+    → HandState (DeskState W M) → HandState (DeskState W M) → Turn → Type 0
+Counts label given is_closed old new (turn.Served peer worked passed) =
+    Did label is_closed (λ desk after. HasTaken given is_closed desk after worked passed) old new
+Counts label given is_closed old new (turn.Idle peer) =
+    Did label is_closed (λ desk after. HasTaken given is_closed desk after 0 0) old new
+Counts label given is_closed old new (turn.Shut peer) =
+    Did label is_closed (λ desk after. HasTaken given is_closed desk after 0 0) old new
+Counts label given is_closed old new turn.NoDesk = Unit {0}
+Counts label given is_closed old new turn.Spent = Unit {0}
 
 -- The hand gave this desk back, and its latest work was ticked once if it was open.
 abbrev pub GivesTicked : {W M : Type 0} → (W → ℕ) → (W → List (Given M) → Type 0)

@@ -14,12 +14,14 @@ abbrev pub IsEnd : {M : Type 0} → Given M → Type 0
 IsEnd (given.Item item) = ⊥
 IsEnd given.End = Unit {0}
 
--- a work that is open, was given nothing and was never ticked
+-- a work that is open, was given nothing, was never ticked and let go of nothing
 pub record IsFresh {W M : Type 0} (was_given : W → List (Given M) → Type 0)
-    (ticked : W → List ℕ → Type 0) (is_closed : W → Bool) (work : W) : Type 0 where
+    (ticked : W → List ℕ → Type 0) (is_closed : W → Bool) (is_whole : W → Type 0) (work : W)
+    : Type 0 where
   pub nothing : was_given work []
   pub unticked : ticked work []
   pub live : is_closed work ≡ false
+  pub whole : is_whole work
 
 -- what a mark of an inbox gives to a work; an open mark gives nothing
 abbrev pub given_by : {M O : Type 0} → Queued M O → List (Given M)
@@ -50,6 +52,30 @@ first_of (first ∷ later) work = first
 -- the label of the work that its open mark brought.
 abbrev pub AreWorksOf : {W M : Type 0} → (W → ℕ) → ℕ → List (Queued M W) → List W → Type 0
 AreWorksOf label first marks works = map label works ≡ first ∷ map label (openings_of marks)
+
+-- it was given these too, behind what it had been given
+abbrev pub IsGivenMore : {W M : Type 0} → (W → List (Given M) → Type 0) → List (Given M) → W → W
+    → Type 0
+IsGivenMore {W} {M} was_given more old new =
+    (items : List (Given M)) → was_given old items → was_given new (items ++ more)
+
+-- it was given nothing
+abbrev pub IsGivenNone : {W M : Type 0} → (W → List (Given M) → Type 0) → W → W → Type 0
+IsGivenNone {W} {M} was_given old new =
+    (items : List (Given M)) → was_given old items → was_given new items
+
+-- the last of these lists
+abbrev pub last_of : {A : Type 0} → List (List A) → List A
+last_of [] = []
+last_of (list ∷ []) = list
+last_of (list ∷ next ∷ later) = last_of (next ∷ later)
+
+-- The first of the lists `more` goes on with the last of these lists. The others come behind.
+abbrev pub go_on : {A : Type 0} → List (List A) → List (List A) → List (List A)
+go_on [] more = more
+go_on (list ∷ []) [] = list ∷ []
+go_on (list ∷ []) (first ∷ more) = (list ++ first) ∷ more
+go_on (list ∷ next ∷ later) more = list ∷ go_on (next ∷ later) more
 
 -- The work was given a prefix of its connection, in order and each once. An open work was given all
 -- of it.

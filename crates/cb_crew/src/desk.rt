@@ -4,7 +4,7 @@ ghost use Rattle.cb_inbox.specs.Seat.{opening_seat};
 ghost use Rattle.cb_crew.specs.declared.desk.Step.TheVariants.{Worked, Passed};
 ghost use Rattle.cb_crew.specs.declared.work.Given.{Given};
 ghost use Rattle.cb_crew.specs.Work.{IsEnd, IsTicked, IsUnticked};
-ghost use Rattle.cb_crew.specs.Desk.{IsDesk, IsSameLine, IsServed, HasServedAll, NotTicked, PastAfter, Stepped, TickedOnce, desk_note, desk_state, desk_told, first_label};
+ghost use Rattle.cb_crew.specs.Desk.{IsDesk, IsSameLine, IsServed, HasServedAll, KeepsWorks, NotTicked, PastAfter, Stepped, TickedOnce, desk_note, desk_state, desk_told, first_label};
 
 use crate::past::PastWorks;
 use crate::ring_rule::Travels;
@@ -54,7 +54,7 @@ pub struct Desk<W: Work> {
 
 impl<W: Work> Model for Desk<W> {
     ghost use Rattle.std.specs.Prelude.{◌≡◌, ◌≤◌};
-    ghost use Rattle.cb_crew.specs.Desk.{DeskState, IsDesk, desk_state};
+    ghost use Rattle.cb_crew.specs.Desk.{DeskState, IsDesk, KeepsWorks, desk_state};
 
     ghost Value = { DeskState W W.Item };
 
@@ -62,7 +62,9 @@ impl<W: Work> Model for Desk<W> {
 
     ghost invariant = { λ a. IsDesk W.label W.given W.is_closed
         (desk_state a.inbox a.seat a.work a.past.works)
-        × (a.seat.inbox ≡ a.inbox.name) × (255 ≤ a.past.capacity) };
+        × (a.seat.inbox ≡ a.inbox.name) × (255 ≤ a.past.capacity)
+        × KeepsWorks W.label W.given W.ticked W.is_closed W.is_whole W.weight
+        (desk_state a.inbox a.seat a.work a.past.works) };
 }
 
 impl<W: Work> Travels for Desk<W> {
@@ -123,9 +125,11 @@ impl<W: Work> Desk<W> {
     }
 
     /// A fact for the prover: what the works of this desk were given of what was taken from its
-    /// inbox (`IsDesk`).
+    /// inbox (`IsDesk`), and what they keep (`KeepsWorks`).
     pub fn served(&self)
-        ensures { IsDesk W.label W.given W.is_closed self.now }
+        ensures given { IsDesk W.label W.given W.is_closed self.now }
+        ensures kept { KeepsWorks W.label W.given W.ticked W.is_closed W.is_whole W.weight
+            self.now }
     {
         // No effect when it runs: it tells the prover what the type keeps.
         let _ = &self.seat;
@@ -153,7 +157,8 @@ impl<W: Work> Desk<W> {
     /// Returns how many marks were given and how many passed over.
     pub fn serve<R: Wait>(&mut self, rt: &R, budget: u32) -> Count
         requires { budget ≤ 64 }
-        ensures served { IsServed W.is_closed self.old self.new budget result.worked result.passed }
+        ensures served { IsServed W.given W.is_closed self.old self.new budget result.worked
+            result.passed }
         ensures ticks { TickedOnce W.given W.ticked W.is_closed self.old self.new }
         ensures past { PastAfter W.label W.given W.ticked W.is_closed W.weight self.old self.new }
         ensures label { first_label W.label self.new ≡ first_label W.label self.old }
@@ -208,6 +213,9 @@ impl<W: Work> Desk<W> {
         ensures label { W.label self.new.work ≡ W.label self.old.work }
         ensures closed { W.is_closed self.old.work ≡ true → self.new.work ≡ self.old.work }
         ensures ticked { IsTicked W.given W.ticked W.is_closed self.old.work self.new.work }
+        ensures whole { W.is_whole self.old.work → W.is_whole self.new.work }
+        ensures given { (items : List (Given W.Item)) → W.given self.old.work items →
+            W.given self.new.work items }
     {
         if !self.work.closed() {
             self.work.tick(rt);
@@ -217,7 +225,7 @@ impl<W: Work> Desk<W> {
     /// Takes the mark at the front of the inbox and gives it to the work if that is open. An open
     /// mark brings the work of the next connection, and the work is past.
     fn advance<R: Wait>(&mut self, rt: &R) -> Step
-        ensures stepped { Stepped W.is_closed self.old self.new result }
+        ensures stepped { Stepped W.given W.is_closed self.old self.new result }
         ensures ticks { NotTicked W.ticked self.old self.new }
         ensures past { PastAfter W.label W.given W.ticked W.is_closed W.weight self.old self.new }
         ensures label { first_label W.label self.new ≡ first_label W.label self.old }
@@ -249,6 +257,7 @@ fn make_ready<W: Work>(work: &mut W) -> bool
         W.given work.new items }
     ensures label { W.label work.new ≡ W.label work.old }
     ensures ticked { IsUnticked W.ticked work.old work.new }
+    ensures whole { W.is_whole work.old → W.is_whole work.new }
 {
     !work.closed() && work.ready()
 }
@@ -263,6 +272,7 @@ fn give<W: Work, R: Wait>(rt: &R, work: &mut W, ready: bool, item: Given<W::Item
     ensures passed { ready ≡ false → (result ≡ Passed) × (work.new ≡ work.old) }
     ensures label { W.label work.new ≡ W.label work.old }
     ensures ticked { IsUnticked W.ticked work.old work.new }
+    ensures whole { W.is_whole work.old → W.is_whole work.new }
 {
     if !ready {
         return Step::Passed;

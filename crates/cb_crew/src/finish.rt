@@ -1,6 +1,6 @@
 ghost use Rattle.std.specs.Prelude.{◌≡◌, ◌<◌, ◌≤◌, ◌^◌, true, [], length, map, slice_index_or, vec_capacity};
 ghost use Rattle.cb_inbox.specs.Queued.{has_ended};
-ghost use Rattle.cb_crew.specs.Desk.{first_label};
+ghost use Rattle.cb_crew.specs.Desk.{KeepsWorks, NotTicked, first_label};
 ghost use Rattle.cb_crew.specs.Turn.{shown_desk};
 ghost use Rattle.cb_crew.specs.Ring.{StandsForAll};
 ghost use Rattle.cb_crew.specs.Crew.{AreAllDesks, AreHandlersOf, AreInOrder, AreSidesOf, HasPlace, IsFreeHandOf, all_queued, inbox_of};
@@ -25,7 +25,8 @@ impl<W: Work> Crew<W> {
     ///
     /// Promises (`IsFinished`): each connection was served by its own work. That work was given the
     /// connection's items in order, each once, and nothing after the end. It was given all of them
-    /// if it was given the end. All works are closed.
+    /// if it was given the end. All works are closed. The latest work of a desk let go of nothing,
+    /// and the past ones only as far as their bound asks. No work was ticked.
     pub fn finish<R: Wait>(
         &self,
         rt: &R,
@@ -34,7 +35,8 @@ impl<W: Work> Crew<W> {
     ) -> Vec<Desk<W>>
         requires sides { AreSidesOf self.now sides.items }
         requires handlers { AreHandlersOf self.now handlers.items }
-        ensures { IsFinished W.label W.given W.is_closed self.now sides.items result.items }
+        ensures { IsFinished W.label W.given W.ticked W.is_closed W.is_whole W.weight self.now
+            sides.items result.items }
     {
         let (hand, desks) = self.gather(handlers);
         let mut desks = self.keep_all(rt, hand, desks);
@@ -91,7 +93,8 @@ impl<W: Work> Crew<W> {
     ) -> Vec<Desk<W>>
         requires sides { AreSidesOf self.now sides.items }
         requires desks { AreInOrder self.now (map (shown_desk W.label W.is_closed) desks.items) }
-        ensures { IsFinished W.label W.given W.is_closed self.now sides.items result.items }
+        ensures { IsFinished W.label W.given W.ticked W.is_closed W.is_whole W.weight self.now
+            sides.items result.items }
     {
         for (peer, side) in sides.into_iter().enumerate() {
             settle(rt, &self.inboxes[peer], side, &mut desks[peer]);
@@ -112,6 +115,8 @@ fn settle<W: Work, R: Wait>(
     ensures same { desk.new.inbox ≡ desk.old.inbox }
     ensures label { first_label W.label desk.new ≡ first_label W.label desk.old }
     ensures settled { IsSettled W.label W.given W.is_closed (all_queued side) desk.new }
+    ensures kept { KeepsWorks W.label W.given W.ticked W.is_closed W.is_whole W.weight desk.new }
+    ensures ticks { NotTicked W.ticked desk.old desk.new }
 {
     match side {
         ReaderSide::Live(mut reader) => {
@@ -140,6 +145,8 @@ fn settle_ended<W: Work, R: Wait>(
     ensures same { desk.new.inbox ≡ desk.old.inbox }
     ensures label { first_label W.label desk.new ≡ first_label W.label desk.old }
     ensures settled { IsSettled W.label W.given W.is_closed ended.queued desk.new }
+    ensures kept { KeepsWorks W.label W.given W.ticked W.is_closed W.is_whole W.weight desk.new }
+    ensures ticks { NotTicked W.ticked desk.old desk.new }
 {
     desk.learn(ended.note(inbox));
     desk.serve_all(rt);

@@ -98,7 +98,7 @@ impl<W: Work> Handler<W> {
         ensures same { IsHandlerOf crew.now self.new × (self.new.room ≡ self.old.room) }
         ensures ticks { Ticks W.label W.given W.ticked W.is_closed self.old.hand self.new.hand
             result }
-        ensures counts { Counts W.label W.is_closed self.old.hand self.new.hand result }
+        ensures counts { Counts W.label W.given W.is_closed self.old.hand self.new.hand result }
     {
         match self.begin(rt, crew) {
             Ok(desk) => self.complete(rt, crew, desk, budget),
@@ -129,7 +129,7 @@ impl<W: Work> Handler<W> {
         ensures brings { Brings self.new.hand result.0 peer note result.1 }
         ensures ticks { Ticks W.label W.given W.ticked W.is_closed self.old.hand self.new.hand
             result.0 }
-        ensures counts { Counts W.label W.is_closed self.old.hand self.new.hand result.0 }
+        ensures counts { Counts W.label W.given W.is_closed self.old.hand self.new.hand result.0 }
     {
         match self.begin(rt, crew) {
             Ok(mut desk) => {
@@ -161,7 +161,8 @@ impl<W: Work> Handler<W> {
         requires hand { IsHandOf crew.now.ring self.old.hand × (self.old.hand.stage ≡ running) }
         requires desk { IsClaimed W.label self.old.hand desk }
         requires budget { (1 ≤ budget) × (budget ≤ 64) }
-        ensures serves { Serves W.label W.is_closed self.old.hand self.new.hand desk budget result }
+        ensures serves { Serves W.label W.given W.is_closed self.old.hand self.new.hand desk budget
+            result }
         ensures ticks { GivesTicked W.label W.given W.ticked W.is_closed self.old.hand self.new.hand
             desk }
         ensures same { (self.new.turns ≡ self.old.turns) × (self.new.room ≡ self.old.room) }
@@ -191,7 +192,7 @@ fn hear<W: Work>(
 /// Serves a desk. Returns what was done.
 fn serve_desk<W: Work, R: Wait>(rt: &R, desk: &mut Desk<W>, budget: u32) -> Turn
     requires { (1 ≤ budget) × (budget ≤ 64) }
-    ensures turns { TurnsDesk W.label W.is_closed desk.old desk.new budget result }
+    ensures turns { TurnsDesk W.label W.given W.is_closed desk.old desk.new budget result }
     ensures ticks { TickedOnce W.given W.ticked W.is_closed desk.old desk.new }
 {
     let peer = desk.peer();

@@ -101,7 +101,7 @@ impl<W: Work> Crew<W> {
         capacity: usize,
     ) -> Result<NewCrew<W>, (Vec<W>, Fault)>
         requires peers { (1 ≤ length works.items) × (length works.items ≤ 64) }
-        requires fresh { All (IsFresh W.given W.ticked W.is_closed) works.items }
+        requires fresh { All (IsFresh W.given W.ticked W.is_closed W.is_whole) works.items }
         requires handlers { (1 ≤ handlers) × (handlers ≤ 16) }
         requires capacity { (1 ≤ capacity) × (capacity ≤ 1024) }
         ensures crew { IfOk result
@@ -129,7 +129,7 @@ impl<W: Work> Crew<W> {
         requires hand { IsOpeningHandOf self.now hand.old }
         requires vacancies { vacancies.items ≡ self.now.inboxes }
         requires works { (length works.items ≡ length self.now.inboxes)
-            × All (IsFresh W.given W.ticked W.is_closed) works.items }
+            × All (IsFresh W.given W.ticked W.is_closed W.is_whole) works.items }
         requires labels { map W.label works.items ≡ self.now.labels }
         ensures { IsFreeHandOf self.now hand.new × StandsForAll hand.new }
     {
@@ -257,7 +257,7 @@ impl<W: Work> Unmanned<W> {
     /// The crew with these works. It allocates nothing.
     fn man<R: Wait>(self, rt: &R, alloc: Global, works: Vec<W>) -> NewCrew<W>
         requires works { (length works.items ≡ length self.inboxes)
-            × All (IsFresh W.given W.ticked W.is_closed) works.items }
+            × All (IsFresh W.given W.ticked W.is_closed W.is_whole) works.items }
         requires labels { map W.label works.items ≡ self.labels }
         ensures crew { result.crew ≡ self }
         ensures seats { AreOpeningSeats result.crew result.readers.items }

@@ -40,6 +40,9 @@ pub trait Work: Drop {
     /// The work accepts nothing more.
     ghost is_closed: { Self → Bool };
 
+    /// The work keeps all that it may let go of: it let go of nothing.
+    ghost is_whole: { Self → Type 0 };
+
     /// How many bytes the work keeps that it can let go of once its connection is past, about.
     ghost weight: { Self → ℕ };
 
@@ -63,7 +66,8 @@ pub trait Work: Drop {
         ensures label { label self.new ≡ label self.old }
         ensures given { (items : List (Given Self.Item)) → given self.old items →
             given self.new items }
-        ensures ticked { (at : List ℕ) → ticked self.old at → ticked self.new at };
+        ensures ticked { (at : List ℕ) → ticked self.old at → ticked self.new at }
+        ensures whole { is_whole self.old → is_whole self.new };
 
     /// Handles the next item, or the end. The end closes the work.
     fn step<R: Wait>(&mut self, rt: &R, item: Given<Self::Item>)
@@ -73,7 +77,8 @@ pub trait Work: Drop {
             given self.new (items ++ item ∷ []) }
         ensures end { IsEnd item → is_closed self.new ≡ true }
         ensures label { label self.new ≡ label self.old }
-        ensures ticked { (at : List ℕ) → ticked self.old at → ticked self.new at };
+        ensures ticked { (at : List ℕ) → ticked self.old at → ticked self.new at }
+        ensures whole { is_whole self.old → is_whole self.new };
 
     /// What is to be done once in each turn, whether or not an item waits.
     fn tick<R: Wait>(&mut self, rt: &R)
@@ -82,7 +87,8 @@ pub trait Work: Drop {
         ensures given { (items : List (Given Self.Item)) → given self.old items →
             given self.new items }
         ensures ticked { (items : List (Given Self.Item)) (at : List ℕ) → given self.old items →
-            ticked self.old at → ticked self.new (at ++ length items ∷ []) };
+            ticked self.old at → ticked self.new (at ++ length items ∷ []) }
+        ensures whole { is_whole self.old → is_whole self.new };
 
     /// How many bytes the work keeps that it can let go of; `u64::MAX` if that is more.
     fn weighs(&self) -> u64
@@ -99,7 +105,8 @@ pub trait Work: Drop {
         ensures ticked { (at : List ℕ) → ticked self.old at → ticked self.new at };
 }
 
-/// A work that may begin a connection: it is open, was given nothing and was never ticked.
+/// A work that may begin a connection: it is open, was given nothing, was never ticked and let go
+/// of nothing.
 #[derive(Drop)]
 pub struct Fresh<W: Work> {
     work: W,
@@ -112,19 +119,19 @@ impl<W: Work> Model for Fresh<W> {
 
     ghost view = { λ a. a.work };
 
-    ghost invariant = { λ a. IsFresh W.given W.ticked W.is_closed a.work };
+    ghost invariant = { λ a. IsFresh W.given W.ticked W.is_closed W.is_whole a.work };
 }
 
 impl<W: Work> Opening for Fresh<W> {
     ghost use Rattle.cb_crew.specs.Work.{IsFresh};
 
-    ghost fresh = { λ work. IsFresh W.given W.ticked W.is_closed work };
+    ghost fresh = { λ work. IsFresh W.given W.ticked W.is_closed W.is_whole work };
 }
 
 impl<W: Work> Fresh<W> {
-    /// Wraps a work that is open, was given nothing and was never ticked.
+    /// Wraps a work that is open, was given nothing, was never ticked and let go of nothing.
     pub fn new(work: W) -> Fresh<W>
-        requires { IsFresh W.given W.ticked W.is_closed work }
+        requires { IsFresh W.given W.ticked W.is_closed W.is_whole work }
         ensures { result ≡ work }
     {
         Fresh { work }
@@ -133,7 +140,7 @@ impl<W: Work> Fresh<W> {
     /// The work itself.
     pub fn into_work(self) -> W
         ensures work { result ≡ self }
-        ensures fresh { IsFresh W.given W.ticked W.is_closed result }
+        ensures fresh { IsFresh W.given W.ticked W.is_closed W.is_whole result }
     {
         self.work
     }

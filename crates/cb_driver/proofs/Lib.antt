@@ -1,3 +1,4 @@
+pub mod Counts
 pub mod Going
 pub mod Keeping
 pub mod Obeying

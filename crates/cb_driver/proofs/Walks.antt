@@ -23,3 +23,12 @@ walked_more K all rest rest' done new t s was steps pushed kept = record {
 -- none is left
 pub walked_all : {T S : Type 0} (K : T → S → Type 0) (all rest : List T) (done : List S) → Walked K all rest done → rest ≡ [] → AllZip K all done
 walked_all K all rest done was none = subst (λ ts. AllZip K ts done) (sym (was.all_is ∙ ap (λ ts. was.front ++ ts) none ∙ append-nil was.front)) was.each
+
+-- what holds of each pair of two lists, and of each pair of the second and a third
+pub zip_through : {A B C : Type 0} (K : A → B → Type 0) (T : B → C → Type 0) (R : B → C → Type 0) → ((a : A) (b : B) (c : C) → K a b → T b c → R b c) → (xs : List A) (ys : List B) (zs : List C) → AllZip K xs ys → AllZip T ys zs → AllZip R ys zs
+zip_through K T R so [] [] [] k t = tt
+zip_through K T R so [] [] (c ∷ zs) k t = absurd t
+zip_through K T R so [] (b ∷ ys) zs k t = absurd k
+zip_through K T R so (a ∷ xs) [] zs k t = absurd k
+zip_through K T R so (a ∷ xs) (b ∷ ys) [] k t = absurd t
+zip_through K T R so (a ∷ xs) (b ∷ ys) (c ∷ zs) k t = (so a b c k.0 t.0, zip_through K T R so xs ys zs k.1 t.1)

@@ -14,7 +14,7 @@ mod report;
 mod running;
 mod stats;
 
-pub use auditing::audit_end;
+pub use auditing::{audit_end, finish_audited};
 pub use deeds::{perform, tip_of};
 pub use host::Host;
 pub use moving::moved_of;

@@ -5,9 +5,8 @@ ghost use Rattle.std.specs.List.{AllZip};
 ghost use Rattle.cb_run.specs.declared.ending.Halt.TheVariants.{Memory, WriteFailed};
 ghost use Rattle.cb_run.specs.Ending.{HasCause};
 ghost use Rattle.cb_driver.specs.declared.report.NodeReport.{NodeReport};
-ghost use Rattle.cb_audit.specs.Desks.{traces_of};
 ghost use Rattle.cb_control.specs.Outcomes.{LacksOrFails, status_of};
-ghost use Rattle.cb_driver.specs.Summary.{AreOfAll, RunsKnown, TellsReport, not_started_text, reports_text, tally_reported};
+ghost use Rattle.cb_driver.specs.Summary.{AreOfAll, AreReported, RunsKnown, TellsReport, not_started_text, reports_text, tally_reported};
 
 use crate::nodes::{Nodes, Sizes};
 use crate::playing::{Played, play};
@@ -48,7 +47,7 @@ pub fn run_nodes<N: Host, R: Source, W: Sink>(
     requires handlers { (1 ≤ orders.sizes.handlers) × (orders.sizes.handlers ≤ 16) }
     // For a reader and a writer whose bytes are known: the status, and what is printed for the
     // whole input.
-    ensures runs { IfOk result (RunsKnown orders.sizes.nodes orders.stats
+    ensures runs { IfOk result (RunsKnown (AreReported N) orders.sizes.nodes orders.stats
         (R.remaining reader.old) (W.contents writer.old) (W.contents writer.new)) }
     // For every reader and writer: the status, and why a run ends early.
     ensures status { IfOk result (λ status. (status ≡ 0) ⊎ ((status ≡ 2) ⊎ (status ≡ 3))) }
@@ -93,7 +92,9 @@ fn conclude<N: Wait + Drop, W: Sink>(
 ) -> Result<u8, Halt>
     requires few { length ends.now ≤ 8 }
     ensures printed { IfOk result (λ status. (reports : List NodeReport) × (rest : List ℕ)
-        × AreOfAll (length ends.now) reports × (stats ≡ false → rest ≡ [])
+        × AreOfAll (length ends.now) reports
+        × AllZip (λ end report. TellsReport end.desks.items report) ends.now reports
+        × (stats ≡ false → rest ≡ [])
         × Appends (W.contents writer.old) (W.contents writer.new) (reports_text reports ++ rest)
         × (status ≡ status_of (tally_reported tally reports))) }
     ensures err { IfErr result (LacksOrFails (W.has_failed writer.new)) }
@@ -125,8 +126,8 @@ fn reports_of<N: Wait + Drop>(
 ) -> Result<Vec<NodeReport>, Halt>
     requires few { length ends.now ≤ 8 }
     ensures all { IfOk result (λ reports. AreOfAll (length ends.now) reports.items) }
-    ensures told { IfOk result (λ reports. AllZip (λ end report.
-        TellsReport (traces_of end.desks.items) report.look report.agrees) ends.now reports.items) }
+    ensures told { IfOk result (λ reports.
+        AllZip (λ end report. TellsReport end.desks.items report) ends.now reports.items) }
     ensures memory { IsOkUnless result Memory }
 {
     let mut reports = Vec::new(alloc);
@@ -145,8 +146,7 @@ fn report_of<N: Wait + Drop>(
     end: &NodeEnd<N>,
 ) -> Result<NodeReport, Halt>
     ensures node { IfOk result (λ report. report.node ≡ node) }
-    ensures told { IfOk result (λ report.
-        TellsReport (traces_of end.now.desks.items) report.look report.agrees) }
+    ensures told { IfOk result (λ report. TellsReport end.now.desks.items report) }
     ensures memory { IsOkUnless result Memory }
 {
     let (look, verdict) = audit_end(rt, alloc, end);

@@ -40,6 +40,7 @@ pub headline_of : {S H F : Type 0} (crew : CrewState) (desks : List (DeskState (
 headline_of crew desks finished = record {
   sides = finished.sides;
   readers = finished.own;
+  read = finished.read;
   inboxes = finished.headline.inboxes;
   taken = zip_map (ServesSide (λ sink. None)) TookAll (λ side desk served. served.taken) finished.sides desks finished.headline.each;
   each = zip_map (ServesSide (λ sink. None)) KeepsPeer (peer_of (λ sink. None)) finished.sides desks finished.headline.each;

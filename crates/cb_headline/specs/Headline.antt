@@ -13,6 +13,7 @@ use Rattle.cb_crew.specs.Crew.{AreSidesOf, CrewState, all_queued, names_of}
 use Rattle.cb_crew.specs.Headline.{works_of}
 use Rattle.cb_reader.specs.declared.input.Input.{Input}
 use Rattle.cb_work.specs.PeerWork.{WorkState, events_of}
+use Rattle.cb_peers.specs.Reading.{QueuedWhatItRead}
 
 -- A connection: the work that served it, and what its reader queued.
 pub record KeepsConnection {S H F : Type 0} (work : WorkState S H F) (queued : List (Given Input))
@@ -50,6 +51,9 @@ pub record KeepsHeadline {S H F : Type 0} (crew : CrewState)
     (desks : List (DeskState (WorkState S H F) Input)) : Type 0 where
   pub sides : List (ReaderSide Input (WorkState S H F))
   pub readers : AreSidesOf crew sides
+  -- "Those its reader queued": of each connection, a beginning of what some bytes spell, each item
+  -- once and in order. That its socket's reads gave them is the promise of its reader's thread.
+  pub read : All QueuedWhatItRead sides
   pub inboxes : map (λ desk. desk.inbox.name) desks ≡ names_of crew
   pub taken : AllZip TookAll sides desks
   pub each : AllZip KeepsPeer sides desks

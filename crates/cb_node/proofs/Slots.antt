@@ -8,6 +8,7 @@ use Rattle.std.proofs.lemmas.List.Elements.{All-cons, All-get_or, All-nil}
 use Rattle.std.specs.declared.thread.PromisedHandle.{PromisedHandle}
 use Rattle.cb_inbox.specs.Seat.{InboxState}
 use Rattle.cb_hall.specs.Badge.{AreBadges, BadgeState, first_of, fresh_badge}
+use Rattle.cb_work.specs.PeerWork.{label_of}
 use Rattle.cb_crew.specs.declared.reader_side.ReaderSide.{ReaderSide}
 use Rattle.cb_crew.specs.Desk.{DeskState}
 use Rattle.cb_crew.specs.Turn.{HandlerState}
@@ -18,7 +19,7 @@ use Rattle.cb_slots.specs.declared.fault.NodeFault.{NodeFault}
 use Rattle.cb_slots.specs.declared.fault.NodeFault.TheVariants.{NoSlot}
 use Rattle.cb_slots.specs.Choosing.{HasNone, IsChosen, IsLowest}
 use Rattle.cb_slots.specs.Slot.{AreAlike, AreAlikeBut, AreSlotsOf, AreThreadsOf, IsInboxOf, IsNew, SlotState, WaitsAt, attached, inboxes_of, names_in, new_slot, uses_of}
-use Rattle.cb_node.specs.Node.{IsServed, NodeState, end_of, first_of as first_slot, node_state, with_used}
+use Rattle.cb_node.specs.Node.{IsServed, NodeState, end_of, first_labels, first_of as first_slot, node_state, with_used}
 
 -- ---- one slot changes
 
@@ -175,6 +176,27 @@ all_new (p ∷ peers) = All-cons IsNew _ _ (refl, refl) (all_new peers)
 
 pub badges_new : (n : ℕ) (badges : List BadgeState) → AreBadges n badges → All IsNew badges
 badges_new n badges are = subst (All IsNew) (sym are) (all_new (range_with_len 0 n))
+
+abbrev pub badge_peer : BadgeState → ℕ
+badge_peer badge = badge.connection.peer
+
+abbrev pub badge_label : BadgeState → ℕ
+badge_label badge = label_of badge.connection
+
+-- their numbers and labels are those of the slots, in order
+peers_back : (peers : List ℕ) → map (λ (badge : BadgeState). badge.connection.peer) (map (λ (p : ℕ). fresh_badge (first_of p)) peers) ≡ peers
+peers_back [] = refl
+peers_back (p ∷ peers) = ap (λ ps. p ∷ ps) (peers_back peers)
+
+pub badges_peers : (n : ℕ) (badges : List BadgeState) → AreBadges n badges → map (λ (badge : BadgeState). badge.connection.peer) badges ≡ range_with_len 0 n
+badges_peers n badges are = ap (map (λ (badge : BadgeState). badge.connection.peer)) are ∙ peers_back (range_with_len 0 n)
+
+labels_back : (peers : List ℕ) → map (λ (badge : BadgeState). label_of badge.connection) (map (λ (p : ℕ). fresh_badge (first_of p)) peers) ≡ map (λ (slot : ℕ). label_of (record { peer = slot; generation = 1 })) peers
+labels_back [] = refl
+labels_back (p ∷ peers) = ap (λ ls. label_of (first_of p) ∷ ls) (labels_back peers)
+
+pub badges_labels : (n : ℕ) (badges : List BadgeState) → AreBadges n badges → map (λ (badge : BadgeState). label_of badge.connection) badges ≡ first_labels n
+badges_labels n badges are = ap (map (λ (badge : BadgeState). label_of badge.connection)) are ∙ labels_back (range_with_len 0 n)
 
 pub badges_count : (n : ℕ) (badges : List BadgeState) → AreBadges n badges → length badges ≡ n
 badges_count n badges are = ap length are ∙ length-map (range_with_len 0 n) (λ (p : ℕ). fresh_badge (first_of p)) ∙ length-range_with_len 0 n

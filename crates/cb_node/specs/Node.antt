@@ -1,12 +1,14 @@
 -- How contracts see a node.
-use Rattle.std.specs.Prelude.{◌≡◌, ℕ, pos, nat_lt, ◌+◌, Bool, true, false, List, length, replicate, Option, None, Some, Result, Ok, Err, IfOk, OnErr, slice_set}
+use Rattle.std.specs.Prelude.{◌≡◌, ℕ, pos, nat_lt, ◌+◌, Bool, true, false, List, length, map, replicate, All, Option, None, Some, Result, Ok, Err, IfOk, OnErr, slice_set}
+use Rattle.std.specs.List.{range_with_len}
 use Rattle.std.specs.declared.net.socket_addr.SocketAddr.{SocketAddr}
 use Rattle.cb_crew.specs.declared.reader_side.ReaderSide.{ReaderSide}
 use Rattle.cb_crew.specs.Desk.{DeskState}
 use Rattle.cb_crew.specs.Crew.{AreSidesOf, CrewState}
 use Rattle.cb_reader.specs.declared.input.Input.{Input}
-use Rattle.cb_work.specs.PeerWork.{WorkState}
+use Rattle.cb_work.specs.PeerWork.{WorkState, label_of}
 use Rattle.cb_peers.specs.Headline.{IsHeadline}
+use Rattle.cb_peers.specs.Reading.{QueuedWhatItRead}
 use Rattle.cb_peer_state.specs.declared.settings.Settings.{Settings}
 use Rattle.cb_slots.specs.declared.fault.NodeFault.{NodeFault}
 use Rattle.cb_slots.specs.declared.fault.NodeFault.TheVariants.{NoSlot}
@@ -41,15 +43,22 @@ session_settings settings slot = record {
   salt = settings.salt;
 }
 
+-- the labels of the works of so many slots' first connections, in their order
+abbrev pub first_labels : ℕ → List ℕ
+first_labels count =
+    map (λ slot. label_of (record { peer = slot; generation = 1 })) (range_with_len 0 count)
+
 -- ---- what calls do
 
--- a node of so many slots, none of which ever had a socket
+-- A node of so many slots, none of which ever had a socket. The first work of each is that of the
+-- slot's first connection.
 pub record IsNewNode (inbound outbound handlers : ℕ) (made : NodeState) : Type 0 where
   pub inbound_is : made.inbound ≡ inbound
   pub slots : length made.crew.inboxes ≡ inbound + outbound
   pub handlers_is : made.crew.handlers ≡ handlers
   pub quiet : made.listens ≡ None
   pub unused : made.used ≡ replicate (inbound + outbound) false
+  pub works : made.crew.labels ≡ first_labels (inbound + outbound)
 
 -- this slot has or had a socket
 abbrev pub with_used : NodeState → ℕ → NodeState
@@ -99,9 +108,11 @@ IsAdmitted old new (Ok None) = new ≡ old
 IsAdmitted old new (Err fault) = IsServed true old new (Err fault)
 
 -- The node's crew has finished: its peers' readers left these sides, one of each inbox, in order,
--- and the desks served all that they queued. Nothing is told of the bytes that went out by sockets.
+-- and the desks served all that they queued. Of each connection they queued what bytes spell.
+-- Nothing is told of the bytes that went out by sockets.
 pub record HasFinished {S H F : Type 0} (crew : CrewState)
     (desks : List (DeskState (WorkState S H F) Input)) : Type 0 where
   pub sides : List (ReaderSide Input (WorkState S H F))
   pub own : AreSidesOf crew sides
+  pub read : All QueuedWhatItRead sides
   pub headline : IsHeadline (λ sink. None) crew sides desks

@@ -1,6 +1,8 @@
 //! What is made for a connection before it has a socket.
-ghost use Rattle.std.specs.Prelude.{◌≡◌, [], None, length, All, IfErr, IfOk};
+ghost use Rattle.std.specs.Prelude.{◌≡◌, [], None, length, map, All, IfErr, IfOk};
 ghost use Rattle.cb_work.specs.Flags.{HasLooked};
+ghost use Rattle.cb_work.specs.PeerWork.{label_of};
+ghost use Rattle.cb_slots.specs.Linking.{IsLinkOf, link_label};
 ghost use Rattle.cb_slots.specs.Slot.{IsNew};
 ghost use Rattle.cb_node.specs.Node.{session_settings};
 
@@ -32,7 +34,13 @@ impl<R: Wait + Copy + Drop> Service<R> {
     /// The first connections of slots, under these badges. Fails only with `Fault::Memory`.
     pub fn firsts(&self, badges: Vec<Badge>) -> Result<Vec<NextConnection<NodeWork<R>>>, Fault>
         requires { All IsNew badges.items }
-        ensures { IfOk result (λ firsts. length firsts.items ≡ length badges.items) }
+        ensures count { IfOk result (λ firsts. length firsts.items ≡ length badges.items) }
+        ensures links { IfOk result
+            (λ firsts. map (λ first. first.link.peer) firsts.items
+            ≡ map (λ badge. badge.connection.peer) badges.items) }
+        ensures labels { IfOk result
+            (λ firsts. map (λ first. link_label first.link) firsts.items
+            ≡ map (λ badge. label_of badge.connection) badges.items) }
     {
         let mut firsts = Vec::with_capacity(self.alloc, badges.len())?;
         for badge in badges {
@@ -51,8 +59,10 @@ impl<R: Wait + Copy + Drop> Service<R> {
         ensures badge { IfOk result (λ next. next.work.badge ≡ badge) }
         ensures settings { IfOk result (λ next. next.work.trace.settings
             ≡ session_settings self.now.settings badge.connection.peer) }
-        ensures link { IfOk result
-            (λ next. next.link.generation ≡ badge.connection.generation) }
+        // The badge, the link, and the link into whose outbox the session writes are of one
+        // connection.
+        ensures link { IfOk result (λ next. IsLinkOf badge.connection next.link
+            × IsLinkOf badge.connection next.work.sink.link) }
         ensures back { IfErr result (λ back. back.0 ≡ badge) }
     {
         let connection = badge.connection();
@@ -84,16 +94,18 @@ impl<R: Wait + Copy + Drop> Service<R> {
     /// The ends of this connection's session. Fails only with `Fault::Memory`.
     fn ends(&self, connection: Connection) -> Result<Ends<R>, Fault>
         ensures slot { IfOk result (λ ends. ends.outlet.slot ≡ connection.peer) }
-        ensures sink { IfOk result (λ ends. ends.outlet.sink.failure ≡ None) }
+        ensures sink { IfOk result (λ ends. (ends.outlet.sink.failure ≡ None)
+            × IsLinkOf connection ends.outlet.sink.link) }
         ensures flags { IfOk result (λ ends. HasLooked ends.flags.looked ends.flags.found []) }
-        ensures link { IfOk result (λ ends. ends.link.generation ≡ connection.generation) }
+        ensures link { IfOk result (λ ends. IsLinkOf connection ends.link) }
     {
-        let link = self.links.link(self.alloc, connection.generation)?;
+        let Connection { peer, generation } = connection;
+        let link = self.links.link(self.alloc, peer, generation)?;
         let (one, status) = (link.clone()?, link.status.clone()?);
         let hall = SharedHall::new(self.rt, self.hall.clone()?, status.clone()?);
-        self.links.add(&self.rt, connection.peer, link.clone()?)?;
+        self.links.add(&self.rt, peer, link.clone()?)?;
         Ok(Ends {
-            outlet: Outlet::new(connection.peer, OutboxSink::new(self.rt, one)),
+            outlet: Outlet::new(peer, OutboxSink::new(self.rt, one)),
             hall,
             flags: PeerFlags::new(status),
             link,

@@ -83,7 +83,7 @@ impl<R: Threads + Wait + Copy + Send + Drop + 'static> Service<R> {
             return Ok(number);
         }
         for number in first..end {
-            if self.ready(common, &mut slots[usize::from(number)], number)? {
+            if self.ready(common, &mut slots[usize::from(number)])? {
                 return Ok(number);
             }
         }
@@ -96,10 +96,9 @@ impl<R: Threads + Wait + Copy + Send + Drop + 'static> Service<R> {
         &self,
         common: &Common<NodeWork<R>>,
         slot: &mut Slot<NodeWork<R>>,
-        number: u16,
     ) -> Result<bool, NodeFault>
         requires slot { IsInboxOf common.now.crew slot.old.inbox }
-        requires number { number < 64 }
+        requires few { slot.old.inbox.peer < 64 }
         ensures same { (slot.new.inbox ≡ slot.old.inbox) × (slot.new.used ≡ slot.old.used) }
         ensures waits { result ≡ Ok true → slot.new.waits ≡ true }
         ensures kinds { result ≢ Err NoSlot }
@@ -112,20 +111,20 @@ impl<R: Threads + Wait + Copy + Send + Drop + 'static> Service<R> {
             return Ok(true);
         }
         if slot.lacks_next() {
-            self.prepare(slot, number)?;
+            self.prepare(slot)?;
         }
         Ok(slot.open(&self.rt, &common.crew, &common.signals))
     }
 
     /// Makes a slot's next connection ready to be opened.
-    fn prepare(&self, slot: &mut Slot<NodeWork<R>>, number: u16) -> Result<(), NodeFault>
-        requires { number < 64 }
+    fn prepare(&self, slot: &mut Slot<NodeWork<R>>) -> Result<(), NodeFault>
+        requires { slot.old.inbox.peer < 64 }
         ensures same { slot.new ≡ slot.old }
         ensures kinds { result ≢ Err NoSlot }
     {
         let badge = match slot.take_badge() {
             Some(badge) => badge,
-            None => self.open_in_hall(number)?,
+            None => self.open_in_hall(slot.number())?,
         };
         match self.connection(badge) {
             Ok(next) => {
@@ -143,6 +142,7 @@ impl<R: Threads + Wait + Copy + Send + Drop + 'static> Service<R> {
     fn open_in_hall(&self, number: u16) -> Result<Badge, Fault>
         requires { number < 64 }
         ensures badge { IfOk result IsNew }
+        ensures slot { IfOk result (λ badge. badge.connection.peer ≡ number) }
     {
         let mut hall = self.hall.lock(&self.rt);
         hall.open(number)

@@ -1,7 +1,7 @@
 //! How a node starts.
 ghost use Rattle.std.specs.Prelude.{◌≡◌, ◌+◌, ◌≤◌, length, IfOk};
 ghost use Rattle.cb_crew.specs.Crew.{AreHandlersOf};
-ghost use Rattle.cb_node.specs.Node.{IsNewNode};
+ghost use Rattle.cb_node.specs.Node.{IsNewNode, first_labels};
 
 use crate::node::Node;
 use crate::opening::NodeWork;
@@ -77,6 +77,8 @@ fn man<R: Threads + Wait + Copy + Send + Drop + 'static>(
     requires count { length crewed.common.crew.inboxes
         ≡ service.settings.inbound + service.settings.outbound }
     requires most { service.settings.inbound + service.settings.outbound ≤ 64 }
+    requires works { crewed.common.crew.labels
+        ≡ first_labels (service.settings.inbound + service.settings.outbound) }
     requires handlers { AreHandlersOf crewed.common.crew crewed.handlers.items
         × (crewed.common.crew.handlers ≡ service.settings.handlers) }
     ensures { IfOk result (IsNewNode service.settings.inbound service.settings.outbound

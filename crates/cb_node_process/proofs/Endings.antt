@@ -2,25 +2,24 @@
 use Rattle.std.proofs.Common.{◌≡◌, ◌⊎◌, ◌↔◌, ℕ, Bool, true, List, Option, Result, Ok, Err, IfOk, IfErr, OnOk, inl, inr}
 use Rattle.cb_run.specs.declared.ending.Halt.{Halt}
 use Rattle.cb_control.specs.declared.verdict.Verdict.{Verdict}
-use Rattle.cb_control.specs.declared.verdict.Verdict.TheVariants as verdicts
 use Rattle.cb_control.specs.declared.reply.Reply.TheVariants as replies
-use Rattle.cb_control.specs.Outcomes.{LacksOrFails}
+use Rattle.cb_control.specs.Outcomes.{LacksOrFails, says_yes}
 use Rattle.cb_node_process.specs.Telling.{StopsEarly, Tells, TellsAll, TellsOpening}
 use Rattle.cb_node_process.specs.declared.start_fault.StartFault.{StartFault}
 use Rattle.cb_node_process.proofs.Runs.{tells_all}
 
 -- the audit's answer is the last line
-pub told_all : {E : Type 0} (r : Result ℕ E) (a b c : Option (List ℕ)) (verdict : Verdict) (well served reached : Bool) → TellsOpening (served ≡ true) a b
-    → (well ≡ true → (verdict ≡ verdicts.Yes) × ((reached ≡ true) × (served ≡ true)))
-    → IfOk r (λ status. Tells b c (replies.Audit verdict)) → IfOk r (λ status. (status ≡ 0) ↔ (well ≡ true)) → IfOk r (λ status. (status ≡ 0) ⊎ (status ≡ 3)) → IfOk r (TellsAll a c)
-told_all (Ok status) a b c verdict well served reached o says last full which =
-    tells_all (served ≡ true) a b c verdict status (λ zero. (says (full.0 zero)).1.1) (λ zero. (says (full.0 zero)).0) o last which
-told_all (Err halt) a b c verdict well served reached o says last full which = tt
+pub told_all : {E : Type 0} (IsAudit : Verdict → Type 0) (r : Result ℕ E) (a b c : Option (List ℕ)) (verdict : Verdict) (well served reached : Bool) → IsAudit verdict → TellsOpening (served ≡ true) a b
+    → (well ≡ true → (says_yes verdict ≡ true) × ((reached ≡ true) × (served ≡ true)))
+    → IfOk r (λ status. Tells b c (replies.Audit verdict)) → IfOk r (λ status. (status ≡ 0) ↔ (well ≡ true)) → IfOk r (λ status. (status ≡ 0) ⊎ (status ≡ 3)) → IfOk r (TellsAll IsAudit a c)
+told_all IsAudit (Ok status) a b c verdict well served reached is o says last full which =
+    tells_all IsAudit (served ≡ true) a b c verdict status is (λ zero. (says (full.0 zero)).1.1) (λ zero. (says (full.0 zero)).0) o last which
+told_all IsAudit (Err halt) a b c verdict well served reached is o says last full which = tt
 
 -- by which status
-pub which : (a b : Option (List ℕ)) (r : Result ℕ Halt) → IfOk r (TellsAll a b) → IfOk r (λ status. (status ≡ 0) ⊎ (status ≡ 3))
-which a b (Ok status) told = told.9.1
-which a b (Err halt) told = tt
+pub which : (IsAudit : Verdict → Type 0) (a b : Option (List ℕ)) (r : Result ℕ Halt) → IfOk r (TellsAll IsAudit a b) → IfOk r (λ status. (status ≡ 0) ⊎ (status ≡ 3))
+which IsAudit a b (Ok status) told = told.10.1
+which IsAudit a b (Err halt) told = tt
 
 -- why it ends early, where more can fail
 pub run_ends : (P Q : Type 0) (r : Result ℕ Halt) → IfErr r (StopsEarly P) → IfErr r (StopsEarly (P ⊎ Q))

@@ -1,5 +1,5 @@
 -- What answers an order.
-use Rattle.std.proofs.Common.{◌≡◌, ◌≢◌, inl, inr, refl, ap}
+use Rattle.std.proofs.Common.{◌≡◌, ◌≢◌, true, inl, inr, refl}
 use Rattle.std.specs.Prelude.{⊤}
 use Rattle.cb_slots.specs.declared.fault.NodeFault.{NodeFault}
 use Rattle.cb_slots.specs.declared.fault.NodeFault.TheVariants as node
@@ -12,8 +12,8 @@ use Rattle.cb_control.specs.declared.reply.Reply.{Reply}
 use Rattle.cb_control.specs.declared.reply.Reply.TheVariants as replies
 use Rattle.cb_control.specs.declared.report.Tip.{Tip}
 use Rattle.cb_control.specs.declared.verdict.Verdict.{Verdict}
-use Rattle.cb_control.specs.declared.verdict.Verdict.TheVariants as verdicts
 use Rattle.cb_control.specs.Answering.{CanTell, IsRefused}
+use Rattle.cb_control.specs.Outcomes.{says_yes}
 use Rattle.cb_driver.specs.Deeds.{refusal_of}
 use Rattle.cb_node_process.specs.Telling.{Suits}
 
@@ -68,8 +68,8 @@ can_do deed reply tells = record { can = inl tells; well = λ well restarts. abs
 
 -- ---- `restart`
 
-pub restarts_well : (verdict : Verdict) (tip : Tip) → verdict ≡ verdicts.Yes → Suits ⊤ orders.Restart (replies.Restarted verdict tip)
-restarts_well verdict tip says = record { can = inl (verdict, tip, refl); well = λ well restarts. inl (tip, ap (λ v. replies.Restarted v tip) says) }
+pub restarts_well : (verdict : Verdict) (tip : Tip) → says_yes verdict ≡ true → Suits ⊤ orders.Restart (replies.Restarted verdict tip)
+restarts_well verdict tip says = record { can = inl (verdict, tip, refl); well = λ well restarts. inl (verdict, tip, refl, says) }
 
 pub restarts_ill : (verdict : Verdict) (tip : Tip) → Suits ⊥ orders.Restart (replies.Restarted verdict tip)
 restarts_ill verdict tip = record { can = inl (verdict, tip, refl); well = λ well restarts. absurd well }

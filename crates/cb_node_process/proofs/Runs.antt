@@ -11,7 +11,7 @@ use Rattle.cb_control.specs.declared.order.Order.{Order}
 use Rattle.cb_control.specs.declared.reply.Reply.{Reply}
 use Rattle.cb_control.specs.declared.reply.Reply.TheVariants as replies
 use Rattle.cb_control.specs.declared.verdict.Verdict.{Verdict}
-use Rattle.cb_control.specs.declared.verdict.Verdict.TheVariants as verdicts
+use Rattle.cb_control.specs.Outcomes.{says_yes}
 use Rattle.cb_control.specs.ReplyText.{reply_text}
 use Rattle.cb_node_process.specs.declared.answering.Response.{Response}
 use Rattle.cb_node_process.specs.declared.answering.Response.TheVariants as responses
@@ -67,13 +67,15 @@ pub reply_failed : (Well : Type 0) (a b c d : Option (List ℕ)) (reply : Reply)
 reply_failed Well a b c d reply o quiet is told =
     opened_more Well (false ≡ true) a c d reply (λ w. absurd cc) (opened_still Well a b c o quiet) (answer_weaker (λ w. absurd cc) reply is) told
 
-pub tells_all : (Well : Type 0) (a b c : Option (List ℕ)) (verdict : Verdict) (status : ℕ) → (status ≡ 0 → Well) → (status ≡ 0 → verdict ≡ verdicts.Yes) → TellsOpening Well a b → Tells b c (replies.Audit verdict) → (status ≡ 0) ⊎ (status ≡ 3) → TellsAll a c status
-tells_all Well a b c verdict status f says o l which = (
+pub tells_all : (IsAudit : Verdict → Type 0) (Well : Type 0) (a b c : Option (List ℕ)) (verdict : Verdict) (status : ℕ) → IsAudit verdict → (status ≡ 0 → Well) → (status ≡ 0 → says_yes verdict ≡ true) → TellsOpening Well a b
+    → Tells b c (replies.Audit verdict) → (status ≡ 0) ⊎ (status ≡ 3) → TellsAll IsAudit a c status
+tells_all IsAudit Well a b c verdict status is f says o l which = (
   o.0,
   verdict,
   o.1,
   l.0,
   o.2,
+  is,
   o.3,
   l.1,
   All-weaker (IsTold Well) (IsTold (status ≡ 0)) (told_weaker f) o.2 o.4,

@@ -14,9 +14,12 @@ use Rattle.cb_control.specs.declared.reply.Reply.{Reply}
 use Rattle.cb_control.specs.declared.reply.Reply.TheVariants as replies
 use Rattle.cb_control.specs.declared.report.Tip.{Tip}
 use Rattle.cb_control.specs.declared.verdict.Verdict.{Verdict}
-use Rattle.cb_control.specs.declared.verdict.Verdict.TheVariants as verdicts
 use Rattle.cb_control.specs.Answering.{CanAnswer, IsRefused}
+use Rattle.cb_control.specs.Outcomes.{says_yes}
 use Rattle.cb_control.specs.ReplyText.{IsOr, reply_text}
+use Rattle.cb_crew.specs.Crew.{CrewState}
+use Rattle.cb_node.specs.declared.node.NodeEnd.{NodeEnd}
+use Rattle.cb_driver.specs.Auditing.{IsAudited}
 use Rattle.cb_node_process.specs.declared.answering.Response.{Response}
 use Rattle.cb_node_process.specs.declared.answering.Response.TheVariants as responses
 use Rattle.cb_node_process.specs.declared.start_fault.StartFault.{StartFault}
@@ -26,7 +29,10 @@ use Rattle.cb_node_process.specs.declared.start_fault.StartFault.TheVariants as 
 
 -- `restart` was refused, or its audit says yes
 abbrev pub RestartsWell : Reply → Type 0
-RestartsWell reply = ((tip : Tip) × (reply ≡ replies.Restarted verdicts.Yes tip)) ⊎ IsRefused reply
+RestartsWell reply =
+    ((verdict : Verdict) × (tip : Tip) × (reply ≡ replies.Restarted verdict tip)
+    × (says_yes verdict ≡ true))
+    ⊎ IsRefused reply
 
 -- an order is answered so; if all is well, the audit of a `restart` says yes
 pub record Suits (Well : Type 0) (order : Order) (reply : Reply) : Type 0 where
@@ -40,6 +46,14 @@ Responds order (responses.Reply reply) = Suits ⊤ order reply
 Responds order (responses.Failed reply) = Suits ⊥ order reply
 Responds order responses.Silence = (address : SocketAddr) × (order ≡ orders.Connect address)
 Responds order (responses.End broken) = (order ≡ orders.Quit) × (broken ≡ None)
+
+-- What answers a `restart` tells the audit of what the node of this crew handed out as it ended.
+abbrev pub TellsAudit : (N : Type 0) → CrewState → Response → Type 0
+TellsAudit N crew response =
+    (end : NodeEnd N) × (verdict : Verdict) × (tip : Tip)
+    × IsAudited crew end.desks.items verdict
+    × ((response ≡ responses.Reply (replies.Restarted verdict tip))
+    ⊎ (response ≡ responses.Failed (replies.Restarted verdict tip)))
 
 -- what the dial of a `connect` came to
 abbrev pub IsDialReply : Reply → Type 0
@@ -80,14 +94,14 @@ TellsOpening Well held holds =
 
 -- Where it listens was printed first, then answers, and what the audit answers last, or `error
 -- memory` in the place of an answer. The status 0 tells that each audit that was printed says yes,
--- that of a `restart` too.
-abbrev pub TellsAll : Option (List ℕ) → Option (List ℕ) → ℕ → Type 0
-TellsAll held holds status =
+-- that of a `restart` too. The last audit is one (`IsAudit`).
+abbrev pub TellsAll : (Verdict → Type 0) → Option (List ℕ) → Option (List ℕ) → ℕ → Type 0
+TellsAll IsAudit held holds status =
     (address : SocketAddr) × (verdict : Verdict) × (first last : Reply) × (answers : List Reply)
-    × IsOr (replies.Listening address) first × IsOr (replies.Audit verdict) last
+    × IsAudit verdict × IsOr (replies.Listening address) first × IsOr (replies.Audit verdict) last
     × All (IsTold (status ≡ 0)) answers
     × Appends held holds ((reply_text first ++ flat_map reply_text answers) ++ reply_text last)
-    × ((status ≡ 0 → verdict ≡ verdicts.Yes) × ((status ≡ 0) ⊎ (status ≡ 3)))
+    × ((status ≡ 0 → says_yes verdict ≡ true) × ((status ≡ 0) ⊎ (status ≡ 3)))
 
 -- why a run ends early: memory, or a read or a write that failed
 abbrev pub StopsEarly : Type 0 → Halt → Type 0
@@ -95,9 +109,9 @@ StopsEarly Failed halt =
     (halt ≡ halts.Memory) ⊎ ((halt ≡ halts.ReadFailed) ⊎ ((halt ≡ halts.WriteFailed) × Failed))
 
 -- a node was started and has ended, with this status or early
-pub record HasRun (held holds : Option (List ℕ)) (failed : Bool) (ended : Result ℕ Halt)
-    : Type 0 where
-  pub told : IfOk ended (TellsAll held holds)
+pub record HasRun (IsAudit : Verdict → Type 0) (held holds : Option (List ℕ)) (failed : Bool)
+    (ended : Result ℕ Halt) : Type 0 where
+  pub told : IfOk ended (TellsAll IsAudit held holds)
   pub halts : IfErr ended (StopsEarly (failed ≡ true))
 
 -- ---- a node that can't be started

@@ -1,7 +1,9 @@
 //! A node's process: its node, the connections that last, and the addresses that it dials.
 ghost use Rattle.std.specs.Prelude.{◌≡◌, ◌≤◌, true, IfOk};
 ghost use Rattle.cb_control.specs.declared.order.Order.TheVariants.{Restart};
-ghost use Rattle.cb_node_process.specs.Telling.{Responds};
+ghost use Rattle.cb_control.specs.Outcomes.{says_yes};
+ghost use Rattle.cb_driver.specs.Auditing.{IsAudited};
+ghost use Rattle.cb_node_process.specs.Telling.{Responds, TellsAudit};
 
 use crate::answering::Response;
 use crate::host::ProcessHost;
@@ -12,7 +14,7 @@ use crate::watching::Watched;
 use cb_base::{Hash256, Seed};
 use cb_control::{Moved, Refusal, Reply, Verdict};
 use cb_dialling::{Target, is_own, targets_of};
-use cb_driver::{audit_end, tip_of};
+use cb_driver::{finish_audited, tip_of};
 use cb_node::{Node, NodeEnd, NodeFault, NodeSettings};
 use cb_pipes::{Pace, unix_time};
 use log::{Log, error, warn};
@@ -110,14 +112,6 @@ impl<R: ProcessHost> Process<R> {
         self.clock.millis(&self.rt)
     }
 
-    /// Waits for the dials that are under way, at most a few seconds. What they connected is
-    /// closed.
-    fn end_dials(&mut self) {
-        for target in self.targets.as_mut_slice() {
-            drop(target.take_stream(&self.rt, 0));
-        }
-    }
-
     /// Logs which of these addresses is the node's own.
     pub(crate) fn note_own<L: Log>(&self, log: &L, addresses: &[SocketAddr]) {
         for address in addresses {
@@ -127,23 +121,25 @@ impl<R: ProcessHost> Process<R> {
         }
     }
 
-    /// Ends the node and all its threads. Returns what the audit answers, and whether each address
-    /// that was to be dialled from the start was reached once.
-    pub fn finish(self) -> (Verdict, bool) {
-        let mut process = self;
-        process.end_dials();
-        let reached = process
-            .targets
-            .iter()
-            .all(|target| target.reached || !target.keeps_trying);
+    /// Ends the node and all its threads. Returns what is left of it, what its audit answers, and
+    /// whether each address that was to be dialled from the start was reached once.
+    pub fn finish(self) -> (NodeEnd<R>, Verdict, bool)
+        ensures { IsAudited self.node.crew result.0.desks.items result.1 }
+    {
         let Process {
             rt,
             alloc,
             node,
+            targets,
             ..
-        } = process;
-        let end = node.finish();
-        (audit_end(&rt, alloc, &end).1, reached)
+        } = self;
+        let mut dialled = targets;
+        end_dials(&rt, dialled.as_mut_slice());
+        let reached = dialled
+            .iter()
+            .all(|target| target.reached || !target.keeps_trying);
+        let (end, verdict) = finish_audited(&rt, alloc, node);
+        (end, verdict, reached)
     }
 
     /// Ends the node, audits it, and starts another one over the same chain and mempool, which
@@ -154,15 +150,16 @@ impl<R: ProcessHost> Process<R> {
     #[tactic(auto, using(crate::proofs::Printing::restarts_well, crate::proofs::Printing::restarts_ill))]
     pub fn restart<L: Log>(&mut self, log: &L) -> Result<Response, NodeFault>
         ensures told { IfOk result (λ response. Responds Restart response) }
+        ensures audited { IfOk result (TellsAudit R self.old.node.crew) }
     {
         let settings = settings_of(&self.rt, self.settings.handlers)?;
         let fresh = Node::start_with_seed(self.rt, self.alloc, settings, self.seed)?;
-        self.end_dials();
+        let old = mem::replace(&mut self.node, fresh);
+        end_dials(&self.rt, self.targets.as_mut_slice());
         self.note_all_ends(log);
-        let end = mem::replace(&mut self.node, fresh).finish();
+        let (end, verdict) = finish_audited(&self.rt, self.alloc, old);
         self.settings = settings;
         self.forget_connections();
-        let verdict = audit_end(&self.rt, self.alloc, &end).1;
         let took = self.take_over(log, &end);
         let listens = self.listen_again(log);
         let reply = Reply::Restarted(verdict, tip_of(&self.node));
@@ -211,12 +208,19 @@ impl<R: ProcessHost> Process<R> {
 /// Whether all went well: an audit says yes, and both of these hold.
 pub fn is_well(verdict: Verdict, first: bool, second: bool) -> bool
     ensures { result ≡ true
-        → (verdict ≡ Verdict.Yes) × ((first ≡ true) × (second ≡ true)) }
+        → (says_yes verdict ≡ true) × ((first ≡ true) × (second ≡ true)) }
 {
     if !verdict.is_yes() {
         return false;
     }
     first && second
+}
+
+/// Waits for the dials that are under way, at most a few seconds. What they connected is closed.
+fn end_dials<R: ProcessHost>(rt: &R, targets: &mut [Target]) {
+    for target in targets {
+        drop(target.take_stream(rt, 0));
+    }
 }
 
 /// Lets a node listen, and returns where, and the addresses that it dials from the start.

@@ -3,6 +3,7 @@ ghost use Rattle.std.specs.Prelude.{◌≡◌, ◌↔◌, ◌⊎◌, ◌≤◌, 
 ghost use Rattle.std.specs.Io.KnownBytes.{Appends};
 ghost use Rattle.cb_run.specs.declared.ending.Halt.TheVariants.{WriteFailed};
 ghost use Rattle.cb_control.specs.Outcomes.{LacksOrFails};
+ghost use Rattle.cb_driver.specs.Auditing.{IsOfAnEnd};
 ghost use Rattle.cb_node_process.specs.declared.start_fault.StartFault.{StartFault};
 ghost use Rattle.cb_node_process.specs.Telling.{Comes, HasRun, IsDialReply, StopsEarly, Tells, TellsAll, TellsOpening, deaf_text};
 
@@ -52,7 +53,7 @@ pub fn run_node<R: ProcessHost, W: Sink, E: Sink>(
     // For a writer and a standard error whose bytes are known: what is printed, or that it can't
     // listen.
     ensures told { IfOk result
-        (λ status. (TellsAll (W.contents writer.old) (W.contents writer.new) status
+        (λ status. (TellsAll (IsOfAnEnd R) (W.contents writer.old) (W.contents writer.new) status
         × (errors.new ≡ errors.old))
         ⊎ ((fault : StartFault)
         × Appends (E.contents errors.old) (E.contents errors.new) (deaf_text orders.listen fault)
@@ -81,7 +82,7 @@ fn run_logged<R: ProcessHost, W: Sink>(
     pipes: &Shared<Pipes>,
     writer: &mut W,
 ) -> Result<Result<u8, Halt>, StartFault>
-    ensures { IfOk result (HasRun (W.contents writer.old) (W.contents writer.new)
+    ensures { IfOk result (HasRun (IsOfAnEnd R) (W.contents writer.old) (W.contents writer.new)
         (W.has_failed writer.new)) }
 {
     let (lines, thread) = start_log(&rt, alloc)?;
@@ -124,7 +125,7 @@ fn run<R: ProcessHost, L: Log, W: Sink>(
     log: &L,
     writer: &mut W,
 ) -> Result<Result<u8, Halt>, StartFault>
-    ensures { IfOk result (HasRun (W.contents writer.old) (W.contents writer.new)
+    ensures { IfOk result (HasRun (IsOfAnEnd R) (W.contents writer.old) (W.contents writer.new)
         (W.has_failed writer.new)) }
 {
     let mut process = Process::start(rt, alloc, seed, orders)?;
@@ -140,7 +141,8 @@ fn run<R: ProcessHost, L: Log, W: Sink>(
     info!(log; "ending");
     process.note_all_ends(log);
     process.note_unreached(log);
-    let (verdict, reached) = process.finish();
+    let (end, verdict, reached) = process.finish();
+    drop(end);
     match served {
         Ok((broken, well)) => {
             arrivals.join(&rt);

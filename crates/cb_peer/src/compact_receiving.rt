@@ -93,7 +93,7 @@ pub(crate) fn hear_txs(
     match complete(alloc, partial, given) {
         Ok(Filled::Sound(block)) => session.give(alloc, block),
         Ok(Filled::Wrong) => session.fall_back(alloc, given.block, before),
-        Err(fault) if fault == Fault::Memory => Err(fault),
+        Err(Fault::Memory) => Err(Fault::Memory),
         Err(_) => Ok(session.end_by(alloc, CloseReason::BadMessage)),
     }
 }

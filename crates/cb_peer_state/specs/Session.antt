@@ -28,7 +28,7 @@ use Rattle.cb_peer_state.specs.Questions.{fits, is_nil, question_of, short_in}
 use Rattle.cb_peer_state.specs.Replying.{answered, is_workless}
 use Rattle.cb_peer_state.specs.Receiving.{Outcome, asks}
 use Rattle.cb_peer_state.specs.declared.session_state.SessionState.{SessionState}
-use Rattle.cb_peer_state.specs.State.{freed, is_closed, is_partial, over, with_pending}
+use Rattle.cb_peer_state.specs.State.{freed, is_closed, is_count_of, is_partial, over, with_pending}
 
 -- The result of a step: the session after it, the messages to send, and the question to ask.
 pub record Stepped : Type 0 where
@@ -99,10 +99,12 @@ takes_no_memory other = true
 -- ---- answers that take no memory
 
 -- What is hashed of an admitted message once the handshake is complete: a block that has
--- transactions, none of 64 bytes, and transactions of the block that is being rebuilt.
+-- transactions, none of 64 bytes, and transactions of the block that is being rebuilt, if they are
+-- as many as it lacks.
 abbrev pub weighs_ready : SessionState → Message → Bool
 weighs_ready s (messages.Block block) = is_hashed block
-weighs_ready s (messages.BlockTxn given) = is_partial given.block s.compact.partial
+weighs_ready s (messages.BlockTxn given) =
+    is_partial given.block s.compact.partial && is_count_of given.txs s.compact.partial
 weighs_ready s other = false
 
 -- Before that nothing is hashed.

@@ -1,8 +1,9 @@
 -- What a session keeps about its peer.
-use Rattle.std.specs.Prelude.{ℕ, ◌+◌, ◌%◌, ◌^◌, pos, Bool, true, false, List, [], codes, Option, None, Some, is_some, if◌then◌else◌}
+use Rattle.std.specs.Prelude.{ℕ, ◌+◌, ◌%◌, ◌^◌, ◌==◌, pos, Bool, true, false, List, [], codes, length, Option, None, Some, is_some, if◌then◌else◌}
 use Rattle.cb_base.specs.declared.hash.Hash256.{Hash256}
+use Rattle.cb_tx.specs.declared.tx.Tx.{Tx}
 use Rattle.cb_chain.specs.Entries.{block_hash, same}
-use Rattle.cb_compact.specs.Slots.{Unfilled}
+use Rattle.cb_compact.specs.Slots.{Unfilled, missing}
 use Rattle.cb_fetch.specs.Fetching.{FetchState, fallen_back, idle, is_fetched, landed, leaves_out, wanting_all}
 use Rattle.cb_wire.specs.declared.message.Message.{Message}
 use Rattle.cb_peer_state.specs.declared.compact.CompactState.{CompactState}
@@ -215,6 +216,11 @@ landing hash s = with_fetch (landed hash s.fetch) s
 abbrev pub is_partial : Hash256 → Option Unfilled → Bool
 is_partial hash None = false
 is_partial hash (Some partial) = same (block_hash partial.header) hash
+
+-- Whether these are as many transactions as the block that is being rebuilt lacks.
+abbrev pub is_count_of : List Tx → Option Unfilled → Bool
+is_count_of txs None = false
+is_count_of txs (Some partial) = length txs == length (missing 0 partial.slots)
 
 -- A block that came whole is no longer being rebuilt.
 abbrev pub dropping : Hash256 → SessionState → SessionState

@@ -32,12 +32,12 @@ opened_now before old stopped nothing live marks =
     ∙ ap (λ m. now_with [] false (length m) stopped) marks
 
 -- the marks of the connection, and then these, which are no input
-pub left_by : {O : Type 0} {input remaining : Option (List ℕ)} {b f s t : Bool} {why : ReadEnd} (before : List (Queued Input O)) (old new : SeatView O) (after more : List (Queued Input O))
+pub left_by : {O : Type 0} {input remaining : Option (List ℕ)} {b f s t : Bool} {read : List ℕ} {why : ReadEnd} (before : List (Queued Input O)) (old new : SeatView O) (after more : List (Queued Input O))
     → put_in old ≡ [] → before_in old ≡ before → is_ended old.side ≡ false → marks_of old.side ≡ before → IsSameSeat old new
-    → Reads input remaining b f (now_of old s) (now_of new t) why → after ≡ marks_of new.side ++ more → openings_of more ≡ [] → flat_map input_in more ≡ []
+    → Reads input remaining b f (now_of old s) (now_of new t) read why → after ≡ marks_of new.side ++ more → openings_of more ≡ [] → flat_map input_in more ≡ []
     → (is_ended new.side ≡ true → has_ended after ≡ true)
-    → HasRead input remaining b f s t why before after
-left_by {O} {input} {remaining} {b} {f} {s} {t} {why} before old new after more nothing was live marks same reads is quiet none last =
+    → HasRead input remaining b f s t read why before after
+left_by {O} {input} {remaining} {b} {f} {s} {t} {read} {why} before old new after more nothing was live marks same reads is quiet none last =
     let all = marks_of new.side in
     let here = drop new.first all in
     let parts : all ≡ before ++ here = sym (take-append-drop new.first all) ∙ ap (λ xs. xs ++ here) (same.before ∙ was) in
@@ -51,17 +51,17 @@ left_by {O} {input} {remaining} {b} {f} {s} {t} {why} before old new after more 
       unopened = flat_map-append brought_by here more ∙ ap (λ xs. xs ++ openings_of more) unopened ∙ quiet;
       now = now_of new t;
       stopped_is = refl;
-      reads = subst (λ n. Reads input remaining b f n (now_of new t) why) (opened_now before old s nothing live marks) reads;
+      reads = subst (λ n. Reads input remaining b f n (now_of new t) read why) (opened_now before old s nothing live marks) reads;
       put = flat_map-append input_in here more ∙ ap (λ xs. put_in new ++ xs) none ∙ append-nil (put_in new);
       queued_all = omega (arith, long);
       ended_last = last;
     }
 
 -- a seat whose connection lasted is left, as it is or after the end mark
-pub left_live : {O : Type 0} {input remaining : Option (List ℕ)} {b f s t : Bool} {why : ReadEnd} (before : List (Queued Input O)) (old new : SeatView O) (seat : SeatState (Queued Input O)) (left : ReaderSide Input O)
+pub left_live : {O : Type 0} {input remaining : Option (List ℕ)} {b f s t : Bool} {read : List ℕ} {why : ReadEnd} (before : List (Queued Input O)) (old new : SeatView O) (seat : SeatState (Queued Input O)) (left : ReaderSide Input O)
     → put_in old ≡ [] → before_in old ≡ before → is_ended old.side ≡ false → marks_of old.side ≡ before → IsSameSeat old new
-    → Reads input remaining b f (now_of old s) (now_of new t) why → Some (side.Live seat) ≡ new.side → HasEnded (side.Live seat) left
-    → HasRead input remaining b f s t why before (queued_by left)
+    → Reads input remaining b f (now_of old s) (now_of new t) read why → Some (side.Live seat) ≡ new.side → HasEnded (side.Live seat) left
+    → HasRead input remaining b f s t read why before (queued_by left)
 left_live before old new seat left nothing was live marks same reads held (inl stays) =
     left_by before old new (queued_by left) [] nothing was live marks same reads (ap queued_by stays ∙ ap marks_of held ∙ sym (append-nil _)) refl refl
     (λ e. absurd (let y : false ≡ true = ap is_ended held ∙ e in cc))

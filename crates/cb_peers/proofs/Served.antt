@@ -2,7 +2,7 @@
 use Rattle.std.proofs.Common.{◌≡◌, ℕ, suc, ◌+◌, Bool, true, false, ◌||◌, List, [], ◌∷◌, ◌++◌, Option, refl, sym, ap, subst, ◌∙◌, length, All, arith, inl, inr, ◌⊎◌}
 use Rattle.std.specs.Prelude.{◌≢◌, Contains}
 use Rattle.std.specs.List.{AllZip, fold, list_any}
-use Rattle.std.proofs.lemmas.List.Elements.{All-head, All-tail}
+use Rattle.std.proofs.lemmas.List.Elements.{All-head, All-tail, All-weaker}
 use Rattle.cb_base.specs.declared.fault.Fault.{Fault}
 use Rattle.cb_sched.specs.Laws.{IsBeginning}
 use Rattle.cb_hall.specs.Badge.{BadgeState}
@@ -17,6 +17,8 @@ use Rattle.cb_peer_state.specs.Event.{is_reader_end, is_told, loses}
 use Rattle.cb_peer_state.specs.State.{is_closed}
 use Rattle.cb_trace.specs.declared.trace.TraceEntry.{TraceEntry}
 use Rattle.cb_trace.specs.Fold.{Account, account_of, account_step, first_account, has_kind, inputs_of, session_of}
+use Rattle.cb_trace.specs.Kept.{KeepsHistory}
+use Rattle.cb_trace.specs.Trace.{weight_of}
 use Rattle.cb_trace.proofs.Entries.{entry_bye}
 use Rattle.cb_trace.proofs.Handed.{each_given}
 use Rattle.cb_session.specs.Serving.{has_end}
@@ -24,13 +26,13 @@ use Rattle.cb_crew.specs.declared.work.Given.{Given}
 use Rattle.cb_crew.specs.declared.work.Given.TheVariants as given
 use Rattle.cb_crew.specs.declared.reader_side.ReaderSide.{ReaderSide}
 use Rattle.cb_crew.specs.Crew.{CrewState, all_queued}
-use Rattle.cb_crew.specs.Desk.{DeskState, first_label}
+use Rattle.cb_crew.specs.Desk.{DeskState, KeepsWorks, first_label}
 use Rattle.cb_crew.specs.Headline.{InOrder, IsFinished, IsSettled, NothingAfterEnd, works_of}
-use Rattle.cb_crew.specs.Work.{connections_of}
+use Rattle.cb_crew.specs.Work.{IsKeptOrLetGo, connections_of}
 use Rattle.cb_reader.specs.declared.input.Input.{Input}
 use Rattle.cb_reader.specs.declared.input.Input.TheVariants as inputs
 use Rattle.cb_work.specs.PeerWork.{WasGiven, WorkState, events_of, is_over, was_starved}
-use Rattle.cb_peers.specs.Headline.{IsHeadline, ServesConnection, ServesPeer, ServesSide, peer_label}
+use Rattle.cb_peers.specs.Headline.{IsHeadline, IsSameOrEmptied, KeepsTraces, ServesConnection, ServesPeer, ServesSide, peer_label}
 
 -- ---- a session that the peer's own end ended was given that end
 
@@ -106,6 +108,12 @@ none_missing (byte ∷ others) missing answered lost lose unasked whole same is 
 as_counted : (told replies count : ℕ) → told ≡ replies → count ≡ 0 + replies → told ≡ count
 as_counted told replies count same counted = omega (arith, same, counted)
 
+abbrev HasAll : {S H F : Type 0} → WorkState S H F → Type 0
+HasAll work = KeepsHistory work.trace
+
+abbrev trace_weight : {S H F : Type 0} → WorkState S H F → ℕ
+trace_weight work = weight_of work.trace
+
 module _ {S H F : Type 0} (told : H → BadgeState → List Reply → H → BadgeState → Type 0) (refused : H → BadgeState → Fault → Type 0) (contents : S → Option (List ℕ)) (has_failed : S → Bool)
     (counts : (a b : H) (x y : BadgeState) (replies : List Reply) → told a x replies b y → y.count ≡ x.count + length replies) where
   serves_connection : (work : WorkState S H F) (queued : List (Given Input)) → InOrder (WasGiven told refused contents has_failed) work queued → is_over work ≡ true → ServesConnection contents work queued
@@ -162,6 +170,27 @@ module _ {S H F : Type 0} (told : H → BadgeState → List Reply → H → Badg
       record { whose = settled.0.served.whose; each = serves_each (works_of desk) (connections_of (all_queued side)) settled.0.served.each settled.0.served.closed } in
       (record { taken = settled.0.taken; served = served }, serves_sides sides desks settled.1)
 
-  pub is_headline : (crew : CrewState) (sides : List (ReaderSide Input (WorkState S H F))) (desks : List (DeskState (WorkState S H F) Input)) → IsFinished peer_label (WasGiven told refused contents has_failed) is_over crew sides desks → IsHeadline contents crew sides desks
-  is_headline crew sides desks finished =
-      record { peers = finished.peers; inboxes = finished.names; labels = finished.labels; each = serves_sides sides desks finished.settled }
+  -- a work that let go keeps no entry
+  same_or_emptied : (ticked : WorkState S H F → List ℕ → Type 0) (old new : List (WorkState S H F))
+      → AllZip (IsKeptOrLetGo peer_label (WasGiven told refused contents has_failed) ticked is_over trace_weight) old new → AllZip IsSameOrEmptied old new
+  same_or_emptied ticked [] [] each = tt
+  same_or_emptied ticked [] (work ∷ new) each = absurd each
+  same_or_emptied ticked (work ∷ old) [] each = absurd each
+  same_or_emptied ticked (work ∷ old) (other ∷ new) each =
+      (elim each.0 [ inl same ↦ inl same | inr gone ↦ inr gone.nothing ], same_or_emptied ticked old new each.1)
+
+  keeps_traces : (ticked : WorkState S H F → List ℕ → Type 0) (desk : DeskState (WorkState S H F) Input)
+      → KeepsWorks peer_label (WasGiven told refused contents has_failed) ticked is_over HasAll trace_weight desk → KeepsTraces desk
+  keeps_traces ticked desk keeps =
+      record { latest = keeps.latest; ended = keeps.ended; whole = keeps.whole; each = same_or_emptied ticked keeps.ended desk.past keeps.past.each; recent = keeps.past.latest }
+
+  pub is_headline : {ticked : WorkState S H F → List ℕ → Type 0} (crew : CrewState) (sides : List (ReaderSide Input (WorkState S H F))) (desks : List (DeskState (WorkState S H F) Input))
+      → IsFinished peer_label (WasGiven told refused contents has_failed) ticked is_over HasAll trace_weight crew sides desks → IsHeadline contents crew sides desks
+  is_headline {ticked} crew sides desks finished =
+      record {
+        peers = finished.peers;
+        inboxes = finished.names;
+        labels = finished.labels;
+        each = serves_sides sides desks finished.settled;
+        kept = All-weaker (KeepsWorks peer_label (WasGiven told refused contents has_failed) ticked is_over HasAll trace_weight) KeepsTraces (keeps_traces ticked) desks finished.kept;
+      }

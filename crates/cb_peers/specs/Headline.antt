@@ -1,5 +1,5 @@
 -- What a node promises of its connections: what was made of all that their readers queued.
-use Rattle.std.specs.Prelude.{◌≡◌, ℕ, true, false, List, [], length, map, All, Option}
+use Rattle.std.specs.Prelude.{◌≡◌, ◌⊎◌, ℕ, true, false, List, [], length, map, All, Option}
 use Rattle.std.specs.List.{AllZip, range_with_len}
 use Rattle.cb_talk.specs.Writing.{Wrote}
 use Rattle.cb_wire.specs.Stream.{texts}
@@ -10,8 +10,9 @@ use Rattle.cb_peer_state.specs.State.{is_closed}
 use Rattle.cb_trace.specs.declared.trace.TraceEntry.{TraceEntry}
 use Rattle.cb_trace.specs.Blocks.{IsOnlySound, blocks_given}
 use Rattle.cb_trace.specs.Fold.{has_kind, number_of, sends, session_of}
+use Rattle.cb_trace.specs.Kept.{KeepsHistory}
 use Rattle.cb_trace.specs.Prompt.{IsPrompt}
-use Rattle.cb_trace.specs.Trace.{StandsFor}
+use Rattle.cb_trace.specs.Trace.{StandsFor, weight_of}
 use Rattle.cb_session.specs.Serving.{IsInOrder}
 use Rattle.cb_inbox.specs.declared.queued.Queued.{Queued}
 use Rattle.cb_crew.specs.declared.work.Given.{Given}
@@ -20,6 +21,7 @@ use Rattle.cb_crew.specs.Work.{AreWorksOf, connections_of}
 use Rattle.cb_crew.specs.Desk.{DeskState, first_label}
 use Rattle.cb_crew.specs.Crew.{CrewState, all_queued, names_of}
 use Rattle.cb_crew.specs.Headline.{works_of}
+use Rattle.cb_crew.specs.Past.{LatestStay}
 use Rattle.cb_reader.specs.declared.input.Input.{Input}
 use Rattle.cb_work.specs.PeerWork.{HoldsNothing, WorkState, events_of, label_of, was_starved}
 
@@ -73,6 +75,21 @@ pub record ServesSide {S H F : Type 0} (contents : S → Option (List ℕ))
   pub taken : desk.taken ≡ all_queued side
   pub served : ServesPeer contents (first_label peer_label desk) (all_queued side) (works_of desk)
 
+-- It is as before, or its trace keeps no entry.
+abbrev pub IsSameOrEmptied : {S H F : Type 0} → WorkState S H F → WorkState S H F → Type 0
+IsSameOrEmptied old new = (new ≡ old) ⊎ (weight_of new.trace ≡ 0)
+
+-- What the works of a desk still have of their traces. The latest work lost nothing but what due
+-- checkpoints dropped (`KeepsHistory`). Nor had any earlier one as its connection ended (`ended`).
+-- Since then the oldest of these were emptied; the latest are as they were, as far as 1,000,000
+-- bytes go.
+pub record KeepsTraces {S H F : Type 0} (desk : DeskState (WorkState S H F) Input) : Type 0 where
+  pub latest : KeepsHistory desk.work.trace
+  pub ended : List (WorkState S H F)
+  pub whole : All (λ work. KeepsHistory work.trace) ended
+  pub each : AllZip IsSameOrEmptied ended desk.past
+  pub recent : LatestStay (λ work. weight_of work.trace) ended desk.past
+
 -- All peers: their readers' sides, and the desks of the crew that served them. There is one desk
 -- for each peer, in order. Its first work is the one with which the crew was made for this peer.
 pub record IsHeadline {S H F : Type 0} (contents : S → Option (List ℕ)) (crew : CrewState)
@@ -82,3 +99,4 @@ pub record IsHeadline {S H F : Type 0} (contents : S → Option (List ℕ)) (cre
   pub inboxes : map (λ desk. desk.inbox.name) desks ≡ names_of crew
   pub labels : map (first_label peer_label) desks ≡ crew.labels
   pub each : AllZip (ServesSide contents) sides desks
+  pub kept : All KeepsTraces desks

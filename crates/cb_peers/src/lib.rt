@@ -18,6 +18,6 @@ pub use inbox_seat::{InboxSeat, MOST_BYTES};
 pub use link::{CloseEnded, Link, Links, OutboxSink};
 pub use outbox::{Outbox, WriterEnd};
 pub use reading::{Left, read_connection};
-pub use socket::{Socket, SocketReader};
+pub use socket::{Socket, SocketBytes, SocketReader};
 pub use stopping::ConnectionStop;
 pub use threads::{SocketReading, start_threads};

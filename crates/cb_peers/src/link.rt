@@ -24,6 +24,8 @@ const LAST_MILLISECONDS: u64 = 300;
 /// What the threads of a connection share with the node.
 #[derive(Drop)]
 pub struct Link {
+    /// The number of the connection's slot.
+    pub peer: u16,
     /// The generation of the connection among those of its slot; the first is 1.
     pub generation: u64,
     /// The connection's flags and totals.
@@ -41,14 +43,17 @@ impl Link {
     /// with `Fault::Memory`.
     fn new(
         alloc: Global,
+        peer: u16,
         generation: u64,
         room: &Shared<Mutex<Room>>,
     ) -> Result<Shared<Link>, Fault>
-        ensures made { IfOk result (λ link. link.generation ≡ generation) }
+        ensures made { IfOk result
+            (λ link. (link.peer ≡ peer) × (link.generation ≡ generation)) }
         ensures memory { IsOkUnless result Memory }
     {
         let status = Shared::new(alloc, ConnectionStatus::new())?;
         let link = Link {
+            peer,
             generation,
             status,
             socket: Socket::new(),
@@ -112,7 +117,8 @@ pub struct OutboxSink<R: Drop> {
 impl<R: Drop> OutboxSink<R> {
     /// The sink of a connection. It hasn't failed.
     pub fn new(rt: R, link: Shared<Link>) -> OutboxSink<R>
-        ensures { result.failure ≡ None }
+        ensures unfailed { result.failure ≡ None }
+        ensures link { result.link ≡ link }
     {
         OutboxSink {
             rt,
@@ -207,11 +213,12 @@ impl Links {
 
     /// The link of a connection that isn't made yet, in no slot's list. Fails only with
     /// `Fault::Memory`.
-    pub fn link(&self, alloc: Global, generation: u64) -> Result<Shared<Link>, Fault>
-        ensures made { IfOk result (λ link. link.generation ≡ generation) }
+    pub fn link(&self, alloc: Global, peer: u16, generation: u64) -> Result<Shared<Link>, Fault>
+        ensures made { IfOk result
+            (λ link. (link.peer ≡ peer) × (link.generation ≡ generation)) }
         ensures memory { IsOkUnless result Memory }
     {
-        Link::new(alloc, generation, &self.room)
+        Link::new(alloc, peer, generation, &self.room)
     }
 
     /// Adds a connection of this slot. Fails only with `Fault::Memory`.

@@ -9,19 +9,21 @@ use crate::outbox::Outbox;
 use crate::stopping::ConnectionStop;
 use cb_crew::ReaderSide;
 use cb_inbox::{Inbox, Opening, ReaderSeat};
-use cb_reader::{Input, ReadEnd, Seat, Source, Stop, read_loop};
+use cb_reader::{Input, ReadEnd, ReadFrom, Seat, Source, Stop, WasRead, read_loop};
 use cb_service::{Side, Signals, end};
 use cb_work::ConnectionStatus;
 use std::alloc::Global;
 use std::sync::Wait;
 
-/// How a reader left a connection.
+/// How a reader left a connection, whose source is an `S`.
 #[derive(Drop)]
-pub struct Left<O: Opening + Drop> {
+pub struct Left<O: Opening + Drop, S> {
     /// The side of the inbox.
     pub side: Side<Input, O>,
     /// Why reading ended.
     pub why: ReadEnd,
+    /// What the source gave, for proofs alone.
+    pub bytes: ReadFrom<S>,
 }
 
 /// Reads a connection, and queues what its stream spells in the peer's inbox. Reading ends at the
@@ -42,16 +44,16 @@ pub fn read_connection<R: Wait, S: Source, P: Stop, O: Opening + Drop>(
     seat: ReaderSeat<Input, O>,
     signals: &Signals,
     backlogs: &Backlogs,
-) -> Left<O>
+) -> Left<O, S>
     requires inbox { seat.inbox ≡ inbox.now.name }
     requires place { length seat.queued < 2 ^ 48 }
     ensures inbox { inbox_of result.side ≡ inbox.now.name }
     ensures reads { HasRead (S.remaining source.old) (S.remaining source.new)
         (S.has_failed source.old) (S.has_failed source.new) (P.has_stopped stop.old)
-        (P.has_stopped stop.new) result.why seat.queued (queued_by result.side) }
+        (P.has_stopped stop.new) result.bytes result.why seat.queued (queued_by result.side) }
 {
     let mut seat = InboxSeat::new(inbox, seat, status, outbox, signals, backlogs);
-    let why = read_loop(rt, alloc, source, &mut seat, stop);
+    let WasRead { why, bytes } = read_loop(rt, alloc, source, &mut seat, stop);
     let count = seat.count();
     match seat.into_side() {
         ReaderSide::Ended(ended) => {
@@ -60,11 +62,13 @@ pub fn read_connection<R: Wait, S: Source, P: Stop, O: Opening + Drop>(
             Left {
                 side: Side::ended(ended, count),
                 why,
+                bytes,
             }
         }
         ReaderSide::Live(seat) => Left {
             side: end(rt, inbox, Side::live(seat), signals),
             why,
+            bytes,
         },
     }
 }

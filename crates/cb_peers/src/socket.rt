@@ -1,5 +1,11 @@
-use cb_base::Shared;
+ghost use Rattle.std.specs.Prelude.{◌≡◌};
+
+use cb_base::{In, Shared};
+use cb_inbox::Opening;
+use cb_reader::{Input, ReadFrom};
+use cb_service::Account;
 use std::io::{self, ErrorKind, Read};
+use std::marker::Model;
 use std::net::{Shutdown, TcpStream};
 use std::sync::{Mutex, Wait};
 
@@ -67,4 +73,37 @@ impl Read for SocketReader {
     fn read(&mut self, buffer: &mut [u8]) -> io::Result<usize> {
         (&*self.stream).read(buffer)
     }
+}
+
+/// The bytes that the reads of a connection's socket gave. It exists in proofs alone: it takes no
+/// memory. Contracts see the bytes.
+///
+/// It is made of what `read_connection` left of a socket. No other code makes one that has bytes.
+#[derive(Drop)]
+pub struct SocketBytes {
+    bytes: ReadFrom<In<SocketReader>>,
+}
+
+impl Model for SocketBytes {
+    ghost use Rattle.std.specs.Prelude.{ℕ, List};
+
+    ghost Value = { List ℕ };
+
+    ghost view = { λ socket. socket.bytes };
+}
+
+impl SocketBytes {
+    /// These bytes.
+    pub fn new(bytes: ReadFrom<In<SocketReader>>) -> SocketBytes
+        ensures { result ≡ bytes }
+    {
+        SocketBytes { bytes }
+    }
+}
+
+impl<O: Opening + Drop> Account<Input, O> for SocketBytes {
+    ghost use Rattle.cb_peers.specs.Reading.{HasQueued};
+
+    // What was queued is what they spell.
+    ghost tells = { λ bytes before after. HasQueued bytes before after };
 }

@@ -1,11 +1,13 @@
-ghost use Rattle.std.specs.Prelude.{◌≡◌, ◌<◌, ◌^◌, length, IfErr, IfOk};
+ghost use Rattle.std.specs.Prelude.{◌≡◌, ◌<◌, ◌^◌, length, IfErr, IfOk, IfSome};
 ghost use Rattle.cb_crew.specs.Crew.{inbox_of};
-ghost use Rattle.cb_service.specs.Service.{HoldsSeat, IsInboxAt, inbox_for};
+ghost use Rattle.cb_service.specs.Readers.{inbox_for, seat_for};
+ghost use Rattle.cb_service.specs.Service.{HoldsSeat, IsInboxAt, queued_by};
+ghost use Rattle.cb_peers.specs.Reading.{HasQueued};
 
 use crate::backlogs::Backlogs;
 use crate::link::Link;
-use crate::reading::read_connection;
-use crate::socket::SocketReader;
+use crate::reading::{Left, read_connection};
+use crate::socket::{SocketBytes, SocketReader};
 use crate::stopping::ConnectionStop;
 use cb_base::{In, Shared};
 use cb_crew::{Crew, Fresh, Work};
@@ -33,16 +35,18 @@ pub struct SocketReading {
     pub stream: Shared<TcpStream>,
 }
 
-impl<O: Opening + Drop> Reader<Input, O> for SocketReading {
+impl<O: Opening + Drop> Reader<Input, O, SocketBytes> for SocketReading {
     fn read<R: Wait>(
         self,
         rt: &R,
         inbox: &Inbox<Input, O>,
         seat: &mut Option<ReaderSeat<Input, O>>,
         signals: &Signals,
-    ) -> Side<Input, O>
+    ) -> (Side<Input, O>, SocketBytes)
         requires seat { HoldsSeat inbox.now.name seat.old }
-        ensures inbox { inbox_of result ≡ inbox.now.name }
+        ensures inbox { inbox_of result.0 ≡ inbox.now.name }
+        ensures account { IfSome seat.old
+            (λ first. HasQueued result.1 first.queued (queued_by result.0)) }
     {
         let Some(seat) = seat.take() else {
             unreachable!()
@@ -68,7 +72,8 @@ impl<O: Opening + Drop> Reader<Input, O> for SocketReading {
             &backlogs,
         );
         link.leave();
-        left.side
+        let Left { side, bytes, .. } = left;
+        (side, SocketBytes::new(bytes))
     }
 }
 
@@ -103,8 +108,9 @@ fn start_writing<R: Threads + Wait + Copy + Send + Drop + 'static>(
     }
 }
 
-/// Starts the threads that write and read a connection. If either can't be started, neither runs,
-/// and the seat comes back. Fails as `start_reader` does.
+/// Starts the threads that write and read a connection: the one writes to the socket from which the
+/// other reads. If either can't be started, neither runs, and the seat comes back. Fails as
+/// `start_reader` does.
 pub fn start_threads<
     W: Work<Item = Input> + Send + 'static,
     R: Threads + Wait + Copy + Send + Drop + 'static,
@@ -116,13 +122,14 @@ pub fn start_threads<
     peer: u16,
     seat: ReaderSeat<Input, Fresh<W>>,
     reading: SocketReading,
-) -> Result<Reading<W>, NoReader<W>>
+) -> Result<Reading<W, SocketBytes>, NoReader<W>>
     requires peer { peer < length crew.inboxes }
     requires inbox { IsInboxAt crew peer seat.inbox }
     requires place { length seat.queued < 2 ^ 48 }
-    ensures started { IfOk result (λ thread. (inbox_for thread).name ≡ seat.inbox) }
-    ensures refused { IfErr result
-        (λ back. (back.seat.inbox ≡ seat.inbox) × (length back.seat.queued < 2 ^ 48)) }
+    requires link { (link.now.peer ≡ peer) × (reading.link.peer ≡ peer) }
+    ensures started { IfOk result (λ thread. ((inbox_for thread).name ≡ seat.inbox)
+        × (seat_for thread ≡ seat)) }
+    ensures refused { IfErr result (λ back. back.seat ≡ seat) }
 {
     if let Err(cause) = start_writing(rt, link, &reading.stream) {
         return Err(NoReader { seat, cause });

@@ -131,23 +131,22 @@ piece_broken bytes piece items more rest fault why old mid new end is s put clos
 -- ---- reading
 
 -- nothing was read yet
-pub heard_first : (input : Option (List ℕ)) (now : SeatNow) (assembled : Assembled) → assembled ≡ record { rest = []; fault = None } → now.ended ≡ false → Heard input input now now assembled 0
-heard_first input now assembled is live =
+pub heard_first : (input : Option (List ℕ)) (read : List ℕ) (now : SeatNow) (assembled : Assembled) → read ≡ [] → assembled ≡ record { rest = []; fault = None } → now.ended ≡ false → Heard input input read now now assembled 0
+heard_first input read now assembled none is live =
     let start : Stream [] [] [] None = subst (λ front. Ends front [] [] None) (sym front_at-nil) (refl, refl) in
+    let whole : Stream [] [] assembled.rest assembled.fault = subst (λ (a : Assembled). Stream [] [] a.rest a.fault) (sym is) start in
     record {
-      read = [];
-      consumed = Consumes-nothing input input (Keeps-same input);
+      consumed = subst (λ (bytes : List ℕ). Consumes input input bytes) (sym none) (Consumes-nothing input input (Keeps-same input));
       enough = omega arith;
       items = [];
-      stream = subst (λ (a : Assembled). Stream [] [] a.rest a.fault) (sym is) start;
+      stream = subst (λ (bytes : List ℕ). Stream bytes [] assembled.rest assembled.fault) (sym none) whole;
       unbroken = ap (λ (a : Assembled). a.fault) is;
       put = all_none now live;
     }
 
 -- the reader looked at its stop, and goes on
-pub heard_asked : (input remaining : Option (List ℕ)) (old now asked : SeatNow) (assembled : Assembled) (turns : ℕ) → Heard input remaining old now assembled turns → asked.queued ≡ now.queued → asked.ended ≡ now.ended → asked.stopped ≡ false → Heard input remaining old asked assembled turns
-heard_asked input remaining old now asked assembled turns h queued ended going = record {
-  read = h.read;
+pub heard_asked : (input remaining : Option (List ℕ)) (read : List ℕ) (old now asked : SeatNow) (assembled : Assembled) (turns : ℕ) → Heard input remaining read old now assembled turns → asked.queued ≡ now.queued → asked.ended ≡ now.ended → asked.stopped ≡ false → Heard input remaining read old asked assembled turns
+heard_asked input remaining read old now asked assembled turns h queued ended going = record {
   consumed = h.consumed;
   enough = h.enough;
   items = h.items;
@@ -157,17 +156,16 @@ heard_asked input remaining old now asked assembled turns h queued ended going =
 }
 
 -- one piece more
-pub heard_more : (input before after : Option (List ℕ)) (old mid new : SeatNow) (assembled assembled' : Assembled) (turns turns' : ℕ) (piece : List ℕ) → Heard input before old mid assembled turns → Consumes before after piece → 1 ≤ length piece → turns' ≡ turns + 1
-    → ((bytes : List ℕ) (items : List Item) → Stream bytes items assembled.rest assembled.fault → TookPiece bytes piece items mid new assembled') → Heard input after old new assembled' turns'
-heard_more input before after old mid new assembled assembled' turns turns' piece h c one next step =
-    let t = step h.read h.items h.stream in
+pub heard_more : (input before after : Option (List ℕ)) (read read' : List ℕ) (old mid new : SeatNow) (assembled assembled' : Assembled) (turns turns' : ℕ) (piece : List ℕ) → Heard input before read old mid assembled turns → Consumes before after piece → 1 ≤ length piece → turns' ≡ turns + 1 → read' ≡ read ++ piece
+    → ((bytes : List ℕ) (items : List Item) → Stream bytes items assembled.rest assembled.fault → TookPiece bytes piece items mid new assembled') → Heard input after read' old new assembled' turns'
+heard_more input before after read read' old mid new assembled assembled' turns turns' piece h c one next was step =
+    let t = step read h.items h.stream in
     let enough = h.enough in
     record {
-      read = h.read ++ piece;
-      consumed = Consumes-then input before after h.read piece h.consumed c;
-      enough = omega (arith, length-append h.read piece);
+      consumed = subst (λ (bytes : List ℕ). Consumes input after bytes) (sym was) (Consumes-then input before after read piece h.consumed c);
+      enough = omega (arith, ap length was, length-append read piece);
       items = h.items ++ t.more;
-      stream = t.stream;
+      stream = subst (λ (bytes : List ℕ). Stream bytes (h.items ++ t.more) assembled'.rest assembled'.fault) (sym was) t.stream;
       unbroken = t.unbroken;
       put = subst (λ (xs : List Input). PutAll old new xs) (sym (said_more h.items t.more)) (all_then_all old mid new (said h.items) (said t.more) h.put t.put);
     }
@@ -182,9 +180,8 @@ halted_so ends.Fault remaining failed_before failed now read last later live h =
 
 -- not all could be put
 reads_some : (input remaining : Option (List ℕ)) (failed_before failed : Bool) (old new : SeatNow) (end : ReadEnd) (read : List ℕ) (items : List Item) (last : Option Input) → Consumes input remaining read → IsToPut read items last → PutSome old new (said items ++ maybe last) end
-    → Reads input remaining failed_before failed old new end
+    → Reads input remaining failed_before failed old new read end
 reads_some input remaining failed_before failed old new end read items last c to_put p = record {
-  read = read;
   consumed = c;
   items = items;
   last = last;
@@ -198,9 +195,8 @@ reads_some input remaining failed_before failed old new end read items last c to
 
 -- all was put, and the connection was ended
 reads_done : (input remaining : Option (List ℕ)) (failed_before failed : Bool) (old new : SeatNow) (end : ReadEnd) (read : List ℕ) (items : List Item) (last : Option Input) → Consumes input remaining read → IsToPut read items last → PutAndEnded old new (said items ++ maybe last)
-    → (IsDone new [] → EndsSo end remaining failed_before failed new read last []) → Reads input remaining failed_before failed old new end
+    → (IsDone new [] → EndsSo end remaining failed_before failed new read last []) → Reads input remaining failed_before failed old new read end
 reads_done input remaining failed_before failed old new end read items last c to_put p so = record {
-  read = read;
   consumed = c;
   items = items;
   last = last;
@@ -212,48 +208,48 @@ reads_done input remaining failed_before failed old new end read items last c to
   cause = so (record { all = refl; ended = p.ended; going = p.going });
 }
 
-none_to_put : (input remaining : Option (List ℕ)) (old now : SeatNow) (assembled : Assembled) (turns : ℕ) (h : Heard input remaining old now assembled turns) → IsToPut h.read h.items None
-none_to_put input remaining old now assembled turns h =
-    heard_all h.read h.items assembled.rest None (subst (λ (f : Option Fault). Stream h.read h.items assembled.rest f) h.unbroken h.stream)
+none_to_put : (input remaining : Option (List ℕ)) (read : List ℕ) (old now : SeatNow) (assembled : Assembled) (turns : ℕ) (h : Heard input remaining read old now assembled turns) → IsToPut read h.items None
+none_to_put input remaining read old now assembled turns h =
+    heard_all read h.items assembled.rest None (subst (λ (f : Option Fault). Stream read h.items assembled.rest f) h.unbroken h.stream)
 
 Consumes-keeps : (a b c : Option (List ℕ)) (x : List ℕ) → Consumes a b x → Keeps b c → Consumes a c x
 Consumes-keeps a b c x h k = subst (λ (y : List ℕ). Consumes a c y) (append-nil x) (Consumes-then a b c x [] h (Consumes-nothing b c k))
 
 -- a read told the end, or failed
-pub reads_closed : (input before after : Option (List ℕ)) (failed_before failed : Bool) (old mid new : SeatNow) (assembled : Assembled) (turns : ℕ) (why end : ReadEnd) → Heard input before old mid assembled turns → Keeps before after
-    → ((read : List ℕ) → IsDone new [] → EndsSo why after failed_before failed new read None []) → Closes mid new [] why end → Reads input after failed_before failed old new end
-reads_closed input before after failed_before failed old mid new assembled turns why end h k so closes =
-    let c = Consumes-keeps input before after h.read h.consumed k in
-    let to_put = none_to_put input before old mid assembled turns h in
+pub reads_closed : (input before after : Option (List ℕ)) (read : List ℕ) (failed_before failed : Bool) (old mid new : SeatNow) (assembled : Assembled) (turns : ℕ) (why end : ReadEnd) → Heard input before read old mid assembled turns → Keeps before after
+    → (IsDone new [] → EndsSo why after failed_before failed new read None []) → Closes mid new [] why end → Reads input after failed_before failed old new read end
+reads_closed input before after read failed_before failed old mid new assembled turns why end h k so closes =
+    let c = Consumes-keeps input before after read h.consumed k in
+    let to_put = none_to_put input before read old mid assembled turns h in
     elim closes [
       | inl x ↦
-          subst (λ (e : ReadEnd). Reads input after failed_before failed old new e) (sym x.0)
-          (reads_done input after failed_before failed old new why h.read h.items None c to_put (all_then_ended old mid new (said h.items) [] h.put x.1) (so h.read))
-      | inr x ↦ reads_some input after failed_before failed old new end h.read h.items None c to_put (all_then_some old mid new (said h.items) [] end h.put x)
+          subst (λ (e : ReadEnd). Reads input after failed_before failed old new read e) (sym x.0)
+          (reads_done input after failed_before failed old new why read h.items None c to_put (all_then_ended old mid new (said h.items) [] h.put x.1) so)
+      | inr x ↦ reads_some input after failed_before failed old new end read h.items None c to_put (all_then_some old mid new (said h.items) [] end h.put x)
     ]
 
 -- reading ended in a piece
-pub reads_piece : (input before after : Option (List ℕ)) (failed_before failed : Bool) (old mid new : SeatNow) (assembled : Assembled) (turns : ℕ) (piece : List ℕ) (end : ReadEnd) → Heard input before old mid assembled turns → Consumes before after piece → failed ≡ failed_before
-    → ((bytes : List ℕ) (items : List Item) → Stream bytes items assembled.rest assembled.fault → EndedInPiece bytes piece items mid new end) → Reads input after failed_before failed old new end
-reads_piece input before after failed_before failed old mid new assembled turns piece end h c unfailed step =
-    let e = step h.read h.items h.stream in
-    let read = Consumes-then input before after h.read piece h.consumed c in
+pub reads_piece : (input before after : Option (List ℕ)) (read read' : List ℕ) (failed_before failed : Bool) (old mid new : SeatNow) (assembled : Assembled) (turns : ℕ) (piece : List ℕ) (end : ReadEnd) → Heard input before read old mid assembled turns → Consumes before after piece → read' ≡ read ++ piece → failed ≡ failed_before
+    → ((bytes : List ℕ) (items : List Item) → Stream bytes items assembled.rest assembled.fault → EndedInPiece bytes piece items mid new end) → Reads input after failed_before failed old new read' end
+reads_piece input before after read read' failed_before failed old mid new assembled turns piece end h c was unfailed step =
+    let e = step read h.items h.stream in
+    let consumed = Consumes-then input before after read piece h.consumed c in
     let all : said h.items ++ (said e.more ++ maybe e.last) ≡ said (h.items ++ e.more) ++ maybe e.last =
     sym (append_assoc (said h.items) (said e.more) (maybe e.last)) ∙ ap (λ (xs : List Input). xs ++ maybe e.last) (sym (said_more h.items e.more)) in
-    elim e.ended [
+    subst (λ (bytes : List ℕ). Reads input after failed_before failed old new bytes end) (sym was) (elim e.ended [
       | inl x ↦
-          subst (λ (e : ReadEnd). Reads input after failed_before failed old new e) (sym x.why)
-          (reads_done input after failed_before failed old new ends.Fault (h.read ++ piece) (h.items ++ e.more) e.last read e.to_put
+          subst (λ (e : ReadEnd). Reads input after failed_before failed old new (read ++ piece) e) (sym x.why)
+          (reads_done input after failed_before failed old new ends.Fault (read ++ piece) (h.items ++ e.more) e.last consumed e.to_put
           (subst (λ (xs : List Input). PutAndEnded old new xs) all (all_then_ended old mid new (said h.items) (said e.more ++ maybe e.last) h.put x.put))
           (λ done. (inr (unfailed, x.some_last), done)))
       | inr x ↦
-          reads_some input after failed_before failed old new end (h.read ++ piece) (h.items ++ e.more) e.last read e.to_put
+          reads_some input after failed_before failed old new end (read ++ piece) (h.items ++ e.more) e.last consumed e.to_put
           (subst (λ (xs : List Input). PutSome old new xs end) all (all_then_some old mid new (said h.items) (said e.more ++ maybe e.last) end h.put x))
-    ]
+    ])
 
 -- there was no memory for the buffer
-pub reads_nothing : (input : Option (List ℕ)) (failed : Bool) (old new : SeatNow) (end : ReadEnd) → Closes old new (inputs.NoMemory ∷ []) ends.Fault end → Reads input input failed failed old new end
-reads_nothing input failed old new end closes =
+pub reads_nothing : (input : Option (List ℕ)) (read : List ℕ) (failed : Bool) (old new : SeatNow) (end : ReadEnd) → read ≡ [] → Closes old new (inputs.NoMemory ∷ []) ends.Fault end → Reads input input failed failed old new read end
+reads_nothing input read failed old new end nothing closes =
     let c = Consumes-nothing input input (Keeps-same input) in
     let start : Stream [] [] [] None = subst (λ front. Ends front [] [] None) (sym front_at-nil) (refl, refl) in
     let to_put : IsToPut [] [] (Some inputs.NoMemory) = record {
@@ -265,10 +261,10 @@ reads_nothing input failed old new end closes =
       stream = start;
       last_so = (record { one_piece = omega arith; first = λ _. refl }, refl);
     } in
-    elim closes [
-      | inl x ↦ subst (λ (e : ReadEnd). Reads input input failed failed old new e) (sym x.0) (reads_done input input failed failed old new ends.Fault [] [] (Some inputs.NoMemory) c to_put x.1 (λ done. (inr (refl, some_is inputs.NoMemory), done)))
+    subst (λ (bytes : List ℕ). Reads input input failed failed old new bytes end) (sym nothing) (elim closes [
+      | inl x ↦ subst (λ (e : ReadEnd). Reads input input failed failed old new [] e) (sym x.0) (reads_done input input failed failed old new ends.Fault [] [] (Some inputs.NoMemory) c to_put x.1 (λ done. (inr (refl, some_is inputs.NoMemory), done)))
       | inr x ↦ reads_some input input failed failed old new end [] [] (Some inputs.NoMemory) c to_put x
-    ]
+    ])
 
 -- ---- reads
 

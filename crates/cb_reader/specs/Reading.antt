@@ -40,11 +40,10 @@ pub record IsToPut (bytes : List ℕ) (items : List Item) (last : Option Input) 
 
 -- ---- pieces
 
--- So far, in so many reads, the items of all bytes that were read were put. The assembler keeps the
--- bytes behind them.
-pub record Heard (input remaining : Option (List ℕ)) (old now : SeatNow) (assembled : Assembled)
-    (turns : ℕ) : Type 0 where
-  pub read : List ℕ
+-- So far, in so many reads, the items of all bytes that were read (`read`) were put. The assembler
+-- keeps the bytes behind them.
+pub record Heard (input remaining : Option (List ℕ)) (read : List ℕ) (old now : SeatNow)
+    (assembled : Assembled) (turns : ℕ) : Type 0 where
   pub consumed : Consumes input remaining read
   pub enough : turns ≤ length read
   pub items : List Item
@@ -121,11 +120,10 @@ EndsSo ends.Turns remaining failed_before failed now read last later =
 EndsSo ends.Stopped remaining failed_before failed now read last later = IsCut now true
 
 -- What a reader's thread did, from its source, seat and stop before (`input`, `failed_before`,
--- `old`) to those after (`remaining`, `failed`, `new`).
+-- `old`) to those after (`remaining`, `failed`, `new`). Its reads gave the bytes `read`.
 pub record Reads (input remaining : Option (List ℕ)) (failed_before failed : Bool)
-    (old new : SeatNow) (end : ReadEnd) : Type 0 where
-  -- The bytes that were read. If the source tells its bytes, it gave these.
-  pub read : List ℕ
+    (old new : SeatNow) (read : List ℕ) (end : ReadEnd) : Type 0 where
+  -- If the source tells its bytes, it gave these.
   pub consumed : Consumes input remaining read
   -- What is to be put of them.
   pub items : List Item

@@ -4,12 +4,15 @@
 
 mod input;
 mod putting;
+mod read_from;
 mod reading;
 mod seat;
 mod stop;
+mod tape;
 
 pub use cb_base::{ReadEnd, Source};
 pub use input::Input;
-pub use reading::read_loop;
+pub use read_from::ReadFrom;
+pub use reading::{WasRead, read_loop};
 pub use seat::Seat;
 pub use stop::Stop;

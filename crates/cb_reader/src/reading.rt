@@ -1,4 +1,4 @@
-ghost use Rattle.std.specs.Prelude.{◌≡◌, ◌≤◌, ◌++◌, ℕ, false, List, None, length, IfOk, IfErr, OnOk};
+ghost use Rattle.std.specs.Prelude.{◌≡◌, ◌≤◌, ◌++◌, ℕ, false, List, [], None, length, IfOk, IfErr, OnOk};
 ghost use Rattle.cb_wire.specs.declared.item.Item.{Item};
 ghost use Rattle.cb_wire.specs.Stream.{Stream};
 ghost use Rattle.cb_reader.specs.Putting.{seat_now};
@@ -6,6 +6,7 @@ ghost use Rattle.cb_reader.specs.Reading.{EndedInPiece, Reads, TookPiece};
 
 use crate::input::Input;
 use crate::putting::{end, may_put, put_items, put_last};
+use crate::read_from::ReadFrom;
 use crate::seat::Seat;
 use crate::stop::Stop;
 use cb_base::{Fault, ReadEnd, Shared, Source};
@@ -19,8 +20,17 @@ const READ_SIZE: usize = 65_536;
 /// The most reads of one source.
 const TURNS: u64 = 1 << 40;
 
+/// Why reading ended, and what was read.
+#[derive(Drop)]
+pub struct WasRead<S> {
+    /// Why it ended.
+    pub why: ReadEnd,
+    /// What the source gave.
+    pub bytes: ReadFrom<S>,
+}
+
 /// Reads a peer's stream and puts its items into the peer's inbox, until the stream ends or the
-/// reader is stopped. Returns why it ended.
+/// reader is stopped. Returns why it ended, and, for proofs alone, the bytes that were read.
 ///
 /// - `Eof`: the source ended. All items were put, and the connection was ended.
 /// - `Fault`: a read failed, the stream has a fault, or memory ran out. All items before that were
@@ -36,35 +46,47 @@ pub fn read_loop<R: Wait, S: Source, T: Seat, P: Stop>(
     reader: &mut S,
     seat: &mut T,
     stop: &mut P,
-) -> ReadEnd
+) -> WasRead<S>
     requires live { T.has_ended seat.old ≡ false }
     ensures reads { Reads (S.remaining reader.old) (S.remaining reader.new)
         (S.has_failed reader.old) (S.has_failed reader.new)
         (seat_now T.queued T.has_ended T.counted P.has_stopped seat.old stop.old)
-        (seat_now T.queued T.has_ended T.counted P.has_stopped seat.new stop.new) result }
+        (seat_now T.queued T.has_ended T.counted P.has_stopped seat.new stop.new)
+        result.bytes result.why }
     ensures seat { T.same_seat seat.old seat.new }
 {
+    let mut bytes = ReadFrom::nothing();
     match vec![in alloc; 0u8; READ_SIZE] {
-        Ok(mut buffer) => read_pieces(rt, alloc, reader, buffer.as_mut_slice(), seat, stop),
-        Err(_) => put_last(rt, seat, stop, Input::NoMemory),
+        Ok(mut buffer) => {
+            let buffer = buffer.as_mut_slice();
+            let why = read_pieces(rt, alloc, reader, buffer, &mut bytes, seat, stop);
+            WasRead { why, bytes }
+        }
+        Err(_) => {
+            let why = put_last(rt, seat, stop, Input::NoMemory);
+            WasRead { why, bytes }
+        }
     }
 }
 
-/// The same as `read_loop`, with a buffer of 65,536 bytes to read into.
+/// Reads with a buffer of 65,536 bytes, before which nothing was read.
 fn read_pieces<R: Wait, S: Source, T: Seat, P: Stop>(
     rt: &R,
     alloc: Global,
     reader: &mut S,
     buffer: &mut [u8],
+    bytes: &mut ReadFrom<S>,
     seat: &mut T,
     stop: &mut P,
 ) -> ReadEnd
     requires buffer { length buffer.old ≡ 65536 }
+    requires first { bytes.old ≡ [] }
     requires live { T.has_ended seat.old ≡ false }
     ensures reads { Reads (S.remaining reader.old) (S.remaining reader.new)
         (S.has_failed reader.old) (S.has_failed reader.new)
         (seat_now T.queued T.has_ended T.counted P.has_stopped seat.old stop.old)
-        (seat_now T.queued T.has_ended T.counted P.has_stopped seat.new stop.new) result }
+        (seat_now T.queued T.has_ended T.counted P.has_stopped seat.new stop.new)
+        bytes.new result }
     ensures seat { T.same_seat seat.old seat.new }
 {
     let mut assembler = Assembler::new(alloc);
@@ -77,6 +99,7 @@ fn read_pieces<R: Wait, S: Source, T: Seat, P: Stop>(
             Some(0) => return end(rt, seat, stop, ReadEnd::Eof),
             Some(given) => {
                 let (piece, _) = buffer.split_at(given);
+                bytes.add(piece);
                 if let Err(end) = put_piece(rt, alloc, &mut assembler, piece, seat, stop) {
                     return end;
                 }

@@ -4,14 +4,13 @@ use Rattle.std.specs.declared.thread.PromisedHandle.{PromisedHandle}
 use Rattle.atomic_table.specs.Seated.{TableId}
 use Rattle.cb_inbox.specs.declared.queued.Queued.{Queued}
 use Rattle.cb_inbox.specs.declared.queued.Queued.TheVariants as queued
-use Rattle.cb_inbox.specs.Seat.{InboxState, SeatState, queued_more}
+use Rattle.cb_inbox.specs.Seat.{SeatState, queued_more}
 use Rattle.cb_crew.specs.declared.reader_side.ReaderSide.{ReaderSide}
 use Rattle.cb_crew.specs.declared.reader_side.ReaderSide.TheVariants as side
 use Rattle.cb_crew.specs.Desk.{DeskState}
 use Rattle.cb_crew.specs.Turn.{HandlerState}
 use Rattle.cb_crew.specs.Crew.{CrewState, names_of}
 use Rattle.cb_service.specs.declared.promises.OfCrew.{OfCrew}
-use Rattle.cb_service.specs.declared.promises.OfReader.{OfReader}
 
 -- whose thread it is: the handler and its crew
 abbrev pub handler_of : {W M : Type 0} → PromisedHandle (HandlerState (DeskState W M)) (OfCrew W M)
@@ -21,10 +20,6 @@ handler_of thread = thread.promise.handler.value
 abbrev pub crew_of : {W M : Type 0} → PromisedHandle (HandlerState (DeskState W M)) (OfCrew W M)
     → CrewState
 crew_of thread = thread.promise.crew.value
-
--- or its reader's inbox
-abbrev pub inbox_for : {W M : Type 0} → PromisedHandle (ReaderSide M W) (OfReader W M) → InboxState
-inbox_for thread = thread.promise.inbox.value
 
 -- the name is that of the inbox of this crew's peer
 abbrev pub IsInboxAt : CrewState → ℕ → TableId → Type 0
@@ -46,6 +41,13 @@ pub record HandBack {W M : Type 0} (crew : CrewState)
 abbrev pub queued_by : {M O : Type 0} → ReaderSide M O → List (Queued M O)
 queued_by (side.Live seat) = seat.queued
 queued_by (side.Ended seat) = seat.queued
+
+-- Nothing was read, and the side is that of the seat. Or the account tells how what the seat had
+-- queued came to what the side queued.
+abbrev pub IsLeftBy : {M O K : Type 0} → (K → List (Queued M O) → List (Queued M O) → Type 0)
+    → SeatState (Queued M O) → ReaderSide M O → Option K → Type 0
+IsLeftBy tells seat left None = left ≡ side.Live seat
+IsLeftBy tells seat left (Some account) = tells account seat.queued (queued_by left)
 
 -- the seat after the end mark of its connection, if that lasted
 abbrev pub ended_of : {M O : Type 0} → ReaderSide M O → SeatState (Queued M O)

@@ -14,9 +14,11 @@ mod starting;
 mod thread_fault;
 
 pub use handling::{AfterTurn, HandlerSetup, Nothing};
-pub use promises::{Handling, OfCrew, OfReader, Reading, join_handler, join_handlers, join_reader};
+pub use promises::{
+    Handling, OfCrew, OfReader, ReaderEnd, Reading, join_handler, join_handlers, join_reader,
+};
 pub use queueing::{MOST_QUEUED, Unopened, end, offer, offer_end, offer_open, open, put};
-pub use reader::Reader;
+pub use reader::{Account, Reader, Untold};
 pub use side::Side;
 pub use signals::Signals;
 pub use sleeper::Sleeper;

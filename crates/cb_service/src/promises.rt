@@ -2,11 +2,14 @@ ghost use Rattle.std.specs.Prelude.{◌≡◌, ◌≤◌, List, [], length, vec_
 ghost use Rattle.cb_crew.specs.Desk.{DeskState};
 ghost use Rattle.cb_crew.specs.Turn.{HandlerState};
 ghost use Rattle.cb_crew.specs.Crew.{AreHandlersOf, CrewState, IsHandlerOf, inbox_of};
-ghost use Rattle.cb_service.specs.Service.{HandBack, crew_of, handler_of, inbox_for};
+ghost use Rattle.cb_service.specs.Readers.{inbox_for, seat_for};
+ghost use Rattle.cb_service.specs.Service.{HandBack, IsLeftBy, crew_of, handler_of};
 
+use crate::reader::Account;
 use crate::side::Side;
 use cb_crew::{Crew, Fresh, Handler, Work};
-use cb_inbox::Inbox;
+use cb_inbox::{Inbox, Opening, ReaderSeat};
+use std::marker::PhantomData;
 use std::snapshot::Snapshot;
 use std::thread::{Promise, PromisedHandle, Threads};
 
@@ -23,21 +26,35 @@ impl<W: Work> Promise<Handler<W>> for OfCrew<W> {
         × (handler.room ≡ promise.handler.value.room) };
 }
 
-/// A promise: a reader's thread returns a side of this inbox.
+/// How a reader's thread leaves its peer's inbox.
 #[derive(Drop)]
-pub struct OfReader<W: Work> {
-    pub(crate) inbox: Snapshot<Inbox<W::Item, Fresh<W>>>,
+pub struct ReaderEnd<M: Drop, O: Opening + Drop, K: Drop> {
+    /// Its side of the inbox.
+    pub side: Side<M, O>,
+    /// Its account. None if nothing was read: the side is that of its seat then.
+    pub account: Option<K>,
 }
 
-impl<W: Work> Promise<Side<W::Item, Fresh<W>>> for OfReader<W> {
-    ghost kept_by = { λ promise side. inbox_of side ≡ promise.inbox.value.name };
+/// A promise: a reader's thread returns a side of this inbox, and the account of what it queued
+/// from this seat on.
+#[derive(Drop)]
+pub struct OfReader<W: Work, K> {
+    pub(crate) inbox: Snapshot<Inbox<W::Item, Fresh<W>>>,
+    pub(crate) seat: Snapshot<ReaderSeat<W::Item, Fresh<W>>>,
+    pub(crate) account: PhantomData<K>,
+}
+
+impl<W: Work, K: Account<W::Item, Fresh<W>>> Promise<ReaderEnd<W::Item, Fresh<W>, K>>
+    for OfReader<W, K> {
+    ghost kept_by = { λ promise end. (inbox_of end.side ≡ promise.inbox.value.name)
+        × IsLeftBy K.tells promise.seat.value end.side end.account };
 }
 
 /// A handler's thread.
 pub type Handling<W> = PromisedHandle<Handler<W>, OfCrew<W>>;
 
-/// A reader's thread.
-pub type Reading<W> = PromisedHandle<Side<<W as Work>::Item, Fresh<W>>, OfReader<W>>;
+/// A reader's thread, whose account is a `K`.
+pub type Reading<W, K> = PromisedHandle<ReaderEnd<<W as Work>::Item, Fresh<W>, K>, OfReader<W, K>>;
 
 /// Waits until a handler's thread returns, and returns its handler.
 pub fn join_handler<W: Work, R: Threads>(rt: &R, thread: Handling<W>) -> Handler<W>
@@ -69,9 +86,13 @@ pub fn join_handlers<W: Work, R: Threads>(
     handlers
 }
 
-/// Waits until a reader's thread returns, and returns the reader's side.
-pub fn join_reader<W: Work, R: Threads>(rt: &R, thread: Reading<W>) -> Side<W::Item, Fresh<W>>
-    ensures { inbox_of result ≡ (inbox_for thread).name }
+/// Waits until a reader's thread returns, and returns the reader's side and its account.
+pub fn join_reader<W: Work, K: Account<W::Item, Fresh<W>>, R: Threads>(
+    rt: &R,
+    thread: Reading<W, K>,
+) -> ReaderEnd<W::Item, Fresh<W>, K>
+    ensures inbox { inbox_of result.side ≡ (inbox_for thread).name }
+    ensures account { IsLeftBy K.tells (seat_for thread) result.side result.account }
 {
     thread.join(rt)
 }

@@ -1,11 +1,12 @@
-ghost use Rattle.std.specs.Prelude.{◌≡◌, ◌<◌, ◌≤◌, ◌^◌, length, All, IfOk, IfErr};
+ghost use Rattle.std.specs.Prelude.{◌≡◌, ◌<◌, ◌≤◌, ◌^◌, None, length, All, IfOk, IfErr};
 ghost use Rattle.cb_crew.specs.declared.reader_side.ReaderSide.TheVariants.{Live};
 ghost use Rattle.cb_crew.specs.Crew.{IsHandlerOf, inbox_of};
-ghost use Rattle.cb_service.specs.Service.{HandBack, IsInboxAt, crew_of, handler_of, inbox_for};
+ghost use Rattle.cb_service.specs.Readers.{inbox_for, seat_for};
+ghost use Rattle.cb_service.specs.Service.{HandBack, IsInboxAt, IsLeftBy, crew_of, handler_of};
 
 use crate::handling::{AfterTurn, HandlerSetup, handle};
-use crate::promises::{Handling, OfCrew, OfReader, Reading, join_handler};
-use crate::reader::{Reader, read_from};
+use crate::promises::{Handling, OfCrew, OfReader, ReaderEnd, Reading, join_handler};
+use crate::reader::{Account, Reader, read_from};
 use crate::side::Side;
 use crate::signals::Signals;
 use crate::thread_fault::ThreadFault;
@@ -13,7 +14,7 @@ use cb_base::Shared;
 use cb_crew::{Crew, Fresh, Handler, ReaderSide, Work};
 use cb_inbox::{Opening, ReaderSeat};
 use std::alloc::{AllocError, Global};
-use std::marker::{Copy, Send};
+use std::marker::{Copy, PhantomData, Send};
 use std::snapshot::Snapshot;
 use std::sync::Wait;
 use std::sync::atomic::{AtomicBool, Ordering};
@@ -182,13 +183,14 @@ fn joined<W: Work, R: Threads>(
 }
 
 /// Starts the thread of a peer's reader, which may outlive the call. It returns the reader's side
-/// once the reader has read all, or was told to stop.
+/// and its account once the reader has read all, or was told to stop.
 ///
 /// Fails with `ThreadFault::Thread` if no thread can be made, and with `ThreadFault::Memory` if
-/// memory runs out. The seat then comes back, and the reader is dropped.
+/// memory runs out. The seat then comes back unchanged, and the reader is dropped.
 pub fn start_reader<
     W: Work + Send + 'static,
-    D: Reader<W::Item, Fresh<W>> + Send + 'static,
+    K: Account<W::Item, Fresh<W>> + Send + 'static,
+    D: Reader<W::Item, Fresh<W>, K> + Send + 'static,
     R: Threads + Wait + Copy + Send + Drop + 'static,
 >(
     rt: &R,
@@ -198,15 +200,15 @@ pub fn start_reader<
     peer: u16,
     seat: ReaderSeat<W::Item, Fresh<W>>,
     reader: D,
-) -> Result<Reading<W>, NoReader<W>>
+) -> Result<Reading<W, K>, NoReader<W>>
 where
     W::Item: Send + 'static,
     requires peer { peer < length crew.inboxes }
     requires inbox { IsInboxAt crew peer seat.inbox }
     requires place { length seat.queued < 2 ^ 48 }
-    ensures started { IfOk result (λ thread. (inbox_for thread).name ≡ seat.inbox) }
-    ensures refused { IfErr result
-        (λ back. (back.seat.inbox ≡ seat.inbox) × (length back.seat.queued < 2 ^ 48)) }
+    ensures started { IfOk result (λ thread. ((inbox_for thread).name ≡ seat.inbox)
+        × (seat_for thread ≡ seat)) }
+    ensures refused { IfErr result (λ back. back.seat ≡ seat) }
 {
     let Ok((off, flag)) = new_flag(alloc) else {
         return Err(NoReader {
@@ -216,21 +218,31 @@ where
     };
     let promise = OfReader {
         inbox: Snapshot::of(crew.inbox(peer)),
+        seat: Snapshot::of(&seat),
+        account: PhantomData,
     };
     let rt_of_thread = *rt;
     let started = thread::spawn_with(
         rt,
         promise,
-        move || -> Side<W::Item, Fresh<W>>
+        move || -> ReaderEnd<W::Item, Fresh<W>, K>
             requires { (peer < length crew.inboxes) × IsInboxAt crew peer seat.inbox
                 × (length seat.queued < 2 ^ 48) }
-            ensures { inbox_of result ≡ seat.inbox }
+            ensures { (inbox_of result.side ≡ seat.inbox)
+                × IsLeftBy K.tells seat result.side result.account }
         {
             let (rt, crew, signals) = (rt_of_thread, crew, signals);
             if flag.load(Ordering::SeqCst) {
-                return Side::live(seat);
+                return ReaderEnd {
+                    side: Side::live(seat),
+                    account: None,
+                };
             }
-            read_from(&rt, reader, crew.inbox(peer), seat, &signals)
+            let (side, account) = read_from(&rt, reader, crew.inbox(peer), seat, &signals);
+            ReaderEnd {
+                side,
+                account: Some(account),
+            }
         },
     );
     match started {
@@ -239,23 +251,28 @@ where
             // The closure now only hands the seat back.
             off.store(true, Ordering::SeqCst);
             Err(NoReader {
-                seat: live_seat(rt, (refused.value)()),
+                seat: unread_seat(rt, (refused.value)()),
                 cause: ThreadFault::Thread,
             })
         }
     }
 }
 
-/// The seat of a side whose connection lasts. A thread that wasn't started leaves it so, but no
-/// clause can tell that: it depends on a flag that threads share. If it were otherwise, this would
-/// wait for ever.
-fn live_seat<M: Drop, O: Opening + Drop, R: Wait>(rt: &R, side: Side<M, O>) -> ReaderSeat<M, O>
-    ensures same { side ≡ Live result }
+/// The seat of a reader that read nothing. A thread that wasn't started leaves it so, but no clause
+/// can tell that: it depends on a flag that threads share. If it were otherwise, this would wait
+/// for ever.
+fn unread_seat<M: Drop, O: Opening + Drop, K: Drop, R: Wait>(
+    rt: &R,
+    end: ReaderEnd<M, O, K>,
+) -> ReaderSeat<M, O>
+    ensures side { end.side ≡ Live result }
+    ensures account { end.account ≡ None }
     ensures place { length result.queued < 2 ^ 48 }
 {
-    match side.into_side() {
-        ReaderSide::Live(seat) => seat,
-        ReaderSide::Ended(_) => {
+    let ReaderEnd { side, account } = end;
+    match (side.into_side(), account) {
+        (ReaderSide::Live(seat), None) => seat,
+        _ => {
             for _ in rt.forever() {}
             unreachable!()
         }

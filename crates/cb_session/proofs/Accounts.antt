@@ -491,7 +491,8 @@ accounts_asked told refused oracle from trace mid trace' hall hall' badge badge'
       lost_is = refl;
     } in
     let grown = accounts_grow told refused oracle from mid trace' hall hall' badge badge' held failed written from.ticks inputs inputs [] (texts sent) false (loses (kind_of event) || false) false (record { event = event; starved = t.starved }) (rest_open trace mid r going) b.accounts t.grows
-    (answer_changes told refused mid failed hall hall' badge badge' question event stands' answer) adds (λ e. inl (inr (inl (answer_lacked told refused hall hall' badge badge' question event answer e)))) in
+    (answer_changes told refused mid failed hall hall' badge badge' question event stands' answer) adds
+    (λ e. inl (inr (inl (record { before = mid; question = question; asked = stands'; entry = record { event = event; starved = t.starved }; ran_out = e; grows = t.grows }, answer_lacked told refused hall hall' badge badge' question event answer e)))) in
     record { lost = loses (kind_of event) || false; accounts = grown.accounts }
 
 -- ---- what is left to be answered

@@ -17,7 +17,7 @@ use Rattle.cb_peer_state.specs.Event.{ends_at_once, is_hall_full, is_input, is_n
 use Rattle.cb_peer_state.specs.State.{is_closed}
 use Rattle.cb_trace.specs.Fold.{first_account, has_kind, inputs_of, number_of, replies, sends}
 use Rattle.cb_trace.specs.Prompt.{EachPrompt}
-use Rattle.cb_trace.specs.Trace.{LacksBase, StandsFor, TraceView}
+use Rattle.cb_trace.specs.Trace.{Grows, LacksBase, StandsFor, TraceView}
 use Rattle.cb_session.specs.declared.conversation.Conversation.{Conversation}
 
 -- The references that a conversation lends are the same.
@@ -99,11 +99,21 @@ pub record HadNoBase (trace : TraceView) : Type 0 where
 abbrev pub HasNoPlace : TraceView → Type 0
 HasNoPlace trace = (trace.room ≡ 0) ⊎ HadNoBase trace
 
+-- At its last entry, `NoMemory`, a question to the hall was open.
+pub record WasAsking (trace : TraceView) : Type 0 where
+  pub before : TraceView
+  pub question : Question
+  pub asked : pending_question before.session ≡ Some question
+  pub entry : TraceEntry
+  pub ran_out : is_no_memory (kind_of entry.event) ≡ true
+  pub grows : Grows before trace entry
+
 -- A conversation ran out of memory: its trace has no room for another entry or had no memory for a
--- checkpoint, the hall refused a question with `Memory`, or messages were left unwritten.
+-- checkpoint, the hall refused the open question with `Memory`, or messages were left unwritten.
 abbrev pub Lacked : {H : Type 0} → (H → BadgeState → Fault → Type 0) → Progress H → List ℕ → Type 0
 Lacked refused now missing =
-    HasNoPlace now.trace ⊎ (refused now.hall now.badge Memory ⊎ (missing ≢ []))
+    HasNoPlace now.trace
+    ⊎ ((WasAsking now.trace × refused now.hall now.badge Memory) ⊎ (missing ≢ []))
 
 -- The account of a conversation. These inputs were given. These bytes of what was sent are missing.
 -- `lost` says whether an event came that may leave bytes missing. `unkept` says whether something

@@ -8,6 +8,7 @@ ghost use Rattle.cb_peer_state.specs.declared.event.Event.{Event};
 ghost use Rattle.cb_peer_state.specs.declared.event.Event.TheVariants as events;
 ghost use Rattle.cb_peer_state.specs.Event.{begins, ends_at_once, is_input, is_no_memory, is_write_fault, kind_of, loses};
 ghost use Rattle.cb_peer_state.specs.State.{is_closed};
+ghost use Rattle.cb_trace.specs.Kept.{StillKeeps};
 ghost use Rattle.cb_trace.specs.Trace.{IsOpen};
 ghost use Rattle.cb_session.specs.Conversation.{Accounts, AnswerOf, Gave, GaveItem, IsLoss, IsPending, MayAsk, Origin, SameReferences, Sent, Settled, Stands, Underway, WritesOn, at, input_in, left_of, number_after, open_question, progress, with_event};
 
@@ -94,6 +95,7 @@ impl<'a, W: MessageSink, H: Oracle> Conversation<'a, W, H> {
     pub fn give_item(&mut self, alloc: Global, item: Item)
         requires going { IsOpen self.old.trace.now }
         ensures ends { SameReferences self.old self.new }
+        ensures keeps { StillKeeps self.old.trace.now self.new.trace.now }
         ensures heeds { WritesOn self.old.trace.now (W.has_failed self.old.writer.now) →
             W.heeds_failure self.old.writer.now self.new.writer.now
             × WritesOn self.new.trace.now (W.has_failed self.new.writer.now) }
@@ -115,6 +117,7 @@ impl<'a, W: MessageSink, H: Oracle> Conversation<'a, W, H> {
         requires going { IsOpen self.old.trace.now }
         requires input { is_input (kind_of event) ≡ true }
         ensures ends { SameReferences self.old self.new }
+        ensures keeps { StillKeeps self.old.trace.now self.new.trace.now }
         ensures heeds { WritesOn self.old.trace.now (W.has_failed self.old.writer.now) →
             W.heeds_failure self.old.writer.now self.new.writer.now
             × WritesOn self.new.trace.now (W.has_failed self.new.writer.now) }
@@ -142,6 +145,7 @@ impl<'a, W: MessageSink, H: Oracle> Conversation<'a, W, H> {
         requires room { 2 ≤ self.old.trace.now.room }
         requires begins { begins (kind_of event) ≡ true }
         ensures ends { SameReferences self.old self.new }
+        ensures keeps { StillKeeps self.old.trace.now self.new.trace.now }
         ensures heeds { WritesOn self.old.trace.now (W.has_failed self.old.writer.now) →
             W.heeds_failure self.old.writer.now self.new.writer.now
             × WritesOn self.new.trace.now (W.has_failed self.new.writer.now) }
@@ -177,6 +181,7 @@ impl<'a, W: MessageSink, H: Oracle> Conversation<'a, W, H> {
         requires going { IsOpen self.old.trace.now }
         requires stands { MayAsk self.old.trace.now question }
         ensures ends { SameReferences self.old self.new }
+        ensures keeps { StillKeeps self.old.trace.now self.new.trace.now }
         ensures heeds { WritesOn self.old.trace.now (W.has_failed self.old.writer.now) →
             W.heeds_failure self.old.writer.now self.new.writer.now
             × WritesOn self.new.trace.now (W.has_failed self.new.writer.now) }
@@ -200,6 +205,7 @@ impl<'a, W: MessageSink, H: Oracle> Conversation<'a, W, H> {
     pub fn converse(&mut self, alloc: Global, question: Option<Question>)
         requires stands { MayAsk self.old.trace.now question }
         ensures ends { SameReferences self.old self.new }
+        ensures keeps { StillKeeps self.old.trace.now self.new.trace.now }
         ensures heeds { WritesOn self.old.trace.now (W.has_failed self.old.writer.now) →
             W.heeds_failure self.old.writer.now self.new.writer.now
             × WritesOn self.new.trace.now (W.has_failed self.new.writer.now) }
@@ -227,6 +233,7 @@ impl<'a, W: MessageSink, H: Oracle> Conversation<'a, W, H> {
     fn ask(&mut self, alloc: Global, question: Question) -> (Vec<Outgoing>, Option<Question>)
         requires stands { open_question self.old.trace.now ≡ Some question }
         ensures ends { SameReferences self.old self.new }
+        ensures keeps { StillKeeps self.old.trace.now self.new.trace.now }
         ensures sink { self.new.writer.now ≡ self.old.writer.now }
         ensures written { self.new.written ≡ self.old.written }
         ensures accounts { (from : Origin _) (inputs : List Event) (held : Option (List ℕ))
@@ -251,6 +258,7 @@ impl<'a, W: MessageSink, H: Oracle> Conversation<'a, W, H> {
     pub fn send(&mut self, alloc: Global, messages: Vec<Outgoing>)
         requires silent { is_closed self.old.trace.now.session.state ≡ true → messages.items ≡ [] }
         ensures ends { SameReferences self.old self.new }
+        ensures keeps { StillKeeps self.old.trace.now self.new.trace.now }
         // Once a write has failed, there is no other write.
         ensures heeds { WritesOn self.old.trace.now (W.has_failed self.old.writer.now) →
             W.heeds_failure self.old.writer.now self.new.writer.now
@@ -296,6 +304,7 @@ impl<'a, W: MessageSink, H: Oracle> Conversation<'a, W, H> {
         requires going { IsOpen self.old.trace.now }
         requires loss { IsLoss event }
         ensures ends { SameReferences self.old self.new }
+        ensures keeps { StillKeeps self.old.trace.now self.new.trace.now }
         ensures hall { self.new.hall.now ≡ self.old.hall.now }
         ensures badge { self.new.badge.now ≡ self.old.badge.now }
         ensures sink { self.new.writer.now ≡ self.old.writer.now }

@@ -5,6 +5,7 @@ ghost use Rattle.cb_wire.specs.Stream.{texts};
 ghost use Rattle.cb_peer_state.specs.declared.event.Event.{Event};
 ghost use Rattle.cb_peer_state.specs.Event.{begins, ends_at_once, kind_of};
 ghost use Rattle.cb_peer_state.specs.State.{is_closed};
+ghost use Rattle.cb_trace.specs.Kept.{StillKeeps};
 ghost use Rattle.cb_trace.specs.Trace.{IsOpen};
 ghost use Rattle.cb_session.specs.Conversation.{Origin, Stands, WritesOn, input_in, progress, with_event};
 
@@ -44,6 +45,7 @@ pub fn begin_by<W: MessageSink, H: Oracle>(
     requires going { IsOpen trace.old }
     requires room { 2 ≤ trace.old.room }
     requires begins { begins (kind_of event) ≡ true }
+    ensures keeps { StillKeeps trace.old trace.new }
     ensures heeds { WritesOn trace.old (W.has_failed writer.old) →
         W.heeds_failure writer.old writer.new × WritesOn trace.new (W.has_failed writer.new) }
     ensures ended { ends_at_once event ≡ true → is_closed trace.new.session.state ≡ true }
@@ -77,6 +79,7 @@ pub fn lose_by<W: MessageSink, H: Oracle>(
     written: u64,
 )
     requires going { IsOpen trace.old }
+    ensures keeps { StillKeeps trace.old trace.new }
     ensures hall { hall.new ≡ hall.old }
     ensures badge { badge.new ≡ badge.old }
     ensures sink { writer.new ≡ writer.old }

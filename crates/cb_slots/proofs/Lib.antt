@@ -1,2 +1,4 @@
+pub mod Linking
 mod Lowest
 mod Placing
+mod Seatings

@@ -1,11 +1,12 @@
 -- What a node is started with.
-use Rattle.std.proofs.Common.{◌≡◌, ℕ, zero, suc, ◌+◌, ◌-◌, ◌<◌, ◌≤◌, Bool, false, List, [], ◌∷◌, ◌++◌, length, map, take, drop, replicate, slice_index_or, All, refl, sym, ap, subst, ◌∙◌, arith}
-use Rattle.std.proofs.lemmas.List.{append-nil, append_assoc, drop_more, get_or-map, length-drop, length-map, map-append, take_all, take_more}
-use Rattle.std.proofs.lemmas.List.Elements.{All-append, All-cons, All-head, All-nil, All-tail}
+use Rattle.std.proofs.Common.{◌≡◌, ℕ, suc, ◌+◌, ◌-◌, ◌<◌, false, List, [], ◌∷◌, ◌++◌, length, map, take, drop, replicate, slice_index_or, All, refl, sym, ap, subst, ◌∙◌, arith}
+use Rattle.std.proofs.lemmas.List.{append-nil, drop_more, get_or-map, length-drop, length-map, map-append, take_all, take_more}
+use Rattle.std.proofs.lemmas.List.Elements.{All-append, All-cons, All-nil}
 use Rattle.atomic_table.specs.Seated.{TableId}
 use Rattle.cb_inbox.specs.Seat.{InboxState, SeatState, opening_seat}
 use Rattle.cb_crew.specs.Crew.{CrewState}
 use Rattle.cb_slots.specs.Slot.{AreSlotsOf, IsInboxOf, SlotState, inboxes_of, new_slot, uses_of}
+use Rattle.cb_slots.proofs.Linking.{moved}
 
 -- ---- the slots of a new crew
 
@@ -83,12 +84,10 @@ uses_none (i ∷ inboxes) = ap (λ us. false ∷ us) (uses_none inboxes)
 -- one side more, of the next slot
 pub sides_more : {S T N : Type 0} (f : S → N) (g : T → N) (P : S → Type 0) (done new : List S) (s : S) (t : T) (rest left : List T) (all : List N)
     → map f done ++ map g rest ≡ all → All P done → rest ≡ t ∷ left → new ≡ done ++ s ∷ [] → f s ≡ g t → P s → (map f new ++ map g left ≡ all) × All P new
-sides_more f g P done new s t rest left all was are steps pushed is here =
-    let mapped : map f (done ++ s ∷ []) ++ map g left ≡ all =
-    ap (λ xs. xs ++ map g left) (map-append f done (s ∷ [])) ∙ append_assoc (map f done) (f s ∷ []) (map g left) ∙ ap (λ n. map f done ++ n ∷ map g left) is ∙ ap (λ r. map f done ++ map g r) (sym steps) ∙ was in (
-      ap (λ xs. map f xs ++ map g left) pushed ∙ mapped,
-      subst (All P) (sym pushed) (All-append P done (s ∷ []) are (All-cons P s [] here (All-nil P))),
-    )
+sides_more f g P done new s t rest left all was are steps pushed is here = (
+  moved f g done new s t rest left all was steps pushed is,
+  subst (All P) (sym pushed) (All-append P done (s ∷ []) are (All-cons P s [] here (All-nil P))),
+)
 
 -- where no slot is left, all are
 pub sides_all : {S T N : Type 0} (f : S → N) (g : T → N) (done : List S) (rest : List T) (all : List N) → map f done ++ map g rest ≡ all → rest ≡ [] → map f done ≡ all

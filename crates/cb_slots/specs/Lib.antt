@@ -1,3 +1,4 @@
 pub mod Choosing
 pub mod Fault
+pub mod Linking
 pub mod Slot

@@ -2,6 +2,7 @@
 use Rattle.std.specs.Prelude.{◌≡◌, ℕ, ◌<◌, Bool, true, false, List, length, map, All, Option, Some, None, slice_index_or, slice_set}
 use Rattle.std.specs.declared.thread.PromisedHandle.{PromisedHandle}
 use Rattle.atomic_table.specs.Seated.{TableId}
+use Rattle.cb_inbox.specs.declared.queued.Queued.{Queued}
 use Rattle.cb_inbox.specs.Seat.{InboxState}
 use Rattle.cb_crew.specs.declared.reader_side.ReaderSide.{ReaderSide}
 use Rattle.cb_crew.specs.declared.reader_side.ReaderSide.TheVariants as side
@@ -9,8 +10,12 @@ use Rattle.cb_crew.specs.Crew.{AreHandlersOf, CrewState, inbox_of, names_of}
 use Rattle.cb_crew.specs.Desk.{DeskState}
 use Rattle.cb_crew.specs.Turn.{HandlerState}
 use Rattle.cb_service.specs.declared.promises.OfCrew.{OfCrew}
-use Rattle.cb_service.specs.Service.{HandBack, inbox_for}
+use Rattle.cb_service.specs.Readers.{inbox_for, seat_for}
+use Rattle.cb_service.specs.Service.{HandBack, queued_by}
+use Rattle.cb_reader.specs.declared.input.Input.{Input}
+use Rattle.cb_peers.specs.Reading.{AreSpelled, IsUnread}
 use Rattle.cb_hall.specs.Badge.{BadgeState}
+use Rattle.cb_peers.specs.declared.link.Link.{Link}
 use Rattle.cb_slots.specs.declared.slot.Seating.{Seating}
 use Rattle.cb_slots.specs.declared.slot.Seating.TheVariants as seating
 
@@ -76,21 +81,33 @@ abbrev pub LastsIf : {M O : Type 0} → Bool → ReaderSide M O → Type 0
 LastsIf waits (side.Live seat) = Unit {0}
 LastsIf waits (side.Ended seat) = waits ≡ false
 
+-- What was queued of each connection is what bytes spell. Of one that waits for its socket nothing
+-- was queued.
+pub record IsRead {O : Type 0} (waits : Bool) (marks : List (Queued Input O)) : Type 0 where
+  pub spelled : AreSpelled marks
+  pub unread : waits ≡ true → IsUnread marks
+
 -- The slot has its side of this inbox, or the thread of a connection that doesn't wait has it.
-abbrev pub IsSeatingOf : {W M : Type 0} → TableId → Bool → Option (Seating W M) → Type 0
-IsSeatingOf name waits (Some (seating.Kept held)) = (inbox_of held ≡ name) × LastsIf waits held
+abbrev pub IsSeatingOf : {W : Type 0} → TableId → Bool → Option (Seating W) → Type 0
+IsSeatingOf name waits (Some (seating.Kept held)) =
+    (inbox_of held ≡ name) × LastsIf waits held × IsRead waits (queued_by held)
 IsSeatingOf name waits (Some (seating.Lent thread)) =
-    ((inbox_for thread).name ≡ name) × (waits ≡ false)
+    ((inbox_for thread).name ≡ name) × (waits ≡ false) × IsRead true (seat_for thread).queued
 IsSeatingOf name waits None = ⊥
 
 -- Nothing was asked under the badge.
 abbrev pub IsNew : BadgeState → Type 0
 IsNew badge = (badge.count ≡ 0) × (badge.full ≡ false)
 
--- Nothing was asked under the badge, if there is one.
-abbrev pub IsUnspent : Option BadgeState → Type 0
-IsUnspent None = Unit {0}
-IsUnspent (Some badge) = IsNew badge
+-- Nothing was asked under the badge, if there is one, and it is this slot's.
+abbrev pub IsUnspent : ℕ → Option BadgeState → Type 0
+IsUnspent slot None = Unit {0}
+IsUnspent slot (Some badge) = IsNew badge × (badge.connection.peer ≡ slot)
+
+-- it is a link of this slot, if there is one
+abbrev pub IsLinkIn : ℕ → Option Link → Type 0
+IsLinkIn slot None = Unit {0}
+IsLinkIn slot (Some link) = link.peer ≡ slot
 
 -- ---- the handlers' threads
 

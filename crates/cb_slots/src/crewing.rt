@@ -1,10 +1,14 @@
 ghost use Rattle.std.specs.Prelude.{◌≡◌, ◌≤◌, [], length, map, vec_capacity, All, IfOk, IsOkUnless};
+ghost use Rattle.std.specs.List.{range_with_len};
 ghost use Rattle.cb_base.specs.declared.fault.Fault.TheVariants.{Memory};
 ghost use Rattle.cb_crew.specs.Crew.{AreHandlersOf, AreOpeningSeats, HasPlace, inbox_of};
+ghost use Rattle.cb_peers.specs.Reading.{QueuedWhatItRead};
+ghost use Rattle.cb_slots.specs.Linking.{link_label};
 ghost use Rattle.cb_slots.specs.Slot.{AreSlotsOf, AreThreadsOf, names_in, new_slot};
 
 use crate::fault::NodeFault;
-use crate::slot::{Common, NextConnection, Slot};
+use crate::next_connection::NextConnection;
+use crate::slot::{Common, Slot};
 use cb_base::{Fault, Shared};
 use cb_crew::{Crew, Fresh, Handler, NewCrew, ReaderSide, Work};
 use cb_inbox::ReaderSeat;
@@ -24,7 +28,7 @@ const BUDGET: u32 = 64;
 
 /// A crew with slots for its peers, before its handlers have threads.
 #[derive(Drop)]
-pub struct Crewed<W: Work> {
+pub struct Crewed<W: Work<Item = Input>> {
     /// What the slots share.
     pub common: Common<W>,
     /// The slots of all peers, in their order. None ever had a socket.
@@ -64,7 +68,12 @@ pub fn crew_slots<W: Work<Item = Input>, R: Wait>(
     handlers: u16,
 ) -> Result<Crewed<W>, Fault>
     requires firsts { (1 ≤ length firsts.items) × (length firsts.items ≤ 64) }
+    requires in_order { map (λ first. first.link.peer) firsts.items
+        ≡ range_with_len 0 (length firsts.items) }
     requires handlers { (1 ≤ handlers) × (handlers ≤ 16) }
+    // The work at a slot's place is that of the slot's link.
+    ensures labels { IfOk result (λ crewed. crewed.common.crew.labels
+        ≡ map (λ first. link_label first.link) firsts.items) }
     ensures count { IfOk result
         (λ crewed. length crewed.common.crew.inboxes ≡ length firsts.items) }
     ensures handlers { IfOk result
@@ -91,7 +100,7 @@ pub fn crew_slots<W: Work<Item = Input>, R: Wait>(
 }
 
 /// A crew with the works of these connections, and their links. Fails only with `Fault::Memory`.
-fn new_crew<W: Work, R: Wait>(
+fn new_crew<W: Work<Item = Input>, R: Wait>(
     rt: &R,
     alloc: Global,
     firsts: Vec<NextConnection<W>>,
@@ -103,7 +112,11 @@ fn new_crew<W: Work, R: Wait>(
         × (made.0.crew.handlers ≡ handlers)) }
     ensures seats { IfOk result (λ made. AreOpeningSeats made.0.crew made.0.readers.items) }
     ensures handlers { IfOk result (λ made. AreHandlersOf made.0.crew made.0.handlers.items) }
+    ensures labels { IfOk result
+        (λ made. made.0.crew.labels ≡ map (λ first. link_label first.link) firsts.items) }
     ensures links { IfOk result (λ made. length made.1.items ≡ length firsts.items) }
+    ensures in_order { IfOk result (λ made. map (λ link. link.peer) made.1.items
+        ≡ map (λ first. first.link.peer) firsts.items) }
     ensures memory { IsOkUnless result Memory }
 {
     let mut works = Vec::new(alloc);
@@ -119,7 +132,7 @@ fn new_crew<W: Work, R: Wait>(
 }
 
 /// What the slots of this crew share. Fails only with `Fault::Memory`.
-fn common_of<W: Work>(alloc: Global, crew: Crew<W>) -> Result<Common<W>, Fault>
+fn common_of<W: Work<Item = Input>>(alloc: Global, crew: Crew<W>) -> Result<Common<W>, Fault>
     ensures crew { IfOk result (λ common. common.crew ≡ crew) }
     ensures memory { IsOkUnless result Memory }
 {
@@ -141,6 +154,8 @@ fn slots_of<W: Work<Item = Input>>(
 ) -> Result<Vec<Slot<W>>, Fault>
     requires seats { AreOpeningSeats crew.now seats.items }
     requires links { length links.items ≡ length seats.items }
+    requires in_order { map (λ link. link.peer) links.items
+        ≡ range_with_len 0 (length links.items) }
     ensures slots { IfOk result (λ slots. AreSlotsOf crew.now slots.items
         × (slots.items ≡ map new_slot crew.now.inboxes)) }
     ensures memory { IsOkUnless result Memory }
@@ -156,15 +171,16 @@ fn slots_of<W: Work<Item = Input>>(
 }
 
 /// Starts a thread for each handler. If one can't be started, waits until those return that were.
-pub fn start_handlers<W: Work + Send + 'static, R: Threads + Wait + Copy + Send + Drop + 'static>(
+pub fn start_handlers<
+    W: Work<Item = Input> + Send + 'static,
+    R: Threads + Wait + Copy + Send + Drop + 'static,
+>(
     rt: &R,
     alloc: Global,
     common: &Common<W>,
     links: &Shared<Links>,
     handlers: Vec<Handler<W>>,
 ) -> Result<Vec<Handling<W>>, NodeFault>
-where
-    W::Item: Send + 'static,
     requires { AreHandlersOf common.now.crew handlers.items }
     ensures { IfOk result (λ threads. AreThreadsOf common.now.crew threads.items
         × (length threads.items ≡ length handlers.items)) }
@@ -193,6 +209,7 @@ pub fn sides_of<W: Work<Item = Input>, R: Threads>(
     requires room { (sides.items ≡ []) × (length slots.items ≤ vec_capacity sides) }
     ensures inboxes { map inbox_of result.items ≡ names_in slots.items }
     ensures places { All HasPlace result.items }
+    ensures read { All QueuedWhatItRead result.items }
 {
     let mut sides = sides;
     for slot in slots {

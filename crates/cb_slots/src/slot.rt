@@ -1,16 +1,20 @@
-ghost use Rattle.std.specs.Prelude.{◌≡◌, ◌⊎◌, ◌↔◌, true, false, IfErr, OnErr, OnOk};
+ghost use Rattle.std.specs.Prelude.{◌≡◌, ◌⊎◌, ◌↔◌, true, false, IfErr, IfOk, OnErr, OnOk};
 ghost use Rattle.cb_base.specs.declared.fault.Fault.TheVariants as faults;
 ghost use Rattle.cb_inbox.specs.Seat.{opening_seat};
 ghost use Rattle.cb_crew.specs.Crew.{HasPlace, inbox_of};
 ghost use Rattle.cb_slots.specs.declared.fault.NodeFault.TheVariants.{Io, Memory};
-ghost use Rattle.cb_slots.specs.Slot.{IsInboxOf, IsNew, IsUnspent, attached, new_slot, reopened};
+ghost use Rattle.cb_service.specs.Readers.{inbox_for, seat_for};
+ghost use Rattle.cb_service.specs.Service.{queued_by};
+ghost use Rattle.cb_peers.specs.Reading.{QueuedWhatItRead};
+ghost use Rattle.cb_slots.specs.Slot.{IsInboxOf, IsNew, IsRead, IsUnspent, attached, new_slot, reopened};
 
 use crate::fault::NodeFault;
+use crate::next_connection::NextConnection;
 use cb_base::{Fault, Shared};
 use cb_crew::{Crew, Fresh, ReaderSide, Work};
 use cb_hall::Badge;
 use cb_inbox::{Inbox, ReaderSeat};
-use cb_peers::{Backlogs, Link, SocketReading, start_threads};
+use cb_peers::{Backlogs, Link, SocketBytes, SocketReading, start_threads};
 use cb_reader::Input;
 use cb_service::{NoReader, Reading, Side, Signals, Unopened, join_reader, offer_open};
 use std::alloc::Global;
@@ -26,7 +30,7 @@ const MOST_CONNECTIONS: u64 = 256;
 
 /// What the slots of a node share.
 #[derive(Drop)]
-pub struct Common<W: Work> {
+pub struct Common<W: Work<Item = Input>> {
     /// The crew that serves the slots. Each slot is one of its peers.
     pub crew: Shared<Crew<W>>,
     /// By which the crew's threads wait for each other.
@@ -37,26 +41,17 @@ pub struct Common<W: Work> {
 
 /// Where a slot's side of its inbox is.
 #[derive(Drop)]
-enum Seating<W: Work> {
+enum Seating<W: Work<Item = Input>> {
     /// In the slot.
     Kept(Side<W::Item, Fresh<W>>),
     /// With the thread of a connection's reader.
-    Lent(Reading<W>),
-}
-
-/// A connection that isn't opened yet.
-#[derive(Drop)]
-pub struct NextConnection<W: Work> {
-    /// What serves it.
-    pub work: Fresh<W>,
-    /// What its threads share with the node.
-    pub link: Shared<Link>,
+    Lent(Reading<W, SocketBytes>),
 }
 
 /// A slot: it serves one connection after another. Contracts see its inbox, whether it ever had a
 /// socket, and whether its latest connection waits for one.
 #[derive(Drop)]
-pub struct Slot<W: Work> {
+pub struct Slot<W: Work<Item = Input>> {
     inbox: Snapshot<Inbox<Input, Fresh<W>>>,
     number: u16,
     /// It is always there between two calls.
@@ -71,9 +66,9 @@ pub struct Slot<W: Work> {
     next: Option<NextConnection<W>>,
 }
 
-impl<W: Work> Model for Slot<W> {
-    ghost use Rattle.cb_slots.specs.Slot.{IsSeatingOf, IsUnspent, SlotState};
-    ghost use Rattle.std.specs.Prelude.{◌≡◌, true, false};
+impl<W: Work<Item = Input>> Model for Slot<W> {
+    ghost use Rattle.cb_slots.specs.Slot.{IsLinkIn, IsSeatingOf, IsUnspent, SlotState};
+    ghost use Rattle.std.specs.Prelude.{◌≡◌, true, false, option_map};
 
     ghost Value = { SlotState };
 
@@ -81,7 +76,9 @@ impl<W: Work> Model for Slot<W> {
         record { inbox = slot.inbox.value; used = slot.used; waits = slot.waits } };
 
     ghost invariant = { λ slot. IsSeatingOf slot.inbox.value.name slot.waits slot.seating
-        × IsUnspent slot.badge × (slot.number ≡ slot.inbox.value.peer)
+        × IsUnspent slot.number slot.badge × (slot.number ≡ slot.inbox.value.peer)
+        × (slot.latest.peer ≡ slot.number)
+        × IsLinkIn slot.number (option_map (λ next. next.link) slot.next)
         × (slot.used ≡ false → slot.waits ≡ true) };
 }
 
@@ -93,7 +90,8 @@ impl<W: Work<Item = Input>> Slot<W> {
         seat: ReaderSeat<Input, Fresh<W>>,
         link: Shared<Link>,
     ) -> Slot<W>
-        requires { seat ≡ opening_seat inbox.now.name }
+        requires seat { seat ≡ opening_seat inbox.now.name }
+        requires link { link.peer ≡ inbox.now.peer }
         ensures { result ≡ new_slot inbox.entry.now }
     {
         Slot {
@@ -106,6 +104,13 @@ impl<W: Work<Item = Input>> Slot<W> {
             badge: None,
             next: None,
         }
+    }
+
+    /// The slot's number, which is that of its peer.
+    pub fn number(&self) -> u16
+        ensures { result ≡ self.now.inbox.peer }
+    {
+        self.number
     }
 
     /// Whether the latest connection waits for its socket.
@@ -146,7 +151,8 @@ impl<W: Work<Item = Input>> Slot<W> {
     /// One more owner of what the threads of the latest connection share with the node. Fails only
     /// with `Fault::Memory`.
     pub fn link(&self) -> Result<Shared<Link>, Fault>
-        ensures { IfErr result (λ fault. fault ≡ faults.Memory) }
+        ensures own { IfOk result (λ link. link.peer ≡ self.now.inbox.peer) }
+        ensures memory { IfErr result (λ fault. fault ≡ faults.Memory) }
     {
         Ok(self.latest.clone()?)
     }
@@ -161,7 +167,7 @@ impl<W: Work<Item = Input>> Slot<W> {
 
     /// Keeps the badge of a connection that wasn't made ready.
     pub fn keep_badge(&mut self, badge: Badge)
-        requires { IsNew badge }
+        requires { IsNew badge × (badge.connection.peer ≡ self.old.inbox.peer) }
         ensures { self.new ≡ self.old }
     {
         self.badge = Some(badge);
@@ -169,14 +175,15 @@ impl<W: Work<Item = Input>> Slot<W> {
 
     /// Gives the badge out that was kept.
     pub fn take_badge(&mut self) -> Option<Badge>
-        ensures badge { IsUnspent result }
+        ensures badge { IsUnspent self.old.inbox.peer result }
         ensures same { self.new ≡ self.old }
     {
         self.badge.take()
     }
 
-    /// Keeps a connection that is to be opened.
+    /// Keeps a connection of this slot that is to be opened.
     pub fn prepare(&mut self, next: NextConnection<W>)
+        requires { next.link.peer ≡ self.old.inbox.peer }
         ensures { self.new ≡ self.old }
     {
         self.next = Some(next);
@@ -190,7 +197,7 @@ impl<W: Work<Item = Input>> Slot<W> {
             return;
         }
         self.seating = match self.seating.take() {
-            Some(Seating::Lent(thread)) => Some(Seating::Kept(join_reader(rt, thread))),
+            Some(Seating::Lent(thread)) => Some(Seating::Kept(side_of(rt, thread))),
             kept => kept,
         };
     }
@@ -238,6 +245,7 @@ impl<W: Work<Item = Input>> Slot<W> {
     /// Gives the connection that waits its socket, and starts the threads that read and write it.
     /// If that fails, the connection still waits. Its `version` tells this time, in seconds since
     /// 1970.
+    #[tactic(auto, using(crate::proofs::Seatings::read_lent, crate::proofs::Seatings::read_back))]
     pub fn attach<R: Threads + Wait + Copy + Send + Drop + 'static>(
         &mut self,
         rt: &R,
@@ -288,12 +296,25 @@ impl<W: Work<Item = Input>> Slot<W> {
     pub fn into_side<R: Threads>(self, rt: &R) -> ReaderSide<Input, Fresh<W>>
         ensures inbox { inbox_of result ≡ self.inbox.name }
         ensures place { HasPlace result }
+        ensures read { QueuedWhatItRead result }
     {
         let Slot { seating, .. } = self;
         match seating {
             Some(Seating::Kept(side)) => side.into_side(),
-            Some(Seating::Lent(thread)) => join_reader(rt, thread).into_side(),
+            Some(Seating::Lent(thread)) => side_of(rt, thread).into_side(),
             None => unreachable!(),
         }
     }
+}
+
+/// Waits until the reader's thread of a connection returns, and returns the reader's side.
+fn side_of<W: Work<Item = Input>, R: Threads>(
+    rt: &R,
+    thread: Reading<W, SocketBytes>,
+) -> Side<Input, Fresh<W>>
+    requires { IsRead true (seat_for thread).queued }
+    ensures inbox { inbox_of result ≡ (inbox_for thread).name }
+    ensures read { IsRead false (queued_by result) }
+{
+    join_reader(rt, thread).side
 }

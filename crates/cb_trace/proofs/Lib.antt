@@ -7,6 +7,7 @@ pub mod Followed
 pub mod Granting
 pub mod Handed
 pub mod Hears
+pub mod Keeping
 pub mod LawLemmas
 pub mod Missing
 pub mod Numbered

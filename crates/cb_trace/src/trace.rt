@@ -5,6 +5,7 @@ ghost use Rattle.cb_peer_state.specs.Outcomes.{Answers};
 ghost use Rattle.cb_peer_state.specs.Session.{is_light, spares, takes_no_memory};
 ghost use Rattle.cb_peer_state.specs.State.{is_closed};
 ghost use Rattle.cb_trace.specs.Fold.{entry_step};
+ghost use Rattle.cb_trace.specs.Kept.{KeepsHistory, StillKeeps};
 
 use crate::asking::questions_asked;
 use cb_base::{Fault, Seed};
@@ -124,6 +125,7 @@ impl Trace {
     pub fn new(alloc: Global, settings: Settings) -> Result<(Trace, Vec<Outgoing>), Fault>
         ensures settings { IfOk result (λ made. made.0.settings ≡ settings) }
         ensures history { IfOk result (λ made. StandsFor made.0 []) }
+        ensures keeps { IfOk result (λ made. KeepsHistory made.0) }
         ensures room { IfOk result (λ made. 1 ≤ made.0.room) }
         ensures messages { IfOk result (λ made. made.1.items ≡ openings settings) }
         ensures memory { IsOkUnless result Memory }
@@ -139,6 +141,8 @@ impl Trace {
     ) -> Result<(Trace, Vec<Outgoing>), Fault>
         ensures settings { IfOk result (λ made. made.0.settings ≡ settings) }
         ensures history { IfOk result (λ made. StandsFor made.0 []) }
+        // No entry was dropped.
+        ensures keeps { IfOk result (λ made. KeepsHistory made.0) }
         ensures room { IfOk result (λ made. 1 ≤ made.0.room) }
         ensures messages { IfOk result (λ made. made.1.items ≡ openings settings) }
         ensures memory { IsOkUnless result Memory }
@@ -210,6 +214,8 @@ impl Trace {
     pub fn ready(&mut self) -> bool
         requires { IsOpen self.old }
         ensures readied { Readied self.old self.new result }
+        // Entries are dropped only by a checkpoint that is due.
+        ensures keeps { StillKeeps self.old self.new }
         // It takes no memory if there is room already, unless a checkpoint is due and blocks are
         // being downloaded or rebuilt.
         ensures roomy { 2 ≤ self.old.room → result ≡ false →

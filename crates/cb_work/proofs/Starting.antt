@@ -5,7 +5,9 @@ use Rattle.cb_base.specs.declared.fault.Fault.{Fault}
 use Rattle.cb_hall.specs.Badge.{BadgeState}
 use Rattle.cb_hall.specs.Histories.{Reply}
 use Rattle.cb_peer_state.specs.Session.{openings}
+use Rattle.cb_trace.specs.Kept.{KeepsHistory}
 use Rattle.cb_trace.specs.Trace.{StandsFor}
+use Rattle.cb_trace.proofs.Keeping.{new_keeps}
 use Rattle.cb_session.proofs.Accounts.{IsOracle, not_both}
 use Rattle.cb_session.proofs.Ending.{first_open}
 use Rattle.cb_crew.specs.Work.{IsFresh}
@@ -38,11 +40,12 @@ keeps_first told refused contents has_failed looks is_stopped oracle work slot b
 -- and may begin a connection
 pub fresh_first : {S H F : Type 0} (told : H → BadgeState → List Reply → H → BadgeState → Type 0) (refused : H → BadgeState → Fault → Type 0) (contents : S → Option (List ℕ)) (has_failed : S → Bool) (looks : F → List Bool → Type 0)
     (oracle : IsOracle told refused) (work : WorkState S H F) → Begun contents has_failed looks work
-    → IsFresh (WasGiven told refused contents has_failed) (WasTicked told refused contents has_failed looks) is_over work
+    → IsFresh (WasGiven told refused contents has_failed) (WasTicked told refused contents has_failed looks) is_over (λ (w : WorkState S H F). KeepsHistory w.trace) work
 fresh_first told refused contents has_failed looks oracle work b =
     let serves = serves_first told refused contents has_failed oracle work b.stands b.unsent b.none b.unmarked b.unwritten b.empty b.unfailed in
     record {
       nothing = (0, serves);
       unticked = record { answers = []; looked = b.unlooked; often = refl; items = []; ticks = 0; serves = serves; each = inl refl };
       live = first_open work.trace b.stands;
+      whole = new_keeps work.trace b.stands;
     }

@@ -3,6 +3,7 @@
 //! The hall is what Bitcoin Core keeps in ChainstateManager and CTxMemPool.
 #![tactic(auto)]
 
+mod asked_hall;
 mod carried;
 mod connection_status;
 mod flags;

@@ -7,6 +7,7 @@ ghost use Rattle.cb_reader.specs.declared.input.Input.{Input};
 ghost use Rattle.cb_reader.specs.declared.input.Input.TheVariants as inputs;
 ghost use Rattle.cb_peer_state.specs.Event.{begins, ends_at_once, kind_of};
 ghost use Rattle.cb_peer_state.specs.State.{is_closed};
+ghost use Rattle.cb_trace.specs.Kept.{KeepsHistory, StillKeeps};
 ghost use Rattle.cb_trace.specs.Trace.{weight_of};
 ghost use Rattle.cb_work.specs.PeerWork.{HoldsNothing, IsAtTime, IsPrimed, IsSamePeer, Serves, ServesNext, ServesOn, WasGiven, WasTicked, is_over, label_of};
 
@@ -98,7 +99,8 @@ impl<S: MessageSink + Drop, H: Oracle + Drop, F: Flags> PeerWork<S, H, F> {
         requires looks { F.looks flags [] }
         ensures fresh { IfOk result
             (λ work. IsFresh (WasGiven H.told H.refused S.contents S.has_failed)
-            (WasTicked H.told H.refused S.contents S.has_failed F.looks) is_over work) }
+            (WasTicked H.told H.refused S.contents S.has_failed F.looks) is_over
+            (λ work. KeepsHistory work.trace) work) }
         ensures settings { IfOk result (λ work. work.trace.settings ≡ settings) }
         ensures badge { IfOk result (λ work. work.badge ≡ badge) }
         ensures outlet { IfOk result
@@ -201,6 +203,7 @@ impl<S: MessageSink + Drop, H: Oracle + Drop, F: Flags> PeerWork<S, H, F> {
         ensures ready { result ≡ true → IsPrimed self.new }
         ensures closed { result ≡ false → is_over self.new ≡ true }
         ensures same { IsSamePeer F.looks self.old self.new }
+        ensures keeps { StillKeeps self.old.trace self.new.trace }
         ensures serves { ServesOn H.told H.refused S.contents S.has_failed self.old self.new }
     {
         let ready = self.trace.ready();
@@ -214,6 +217,7 @@ impl<S: MessageSink + Drop, H: Oracle + Drop, F: Flags> PeerWork<S, H, F> {
         ensures ready { result ≡ true → IsPrimed self.new }
         ensures closed { result ≡ false → is_over self.new ≡ true }
         ensures same { IsSamePeer F.looks self.old self.new }
+        ensures keeps { StillKeeps self.old.trace self.new.trace }
         ensures serves { ServesOn H.told H.refused S.contents S.has_failed self.old self.new }
     {
         self.begin_anew();
@@ -227,6 +231,7 @@ impl<S: MessageSink + Drop, H: Oracle + Drop, F: Flags> PeerWork<S, H, F> {
         ensures going { is_over self.new ≡ false }
         ensures settings { IsAtTime self.old.trace.settings self.new.trace.settings }
         ensures same { IsSamePeer F.looks self.old self.new }
+        ensures keeps { StillKeeps self.old.trace self.new.trace }
         ensures serves { ServesOn H.told H.refused S.contents S.has_failed self.old self.new }
     {
         if self.trace.total().entries != 0 {
@@ -254,6 +259,7 @@ impl<S: MessageSink + Drop, H: Oracle + Drop, F: Flags> PeerWork<S, H, F> {
         requires begins { begins (kind_of event) ≡ true }
         ensures ended { ends_at_once event ≡ true → is_over self.new ≡ true }
         ensures same { IsSamePeer F.looks self.old self.new }
+        ensures keeps { StillKeeps self.old.trace self.new.trace }
         ensures serves { ServesNext H.told H.refused S.contents S.has_failed self.old event
             self.new }
     {
@@ -278,6 +284,7 @@ impl<S: MessageSink + Drop, H: Oracle + Drop, F: Flags> PeerWork<S, H, F> {
         requires going { is_over self.old ≡ false }
         ensures ended { is_over self.new ≡ true }
         ensures same { IsSamePeer F.looks self.old self.new }
+        ensures keeps { StillKeeps self.old.trace self.new.trace }
         ensures serves { (items : List (Given Input)) (ticks : ℕ) →
             Serves H.told H.refused S.contents S.has_failed self.old items ticks →
             Serves H.told H.refused S.contents S.has_failed self.new
@@ -298,6 +305,7 @@ impl<S: MessageSink + Drop, H: Oracle + Drop, F: Flags> PeerWork<S, H, F> {
         requires primed { IsPrimed self.old }
         ensures ended { IsEnd item → is_over self.new ≡ true }
         ensures same { IsSamePeer F.looks self.old self.new }
+        ensures keeps { StillKeeps self.old.trace self.new.trace }
         ensures serves { (items : List (Given Input)) (ticks : ℕ) →
             Serves H.told H.refused S.contents S.has_failed self.old items ticks →
             Serves H.told H.refused S.contents S.has_failed self.new (items ++ item ∷ []) ticks }
@@ -325,6 +333,7 @@ impl<S: MessageSink + Drop, H: Oracle + Drop, F: Flags> PeerWork<S, H, F> {
     fn count(&mut self, carried: Carried, written: u64)
         ensures over { is_over self.new ≡ is_over self.old }
         ensures same { IsSamePeer F.looks self.old self.new }
+        ensures keeps { StillKeeps self.old.trace self.new.trace }
         ensures serves { ServesOn H.told H.refused S.contents S.has_failed self.old self.new }
     {
         let block = self.rebuilding.brought(&carried, self.trace.entries());
@@ -350,6 +359,8 @@ impl<S: MessageSink + Drop, H: Oracle + Drop, F: Flags> Work for PeerWork<S, H, 
     ghost primed = { λ work. IsPrimed work };
 
     ghost is_closed = { λ work. is_over work };
+
+    ghost is_whole = { λ work. KeepsHistory work.trace };
 
     ghost weight = { λ work. weight_of work.trace };
 
@@ -379,6 +390,7 @@ impl<S: MessageSink + Drop, H: Oracle + Drop, F: Flags> Work for PeerWork<S, H, 
             WasGiven H.told H.refused S.contents S.has_failed self.old items →
             WasGiven H.told H.refused S.contents S.has_failed self.new (items ++ item ∷ []) }
         ensures end { IsEnd item → is_over self.new ≡ true }
+        ensures whole { StillKeeps self.old.trace self.new.trace }
         ensures label { label_of self.new.badge.connection ≡ label_of self.old.badge.connection }
         ensures ticked { (at : List ℕ) →
             WasTicked H.told H.refused S.contents S.has_failed F.looks self.old at →

@@ -1,3 +1,4 @@
+use crate::asked_hall::AskedHall;
 use crate::connection_status::ConnectionStatus;
 use cb_base::{Fault, Seed, Shared};
 use cb_hall::{Badge, Hall};
@@ -5,16 +6,14 @@ use cb_journal::{Answer, Question};
 use cb_trace::Oracle;
 use std::sync::{Mutex, Wait};
 
-/// The hall behind its lock, which each connection's work holds. A question waits for the lock, and
-/// the lock is let go after each call. The size of each block that is handed over is noted in the
-/// connection's status.
+/// The hall behind its lock, as each connection's work has it. The size of each block that is
+/// handed over is noted in the connection's status.
 ///
 /// No clause can name the hall between two calls, since others call it too. So what is told here
 /// speaks of the badge alone.
 #[derive(Drop)]
 pub struct SharedHall<R: Drop> {
-    rt: R,
-    hall: Shared<Mutex<Hall>>,
+    hall: AskedHall<R>,
     status: Shared<ConnectionStatus>,
 }
 
@@ -25,12 +24,10 @@ impl<R: Wait + Drop> SharedHall<R> {
         hall: Shared<Mutex<Hall>>,
         status: Shared<ConnectionStatus>,
     ) -> SharedHall<R> {
-        SharedHall { rt, hall, status }
-    }
-
-    /// The hall with its lock.
-    pub fn hall(&self) -> &Mutex<Hall> {
-        &self.hall
+        SharedHall {
+            hall: AskedHall::new(rt, hall),
+            status,
+        }
     }
 }
 
@@ -47,13 +44,11 @@ impl<R: Wait + Drop> Oracle for SharedHall<R> {
         if matches!(question, Question::GiveBlock(_)) {
             self.status.note_given(question.weight());
         }
-        let mut guard = self.hall.lock(&self.rt);
-        guard.ask(badge, question)
+        self.hall.ask(badge, question)
     }
 
     fn seed(&self) -> Seed {
-        let guard = self.hall.lock(&self.rt);
-        guard.seed()
+        self.hall.seed()
     }
 
     ghost told_none = { λ a x. counted_none x };

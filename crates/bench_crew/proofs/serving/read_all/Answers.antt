@@ -1,6 +1,6 @@
 use Rattle.std.proofs.Common.{ap, arith}
 use Rattle.cb_inbox.specs.Seat.{InboxState}
-use Rattle.cb_service.specs.Service.{inbox_for}
+use Rattle.cb_service.specs.Readers.{inbox_for}
 use Rattle.bench_crew.proofs.Readers.{as_many}
 use Rattle.bench_crew.proofs.serving.read_all.Goals as goal
 

@@ -3,7 +3,7 @@ use Rattle.std.proofs.lemmas.List.{length-map, length_push, nil_from_length}
 use Rattle.std.proofs.lemmas.List.Elements.{All-head, All-tail}
 use Rattle.cb_inbox.specs.Seat.{InboxState}
 use Rattle.cb_crew.specs.Crew.{names_of}
-use Rattle.cb_service.specs.Service.{inbox_for}
+use Rattle.cb_service.specs.Readers.{inbox_for}
 use Rattle.bench_crew.proofs.Readers.{IsOpening, inbox_in, next_at, no_more, none_yet, one_more}
 use Rattle.bench_crew.proofs.serving.start_readers.Goals as goal
 

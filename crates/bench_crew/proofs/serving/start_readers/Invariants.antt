@@ -1,6 +1,6 @@
 use Rattle.std.proofs.Common.{◌≡◌, ◌≤◌, ◌++◌, length, map, All, vec_capacity}
 use Rattle.cb_crew.specs.Crew.{names_of}
-use Rattle.cb_service.specs.Service.{inbox_for}
+use Rattle.cb_service.specs.Readers.{inbox_for}
 use Rattle.bench_crew.proofs.Readers.{IsOpening, inbox_in}
 use Rattle.bench_crew.proofs.serving.start_readers.Given as goal
 

@@ -2,7 +2,8 @@ use Rattle.std.proofs.Common.{rules, ◌≡◌, ◌⊎◌, Result, ap, map, refl
 use Rattle.std.specs.Prelude.{string_bytes}
 use Rattle.clap.specs.Words.{kind_of}
 use Rattle.cb_run.specs.SimInput.{SimulatesKnown}
-use Rattle.cb_driver.specs.Summary.{RunsKnown}
+use Rattle.cb_driver.specs.Auditing.{IsOfAnEnd}
+use Rattle.cb_driver.specs.Summary.{AreReported, RunsKnown}
 use Rattle.cb_driver.specs.declared.running.RunOrders.{RunOrders}
 use Rattle.cb_command.specs.Command.{Halts, RunsNode}
 use Rattle.cb_command.specs.declared.commanding.Task.TheVariants.{Decode, Serve, Sim, Run, Node}
@@ -42,11 +43,11 @@ returns-in-Ok-Run-clause-ran g c =
     (λ orders node is.
     for_orders
     (λ (o : RunOrders).
-    (RunsKnown o.sizes.nodes o.stats (g.R.Source.remaining c.args.reader.now) (g.W.Sink.contents c.args.writer.now) (g.W.Sink.contents c.run_nodes.new.writer) c.settle-in-Ok-Run.result × (c.settle-in-Ok-Run.new.errors ≡ c.args.errors.now))
+    (RunsKnown (AreReported g.row.N.Denot) o.sizes.nodes o.stats (g.R.Source.remaining c.args.reader.now) (g.W.Sink.contents c.args.writer.now) (g.W.Sink.contents c.run_nodes.new.writer) c.settle-in-Ok-Run.result × (c.settle-in-Ok-Run.new.errors ≡ c.args.errors.now))
     ⊎ Halts (g.R.Source.remaining c.args.reader.now) (g.R.Source.has_failed c.run_nodes.new.reader) (g.W.Sink.has_failed c.run_nodes.new.writer) (g.E.Sink.contents c.args.errors.now) (g.E.Sink.contents c.settle-in-Ok-Run.new.errors)
     (g.E.Sink.has_failed c.settle-in-Ok-Run.new.errors) c.settle-in-Ok-Run.result)
     c.in-Ok-Run.orders orders node (map string_bytes c.as_slice.result.now)
-    (done (RunsKnown c.in-Ok-Run.orders.sizes.nodes c.in-Ok-Run.orders.stats (g.R.Source.remaining c.args.reader.now) (g.W.Sink.contents c.args.writer.now) (g.W.Sink.contents c.run_nodes.new.writer)) (c.settle-in-Ok-Run.new.errors ≡ c.args.errors.now) (g.R.Source.remaining c.args.reader.now) (g.R.Source.has_failed c.run_nodes.new.reader) (g.W.Sink.has_failed c.run_nodes.new.writer) (g.E.Sink.contents c.args.errors.now) (g.E.Sink.contents c.settle-in-Ok-Run.new.errors)
+    (done (RunsKnown (AreReported g.row.N.Denot) c.in-Ok-Run.orders.sizes.nodes c.in-Ok-Run.orders.stats (g.R.Source.remaining c.args.reader.now) (g.W.Sink.contents c.args.writer.now) (g.W.Sink.contents c.run_nodes.new.writer)) (c.settle-in-Ok-Run.new.errors ≡ c.args.errors.now) (g.R.Source.remaining c.args.reader.now) (g.R.Source.has_failed c.run_nodes.new.reader) (g.W.Sink.has_failed c.run_nodes.new.writer) (g.E.Sink.contents c.args.errors.now) (g.E.Sink.contents c.settle-in-Ok-Run.new.errors)
     (g.E.Sink.has_failed c.settle-in-Ok-Run.new.errors) c.run_nodes.result c.settle-in-Ok-Run.result
     c.run_nodes.ensures.runs c.run_nodes.ensures.halts c.settle-in-Ok-Run.ensures.settled)
     is)
@@ -59,7 +60,7 @@ returns-in-Ok-Node-clause-ran g c =
       refl,
       for_node
           (λ (n : Result NodeOrders BadWords).
-          RunsNode (c.start_node.new.errors ≡ c.args.errors.now) (g.W.Sink.contents c.args.writer.now) (g.W.Sink.contents c.start_node.new.writer) (g.W.Sink.has_failed c.start_node.new.writer) (g.E.Sink.contents c.args.errors.now) (g.E.Sink.contents c.start_node.new.errors)
+          RunsNode (IsOfAnEnd g.row.N.Denot) (c.start_node.new.errors ≡ c.args.errors.now) (g.W.Sink.contents c.args.writer.now) (g.W.Sink.contents c.start_node.new.writer) (g.W.Sink.has_failed c.start_node.new.writer) (g.E.Sink.contents c.args.errors.now) (g.E.Sink.contents c.start_node.new.errors)
           (g.E.Sink.has_failed c.start_node.new.errors) n c.start_node.result)
           c.in-Ok-Node.node orders node (map string_bytes c.as_slice.result.now) c.start_node.ensures.runs is,
     ))

@@ -1,5 +1,6 @@
-use Rattle.std.proofs.Common.{◌++◌, ap, false, refl, sym, ◌∙◌}
+use Rattle.std.proofs.Common.{◌++◌, ap, false, refl, subst, sym, ◌∙◌}
 use Rattle.cb_peer_state.specs.State.{is_closed}
+use Rattle.cb_trace.specs.Kept.{KeepsHistory}
 use Rattle.cb_trace.specs.Trace.{TraceView}
 use Rattle.cb_session.specs.Conversation.{input_in, with_event}
 use Rattle.cb_session.proofs.Standing.{stands_at}
@@ -34,3 +35,8 @@ pub returns-clause-none : goal.returns-clause-none
 returns-clause-none g c =
     let trace = c.trace-1.given.1 (sym (c.begin-unsent.ensures.ends.0 ∙ c.new-conversation.ensures.ends.0)) in
     λ going. c.begin-unsent.ensures.none (ap (λ (t : TraceView). is_closed t.session.state) (sym trace) ∙ going)
+
+pub returns-clause-keeps : goal.returns-clause-keeps
+returns-clause-keeps g c =
+    let trace = c.trace-1.given.1 (sym (c.begin-unsent.ensures.ends.0 ∙ c.new-conversation.ensures.ends.0)) in
+    λ keeps. subst KeepsHistory (sym trace) (c.begin-unsent.ensures.keeps (subst KeepsHistory (sym c.new-conversation.ensures.trace) keeps))

@@ -1,5 +1,6 @@
-use Rattle.std.proofs.Common.{ap, true, false, refl, sym, ◌∙◌}
+use Rattle.std.proofs.Common.{ap, true, false, refl, subst, sym, ◌∙◌}
 use Rattle.cb_peer_state.specs.State.{is_closed}
+use Rattle.cb_trace.specs.Kept.{KeepsHistory}
 use Rattle.cb_trace.specs.Trace.{TraceView}
 use Rattle.cb_session.proofs.Standing.{stands_at}
 use Rattle.cb_session.proofs.parts.lose_by.Goals as goal
@@ -28,3 +29,8 @@ returns-clause-stands g c =
     (c.lose.ensures.stands from inputs held_back refl
     (stands_at g.H.Oracle.told g.H.Oracle.refused from c.args.trace.now _ c.args.hall.now _ c.args.badge.now _ (g.W.Sink.contents c.args.writer.now) _ (g.W.Sink.has_failed c.args.writer.now) _ c.args.written _ inputs held_back false
     c.new-conversation.ensures.trace c.new-conversation.ensures.hall c.new-conversation.ensures.badge (ap g.W.Sink.contents c.new-conversation.ensures.writer) (ap g.W.Sink.has_failed c.new-conversation.ensures.writer) c.new-conversation.ensures.written s))
+
+pub returns-clause-keeps : goal.returns-clause-keeps
+returns-clause-keeps g c =
+    let trace = c.trace-1.given.1 (sym (c.lose.ensures.ends.0 ∙ c.new-conversation.ensures.ends.0)) in
+    λ keeps. subst KeepsHistory (sym trace) (c.lose.ensures.keeps (subst KeepsHistory (sym c.new-conversation.ensures.trace) keeps))

@@ -1,5 +1,6 @@
 use Rattle.std.proofs.Common.{◌≡◌, ◌≤◌, ◌+◌, ◌++◌, length, map, All, vec_capacity}
 use Rattle.cb_crew.specs.Crew.{HasPlace, inbox_of}
+use Rattle.cb_peers.specs.Reading.{QueuedWhatItRead}
 use Rattle.cb_slots.specs.Slot.{names_in}
 use Rattle.cb_slots.proofs.crewing.sides_of.Given as goal
 
@@ -8,3 +9,4 @@ invariant-loop-slot g l =
     (length l.sides.items + length l.slot-iterator.rest.items ≤ vec_capacity l.sides)
     × (map inbox_of l.sides.items ++ names_in l.slot-iterator.rest.items ≡ names_in l.fn.slots.items)
     × All HasPlace l.sides.items
+    × All QueuedWhatItRead l.sides.items

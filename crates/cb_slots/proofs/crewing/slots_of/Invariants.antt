@@ -1,6 +1,8 @@
-use Rattle.std.proofs.Common.{◌≡◌, ◌≤◌, length, vec_capacity}
+use Rattle.std.proofs.Common.{◌≡◌, ◌≤◌, length, map, vec_capacity}
+use Rattle.std.specs.List.{range_with_len}
 use Rattle.std.specs.Iterator.Adapters.{zip_first, zip_second}
 use Rattle.std.specs.Vec.Iter.{into_iter_items}
+use Rattle.cb_slots.proofs.Linking.{peer_of}
 use Rattle.cb_slots.proofs.Placing.{IsPlacing}
 use Rattle.cb_slots.proofs.crewing.slots_of.Given as goal
 
@@ -10,5 +12,6 @@ invariant-loop-seat g l = record {
   finite : (goal.iterator-loop-seat g).is_finite l.seat-iterator;
   room : length l.crew.inboxes ≤ vec_capacity l.slots;
   count : length l.slots.items ≡ l.number;
+  numbered : map peer_of (into_iter_items (zip_second l.seat-iterator)) ≡ range_with_len l.number (length (into_iter_items (zip_second l.seat-iterator)));
   placing : IsPlacing l.crew l.number l.slots.items (into_iter_items (zip_first l.seat-iterator)) (into_iter_items (zip_second l.seat-iterator));
 }

@@ -7,4 +7,4 @@ use Rattle.cb_crew.proofs.crew.Crew.place.Given as goal
 
 abbrev pub invariant-loop-vacancy : goal.invariant-loop-vacancy
 invariant-loop-vacancy g l =
-    (goal.iterator-loop-vacancy g).can_next l.vacancy-iterator × (goal.iterator-loop-vacancy g).is_finite l.vacancy-iterator × IsMaking l.self (into_iter_items (zip_first l.vacancy-iterator)) (map g.W.Work.label (into_iter_items (zip_second l.vacancy-iterator))) l.hand × (length (into_iter_items (zip_second l.vacancy-iterator)) ≡ length (into_iter_items (zip_first l.vacancy-iterator))) × All (IsFresh g.W.Work.given g.W.Work.ticked g.W.Work.is_closed) (into_iter_items (zip_second l.vacancy-iterator))
+    (goal.iterator-loop-vacancy g).can_next l.vacancy-iterator × (goal.iterator-loop-vacancy g).is_finite l.vacancy-iterator × IsMaking l.self (into_iter_items (zip_first l.vacancy-iterator)) (map g.W.Work.label (into_iter_items (zip_second l.vacancy-iterator))) l.hand × (length (into_iter_items (zip_second l.vacancy-iterator)) ≡ length (into_iter_items (zip_first l.vacancy-iterator))) × All (IsFresh g.W.Work.given g.W.Work.ticked g.W.Work.is_closed g.W.Work.is_whole) (into_iter_items (zip_second l.vacancy-iterator))

@@ -17,5 +17,5 @@ returns-in-Empty-clause-past g c = after_then g.W.Work.label g.W.Work.given g.W.
 
 pub loop-preserved : goal.loop-preserved
 loop-preserved g c =
-    let on = stepped_on g.W.Work.is_closed c.args.self.now c.loop.self c.advance.new.self c.advance.result c.loop.invariant.0 c.loop.invariant.1 c.advance.ensures.stepped in
+    let on = stepped_on g.W.Work.given g.W.Work.is_closed c.args.self.now c.loop.self c.advance.new.self c.advance.result c.loop.invariant.0 c.loop.invariant.1 c.advance.ensures.stepped in
     (on.0, on.1, unticked_step g.W.Work.ticked c.args.self.now c.loop.self c.advance.new.self c.loop.invariant.2 c.advance.ensures.ticks, c.advance.ensures.label ∙ c.loop.invariant.3, after_then g.W.Work.label g.W.Work.given g.W.Work.ticked g.W.Work.is_closed g.W.Work.weight c.args.self.now c.loop.self c.advance.new.self c.loop.invariant.4 c.advance.ensures.past)

@@ -15,6 +15,7 @@ returns g c = record {
   sides = c.sides_of-sides.result.items;
   own = subst (λ (crew : CrewState). AreSidesOf crew c.sides_of-sides.result.items) (ap (λ (node : NodeState). node.crew) c.self.view_is)
       (sides_are c.self.inside.common.crew c.self.inside.slots.items c.sides_of-sides.result.items c.self.invariant.0 c.sides_of-sides.ensures.inboxes c.sides_of-sides.ensures.places);
+  read = c.sides_of-sides.ensures.read;
   headline = subst (λ (crew : CrewState). IsHeadline (λ sink. None) crew c.sides_of-sides.result.items c.finish_peers-desks.result.items)
       (c.deref-3.ensures ∙ ap (λ (node : NodeState). node.crew) c.self.view_is) c.finish_peers-desks.ensures;
 }

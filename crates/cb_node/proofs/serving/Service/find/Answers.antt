@@ -2,7 +2,7 @@ use Rattle.std.proofs.Common.{◌≡◌, ℕ, ◌<◌, List, true, false, length
 use Rattle.std.proofs.lemmas.List.{length-set}
 use Rattle.cb_slots.specs.Choosing.{HasNone, IsLowest}
 use Rattle.cb_slots.specs.Slot.{AreAlike, IsInboxOf, SlotState, WaitsAt, uses_of}
-use Rattle.cb_node.proofs.Slots.{alike_then, inbox_at, still_of, waits_set, waits_unused}
+use Rattle.cb_node.proofs.Slots.{alike_then, count_of, inbox_at, still_of, waits_set, waits_unused}
 use Rattle.cb_node.proofs.serving.Service.find.Goals as goal
 
 -- a slot was made ready among slots that are alike
@@ -31,6 +31,19 @@ ready-requires-clause-slot g c κs within =
     let lt : i < length mid = omega (arith, c.from-in-loop-number.ensures, c.loop-number.invariant.1, c.requires.end.0) in
     subst (λ (s : SlotState). IsInboxOf crew s.inbox) (sym c.index_mut.ensures.value)
     (inbox_at crew mid i d (still_of crew c.args.slots.now.items mid c.requires.slots c.loop-number.invariant.0.inboxes) lt)
+
+pub ready-requires-clause-few : goal.ready-requires-clause-few
+ready-requires-clause-few g c κs within =
+    let crew = c.args.common.now.crew in
+    let mid = c.loop-number.slots.items in
+    let i = c.from-in-loop-number.result in
+    let d : SlotState = c.index_mut.result.now in
+    let lt : i < length mid = omega (arith, c.from-in-loop-number.ensures, c.loop-number.invariant.1, c.requires.end.0) in
+    let of : IsInboxOf crew d.inbox =
+    subst (λ (s : SlotState). IsInboxOf crew s.inbox) (sym c.index_mut.ensures.value)
+    (inbox_at crew mid i d (still_of crew c.args.slots.now.items mid c.requires.slots c.loop-number.invariant.0.inboxes) lt) in
+    let count = count_of crew c.args.slots.now.items c.requires.slots in
+    omega (arith, of.peer, count, c.requires.end.1)
 
 pub returns-in_err-ready-clause-alike : goal.returns-in_err-ready-clause-alike
 returns-in_err-ready-clause-alike g c =

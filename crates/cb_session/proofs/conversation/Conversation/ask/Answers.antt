@@ -1,6 +1,7 @@
 use Rattle.std.proofs.Common.{List, [], sym, subst, true, false}
 use Rattle.cb_wire.specs.Stream.{texts}
 use Rattle.cb_wire.specs.declared.message.Message.{Message}
+use Rattle.cb_trace.proofs.Keeping.{grown_keeps}
 use Rattle.cb_session.specs.Conversation.{Accounts, progress}
 use Rattle.cb_session.proofs.Accounts.{accounts_asked, accounts_ran, asks_next, left_asked, left_over, not_both, question_open, ran_closed, rest_open, silent_step}
 use Rattle.cb_session.proofs.conversation.Conversation.ask.Goals as goal
@@ -43,3 +44,6 @@ pub returns-clause-silent : goal.returns-clause-silent
 returns-clause-silent g c =
     silent_step c.ready.new.self c.step.new.self c.ask_hall-event.result _ _
     (rest_open c.args.self.now.trace.now c.ready.new.self c.if-not-ready.ensures.readied.rests.same (question_open c.args.self.now.trace.now c.args.question c.requires.stands).0) c.step.ensures
+
+pub returns-clause-keeps : goal.returns-clause-keeps
+returns-clause-keeps g c = λ keeps. grown_keeps c.ready.new.self c.step.new.self _ c.step.ensures.grows (c.ready.ensures.keeps keeps)

@@ -1,6 +1,7 @@
 use Rattle.std.proofs.Common.{◌++◌, ap, refl, sym, ◌∙◌}
 use Rattle.cb_wire.specs.Stream.{texts}
 use Rattle.cb_peer_state.specs.State.{is_closed}
+use Rattle.cb_trace.proofs.Keeping.{grown_keeps}
 use Rattle.cb_session.specs.Conversation.{input_in}
 use Rattle.cb_session.proofs.Accounts.{asks_first, ended_more, may_ask, not_both}
 use Rattle.cb_session.proofs.Standing.{stands_ended, stands_on}
@@ -35,3 +36,9 @@ returns-clause-stands g c =
     stands_on g.H.Oracle.told g.H.Oracle.refused (record { none = g.met.H.Oracle.told_none; next = g.met.H.Oracle.told_then; stays = g.met.H.Oracle.full_stays }) from c.args.self.now.trace.now c.step-sent.new.self c.args.self.now.hall.now c.args.self.now.badge.now _ _ _ _ inputs _ _ c.args.event _ _ c.requires.going c.requires.begins c.step-sent.ensures (ap texts c.new.ensures.items)
     (λ o before u.
     c.follow_up.ensures.settled o (inputs ++ input_in c.args.event) (asks_first c.args.self.now.trace.now c.step-sent.new.self _ (s.answered c.requires.going) c.step-sent.ensures.stands) before u) s
+
+pub returns-then-is_closed-clause-keeps : goal.returns-then-is_closed-clause-keeps
+returns-then-is_closed-clause-keeps g c = grown_keeps c.args.self.now.trace.now c.step-sent.new.self _ c.step-sent.ensures.grows
+
+pub returns-clause-keeps : goal.returns-clause-keeps
+returns-clause-keeps g c = λ keeps. c.follow_up.ensures.keeps (grown_keeps c.args.self.now.trace.now c.step-sent.new.self _ c.step-sent.ensures.grows keeps)

@@ -19,6 +19,7 @@ loop-next-preserved g c =
         c.send.ensures.ends.2 ∙ c.ask-messages.ensures.ends.2 ∙ c.loop-next.invariant.ends.2,
         c.send.ensures.ends.3 ∙ c.ask-messages.ensures.ends.3 ∙ c.loop-next.invariant.ends.3,
       );
+      keeps = λ k. c.send.ensures.keeps (c.ask-messages.ensures.keeps (c.loop-next.invariant.keeps k));
       heeds =
           λ h.
           let before = c.loop-next.invariant.heeds h in

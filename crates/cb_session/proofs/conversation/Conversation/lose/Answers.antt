@@ -1,4 +1,5 @@
 use Rattle.std.proofs.Common.{inl, inr, true}
+use Rattle.cb_trace.proofs.Keeping.{grown_keeps}
 use Rattle.cb_session.proofs.Accounts.{accounts_lost, accounts_ran, ended_more, rest_open}
 use Rattle.cb_session.proofs.Standing.{stands_lost, stands_starved}
 use Rattle.cb_session.proofs.conversation.Conversation.lose.Goals as goal
@@ -27,3 +28,6 @@ returns-clause-stands g c =
 pub returns-clause-closed : goal.returns-clause-closed
 returns-clause-closed g c =
     ended_more c.ready.new.self c.step-silent.new.self _ (rest_open c.args.self.now.trace.now c.ready.new.self c.if-not-ready.ensures.readied.rests.same c.requires.going) c.step-silent.ensures.grows c.requires.loss.ends
+
+pub returns-clause-keeps : goal.returns-clause-keeps
+returns-clause-keeps g c = λ keeps. grown_keeps c.ready.new.self c.step-silent.new.self _ c.step-silent.ensures.grows (c.ready.ensures.keeps keeps)

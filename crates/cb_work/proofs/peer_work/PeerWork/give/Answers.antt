@@ -8,3 +8,6 @@ returns-in-Item-Broken-clause-serves g c = λ items ticks s. rw (c.in-Item-Broke
 
 pub returns-in-Item-NoMemory-clause-serves : goal.returns-in-Item-NoMemory-clause-serves
 returns-in-Item-NoMemory-clause-serves g c = λ items ticks s. rw (c.in-Item-NoMemory.is, c.in-Item-NoMemory.field-0-is) (c.lose.ensures.serves items ticks s)
+
+pub returns-in-End-clause-serves : goal.returns-in-End-clause-serves
+returns-in-End-clause-serves g c = λ items ticks s. rw (c.in-End.is) (c.begin-in-End.ensures.serves items ticks s)

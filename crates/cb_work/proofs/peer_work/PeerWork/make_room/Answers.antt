@@ -19,3 +19,6 @@ returns-clause-serves g c =
     (serves_readied g.H.Oracle.told g.H.Oracle.refused g.S.Sink.contents g.S.Sink.has_failed
     (record { none = g.met.H.Oracle.told_none; next = g.met.H.Oracle.told_then; stays = g.met.H.Oracle.full_stays }) g.met.H.Oracle.same_connection _ c.ready-ready.new.self c.ready-ready.result items ticks
     (ap (λ (w : WorkState _ _ _). is_over w) c.self.view_is ∙ c.requires.going) c.ready-ready.ensures.readied s))
+
+pub returns-clause-keeps : goal.returns-clause-keeps
+returns-clause-keeps g c = rw (← c.self.view_is) c.ready-ready.ensures.keeps

@@ -42,3 +42,6 @@ returns-clause-ticked g c =
     (λ answers looked. c.count.ensures.same.looked _ (c.begin.ensures.same.looked _ (c.prepare.ensures.same.looked _ (c.take_tick.ensures.looks answers looked))))
     (λ items ticks s. c.count.ensures.serves _ _ (c.begin.ensures.serves items ticks (c.prepare.ensures.serves items ticks (serves_flags g.H.Oracle.told g.H.Oracle.refused g.S.Sink.contents g.S.Sink.has_failed _ c.take_tick.new.self items ticks s))))
     (each_given c.take_tick.result _ c.if-not-take_tick.false) t)
+
+pub returns-clause-whole : goal.returns-clause-whole
+returns-clause-whole g c = rw (← c.self.view_is) (λ keeps. c.count.ensures.keeps (c.begin.ensures.keeps (c.prepare.ensures.keeps keeps)))
