@@ -9,6 +9,7 @@ README.md, CONTRIBUTING.md and docs/*.md are read. Looked up are
     `Type::name`      a function of an impl or a trait, or a variant of the type
     `some_name()`     words with an underscore, a capital letter inside or brackets: in a source, a definition, a proof or a script
     definitions       in GUARANTEES.md, `NAME`: FILE.antt, whose file of specs/ must define or import it
+    wrong bodies      in GUARANTEES.md, NAME of an edit in must-fail/ or attacks/ of a crate
 
 and whether the documents are within their sizes. It prints what is wrong. The status is 0 where nothing is. FOLDER is the repository
 to look at, this one where none is named.
@@ -18,9 +19,10 @@ import re
 import sys
 from pathlib import Path
 
-# the greatest size of a document, of GUARANTEES.md none of its own, and of all; of README also its lines
-MOST_BYTES, ALL_BYTES, README_BYTES, README_LINES = 40_960, 311_296, 10_240, 160
-LARGE = "GUARANTEES.md"
+# the greatest size of a document, and of all; of README also its lines
+MOST_BYTES, ALL_BYTES, README_BYTES, README_LINES = 40_960, 229_376, 10_240, 160
+# the document whose tables have a promise, its calls, its definitions and a wrong body in each row
+PROMISES = "GUARANTEES.md"
 
 # what stands for a name in a path or a word
 PLACEHOLDERS = {"NAME", "PROGRAM", "CRATE", "FILE", "PATH", "F", "EDIT", "PID"}
@@ -193,6 +195,12 @@ class Look:
                 if WORD.match(clause):
                     self.expect(self.tree.has_word(clause), place, f"there is no clause {clause}")
 
+    def wrong_bodies(self, cell, place):
+        """Of the wrong bodies of GUARANTEES.md: each is an edit of a crate."""
+        for name in filter(None, cell.strip().split(", ")):
+            edits = [it for room in ("attacks", "must-fail") for it in (self.root / "crates").glob(f"*/{room}/{name}.edit")]
+            self.expect(edits or name == "refused", place, f"there is no wrong body {name}")
+
     def document(self, document):
         """Looks up what a document names."""
         name = str(document.relative_to(self.root))
@@ -209,15 +217,17 @@ class Look:
             if not FENCED.match(line):
                 for span in CODE.findall(plain):
                     self.code(span, place)
-            if document.name == LARGE and line.startswith("| ") and line.count(" | ") == 2:
-                self.definitions(line.split(" | ")[1], place)
-                self.functions(line.split(" | ")[2], place)
+            if document.name == PROMISES and line.startswith("| ") and line.count("|") == 5:
+                _, calls, definitions, refused = (it.strip() for it in line.strip()[1:-1].split("|"))
+                self.functions(calls, place)
+                self.definitions(definitions, place)
+                self.wrong_bodies(refused, place)
 
     def sizes(self):
         """The documents are within their sizes."""
         sizes = {it: it.stat().st_size for it in self.documents}
         for document, size in sizes.items():
-            self.expect(size <= MOST_BYTES or document.name == LARGE, document.name, f"{size:,} bytes, more than {MOST_BYTES:,}")
+            self.expect(size <= MOST_BYTES, document.name, f"{size:,} bytes, more than {MOST_BYTES:,}")
         self.expect(sum(sizes.values()) <= ALL_BYTES, "all documents", f"{sum(sizes.values()):,} bytes, more than {ALL_BYTES:,}")
         readme = self.documents[0]
         lines = len(readme.read_text(encoding="utf-8").splitlines())

@@ -23,32 +23,23 @@ from pathlib import Path
 if not __package__:  # called as a file
     sys.path.insert(0, str(Path(__file__).resolve().parents[2]))
 
-from bitcoin.core import b2lx, lx
+from bitcoin.core import b2lx
 
 from bench.models import plain_wire as wire
 from bench.tools.between import Between
 from bench.tools.command_line import usage
-from bench.tools.library_peer import dialled, mined
+from bench.tools.library_peer import REGTEST_GENESIS, dialled, grown
 from bench.tools.node_talk import command
 from bench.tools.process_talk import NodeProcess, ProcessLooks
 from bench.tools.programs import built
 
 SECONDS, OFFERED, LONG, MOST_HEADERS, FLIGHT = 600, 5_000, 20_000, 2_000, 16
-REGTEST_GENESIS = lx("0f9188f13cb7b2c71f2a335e3a4fc328bf5beb436012afca590b1a11466e2206")
 # How many headers a block may cost, and how many where blocks are announced meanwhile. How often a peer announces one: behind so many given.
 RATE, MEANWHILE, PACE, ANNOUNCED = 2.1, 3, 500, 10
 # The length of the other branch, and behind how many given blocks a peer goes over to it: the node remembers the 4,000th header then.
 BRANCH, TURNED = 3_000, 3_000
 # How often a script waits: each wait ends after some seconds.
 WAITS = 60
-
-
-def grown(parent, height, count, mark):
-    """So many blocks on a block at this height."""
-    blocks = []
-    for step in range(count):
-        blocks.append(mined(blocks[-1].GetHash() if blocks else parent, height + step + 1, mark=mark))
-    return blocks
 
 
 class Offered:

@@ -25,13 +25,12 @@ if not __package__:  # called as a file
 from bitcoin.core import CheckBlock, CheckBlockError, ValidationError, b2lx, lx
 
 from bench.tools.command_line import usage
-from bench.tools.library_peer import BLOCK, TX, LibraryPeer, dialled, mined, spending
+from bench.tools.library_peer import BLOCK, REGTEST_GENESIS, TX, LibraryPeer, dialled, grown, mined, spending
 from bench.tools.messages import envelope
 from bench.tools.process_talk import NodeProcess, ProcessLooks
 from bench.tools.programs import built
 
 SECONDS, MINED, GIVEN, FLIGHT = 60, 30, 40, 16
-REGTEST_GENESIS = lx("0f9188f13cb7b2c71f2a335e3a4fc328bf5beb436012afca590b1a11466e2206")
 
 
 class Library(ProcessLooks):
@@ -175,14 +174,6 @@ class Library(ProcessLooks):
             self.look("the height", node.tip()[0], 0)
 
         self.served(bad)
-
-
-def grown(parent, height, count, mark):
-    """So many blocks on a block at this height."""
-    blocks = []
-    for step in range(count):
-        blocks.append(mined(blocks[-1].GetHash() if blocks else parent, height + step + 1, mark=mark))
-    return blocks
 
 
 def main():

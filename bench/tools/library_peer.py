@@ -10,7 +10,7 @@ import socket
 
 import bitcoin
 import bitcoin.messages
-from bitcoin.core import (CBlock, CBlockHeader, CMutableTransaction, CMutableTxIn, CMutableTxOut, COutPoint, CTransaction, VectorSerializer,
+from bitcoin.core import (CBlock, CBlockHeader, CMutableTransaction, CMutableTxIn, CMutableTxOut, COutPoint, CTransaction, VectorSerializer, lx,
                           uint256_from_str)
 from bitcoin.core.script import OP_TRUE, CScript
 from bitcoin.messages import MsgSerializable, msg_block, msg_getdata, msg_getheaders, msg_inv, msg_ping, msg_tx, msg_verack, msg_version
@@ -22,6 +22,8 @@ bitcoin.SelectParams("regtest")
 BITS, TARGET, SUBSIDY = 0x207F_FFFF, 0x7F_FFFF << (8 * 29), 5_000_000_000
 VERSION, NONCE, TX, BLOCK = 70014, 0x1B2A, 1, 2
 TIME = 1_296_688_602
+REGTEST_GENESIS = lx("0f9188f13cb7b2c71f2a335e3a4fc328bf5beb436012afca590b1a11466e2206")
+AGENT = b"/python-bitcoinlib/"
 
 
 class Unexpected(ValueError):
@@ -85,15 +87,15 @@ class LibraryPeer:
 
     # ---- what a peer says
 
-    def greet(self):
+    def greet(self, agent=AGENT, height=-1):
         """The version that it tells."""
         hello = msg_version()
-        hello.nVersion, hello.nNonce, hello.strSubVer, hello.fRelay = VERSION, NONCE, b"/python-bitcoinlib/", True
+        hello.nVersion, hello.nNonce, hello.strSubVer, hello.nStartingHeight, hello.fRelay = VERSION, NONCE, agent, height, True
         self.send(hello)
 
-    def shake_hands(self):
+    def shake_hands(self, agent=AGENT, height=-1):
         """The handshake. The node's version and the hashes behind which it asks for headers come back."""
-        self.greet()
+        self.greet(agent, height)
         version = self.expect(b"version")
         self.expect(b"verack")
         self.send(msg_verack())
@@ -156,9 +158,9 @@ class LibraryPeer:
         self.send(told)
 
 
-def dialled(port, seconds):
-    """A peer that dialled a node on this machine. Small writes aren't held back."""
-    stream = socket.create_connection(("127.0.0.1", port), seconds)
+def dialled(port, seconds, host="127.0.0.1"):
+    """A peer that dialled a node on this machine, from this address. Small writes aren't held back."""
+    stream = socket.create_connection(("127.0.0.1", port), seconds, (host, 0))
     stream.setsockopt(socket.IPPROTO_TCP, socket.TCP_NODELAY, 1)
     return LibraryPeer(stream)
 
@@ -184,6 +186,14 @@ def mined(parent, height, txs=(), mark=b"library", value=SUBSIDY):
         if uint256_from_str(header.GetHash()) <= TARGET:
             return CBlock(1, parent, root, TIME + height, BITS, nonce, txs)
     raise ValueError("no nonce")
+
+
+def grown(parent, height, count, mark):
+    """So many blocks on a block at this height."""
+    blocks = []
+    for step in range(count):
+        blocks.append(mined(blocks[-1].GetHash() if blocks else parent, height + step + 1, mark=mark))
+    return blocks
 
 
 def spending(tx, fee):

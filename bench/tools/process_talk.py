@@ -11,8 +11,10 @@ import time
 from bench.tools.looks import Looks
 from bench.tools.node_talk import MOVED
 
-# How a line of `peers` is told: a slot and a generation, a direction and an address, a phase, and what the connection moved.
-PEER = re.compile(rf"slot (\d+) connection (\d+) (from|to) (\S+) (start|greeted|ready|over) ({MOVED})")
+# How a line of `peers` is told: a slot and a generation, a direction and an address, a phase, what the connection moved, when it was
+# made and when its latest message came, how long its latest `pong` took, and what its `version` told.
+PEER = re.compile(rf"slot (\d+) connection (\d+) (from|to) (\S+) (start|greeted|ready|over) ({MOVED})"
+                  r" since (\d+) last (\d+|-) pong (?:(\d+) ms|-) version (-?\d+|-) height (-?\d+|-) agent ([ -~]*)")
 
 # A yes of an audit: how many answers it compared, and how many a checkpoint had dropped before.
 YES = re.compile(r"audit yes (\d+) answers, (\d+) dropped")
@@ -48,10 +50,17 @@ class Peer:
         self.messages_in, self.messages_out = after(rest, "in", 1), after(rest, "out", 1)
         self.full, self.compact, self.completed, self.fallback = (after(rest, way, 1) for way in ("full", "compact", "completed", "fallback"))
         self.saved = after(rest, "saved", 1)
+        self.since, self.last, self.pong = int(told[7]), number(told[8]), number(told[9])
+        self.version, self.height, self.agent = number(told[10]), number(told[11]), told[12]
 
     def place(self):
         """Its slot, its generation and its direction."""
         return self.slot, self.generation, self.way
+
+
+def number(word):
+    """The number that a word writes; None for `-` and for no word."""
+    return None if word in (None, "-") else int(word)
 
 
 def after(words, word, count):

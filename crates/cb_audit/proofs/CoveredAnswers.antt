@@ -42,6 +42,7 @@ told_in_one : (event : Event) (starved : Bool) → length (answer_in event) ≡ 
 told_in_one (events.Said item) starved = refl
 told_in_one (events.Broken fault) starved = refl
 told_in_one events.Tick starved = refl
+told_in_one events.Probe starved = refl
 told_in_one (events.Told answer) starved = refl
 told_in_one events.ReaderEnd starved = refl
 told_in_one events.NoMemory starved = refl

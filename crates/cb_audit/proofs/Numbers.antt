@@ -1,5 +1,5 @@
 -- The first connection whose numbers differ.
-use Rattle.std.proofs.Common.{◌≡◌, ◌∙◌, ℕ, zero, suc, ◌+◌, ◌<◌, ◌≤◌, List, [], ◌∷◌, length, replicate, Option, Some, None, refl, sym, ap, subst, inl, inr, arith}
+use Rattle.std.proofs.Common.{◌≡◌, ◌∙◌, ℕ, zero, suc, ◌+◌, ◌<◌, ◌≤◌, List, [], ◌∷◌, length, Option, Some, None, refl, sym, ap, subst, inl, inr, arith}
 use Rattle.std.specs.Prelude.{◌⊎◌, IfSome, MatchOption, get_or, option_and_then, slice_get}
 use Rattle.std.specs.Option.{option_map_or}
 use Rattle.std.proofs.lemmas.Option.{slice_get_read, slice_get_within}
@@ -8,16 +8,16 @@ use Rattle.cb_journal.specs.declared.answer.Answer.{Answer}
 use Rattle.cb_journal.specs.declared.connections.Connected.{Connected}
 use Rattle.cb_journal.specs.declared.entry.Entry.{Entry}
 use Rattle.cb_journal.specs.declared.entry.Entry.TheVariants.{Asked, Kick, Opened, Submitted}
-use Rattle.cb_journal.specs.Connections.{AreCounted, Slots, connected_at, connected_of, fresh, latest_of}
+use Rattle.cb_journal.specs.Connections.{AreCounted, Slots, connected_at, connected_of, latest_of, most_peers}
 use Rattle.cb_journal.specs.Journal.{IsPast}
 use Rattle.cb_journal.specs.Replica.{Leads, ReplicaState, opening, slots_after}
 use Rattle.cb_journal.proofs.Leading.{step_slots}
-use Rattle.cb_journal.proofs.Slots.{length_changed}
-use Rattle.cb_audit.specs.Counting.{AreEven, AreOf64, HasTrace, IsEarlier, IsEven, IsFirstAmong, IsFirstUneven, IsFoundAmong, IsOfPeer, IsOfPeers, granted, told_by}
+use Rattle.cb_journal.proofs.Slots.{length_changed, length_first}
+use Rattle.cb_audit.specs.Counting.{AreEven, AreOfAll, HasTrace, IsEarlier, IsEven, IsFirstAmong, IsFirstUneven, IsFoundAmong, IsOfPeer, IsOfPeers, granted, told_by}
 use Rattle.cb_audit.specs.Order.{AreInOrder, AuditedTrace, IsBefore, trace_of}
 use Rattle.cb_audit.proofs.Orders.{before_not, before_other, before_trans, has_or_not, less}
 
--- ---- the hall knows the connections of 64 peers
+-- ---- the hall knows the connections of as many peers as at first
 
 length_after : (slots : Slots) (entry : Entry) → length (slots_after slots entry) ≡ length slots
 length_after slots (Asked connection question) = length_changed _ slots connection.peer
@@ -30,13 +30,9 @@ length_led old new [] answers h = ap (λ (s : ReplicaState). length s.connection
 length_led old new (entry ∷ entries) answers (told, next, others, step, all, rest) =
     length_led next new entries others rest ∙ ap (λ (s : Slots). length s) (step_slots old next entry told step) ∙ length_after old.connections entry
 
-length_first : (n : ℕ) (slot : List Connected) → length (replicate n slot) ≡ n
-length_first zero slot = refl
-length_first (suc n) slot = ap suc (length_first n slot)
-
-pub are_64 : (base latest : ReplicaState) (entries : List Entry) → IsPast base entries latest → length latest.connections ≡ 64
-are_64 base latest entries past =
-    length_led base latest entries past.answers past.since ∙ length_led opening base past.dropped past.told past.before ∙ length_first 64 (fresh ∷ [])
+pub as_many : (base latest : ReplicaState) (entries : List Entry) → IsPast base entries latest → length latest.connections ≡ most_peers
+as_many base latest entries past =
+    length_led base latest entries past.answers past.since ∙ length_led opening base past.dropped past.told past.before ∙ length_first
 
 some_slot : (o : Option (List Connected)) (generation : ℕ) → 0 < option_map_or (λ connected. connected.count) (option_and_then (λ slot. connected_at slot generation) o) 0
     → (slot : List Connected) × (o ≡ Some slot) × (0 < option_map_or (λ connected. connected.count) (connected_at slot generation) 0)
@@ -49,8 +45,8 @@ some_at [] (suc place) some_count = absurd (omega (arith, some_count))
 some_at (c ∷ slot) (suc zero) some_count = (omega arith, omega arith)
 some_at (c ∷ slot) (suc (suc place)) some_count = let rest = (some_at slot (suc place) some_count).1 in (omega arith, omega (arith, rest))
 
-pub of_64 : (slots : Slots) → length slots ≡ 64 → AreOf64 slots
-of_64 slots long connection some_count =
+pub of_all : (slots : Slots) → length slots ≡ most_peers → AreOfAll slots
+of_all slots long connection some_count =
     let there = some_slot (slice_get slots connection.peer) connection.generation some_count in
     let low = slice_get_within slots connection.peer there.0 there.1 in
     let within = some_at there.0 connection.generation there.2 in
@@ -119,17 +115,17 @@ even_below slots audited peer are even other is = below_next slots audited peer 
 pub even_below_none : (slots : Slots) (audited : List AuditedTrace) → AreEvenBelow slots audited 0
 even_below_none slots audited other (low, rest) = absurd (omega (arith, low))
 
-pub even_below_all : (slots : Slots) (audited : List AuditedTrace) (peers : ℕ) → AreEvenBelow slots audited peers → 64 ≤ peers → (other : Connection) → IsOfPeers slots 64 other → IsEven slots audited other
+pub even_below_all : (slots : Slots) (audited : List AuditedTrace) (peers : ℕ) → AreEvenBelow slots audited peers → most_peers ≤ peers → (other : Connection) → IsOfPeers slots most_peers other → IsEven slots audited other
 even_below_all slots audited peers are past other (low, rest) = are other (omega (arith, low, past), rest)
 
 before_below : (slots : Slots) (audited : List AuditedTrace) (peer : ℕ) (found other : Connection) → AreEvenBelow slots audited peer → IsFirstAmong slots audited (IsOfPeer slots peer) found → found.peer ≡ peer
-    → IsBefore other found → IsOfPeers slots 64 other → IsEven slots audited other
+    → IsBefore other found → IsOfPeers slots most_peers other → IsEven slots audited other
 before_below slots audited peer found other are first p (inl h) (low, rest) = are other (omega (arith, h, p), rest)
 before_below slots audited peer found other are first p (inr (e, h)) (low, (same, some_generation, within)) =
     first.earlier other (inr (e, h)) (e ∙ p, some_generation, subst (λ (n : ℕ). other.generation ≤ latest_of slots n) (e ∙ p) within)
 
 pub first_below : (slots : Slots) (audited : List AuditedTrace) (peer : ℕ) (found : Connection) → AreEvenBelow slots audited peer → IsFirstAmong slots audited (IsOfPeer slots peer) found → found.peer ≡ peer
-    → IsFirstAmong slots audited (IsOfPeers slots 64) found
+    → IsFirstAmong slots audited (IsOfPeers slots most_peers) found
 first_below slots audited peer found are first p =
     record { uneven = first.uneven; earlier = λ other before is. before_below slots audited peer found other are first p before is }
 
@@ -195,17 +191,17 @@ first_with_at slots audited n here order are low is differ = first_with slots au
 -- ---- among all
 
 -- a connection has a trace, or the hall knows it, or it has no numbers
-known_even : (slots : Slots) (audited : List AuditedTrace) (other : Connection) → AreOf64 slots → (IsOfPeers slots 64 other → IsEven slots audited other) → trace_of audited other ≡ None
+known_even : (slots : Slots) (audited : List AuditedTrace) (other : Connection) → AreOfAll slots → (IsOfPeers slots most_peers other → IsEven slots audited other) → trace_of audited other ≡ None
     → ((0 < granted slots other) ⊎ (granted slots other ≤ 0)) → IsEven slots audited other
 known_even slots audited other are even none (inl h) = even (are other h)
 known_even slots audited other are even none (inr h) = (let zero_granted : granted slots other ≡ 0 = omega (arith, h) in zero_granted) ∙ sym (ap told_by none)
 
-any_even : (slots : Slots) (audited : List AuditedTrace) (other : Connection) → AreOf64 slots → (HasTrace audited other → IsEven slots audited other) → (IsOfPeers slots 64 other → IsEven slots audited other)
+any_even : (slots : Slots) (audited : List AuditedTrace) (other : Connection) → AreOfAll slots → (HasTrace audited other → IsEven slots audited other) → (IsOfPeers slots most_peers other → IsEven slots audited other)
     → (HasTrace audited other ⊎ (trace_of audited other ≡ None)) → IsEven slots audited other
 any_even slots audited other are with_trace known (inl has) = with_trace has
 any_even slots audited other are with_trace known (inr none) = known_even slots audited other are known none (less 0 (granted slots other))
 
-pub each_even : (slots : Slots) (audited : List AuditedTrace) (other : Connection) → AreOf64 slots → (HasTrace audited other → IsEven slots audited other) → (IsOfPeers slots 64 other → IsEven slots audited other)
+pub each_even : (slots : Slots) (audited : List AuditedTrace) (other : Connection) → AreOfAll slots → (HasTrace audited other → IsEven slots audited other) → (IsOfPeers slots most_peers other → IsEven slots audited other)
     → IsEven slots audited other
 each_even slots audited other are with_trace known = any_even slots audited other are with_trace known (has_or_not audited other)
 
@@ -221,23 +217,23 @@ uneven_of slots audited Kind None first is same even = (let never : None ≡ Som
 uneven_of slots audited Kind (Some connection) first is same even =
     let e : connection ≡ first = (let some_same : Some connection ≡ Some first = same in cc) in is.uneven (subst (IsEven slots audited) (sym e) even)
 
-uneven_either : (slots : Slots) (audited : List AuditedTrace) (one other : Option Connection) (first : Connection) → IsFoundAmong slots audited (HasTrace audited) one → IsFoundAmong slots audited (IsOfPeers slots 64) other
+uneven_either : (slots : Slots) (audited : List AuditedTrace) (one other : Option Connection) (first : Connection) → IsFoundAmong slots audited (HasTrace audited) one → IsFoundAmong slots audited (IsOfPeers slots most_peers) other
     → ((one ≡ Some first) ⊎ (other ≡ Some first)) → IsEven slots audited first → ⊥
 uneven_either slots audited one other first a b (inl same) even = uneven_of slots audited (HasTrace audited) one first a same even
-uneven_either slots audited one other first a b (inr same) even = uneven_of slots audited (IsOfPeers slots 64) other first b same even
+uneven_either slots audited one other first a b (inr same) even = uneven_of slots audited (IsOfPeers slots most_peers) other first b same even
 
 none_among : (slots : Slots) (audited : List AuditedTrace) (Kind : Connection → Type 0) (found : Option Connection) → IsFoundAmong slots audited Kind found → found ≡ None → (other : Connection) → Kind other → IsEven slots audited other
 none_among slots audited Kind found is none = subst (IsFoundAmong slots audited Kind) none is
 
-pub first_of_all : (slots : Slots) (audited : List AuditedTrace) (one other result : Option Connection) → AreOf64 slots → IsFoundAmong slots audited (HasTrace audited) one → IsFoundAmong slots audited (IsOfPeers slots 64) other
+pub first_of_all : (slots : Slots) (audited : List AuditedTrace) (one other result : Option Connection) → AreOfAll slots → IsFoundAmong slots audited (HasTrace audited) one → IsFoundAmong slots audited (IsOfPeers slots most_peers) other
     → (result ≡ None → (one ≡ None) × (other ≡ None)) → IfSome result (IsEarlier one other) → MatchOption result (AreEven slots audited) (IsFirstUneven slots audited)
 first_of_all slots audited one other None are a b none found =
-    λ connection. each_even slots audited connection are (none_among slots audited (HasTrace audited) one a (none refl).0 connection) (none_among slots audited (IsOfPeers slots 64) other b (none refl).1 connection)
+    λ connection. each_even slots audited connection are (none_among slots audited (HasTrace audited) one a (none refl).0 connection) (none_among slots audited (IsOfPeers slots most_peers) other b (none refl).1 connection)
 first_of_all slots audited one other (Some first) are a b none found =
     record {
       uneven = uneven_either slots audited one other first a b found.is;
       earlier = λ connection before.
           each_even slots audited connection are
           (up_to slots audited (HasTrace audited) one first connection a (λ c e. found.not_behind c (inl e)) before)
-          (up_to slots audited (IsOfPeers slots 64) other first connection b (λ c e. found.not_behind c (inr e)) before);
+          (up_to slots audited (IsOfPeers slots most_peers) other first connection b (λ c e. found.not_behind c (inr e)) before);
     }

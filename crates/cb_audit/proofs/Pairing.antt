@@ -23,6 +23,7 @@ one_each : (question : Option Question) (event : Event) → length (if is_told (
 one_each question (events.Said item) = refl
 one_each question (events.Broken fault) = refl
 one_each question events.Tick = refl
+one_each question events.Probe = refl
 one_each question (events.Told answer) = refl
 one_each question events.ReaderEnd = refl
 one_each question events.NoMemory = refl
@@ -69,6 +70,7 @@ no_answer : (event : Event) → ((answer : Answer) → event ≡ events.Told ans
 no_answer (events.Said item) not = refl
 no_answer (events.Broken fault) not = refl
 no_answer events.Tick not = refl
+no_answer events.Probe not = refl
 no_answer (events.Told answer) not = absurd (not answer refl)
 no_answer events.ReaderEnd not = refl
 no_answer events.NoMemory not = refl

@@ -3,7 +3,7 @@
 use Rattle.std.specs.Prelude.{◌≡◌, ◌≢◌, ◌⊎◌, ℕ, ◌<◌, ◌≤◌, List, Option, None, Some}
 use Rattle.std.specs.Option.{option_map_or}
 use Rattle.cb_state.specs.declared.connection.Connection.{Connection}
-use Rattle.cb_journal.specs.Connections.{Slots, connected_of, latest_of}
+use Rattle.cb_journal.specs.Connections.{Slots, connected_of, latest_of, most_peers}
 use Rattle.cb_trace.specs.Trace.{TraceView}
 use Rattle.cb_audit.specs.Order.{AuditedTrace, IsBefore, IsTraceAt, trace_of}
 
@@ -47,10 +47,10 @@ abbrev pub IsOfPeers : Slots → ℕ → Connection → Type 0
 IsOfPeers slots peers connection =
     (connection.peer < peers) × IsOfPeer slots connection.peer connection
 
--- Only the 64 peers' connections were granted anything.
-abbrev pub AreOf64 : Slots → Type 0
-AreOf64 slots =
-    (connection : Connection) → 0 < granted slots connection → IsOfPeers slots 64 connection
+-- Only the peers' connections were granted anything.
+abbrev pub AreOfAll : Slots → Type 0
+AreOfAll slots =
+    (connection : Connection) → 0 < granted slots connection → IsOfPeers slots most_peers connection
 
 -- The numbers differ, and those of each earlier connection of a kind are equal.
 pub record IsFirstAmong (slots : Slots) (audited : List AuditedTrace) (Kind : Connection → Type 0)

@@ -1,6 +1,7 @@
 //! Compares, for each connection, how many questions the hall granted with how many answers its
 //! trace has.
 ghost use Rattle.std.specs.Prelude.{◌≡◌, ◌↔◌, ◌≤◌, ◌^◌, IfSome, IsTrue, MatchOption, None};
+ghost use Rattle.cb_journal.specs.Connections.{most_peers};
 ghost use Rattle.cb_audit.specs.Counting.{AreEven, HasTrace, IsEarlier, IsEven, IsFirstUneven, IsFoundAmong, IsOfPeer, IsOfPeers, granted, told_by};
 ghost use Rattle.cb_audit.specs.Order.{AreInOrder, trace_of};
 
@@ -72,11 +73,12 @@ fn first_of_peer(connections: &Connections, audited: &[Audited], peer: u16) -> O
     None
 }
 
-/// The first of the 64 peers' connections whose numbers differ.
+/// The first of the peers' connections whose numbers differ.
 #[tactic(auto, using(crate::proofs::Numbers::even_below_none, crate::proofs::Numbers::even_below, crate::proofs::Numbers::first_below, crate::proofs::Numbers::even_below_all))]
 fn first_known(connections: &Connections, audited: &[Audited]) -> Option<Connection>
     requires order { AreInOrder audited.now }
-    ensures { IsFoundAmong connections.now audited.now (IsOfPeers connections.now 64) result }
+    ensures { IsFoundAmong connections.now audited.now (IsOfPeers connections.now most_peers)
+        result }
 {
     for peer in 0..PEERS {
         if let Some(connection) = first_of_peer(connections, audited, peer) {

@@ -1,6 +1,7 @@
 //! Compares, for each connection, how many questions the hall granted with how many answers the
 //! trace of its work has. No trace is listed for it, and it allocates nothing.
 ghost use Rattle.std.specs.Prelude.{◌≡◌, ◌∷◌, ◌++◌, ◌↔◌, [], None, Some, IfSome, IsTrue, MatchOption, option_copied, slice_get};
+ghost use Rattle.cb_journal.specs.Connections.{most_peers};
 ghost use Rattle.cb_audit.specs.Counting.{AreEven, IsEven, IsFirstUneven, IsFoundAmong, IsOfPeer, IsOfPeers};
 ghost use Rattle.cb_audit.specs.Desks.{told_in, trace_of_work, traces_of, traces_of_desk, uneven_in};
 ghost use Rattle.cb_audit.specs.Order.{AreInOrder};
@@ -179,15 +180,15 @@ fn first_of_peer_at_desks<S: MessageSink + Drop, H: Oracle + Drop, F: Flags>(
     None
 }
 
-/// The first of the 64 peers' connections whose numbers differ.
+/// The first of the peers' connections whose numbers differ.
 #[tactic(auto, using(crate::proofs::Numbers::even_below_none, crate::proofs::Numbers::even_below, crate::proofs::Numbers::first_below, crate::proofs::Numbers::even_below_all))]
 fn first_known_at_desks<S: MessageSink + Drop, H: Oracle + Drop, F: Flags>(
     connections: &Connections,
     desks: &[Desk<PeerWork<S, H, F>>],
 ) -> Option<Connection>
     requires order { AreInOrder (traces_of desks.now) }
-    ensures { IsFoundAmong connections.now (traces_of desks.now) (IsOfPeers connections.now 64)
-        result }
+    ensures { IsFoundAmong connections.now (traces_of desks.now)
+        (IsOfPeers connections.now most_peers) result }
 {
     for peer in 0..PEERS {
         if let Some(connection) = first_of_peer_at_desks(connections, desks, peer) {

@@ -11,7 +11,7 @@ use Rattle.cb_run.specs.Ending.{HasCause, halt_status, status_code}
 use Rattle.cb_run.specs.Report.{ReportsKnown}
 use Rattle.cb_driver.specs.declared.running.RunOrders.{RunOrders}
 use Rattle.cb_command.specs.Command.{EndsEarly, EndsNode, Halts, HasNodeCause, PrintsReport, code_of}
-use Rattle.cb_command.specs.Words.{AreWithin, ByTask, entered, program, task_in, task_named}
+use Rattle.cb_command.specs.Words.{AreAsked, ByTask, entered, program, task_in, task_named}
 use Rattle.cb_command.specs.declared.commanding.Task.{Task}
 use Rattle.cb_command.specs.declared.commanding.Task.TheVariants.{Decode, Serve, Sim, Run, Node}
 use Rattle.cb_command.specs.declared.node_words.BadWords.{BadWords}
@@ -59,14 +59,14 @@ node_by_name orders found other (Some name) is = node_by_words orders found othe
 
 -- A task was run, whatever it told for the orders that the words give.
 pub runs_task : {Refused Lacked : Type 0} (Decodes Serves Simulates : Type 0) (Runs : RunOrders → Type 0) (Nodes : Result NodeOrders BadWords → Type 0) (found task : Task) (words whole : List (List ℕ)) → found ≡ task → words ≡ whole → fault_of program words ≡ []
-    → ((orders : RunOrders) × (node : Result NodeOrders BadWords) × AreWithin orders × (found ≡ task_in orders node words)) → ((orders : RunOrders) (node : Result NodeOrders BadWords) → task ≡ task_in orders node words → ByTask task Decodes Serves Simulates (Runs orders) (Nodes node))
-    → Refused ⊎ (Lacked ⊎ ((fault_of program whole ≡ []) × ((orders : RunOrders) × (node : Result NodeOrders BadWords) × AreWithin orders × ByTask (task_in orders node whole) Decodes Serves Simulates (Runs orders) (Nodes node))))
+    → ((orders : RunOrders) × (node : Result NodeOrders BadWords) × AreAsked orders node words × (found ≡ task_in orders node words)) → ((orders : RunOrders) (node : Result NodeOrders BadWords) → task ≡ task_in orders node words → ByTask task Decodes Serves Simulates (Runs orders) (Nodes node))
+    → Refused ⊎ (Lacked ⊎ ((fault_of program whole ≡ []) × ((orders : RunOrders) × (node : Result NodeOrders BadWords) × AreAsked orders node whole × ByTask (task_in orders node whole) Decodes Serves Simulates (Runs orders) (Nodes node))))
 runs_task Decodes Serves Simulates Runs Nodes found task words whole named same none given ran =
     let orders : RunOrders = given.0 in
     let node : Result NodeOrders BadWords = given.1 in
     let is : task ≡ task_in orders node words = subst (λ (t : Task). t ≡ task_in orders node words) named given.3 in
     let told : ByTask (task_in orders node words) Decodes Serves Simulates (Runs orders) (Nodes node) = subst (λ (t : Task). ByTask t Decodes Serves Simulates (Runs orders) (Nodes node)) is (ran orders node is) in
-    inr (inr (subst (λ (w : List (List ℕ)). fault_of program w ≡ []) same none, (orders, node, given.2, subst (λ (w : List (List ℕ)). ByTask (task_in orders node w) Decodes Serves Simulates (Runs orders) (Nodes node)) same told)))
+    inr (inr (subst (λ (w : List (List ℕ)). fault_of program w ≡ []) same none, (orders, node, subst (λ (w : List (List ℕ)). AreAsked orders node w) same given.2, subst (λ (w : List (List ℕ)). ByTask (task_in orders node w) Decodes Serves Simulates (Runs orders) (Nodes node)) same told)))
 
 -- what holds for the orders with which `run` was called holds for those that the words give
 pub for_orders : (P : RunOrders → Type 0) (other orders : RunOrders) (node : Result NodeOrders BadWords) (words : List (List ℕ)) → P other → Run other ≡ task_in orders node words → P orders

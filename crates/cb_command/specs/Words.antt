@@ -8,7 +8,7 @@ use Rattle.cb_driver.specs.declared.running.RunOrders.{RunOrders}
 use Rattle.cb_command.specs.declared.commanding.Task.{Task}
 use Rattle.cb_command.specs.declared.commanding.Task.TheVariants.{Decode, Serve, Sim, Run, Node}
 use Rattle.cb_command.specs.declared.node_words.BadWords.{BadWords}
-use Rattle.cb_command.specs.NodeWords.{IsNodeOrders, node_line}
+use Rattle.cb_command.specs.NodeWords.{HasSizes, IsNodeOrders, node_line, node_rows}
 use Rattle.cb_node_process.specs.declared.orders.NodeOrders.{NodeOrders}
 
 -- A command that prints its version.
@@ -66,7 +66,7 @@ AreWithin orders =
 -- The same of a task's orders, if it has any.
 abbrev pub IsWithin : Task → Type 0
 IsWithin (Run orders) = AreWithin orders
-IsWithin (Node node) = IfOk node IsNodeOrders
+IsWithin (Node node) = IfOk node HasSizes
 IsWithin other = ⊤
 
 -- The task of that command, with these orders for `run` and for `node`; `decode` if none is named.
@@ -82,6 +82,11 @@ task_named orders node (Some name) =
     else if bytes_eq name (codes "node")
     then Node node
     else Decode
+
+-- The orders of `run` are within their bounds, and those of `node` are what the words ask for.
+abbrev pub AreAsked : RunOrders → Result NodeOrders BadWords → List (List ℕ) → Type 0
+AreAsked orders node words =
+    AreWithin orders × IfOk node (IsNodeOrders (node_rows (subcommand_of program words)))
 
 -- The task that the words ask for, with these orders for `run` and for `node`.
 abbrev pub task_in : RunOrders → Result NodeOrders BadWords → List (List ℕ) → Task

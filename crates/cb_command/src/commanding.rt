@@ -10,19 +10,17 @@ ghost use Rattle.cb_command.specs.Command.{PrintsReport, EndsEarly, Halts, Refus
 ghost use Rattle.cb_run.specs.Ending.{halt_status};
 ghost use Rattle.cb_command.specs.Peer.{WasServed};
 ghost use Rattle.cb_run.specs.SimInput.{SimulatesKnown};
-ghost use Rattle.cb_command.specs.Words.{AreRefused, AreWithin, ByTask, IsWithin, flag, plain_program, program, scripted_program, sized, task_in, task_named};
+ghost use Rattle.cb_command.specs.Words.{AreAsked, AreRefused, AreWithin, ByTask, IsWithin, flag, plain_program, program, scripted_program, sized, task_in, task_named};
 ghost use Rattle.cb_driver.specs.Auditing.{IsOfAnEnd};
 ghost use Rattle.cb_driver.specs.Summary.{AreReported, RunsKnown};
 ghost use Rattle.cb_node_process.specs.declared.orders.NodeOrders.{NodeOrders};
-ghost use Rattle.cb_command.specs.NodeWords.{IsNodeOrders, bad_words_text};
+ghost use Rattle.cb_command.specs.NodeWords.{HasSizes, bad_words_text};
 ghost use Rattle.cb_command.specs.declared.node_words.BadWords.{BadWords};
 ghost use Rattle.cb_driver.specs.declared.running.RunOrders.{RunOrders};
 ghost use Rattle.clap.specs.Words.{FailsBy, app_of, fault_of, kind_of, rule_of, takes};
 ghost use Rattle.clap.specs.declared.error.kind.ErrorKind.TheVariants.{OutOfMemory};
 
-use crate::node_words::{
-    BadWords, NODE_USE, connect_arg, listen_arg, log_arg, node_orders_of, threads_arg, tick_arg,
-};
+use crate::node_words::{BadWords, node_line, node_orders_of};
 use crate::serve::serve_peer;
 use cb_base::{Seed, Shared, Sink, Source};
 use cb_driver::{RunOrders, Sizes, run_nodes};
@@ -123,7 +121,8 @@ pub fn command<N: ProcessHost, R: Source, W: MessageSink, E: Sink>(
         (E.has_failed errors.new) result Memory × (reader.new ≡ reader.old)
         × (writer.new ≡ writer.old))
         ⊎ ((fault_of program (map string_bytes words.items) ≡ [])
-        × ((orders : RunOrders) × (node : Result NodeOrders BadWords) × AreWithin orders
+        × ((orders : RunOrders) × (node : Result NodeOrders BadWords)
+        × AreAsked orders node (map string_bytes words.items)
         × ByTask (task_in orders node (map string_bytes words.items))
         ((PrintsReport (R.remaining reader.old) (W.contents writer.old)
         (W.contents writer.new) result × (errors.new ≡ errors.old))
@@ -204,7 +203,8 @@ pub fn seeded_command<N: ProcessHost, R: Source, W: MessageSink, E: Sink>(
         (E.has_failed errors.new) result Memory × (reader.new ≡ reader.old)
         × (writer.new ≡ writer.old))
         ⊎ ((fault_of program (map string_bytes words.items) ≡ [])
-        × ((orders : RunOrders) × (node : Result NodeOrders BadWords) × AreWithin orders
+        × ((orders : RunOrders) × (node : Result NodeOrders BadWords)
+        × AreAsked orders node (map string_bytes words.items)
         × ByTask (task_in orders node (map string_bytes words.items))
         ((PrintsReport (R.remaining reader.old) (W.contents writer.old)
         (W.contents writer.new) result × (errors.new ≡ errors.old))
@@ -289,7 +289,7 @@ fn start_node<N: ProcessHost, W: Sink, E: Sink>(
     writer: &mut W,
     errors: &mut E,
 ) -> u8
-    requires { IfOk node IsNodeOrders }
+    requires { IfOk node HasSizes }
     ensures runs { RunsNode (IsOfAnEnd N) (errors.new ≡ errors.old) (W.contents writer.old)
         (W.contents writer.new) (W.has_failed writer.new) (E.contents errors.old)
         (E.contents errors.new) (E.has_failed errors.new) node result }
@@ -379,14 +379,7 @@ fn command_line<'a>(alloc: Global) -> Result<Command<'a>, AllocError>
     ensures { IfOk result (λ line. app_of line ≡ program) }
 {
     let line = scripted_line(alloc)?;
-    let node = Command::new(alloc, "node")
-        .about("Run a node: listen, dial, relay, and answer the lines of standard input")
-        .after_help(NODE_USE)
-        .arg(listen_arg(alloc))?
-        .arg(connect_arg(alloc))?
-        .arg(threads_arg(alloc))?
-        .arg(tick_arg(alloc))?
-        .arg(log_arg(alloc))?;
+    let node = node_line(alloc)?;
     line.subcommand(node)
 }
 
@@ -461,7 +454,7 @@ fn stats_arg<'a>(alloc: Global) -> Arg<'a>
 /// asks to print help or the version, or if memory runs out.
 fn task_of(alloc: Global, words: &[String]) -> Result<Task, clap::Error>
     ensures task { IfOk result (λ task. (orders : RunOrders)
-        × (node : Result NodeOrders BadWords) × AreWithin orders
+        × (node : Result NodeOrders BadWords) × AreAsked orders node (map string_bytes words.now)
         × (task ≡ task_in orders node (map string_bytes words.now))) }
     ensures within { IfOk result (λ task. IsWithin task) }
     ensures kinds { FailsBy (fault_of program (map string_bytes words.now)) result }
@@ -514,7 +507,7 @@ fn size_of(run: &ArgMatches, name: &str, most: u16) -> u16
 /// none was.
 fn task_named(name: Option<&str>, orders: RunOrders, node: Result<NodeOrders, BadWords>) -> Task
     requires orders { AreWithin orders }
-    requires node { IfOk node IsNodeOrders }
+    requires node { IfOk node HasSizes }
     ensures named { result ≡ task_named orders node (option_map (λ text. text.now) name.entry) }
     ensures within { IsWithin result }
 {

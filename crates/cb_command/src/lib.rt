@@ -2,6 +2,7 @@
 #![tactic(auto)]
 
 mod commanding;
+mod limit_words;
 mod node_words;
 mod serve;
 

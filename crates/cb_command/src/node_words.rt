@@ -1,26 +1,27 @@
 //! The command `node` of the command line.
-ghost use Rattle.std.specs.Prelude.{◌≡◌, ◌≤◌, codes, false, IfErr, IfOk};
-ghost use Rattle.clap.specs.Words.{rule_of};
+ghost use Rattle.std.specs.Prelude.{◌≡◌, ◌≤◌, codes, false, option_map, IfErr, IfOk};
+ghost use Rattle.clap.specs.Words.{app_of, rule_of, subcommand_rows_of};
 ghost use Rattle.std.specs.Net.Grammar.{IsSocketText};
-ghost use Rattle.cb_command.specs.NodeWords.{IsNodeOrders, bad_words_text, numbered, repeated, valued};
+ghost use Rattle.cb_command.specs.NodeWords.{HasSizes, IsNodeOrders, bad_words_text, node_line, node_rows, numbered, repeated, rows_in, valued};
 
+use crate::limit_words::{limits_in, number_of, text_of, with_limits};
 use cb_node_process::NodeOrders;
-use clap::{Arg, ArgAction, ArgMatches, value_parser};
+use clap::{Arg, ArgAction, ArgMatches, Command, value_parser};
 use log::LevelFilter;
-use std::alloc::Global;
+use std::alloc::{AllocError, Global};
 use std::net::{IpAddr, Ipv4Addr, SocketAddr};
 
 /// The port at which a node listens if nothing else is told: that of regtest.
 const PORT: u16 = 18_444;
 
 /// How many handler threads a node has if nothing else is told.
-const HANDLERS: u16 = 2;
+const HANDLERS: u64 = 2;
 
 /// How many milliseconds pass from tick to tick if nothing else is told.
 const TICK: u64 = 100;
 
 /// The text that `node --help` prints below the options.
-pub const NODE_USE: &str = "\
+const NODE_USE: &str = "\
 It prints 'listening ADDR:PORT' once it listens. A connection to a peer that ends is made again \
     after
 1, 2, 4, .. 60 seconds. Each line of standard input is answered by a line, or by 'error ..':
@@ -34,6 +35,9 @@ It prints 'listening ADDR:PORT' once it listens. A connection to a peer that end
   peers             how many connections last, and then a line for each
   kick SLOT         ends the connection in a slot
   connect ADDR:PORT connects to a peer, and again whenever the connection ends
+  disconnect ADDR:PORT
+                    ends the connection to such a peer, and dials it no more
+  network off       ends all connections, and lets none begin until 'network on'
   checkpoint        the node drops its log of calls
   stats             what all connections moved
   restart           ends the node and audits it, and starts another one over its chain and mempool
@@ -79,8 +83,22 @@ impl BadWords {
     }
 }
 
+/// The command `node`.
+pub fn node_line<'a>(alloc: Global) -> Result<Command<'a>, AllocError>
+    ensures { IfOk result (λ node. app_of node ≡ node_line) }
+{
+    let node = Command::new(alloc, "node")
+        .about("Run a node: listen, dial, relay, and answer the lines of standard input")
+        .after_help(NODE_USE)
+        .arg(listen_arg(alloc))?
+        .arg(connect_arg(alloc))?
+        .arg(threads_arg(alloc))?
+        .arg(tick_arg(alloc))?;
+    with_limits(alloc, node)?.arg(log_arg(alloc))
+}
+
 /// The option `--listen`.
-pub fn listen_arg<'a>(alloc: Global) -> Arg<'a>
+fn listen_arg<'a>(alloc: Global) -> Arg<'a>
     ensures rule { rule_of result ≡ valued (codes "listen") }
     ensures local { result.global ≡ false }
 {
@@ -91,7 +109,7 @@ pub fn listen_arg<'a>(alloc: Global) -> Arg<'a>
 }
 
 /// The option `--connect`.
-pub fn connect_arg<'a>(alloc: Global) -> Arg<'a>
+fn connect_arg<'a>(alloc: Global) -> Arg<'a>
     ensures rule { rule_of result ≡ repeated (codes "connect") }
     ensures local { result.global ≡ false }
 {
@@ -103,7 +121,7 @@ pub fn connect_arg<'a>(alloc: Global) -> Arg<'a>
 }
 
 /// The option `--handlers`.
-pub fn threads_arg<'a>(alloc: Global) -> Arg<'a>
+fn threads_arg<'a>(alloc: Global) -> Arg<'a>
     ensures rule { rule_of result ≡ numbered (codes "handlers") 16 }
     ensures local { result.global ≡ false }
 {
@@ -115,7 +133,7 @@ pub fn threads_arg<'a>(alloc: Global) -> Arg<'a>
 }
 
 /// The option `--tick`.
-pub fn tick_arg<'a>(alloc: Global) -> Arg<'a>
+fn tick_arg<'a>(alloc: Global) -> Arg<'a>
     ensures rule { rule_of result ≡ numbered (codes "tick") 60000 }
     ensures local { result.global ≡ false }
 {
@@ -130,7 +148,7 @@ pub fn tick_arg<'a>(alloc: Global) -> Arg<'a>
 }
 
 /// The option `--log`.
-pub fn log_arg<'a>(alloc: Global) -> Arg<'a>
+fn log_arg<'a>(alloc: Global) -> Arg<'a>
     ensures rule { rule_of result ≡ valued (codes "log") }
     ensures local { result.global ≡ false }
 {
@@ -141,25 +159,10 @@ pub fn log_arg<'a>(alloc: Global) -> Arg<'a>
 
 /// What `node` is asked for; what it does if nothing is told, if it isn't the command.
 pub fn node_orders_of(alloc: Global, matches: &ArgMatches) -> Result<NodeOrders, BadWords>
-    ensures { IfOk result IsNodeOrders }
+    ensures sizes { IfOk result HasSizes }
+    ensures told { IfOk result (IsNodeOrders (node_rows (subcommand_rows_of matches.now))) }
 {
-    match matches.subcommand_matches("node") {
-        Some(node) => orders_in(alloc, node),
-        None => Ok(usual(alloc)),
-    }
-}
-
-/// What `node` does if nothing is told.
-fn usual(alloc: Global) -> NodeOrders
-    ensures { IsNodeOrders result }
-{
-    NodeOrders {
-        listen: usual_address(),
-        connect: Vec::new(alloc),
-        handlers: HANDLERS,
-        tick: TICK,
-        level: LevelFilter::Info,
-    }
+    orders_in(alloc, matches.subcommand_matches("node"))
 }
 
 /// Where a node listens if nothing else is told.
@@ -167,26 +170,25 @@ fn usual_address() -> SocketAddr {
     SocketAddr::new(IpAddr::V4(Ipv4Addr::LOCALHOST), PORT)
 }
 
-/// What `node` is asked for.
-fn orders_in(alloc: Global, node: &ArgMatches) -> Result<NodeOrders, BadWords>
-    ensures { IfOk result IsNodeOrders }
+/// What `node` is asked for by its options, if it was entered.
+fn orders_in(alloc: Global, node: Option<&ArgMatches>) -> Result<NodeOrders, BadWords>
+    ensures sizes { IfOk result HasSizes }
+    ensures told { IfOk result (IsNodeOrders (rows_in (option_map (λ m. m.now) node.entry))) }
 {
-    let listen = match node.get_str("listen") {
+    let listen = match text_of(node, "listen") {
         Some(text) => address_in(text, BadWords::Listen)?,
         None => usual_address(),
     };
-    let level = match node.get_str("log") {
+    let level = match text_of(node, "log") {
         Some(text) => level_in(text)?,
         None => LevelFilter::Info,
     };
     Ok(NodeOrders {
         listen,
         connect: addresses_in(alloc, node)?,
-        handlers: node
-            .get_one::<u16>("handlers")
-            .unwrap_or(HANDLERS)
-            .clamp(1, 16),
-        tick: node.get_one::<u64>("tick").unwrap_or(TICK).clamp(1, 60_000),
+        handlers: number_of(node, "handlers", HANDLERS, 1, 16) as u16,
+        tick: number_of(node, "tick", TICK, 1, 60_000),
+        limits: limits_in(node, listen.ip()),
         level,
     })
 }
@@ -202,8 +204,11 @@ fn level_in(text: &str) -> Result<LevelFilter, BadWords>
 }
 
 /// The addresses of `--connect`, in their order.
-fn addresses_in(alloc: Global, node: &ArgMatches) -> Result<Vec<SocketAddr>, BadWords> {
+fn addresses_in(alloc: Global, node: Option<&ArgMatches>) -> Result<Vec<SocketAddr>, BadWords> {
     let mut all = Vec::new(alloc);
+    let Some(node) = node else {
+        return Ok(all);
+    };
     let Some(texts) = node.get_strs("connect") else {
         return Ok(all);
     };

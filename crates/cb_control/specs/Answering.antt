@@ -51,6 +51,9 @@ CanAnswer orders.Pool reply = IsPool reply ⊎ IsRefused reply
 CanAnswer orders.Peers reply = IsPeers reply ⊎ IsRefused reply
 CanAnswer (orders.Connect address) reply =
     ((slot : ℕ) × (reply ≡ replies.Connected address slot)) ⊎ IsRefused reply
+CanAnswer (orders.Disconnect address) reply =
+    (reply ≡ replies.Disconnected address) ⊎ IsRefused reply
+CanAnswer (orders.Network on) reply = (reply ≡ replies.Network on) ⊎ IsRefused reply
 CanAnswer orders.Stats reply = (stats : StatsReport) × (reply ≡ replies.Stats stats)
 CanAnswer orders.Restart reply =
     ((verdict : Verdict) × (tip : Tip) × (reply ≡ replies.Restarted verdict tip)) ⊎ IsRefused reply

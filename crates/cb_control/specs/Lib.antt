@@ -3,6 +3,7 @@ pub mod Counters
 pub mod OrderLine
 pub mod OrderReading
 pub mod Outcomes
+pub mod PeerText
 pub mod Refusals
 pub mod ReplyText
 pub mod ScriptLine

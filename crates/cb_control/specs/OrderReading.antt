@@ -1,11 +1,11 @@
 -- An operator's line taken apart: the same as functions of the text, as far as they are.
-use Rattle.std.specs.Prelude.{◌≡◌, ℕ, ◌^◌, true, false, if◌then◌else◌, ◌⊎◌, List, codes, Option, Some, None, option_map}
+use Rattle.std.specs.Prelude.{◌≡◌, ℕ, ◌^◌, Bool, true, false, if◌then◌else◌, ◌⊎◌, List, codes, Option, Some, None, option_map}
 use Rattle.std.specs.Str.{bytes_eq}
 use Rattle.std.specs.declared.net.socket_addr.SocketAddr.{SocketAddr}
 use Rattle.std.specs.Net.Grammar.{IsSocketText}
 use Rattle.cb_run.specs.Words.{cut_of, number_in}
 use Rattle.cb_control.specs.declared.order.Order.{Order}
-use Rattle.cb_control.specs.declared.order.Order.TheVariants.{Do, Tip, Block, Pool, Peers, Connect, Stats, Restart, Quit}
+use Rattle.cb_control.specs.declared.order.Order.TheVariants.{Do, Tip, Block, Pool, Peers, Connect, Disconnect, Network, Stats, Restart, Quit}
 use Rattle.cb_control.specs.declared.order.Deed.TheVariants.{Tx, Submit, Mine, Kick, Checkpoint}
 use Rattle.cb_control.specs.Written.{block_in, hash_in, tx_in}
 
@@ -30,7 +30,16 @@ plain_order word =
     then Some Quit
     else None
 
--- the order of a word and what stands behind it, if the word isn't `connect`
+-- what stands behind `network`
+abbrev pub switch_in : List ℕ → Option Bool
+switch_in rest =
+    if bytes_eq rest (codes "on")
+    then Some true
+    else if bytes_eq rest (codes "off")
+    then Some false
+    else None
+
+-- the order of a word and what stands behind it, if that isn't an address
 abbrev pub order_with : List ℕ → List ℕ → Option Order
 order_with word rest =
     if bytes_eq word (codes "block")
@@ -43,19 +52,28 @@ order_with word rest =
     then option_map (λ count. Do (Mine count)) (number_in 1001 rest)
     else if bytes_eq word (codes "kick")
     then option_map (λ slot. Do (Kick slot)) (number_in (2 ^ 16) rest)
+    else if bytes_eq word (codes "network")
+    then option_map (λ on. Network on) (switch_in rest)
     else None
 
--- what stands behind `connect`
-abbrev pub IsConnect : List ℕ → Option Order → Type 0
-IsConnect rest None = (address : SocketAddr) → IsSocketText rest address → ⊥
-IsConnect rest (Some order) =
-    (address : SocketAddr) × IsSocketText rest address × (order ≡ Connect address)
+-- the address that a text writes, or none
+abbrev pub IsAddress : List ℕ → Option SocketAddr → Type 0
+IsAddress text None = (address : SocketAddr) → IsSocketText text address → ⊥
+IsAddress text (Some address) = IsSocketText text address
+
+-- the order that a word gives with the address behind it, if there is one
+abbrev pub IsAddressed : (SocketAddr → Order) → List ℕ → Option Order → Type 0
+IsAddressed order rest read =
+    (address : Option SocketAddr) × IsAddress rest address × (read ≡ option_map order address)
 
 -- the order of a word and what stands behind it, or none
 abbrev pub IsNamed : List ℕ → List ℕ → Option Order → Type 0
 IsNamed word rest read =
-    ((bytes_eq word (codes "connect") ≡ true) × IsConnect rest read)
-    ⊎ ((bytes_eq word (codes "connect") ≡ false) × (read ≡ order_with word rest))
+    ((bytes_eq word (codes "connect") ≡ true) × IsAddressed (λ address. Connect address) rest read)
+    ⊎ (((bytes_eq word (codes "disconnect") ≡ true)
+    × IsAddressed (λ address. Disconnect address) rest read)
+    ⊎ ((bytes_eq word (codes "connect") ≡ false) × (bytes_eq word (codes "disconnect") ≡ false)
+    × (read ≡ order_with word rest)))
 
 -- a text that was cut at its first space gives this order, or none
 abbrev pub IsCut : List ℕ → Option (List ℕ × List ℕ) → Option Order → Type 0

@@ -4,7 +4,7 @@ use Rattle.cb_base.specs.Fault.{fault_text}
 use Rattle.cb_run.specs.declared.ending.Status.{Status}
 use Rattle.cb_run.specs.declared.ending.Status.TheVariants as statuses
 use Rattle.cb_control.specs.declared.refusal.Refusal.{Refusal}
-use Rattle.cb_control.specs.declared.refusal.Refusal.TheVariants.{Unreadable, Fault, NoSlot, Io, NotSettled, UnknownBlock, Already, Own, Memory}
+use Rattle.cb_control.specs.declared.refusal.Refusal.TheVariants.{Unreadable, Fault, NoSlot, Io, NotSettled, UnknownBlock, Already, Own, NotDialled, Off, Memory}
 
 abbrev pub refusal_words : Refusal → List ℕ
 refusal_words Unreadable = codes "unreadable"
@@ -15,6 +15,8 @@ refusal_words NotSettled = codes "not settled"
 refusal_words UnknownBlock = codes "unknown block"
 refusal_words Already = codes "already"
 refusal_words Own = codes "own address"
+refusal_words NotDialled = codes "not dialled"
+refusal_words Off = codes "network off"
 refusal_words Memory = codes "memory"
 
 -- what the node refuses is a refused act; anything else but memory is a fault of the input

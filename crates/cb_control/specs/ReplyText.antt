@@ -17,6 +17,8 @@ use Rattle.cb_control.specs.declared.report.Tip.{Tip}
 use Rattle.cb_control.specs.declared.verdict.Verdict.{Verdict}
 use Rattle.cb_control.specs.declared.verdict.Verdict.TheVariants as verdicts
 use Rattle.cb_control.specs.Counters.{moved_text}
+use Rattle.cb_control.specs.OrderLine.{on_off}
+use Rattle.cb_control.specs.PeerText.{peer_end}
 use Rattle.cb_control.specs.Refusals.{refusal_words}
 
 -- a hash as people write it: its bytes reversed, in hex
@@ -55,7 +57,9 @@ counts_text stats =
     ++ (codes " connections " ++ (decimal stats.all ++ codes " ")))))
 
 abbrev pub stats_text : StatsReport → List ℕ
-stats_text stats = counts_text stats ++ moved_text stats.moved ++ codes "\n"
+stats_text stats =
+    counts_text stats ++ moved_text stats.moved
+    ++ (codes " refused " ++ (decimal stats.refused ++ codes "\n"))
 
 abbrev pub phase_name : Phase → List ℕ
 phase_name phases.Start = codes "start"
@@ -67,7 +71,8 @@ phase_name phases.Over = codes "over"
 abbrev pub way_name : Bool → List ℕ
 way_name inbound = if inbound then codes "from" else codes "to"
 
--- a connection that lasts: its slot and its generation, where the peer is, and how far the session
+-- a connection that lasts: its slot and its generation, where the peer is, how far the session is,
+-- what it moved, when it was made, what came last, and what the peer's `version` told
 abbrev pub peer_text : PeerReport → List ℕ
 peer_text peer =
     (codes "slot "
@@ -78,7 +83,7 @@ peer_text peer =
     ++ (way_name peer.inbound
     ++ (codes " "
     ++ (socket_text peer.address ++ (codes " " ++ (phase_name peer.phase ++ codes " "))))))))))
-    ++ moved_text peer.moved ++ codes "\n"
+    ++ moved_text peer.moved ++ peer_end peer
 
 -- a word, how many there are, and a line of each
 abbrev pub list_text : {A : Type 0} → List ℕ → (A → List ℕ) → List A → List ℕ
@@ -115,6 +120,9 @@ reply_text (replies.Peers peers) = list_text (codes "peers ") peer_text peers.it
 reply_text (replies.Kicked slot) = codes "kicked " ++ (decimal slot ++ codes "\n")
 reply_text (replies.Connected address slot) =
     codes "connected " ++ (socket_text address ++ (codes " slot " ++ (decimal slot ++ codes "\n")))
+reply_text (replies.Disconnected address) =
+    codes "disconnected " ++ (socket_text address ++ codes "\n")
+reply_text (replies.Network on) = codes "network " ++ (on_off on ++ codes "\n")
 reply_text replies.Checkpoint = codes "checkpoint\n"
 reply_text (replies.Stats stats) = stats_text stats
 reply_text (replies.Restarted verdict tip) =

@@ -4,7 +4,7 @@ ghost use Rattle.cb_base.specs.declared.fault.Fault.TheVariants.{Memory};
 ghost use Rattle.cb_run.specs.Words.{number_in};
 ghost use Rattle.cb_control.specs.declared.order.Deed.TheVariants as deeds;
 ghost use Rattle.cb_control.specs.OrderLine.{ReadsOrder};
-ghost use Rattle.cb_control.specs.OrderReading.{IsConnect, IsLine, IsNamed, plain_order};
+ghost use Rattle.cb_control.specs.OrderReading.{IsAddress, IsLine, IsNamed, plain_order, switch_in};
 
 use crate::order::{Deed, MOST_MINED, Order};
 use crate::written::{read_block, read_hash, read_tx};
@@ -24,6 +24,8 @@ use std::net::SocketAddr;
 /// | `mine`, `mine N` | `Mine` of one block, or of N, at most `MOST_MINED` |
 /// | `kick SLOT` | `Kick` |
 /// | `connect ADDR:PORT` | `Connect`: in numbers, as `127.0.0.1:18444` or `[::1]:18444` |
+/// | `disconnect ADDR:PORT` | `Disconnect` |
+/// | `network on`, `network off` | `Network` |
 ///
 /// Returns `None` exactly if the line is none of these. Fails only with `Fault::Memory`.
 pub fn read_order(alloc: Global, text: &[u8]) -> Result<Option<Order>, Fault>
@@ -77,7 +79,9 @@ fn named(alloc: Global, word: &str, rest: &str) -> Result<Option<Order>, Fault>
         }
         "mine" => Ok(mine(rest)),
         "kick" => Ok(short(rest).map(|slot| Order::Do(Deed::Kick(slot)))),
-        "connect" => Ok(connect(rest)),
+        "connect" => Ok(address(rest).map(|address| Order::Connect(address))),
+        "disconnect" => Ok(address(rest).map(|address| Order::Disconnect(address))),
+        "network" => Ok(switch(rest).map(|on| Order::Network(on))),
         _ => Ok(None),
     }
 }
@@ -94,12 +98,20 @@ fn mine(rest: &str) -> Option<Order>
     }
 }
 
-/// `connect`: an address and a port.
-fn connect(rest: &str) -> Option<Order>
-    ensures { IsConnect rest.now result }
+/// An address and a port.
+fn address(text: &str) -> Option<SocketAddr>
+    ensures { IsAddress text.now result }
 {
-    match rest.parse::<SocketAddr>() {
-        Ok(address) => Some(Order::Connect(address)),
-        Err(_) => None,
+    text.parse::<SocketAddr>().ok()
+}
+
+/// `network`: `on` or `off`.
+fn switch(rest: &str) -> Option<bool>
+    ensures { result ≡ switch_in rest.now }
+{
+    match rest {
+        "on" => Some(true),
+        "off" => Some(false),
+        _ => None,
     }
 }

@@ -5,8 +5,10 @@ ghost use Rattle.std.specs.List.{flat_map};
 ghost use Rattle.cb_base.specs.declared.fault.Fault.TheVariants.{Memory};
 ghost use Rattle.cb_run.specs.declared.ending.Halt.TheVariants as halts;
 ghost use Rattle.cb_control.specs.declared.reply.Reply.{Reply};
-ghost use Rattle.cb_control.specs.ReplyText.{IsOr, block_text, count_line, hash_line, peer_text, reply_text, stats_text, tip_line, txid_line, verdict_text, way_name, yes_no};
+ghost use Rattle.cb_control.specs.OrderLine.{on_off};
+ghost use Rattle.cb_control.specs.ReplyText.{IsOr, block_text, count_line, hash_line, peer_text, reply_text, stats_text, tip_line, txid_line, verdict_text, yes_no};
 
+use crate::peer_line::print_peer;
 use crate::reply::Reply;
 use crate::report::{BlockReport, PeerReport, StatsReport, Tip};
 use crate::verdict::Verdict;
@@ -55,6 +57,8 @@ pub fn print_reply(alloc: Global, reply: &Reply, out: &mut String) -> Result<(),
         }
         Reply::Kicked(slot) => writeln!(out, "kicked {slot}")?,
         Reply::Connected(address, slot) => writeln!(out, "connected {address} slot {slot}")?,
+        Reply::Disconnected(address) => writeln!(out, "disconnected {address}")?,
+        Reply::Network(on) => writeln!(out, "network {}", on_off(*on))?,
         Reply::Checkpoint => writeln!(out, "checkpoint")?,
         Reply::Stats(stats) => print_stats(stats, out)?,
         Reply::Restarted(verdict, tip) => {
@@ -125,6 +129,13 @@ pub fn yes_no(is_so: bool) -> &'static str
     if is_so { "yes" } else { "no" }
 }
 
+/// `on` or `off`.
+fn on_off(is_on: bool) -> &'static str
+    ensures { result.now ≡ on_off is_on }
+{
+    if is_on { "on" } else { "off" }
+}
+
 /// Appends a line for each of these txids. Fails only with `Fault::Memory`.
 fn print_txids(txids: &[Hash256], alloc: Global, out: &mut String) -> Result<(), Fault>
     ensures text { OnOk result
@@ -149,30 +160,6 @@ fn print_peers(peers: &[PeerReport], out: &mut String) -> Result<(), Fault>
     Ok(())
 }
 
-/// Appends the line of a connection that lasts. Fails only with `Fault::Memory`.
-fn print_peer(peer: &PeerReport, out: &mut String) -> Result<(), Fault>
-    ensures text { OnOk result
-        (string_bytes out.new ≡ string_bytes out.old ++ peer_text peer.now) }
-    ensures memory { IsOkUnless result Memory }
-{
-    let (slot, generation, way) = (peer.slot, peer.generation, way_name(peer.inbound));
-    let (address, phase) = (peer.address, peer.phase.name());
-    write!(
-        out,
-        "slot {slot} connection {generation} {way} {address} {phase} "
-    )?;
-    peer.moved.print(out)?;
-    out.push('\n')?;
-    Ok(())
-}
-
-/// `from` a peer that made the connection, or `to` a peer.
-fn way_name(inbound: bool) -> &'static str
-    ensures { result.now ≡ way_name inbound }
-{
-    if inbound { "from" } else { "to" }
-}
-
 /// Appends what all connections moved. Fails only with `Fault::Memory`.
 fn print_stats(stats: &StatsReport, out: &mut String) -> Result<(), Fault>
     ensures text { OnOk result
@@ -185,7 +172,8 @@ fn print_stats(stats: &StatsReport, out: &mut String) -> Result<(), Fault>
         "stats seconds {seconds} open {lasting} connections {all} "
     )?;
     stats.moved.print(out)?;
-    out.push('\n')?;
+    let refused = stats.refused;
+    writeln!(out, " refused {refused}")?;
     Ok(())
 }
 

@@ -22,6 +22,11 @@ pub enum Order {
     Peers,
     /// Connect to a peer, and again whenever the connection ends.
     Connect(SocketAddr),
+    /// End the connection to a peer that is dialled, and dial it no more.
+    Disconnect(SocketAddr),
+    /// Whether the node has connections: `false` ends all of them and lets none begin, and `true`
+    /// undoes that.
+    Network(bool),
     /// Tell what all connections moved.
     Stats,
     /// End the node, audit it, and start another one over the same chain and mempool.

@@ -26,6 +26,10 @@ pub enum Refusal {
     Already,
     /// The address leads to the node itself.
     Own,
+    /// The node doesn't dial this address.
+    NotDialled,
+    /// The operator has the node have no connections.
+    Off,
     /// Memory ran out.
     Memory,
 }
@@ -58,6 +62,8 @@ impl fmt::Display for Refusal {
             Refusal::UnknownBlock => write!(f, "unknown block"),
             Refusal::Already => write!(f, "already"),
             Refusal::Own => write!(f, "own address"),
+            Refusal::NotDialled => write!(f, "not dialled"),
+            Refusal::Off => write!(f, "network off"),
             Refusal::Memory => write!(f, "memory"),
         }
     }

@@ -28,6 +28,10 @@ pub enum Reply {
     Kicked(u16),
     /// To `Order::Connect`: the address and the slot.
     Connected(SocketAddr, u16),
+    /// To `Order::Disconnect`: the address.
+    Disconnected(SocketAddr),
+    /// To `Order::Network`: whether the node has connections now.
+    Network(bool),
     /// To `Deed::Checkpoint`.
     Checkpoint,
     /// To `Order::Stats`.

@@ -55,8 +55,19 @@ impl Phase {
     }
 }
 
+/// What a peer's `version` tells of it.
+#[derive(Drop)]
+pub struct Greeting {
+    /// Its protocol version.
+    pub version: i32,
+    /// The height of its best chain.
+    pub height: i32,
+    /// Its user agent (BIP 14), as it sent it: any bytes.
+    pub agent: Vec<u8>,
+}
+
 /// A connection that lasts.
-#[derive(Clone, Copy)]
+#[derive(Drop)]
 pub struct PeerReport {
     /// Its slot.
     pub slot: u16,
@@ -70,6 +81,14 @@ pub struct PeerReport {
     pub phase: Phase,
     /// What it moved so far.
     pub moved: Moved,
+    /// When it was made, in seconds since 1970.
+    pub since: i64,
+    /// When its latest whole message came, in seconds since 1970, if one came.
+    pub last: Option<i64>,
+    /// How many milliseconds its latest `pong` took, if one came.
+    pub pong: Option<u64>,
+    /// What the peer's first `version` told, if one came.
+    pub greeting: Option<Greeting>,
 }
 
 /// What all connections moved.
@@ -83,4 +102,6 @@ pub struct StatsReport {
     pub all: u64,
     /// What they moved.
     pub moved: Moved,
+    /// How many connections were closed at once, since a limit stood against them.
+    pub refused: u64,
 }

@@ -11,7 +11,7 @@ use Rattle.std.specs.declared.vec.IntoIter.{IntoIter}
 use Rattle.atomic_table.specs.Seated.{TableId}
 use Rattle.cb_inbox.specs.declared.queued.Queued.{Queued}
 use Rattle.cb_inbox.specs.Seat.{InboxState, SeatState, opening_seat}
-use Rattle.cb_crew.specs.Ring.{DeskName, HandState, RingState, making, StandsForAll, made_hand, running_hand, hired_hand, hiring_hand}
+use Rattle.cb_crew.specs.Ring.{DeskName, HandState, RingState, making, most_peers, StandsForAll, made_hand, running_hand, hired_hand, hiring_hand}
 use Rattle.cb_crew.specs.declared.reader_side.ReaderSide.{ReaderSide}
 use Rattle.cb_crew.specs.declared.reader_side.ReaderSide.TheVariants as side
 use Rattle.cb_crew.specs.Desk.{DeskState, first_label}
@@ -39,7 +39,7 @@ lines_more n capacity inboxes inboxes' readers readers' vacancies vacancies' inb
 pub lines_count : {Q : Type 0} (n capacity : ℕ) (inboxes : List InboxState) (readers : List (SeatState Q)) (vacancies : List InboxState) → AreLines n capacity inboxes readers vacancies → length inboxes ≡ n
 lines_count n capacity inboxes readers vacancies lines = sym (length-map inboxes (λ (i : InboxState). i.peer)) ∙ (ap (length {A = ℕ}) lines.in_order ∙ length-range_with_len 0 n)
 
-pub crew_of_lines : {Q : Type 0} (labels : List ℕ) (n handlers capacity : ℕ) (ring : RingState) (inboxes : List InboxState) (readers : List (SeatState Q)) (vacancies : List InboxState) → AreLines n capacity inboxes readers vacancies → (1 ≤ n) × (n ≤ 64) → 1 ≤ handlers → ring.capacity ≡ n
+pub crew_of_lines : {Q : Type 0} (labels : List ℕ) (n handlers capacity : ℕ) (ring : RingState) (inboxes : List InboxState) (readers : List (SeatState Q)) (vacancies : List InboxState) → AreLines n capacity inboxes readers vacancies → (1 ≤ n) × (n ≤ most_peers) → 1 ≤ handlers → ring.capacity ≡ n
     → IsCrew record { ring = ring; inboxes = inboxes; handlers = handlers; labels = labels } × IsNewCrew n handlers capacity record { ring = ring; inboxes = inboxes; handlers = handlers; labels = labels }
 crew_of_lines labels n handlers capacity ring inboxes readers vacancies lines peers some room =
     let count : length inboxes ≡ n = lines_count n capacity inboxes readers vacancies lines in (

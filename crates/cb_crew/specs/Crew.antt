@@ -7,7 +7,7 @@ use Rattle.cb_inbox.specs.declared.queued.Queued.TheVariants as queued
 use Rattle.cb_inbox.specs.Seat.{InboxState, SeatState, opening_seat}
 use Rattle.cb_crew.specs.declared.reader_side.ReaderSide.{ReaderSide}
 use Rattle.cb_crew.specs.declared.reader_side.ReaderSide.TheVariants as side
-use Rattle.cb_crew.specs.Ring.{DeskName, RingState, HandState, Shown, running, IsOfCrew, peers_of}
+use Rattle.cb_crew.specs.Ring.{DeskName, RingState, HandState, Shown, most_peers, running, IsOfCrew, peers_of}
 use Rattle.cb_crew.specs.Turn.{HandlerState}
 
 pub record CrewState : Type 0 where
@@ -23,7 +23,7 @@ names_of crew = map (λ (inbox : InboxState). inbox.name) crew.inboxes
 -- each peer has its inbox, and the ring has room for all desks
 pub record IsCrew (crew : CrewState) : Type 0 where
   pub some : 1 ≤ length crew.inboxes
-  pub few : length crew.inboxes ≤ 64
+  pub few : length crew.inboxes ≤ most_peers
   pub in_order : map (λ (inbox : InboxState). inbox.peer) crew.inboxes
       ≡ range_with_len 0 (length crew.inboxes)
   pub working : 1 ≤ crew.handlers

@@ -5,6 +5,10 @@ use Rattle.std.specs.List.{sum_by, range_with_len}
 use Rattle.atomic_table.specs.Seated.{TableId}
 use Rattle.cb_sched.specs.Desks.{Desks, DesksReached, held_by}
 
+-- how many peers a crew can have
+abbrev pub most_peers : ℕ
+most_peers = 1024
+
 -- what identifies a desk as long as its crew lasts
 pub record DeskName : Type 0 where
   pub inbox : TableId  -- the name of its inbox

@@ -50,7 +50,7 @@ impl<W: Work> Model for Crew<W> {
 }
 
 impl<W: Work> Crew<W> {
-    /// How many peers the crew has, 1 to 64.
+    /// How many peers the crew has, 1 to 1,024.
     pub fn peers(&self) -> u16
         ensures { result ≡ length self.now.inboxes }
     {

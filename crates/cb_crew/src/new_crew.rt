@@ -2,7 +2,7 @@ ghost use Rattle.std.specs.Prelude.{◌≡◌, ◌≤◌, [], length, map, vec_c
 ghost use Rattle.cb_base.specs.declared.fault.Fault.TheVariants.{Memory};
 ghost use Rattle.cb_crew.specs.Work.{IsFresh};
 ghost use Rattle.cb_inbox.specs.Seat.{opening_seat};
-ghost use Rattle.cb_crew.specs.Ring.{StandsForAll};
+ghost use Rattle.cb_crew.specs.Ring.{StandsForAll, most_peers};
 ghost use Rattle.cb_crew.specs.Desk.{desk_state};
 ghost use Rattle.cb_crew.specs.Crew.{AreHandlersOf, AreOpeningSeats, IsFreeHandOf, IsNewCrew, MadeNoTurn};
 ghost use Rattle.cb_crew.specs.Unmanned.{AreLines, IsOpeningHandOf};
@@ -100,7 +100,7 @@ impl<W: Work> Crew<W> {
         handlers: u16,
         capacity: usize,
     ) -> Result<NewCrew<W>, (Vec<W>, Fault)>
-        requires peers { (1 ≤ length works.items) × (length works.items ≤ 64) }
+        requires peers { (1 ≤ length works.items) × (length works.items ≤ most_peers) }
         requires fresh { All (IsFresh W.given W.ticked W.is_closed W.is_whole) works.items }
         requires handlers { (1 ≤ handlers) × (handlers ≤ 16) }
         requires capacity { (1 ≤ capacity) × (capacity ≤ 1024) }
@@ -227,7 +227,8 @@ impl<W: Work> Unmanned<W> {
         handlers: u16,
         capacity: usize,
     ) -> Result<Unmanned<W>, Fault>
-        requires peers { (1 ≤ length works.now.items) × (length works.now.items ≤ 64) }
+        requires peers { (1 ≤ length works.now.items)
+            × (length works.now.items ≤ most_peers) }
         requires handlers { (1 ≤ handlers) × (handlers ≤ 16) }
         requires capacity { (1 ≤ capacity) × (capacity ≤ 1024) }
         ensures crew { IfOk result

@@ -1,6 +1,6 @@
 ghost use Rattle.std.specs.Prelude.{◌≡◌, ◌<◌, ◌≤◌, [], length, IfOk, IfSome, IfNone, IsOkUnless};
 ghost use Rattle.cb_base.specs.declared.fault.Fault.TheVariants.{Memory};
-ghost use Rattle.cb_crew.specs.Ring.{making, running, IsOfCrew, IsHandOf, StandsForAll, IsHeld, HoldsAll, HoldsInTurn, opening_hand, made_hand, running_hand, hired_hand, hiring_hand, claimed_hand, given_hand, joined_hand, kept_hand};
+ghost use Rattle.cb_crew.specs.Ring.{making, running, IsOfCrew, IsHandOf, StandsForAll, IsHeld, HoldsAll, HoldsInTurn, opening_hand, made_hand, running_hand, hired_hand, hiring_hand, claimed_hand, given_hand, joined_hand, kept_hand, most_peers};
 
 use crate::ring_rule::{
     Claims, Gives, Grows, HandPass, Hires, Joins, Keeps, Makes, Places, RingQueue, Starts, Travels,
@@ -56,7 +56,7 @@ impl<D: Travels + Drop> Ring<D> {
     ///
     /// Fails only with `Fault::Memory`.
     pub fn new(alloc: Global, peers: u16, handlers: u16) -> Result<(Ring<D>, Hand<D>), Fault>
-        requires peers { (1 ≤ peers) × (peers ≤ 64) }
+        requires peers { (1 ≤ peers) × (peers ≤ most_peers) }
         requires handlers { (1 ≤ handlers) × (handlers ≤ 16) }
         ensures ring { IfOk result (λ made. made.0.capacity ≡ peers) }
         ensures hand { IfOk result (λ made. made.1 ≡ opening_hand made.0.name handlers) }

@@ -21,6 +21,12 @@ IsDue (stages.Waits due) now = due ≤ now
 IsDue (stages.Dials dial) now = ⊥
 IsDue (stages.Lasts slot since) now = ⊥
 
+-- it waits, until whatever time
+abbrev pub IsWaiting : DialStage → Type 0
+IsWaiting (stages.Waits due) = Unit {0}
+IsWaiting (stages.Dials dial) = ⊥
+IsWaiting (stages.Lasts slot since) = ⊥
+
 -- a thread dials it
 abbrev pub IsDialled : DialStage → Type 0
 IsDialled (stages.Waits due) = ⊥

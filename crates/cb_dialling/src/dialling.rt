@@ -2,7 +2,7 @@
 //! nobody.
 ghost use Rattle.std.specs.Prelude.{◌≡◌, ◌↔◌, true, false, IsTrue, None};
 ghost use Rattle.std.specs.List.{Contains};
-ghost use Rattle.cb_dialling.specs.Dialling.{IsDialled, IsDue, LastsWell, addresses_of, later, longer};
+ghost use Rattle.cb_dialling.specs.Dialling.{IsDialled, IsDue, IsWaiting, LastsWell, addresses_of, later, longer};
 
 use cb_base::Shared;
 use std::alloc::{AllocError, Global};
@@ -95,6 +95,28 @@ impl Target {
     {
         self.stage = DialStage::Waits(0);
         self.delay = 1;
+    }
+
+    /// It is due to be dialled, if it waits, and the delays begin anew then.
+    pub fn hurry(&mut self)
+        ensures waits { IsWaiting self.old.stage
+            → (self.new.stage ≡ DialStage.Waits 0) × (self.new.delay ≡ 1) }
+        ensures others { (IsWaiting self.old.stage → ⊥) → self.new ≡ self.old }
+        ensures same { (self.new.reached ≡ self.old.reached)
+            × (self.new.address ≡ self.old.address)
+            × (self.new.keeps_trying ≡ self.old.keeps_trying) }
+    {
+        if matches!(&self.stage, DialStage::Waits(_)) {
+            self.stage = DialStage::Waits(0);
+            self.delay = 1;
+        }
+    }
+
+    /// Whether a thread dials it.
+    pub fn is_dialled(&self) -> bool
+        ensures { IsTrue result ↔ IsDialled self.now.stage }
+    {
+        matches!(&self.stage, DialStage::Dials(_))
     }
 
     /// Whether it is due to be dialled at this time.

@@ -4,11 +4,12 @@ use Rattle.std.proofs.lemmas.List.{length-replicate, length-set}
 use Rattle.std.proofs.lemmas.List.Elements.{All-get_or, All-set}
 use Rattle.std.specs.declared.net.socket_addr.SocketAddr.{SocketAddr}
 use Rattle.cb_slots.specs.declared.fault.NodeFault.{NodeFault}
+use Rattle.cb_node.specs.declared.settings.NodeSettings.{NodeSettings}
 use Rattle.cb_node.specs.Node.{IsNewNode, IsServed, NodeState, with_listens, with_used}
 use Rattle.cb_driver.specs.Playing.{HasSlots}
 
-pub starts : (inbound outbound handlers : ℕ) (node : NodeState) → (inbound ≡ 32) × (outbound ≡ 32) → IsNewNode inbound outbound handlers node → HasSlots node
-starts inbound outbound handlers node are new = ap length new.unused ∙ length-replicate (inbound + outbound) false ∙ (omega (arith, are.0, are.1))
+pub starts : (settings : NodeSettings) (node : NodeState) → (settings.inbound ≡ 32) × (settings.outbound ≡ 32) → IsNewNode settings node → HasSlots node
+starts settings node are new = ap length new.unused ∙ length-replicate (settings.inbound + settings.outbound) false ∙ (omega (arith, are.0, are.1))
 
 pub stays : (nodes : List NodeState) (n : ℕ) (d new : NodeState) → All HasSlots nodes → n < length nodes → new ≡ get_or nodes n d → All HasSlots (set nodes n new)
 stays nodes n d new all there is = All-set HasSlots nodes n new (subst HasSlots (sym is) (All-get_or HasSlots nodes n d there all)) all

@@ -2,16 +2,17 @@
 use Rattle.std.proofs.Common.{◌≡◌, ◌∙◌, ◌<◌, ℕ, zero, suc, ◌+◌, Bool, true, false, List, [], ◌∷◌, ◌++◌, length, get_or, Option, None, Some, refl, sym, ap, subst, inl, inr, arith}
 use Rattle.std.specs.Prelude.{◌⊎◌, ◌≢◌, slice_get}
 use Rattle.std.specs.Option.{option_map_or}
-use Rattle.std.proofs.lemmas.List.{get_or-replicate, length-replicate}
+use Rattle.std.proofs.lemmas.List.{get_or-replicate}
 use Rattle.std.proofs.lemmas.Option.{slice_get-get_or}
 use Rattle.cb_journal.specs.declared.answer.Answer.{Answer}
 use Rattle.cb_journal.specs.declared.connections.Connected.{Connected}
 use Rattle.cb_journal.specs.declared.entry.Entry.{Entry}
 use Rattle.cb_journal.specs.declared.entry.Entry.TheVariants.{Asked, Kick, Opened, Submitted}
 use Rattle.cb_journal.specs.declared.question.Question.{Question}
-use Rattle.cb_journal.specs.Connections.{Slots, changed_at, connected_at, connected_of, counted, first_slots, fresh, in_slot, kicked, latest_of, opened}
+use Rattle.cb_journal.specs.Connections.{Slots, changed_at, connected_at, connected_of, counted, first_slots, fresh, in_slot, kicked, latest_of, most_peers, opened}
 use Rattle.cb_journal.specs.Journal.{JournalState, Notes, new_journal}
 use Rattle.cb_journal.specs.Replica.{Leads, ReplicaState, opening, slots_after}
+use Rattle.cb_journal.proofs.Slots.{length_first}
 use Rattle.cb_hall.specs.Badge.{BadgeState, first_of, fresh_badge}
 use Rattle.cb_hall.specs.Hall.{Grants, HasHistory, next_connection}
 use Rattle.cb_hall.specs.Laws.{CountsAlike, IsHeld, is_checked, is_first, is_granted, is_opened, is_passed, is_question_of, is_refused}
@@ -37,9 +38,6 @@ leads_long : (old new : ReplicaState) (calls : List Entry) (answers : List Answe
 leads_long old new [] answers h = ap (λ (s : ReplicaState). length s.connections) h.1
 leads_long old new (entry ∷ calls) answers h =
     leads_long h.1 new calls h.2 h.5 ∙ ap (λ (s : Slots). length s) h.3.does.1 ∙ after_long old.connections entry
-
-first_long : length first_slots ≡ 64
-first_long = length-replicate 64 (fresh ∷ [])
 
 -- ---- a connection that was opened
 
@@ -69,18 +67,19 @@ opened_there slots peer low =
 
 -- ---- calls
 
-first_counts : (peer : ℕ) → peer < 64 → CountsAlike new_journal (fresh_badge (first_of peer))
+first_counts : (peer : ℕ) → peer < most_peers → CountsAlike new_journal (fresh_badge (first_of peer))
+unfolding first_slots
 first_counts peer low =
     let at : slice_get first_slots peer ≡ Some (fresh ∷ []) =
-    slice_get-get_or first_slots peer [] (omega (arith, low, first_long)) ∙ ap (λ (slot : List Connected). Some slot) (get_or-replicate 64 peer (fresh ∷ []) [] low) in
+    slice_get-get_or first_slots peer [] (omega (arith, low, length_first)) ∙ ap (λ (slot : List Connected). Some slot) (get_or-replicate most_peers peer (fresh ∷ []) [] low) in
     (fresh, found_by first_slots (first_of peer) (fresh ∷ []) (Some fresh) at refl, refl)
 
 opened_counts : (old new : JournalState) (peer : ℕ) (past : List Entry) (answers : List Answer) → HasHistory old past answers → Notes old (Opened (next_connection old peer)) None new
     → CountsAlike new (fresh_badge (next_connection old peer))
 opened_counts old new peer past answers history notes =
     let does = notes.steps.does in
-    let long : length old.latest.connections ≡ 64 = leads_long opening old.latest past answers (history_leads old past answers history) ∙ first_long in
-    let low : peer < 64 = does.0.1.0 in
+    let long : length old.latest.connections ≡ most_peers = leads_long opening old.latest past answers (history_leads old past answers history) ∙ length_first in
+    let low : peer < most_peers = does.0.1.0 in
     let is : connected_of (slots_after old.latest.connections (Opened (next_connection old peer))) (next_connection old peer) ≡ Some fresh =
     opened_there old.latest.connections peer (omega (arith, long, low)) in
     (fresh, ap (λ (s : Slots). connected_of s (next_connection old peer)) does.1 ∙ is, refl)

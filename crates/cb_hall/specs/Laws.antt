@@ -8,7 +8,7 @@ use Rattle.cb_journal.specs.declared.connections.Connected.{Connected}
 use Rattle.cb_journal.specs.declared.entry.Entry.{Entry}
 use Rattle.cb_journal.specs.declared.entry.Entry.TheVariants.{Asked, Kick, Opened}
 use Rattle.cb_journal.specs.declared.question.Question.{Question}
-use Rattle.cb_journal.specs.Connections.{connected_of, is_kicked}
+use Rattle.cb_journal.specs.Connections.{connected_of, is_kicked, most_peers}
 use Rattle.cb_journal.specs.Journal.{JournalState, Notes, new_journal}
 use Rattle.cb_journal.specs.Replica.{Leads, ReplicaState, Steps}
 use Rattle.cb_hall.specs.Badge.{BadgeState, first_of, fresh_badge, marked}
@@ -62,7 +62,7 @@ CountsItsQuestions old calls connection new =
 -- connection. Then its own questions are granted or refused, others call, and the hall takes
 -- checkpoints.
 pub data IsHeld : JournalState → BadgeState → Type 0 where
-  is_first : (peer : ℕ) → peer < 64 → IsHeld new_journal (fresh_badge (first_of peer))
+  is_first : (peer : ℕ) → peer < most_peers → IsHeld new_journal (fresh_badge (first_of peer))
   is_opened : (old new : JournalState) (peer : ℕ) (past : List Entry) (answers : List Answer)
       → HasHistory old past answers
       → Notes old (Opened (next_connection old peer)) None new

@@ -3,7 +3,7 @@ ghost use Rattle.cb_base.specs.declared.fault.Fault.TheVariants.{JournalFull, Me
 ghost use Rattle.cb_journal.specs.declared.answer.Answer.{Answer};
 ghost use Rattle.cb_journal.specs.declared.entry.Entry.{Entry};
 ghost use Rattle.cb_journal.specs.declared.entry.Entry.TheVariants as entries;
-ghost use Rattle.cb_journal.specs.Connections.{first_slots, latest_of};
+ghost use Rattle.cb_journal.specs.Connections.{first_slots, latest_of, most_peers};
 ghost use Rattle.cb_journal.specs.Journal.{IsBounded, Notes, new_journal};
 ghost use Rattle.cb_journal.specs.Replica.{AreFit, IsFit, Leads};
 ghost use Rattle.cb_state.specs.Mining.{CannotMine, IsMined};
@@ -23,11 +23,11 @@ use std::marker::Model;
 /// that led there (the journal). Its model is the journal: the state before its entries, the
 /// entries, and the state after them.
 ///
-/// Peers are numbered from 0 to 63. Each peer has one connection after another; their generations
-/// count from 1. Each granted call adds exactly one entry to the journal. A refused call leaves the
-/// hall unchanged. If the journal has 1,000,000 entries, or they would count for more than
-/// 64,000,000 bytes with the next one, the journal starts over and holds that entry alone. After
-/// 2^62 calls no more are granted.
+/// Peers are numbered from 0 to 1,023. Each peer has one connection after another; their
+/// generations count from 1. Each granted call adds exactly one entry to the journal. A refused
+/// call leaves the hall unchanged. If the journal has 1,000,000 entries, or they would count for
+/// more than 64,000,000 bytes with the next one, the journal starts over and holds that entry
+/// alone. After 2^62 calls no more are granted.
 #[derive(Drop)]
 pub struct Hall {
     journal: Journal,
@@ -46,7 +46,7 @@ impl Hall {
     /// so on. The hall's tables have the fixed seed. Fails only with `Fault::Memory`.
     pub fn new(alloc: Global, peers: u16) -> Result<(Hall, Vec<Badge>), Fault>
         requires some { 1 ≤ peers }
-        requires limit { peers ≤ 64 }
+        requires limit { peers ≤ most_peers }
         ensures hall { IfOk result (λ made. made.0 ≡ new_journal) }
         ensures badges { IfOk result (λ made. AreBadges peers made.1.items) }
         ensures memory { IsOkUnless result Memory }
@@ -58,7 +58,7 @@ impl Hall {
     /// of these tables, so a seed that no peer knows keeps a lookup short.
     pub fn with_seed(alloc: Global, peers: u16, seed: Seed) -> Result<(Hall, Vec<Badge>), Fault>
         requires some { 1 ≤ peers }
-        requires limit { peers ≤ 64 }
+        requires limit { peers ≤ most_peers }
         ensures hall { IfOk result (λ made. made.0 ≡ new_journal) }
         ensures badges { IfOk result (λ made. AreBadges peers made.1.items) }
         ensures memory { IsOkUnless result Memory }
@@ -83,7 +83,7 @@ impl Hall {
     /// - `Fault::JournalFull` if 2^62 calls were granted;
     /// - `Fault::Memory`.
     pub fn open(&mut self, peer: u16) -> Result<Badge, Fault>
-        requires { peer < 64 }
+        requires { peer < most_peers }
         ensures badge { IfOk result (λ badge. badge ≡ fresh_badge (next_connection self.old peer)) }
         ensures grows { OnOk result
             (Grows self.old (entries.Opened (next_connection self.old peer)) None self.new) }
@@ -141,7 +141,7 @@ impl Hall {
     /// Fails with `Fault::JournalFull` exactly if 2^62 calls were granted, and with
     /// `Fault::Memory`. The hall is then unchanged.
     pub fn kick(&mut self, peer: u16) -> Result<(), Fault>
-        requires { peer < 64 }
+        requires { peer < most_peers }
         ensures ok { OnOk result
             (Grows self.old (entries.Kick (latest_connection self.old peer)) None self.new) }
         ensures full { IsErrOf result JournalFull ↔ (2 ^ 62 ≤ self.old.latest.entries) }

@@ -1,11 +1,12 @@
 -- What is known of connections, and how it changes.
 use Rattle.std.proofs.Common.{◌≡◌, ◌∙◌, ◌≤◌, ◌<◌, ◌-◌, ℕ, zero, suc, List, [], ◌∷◌, ◌++◌, Option, None, Some, set, replicate, refl, sym, ap, arith}
 use Rattle.std.specs.Prelude.{Err, IfSome, Ok, OnOk, Result, get_or, length, option_and_then, slice_get}
+use Rattle.std.proofs.lemmas.List.{length-replicate}
 use Rattle.std.proofs.lemmas.Option.{slice_get-get_or, slice_get_past}
 use Rattle.cb_base.specs.declared.fault.Fault.{Fault}
 use Rattle.cb_state.specs.declared.connection.Connection.{Connection}
 use Rattle.cb_journal.specs.declared.connections.Connected.{Connected}
-use Rattle.cb_journal.specs.Connections.{AreCounted, Slots, changed_at, connected_at, connected_of, counted, first_slots, fresh, in_slot, kicked, opened, put_in}
+use Rattle.cb_journal.specs.Connections.{AreCounted, Slots, changed_at, connected_at, connected_of, counted, first_slots, fresh, in_slot, kicked, most_peers, opened, put_in}
 
 -- ---- one place of a list
 
@@ -106,7 +107,8 @@ below_fresh (suc zero) = omega arith
 below_fresh (suc (suc g)) = tt
 
 pub first_counted : AreCounted 0 first_slots
-first_counted connection = each_of 0 connection.generation (slice_get first_slots connection.peer) (get_replicate (Below 0) 64 (fresh ∷ []) below_fresh connection.peer)
+unfolding first_slots
+first_counted connection = each_of 0 connection.generation (slice_get first_slots connection.peer) (get_replicate (Below 0) most_peers (fresh ∷ []) below_fresh connection.peer)
 
 -- ---- by generation and by peer
 
@@ -200,6 +202,15 @@ length_changed f (x ∷ xs) (suc i) = ap suc (length_changed f xs i)
 pub replicate_more : {A : Type 0} (n : ℕ) (x : A) → replicate n x ++ x ∷ [] ≡ replicate (suc n) x
 replicate_more zero x = refl
 replicate_more (suc n) x = ap (λ (xs : List _). x ∷ xs) (replicate_more n x)
+
+-- as many as at first
+pub length_first : length first_slots ≡ most_peers
+unfolding first_slots
+length_first = length-replicate most_peers (fresh ∷ [])
+
+pub first_like : (slots : Slots) → slots ≡ replicate most_peers (fresh ∷ []) → slots ≡ first_slots
+unfolding first_slots
+first_like slots are = are
 
 pub slot_opened : (slots : Slots) (peer : ℕ) (old new : List Connected) (result : Result Unit Fault) → peer < length slots → old ≡ get_or slots peer old → OnOk result (new ≡ opened old)
     → OnOk result (set slots peer new ≡ changed_at opened peer slots)

@@ -4,6 +4,10 @@ use Rattle.std.specs.Option.{option_map_or}
 use Rattle.cb_state.specs.declared.connection.Connection.{Connection}
 use Rattle.cb_journal.specs.declared.connections.Connected.{Connected}
 
+-- How many peers a node can have.
+abbrev pub most_peers : ℕ
+most_peers = 1024
+
 -- One list for each peer, with the connection of generation 1 first.
 abbrev pub Slots : Type 0
 Slots = List (List Connected)
@@ -60,9 +64,9 @@ kicked connected = record { count = connected.count; kicked = true }
 abbrev pub opened : List Connected → List Connected
 opened slot = slot ++ fresh ∷ []
 
--- At the start each of the 64 peers has its first connection.
-abbrev pub first_slots : Slots
-first_slots = replicate 64 (fresh ∷ [])
+-- At the start each peer has its first connection.
+unfoldable pub first_slots : Slots
+first_slots = replicate most_peers (fresh ∷ [])
 
 -- No connection was granted more than `most` questions.
 abbrev pub AreCounted : ℕ → Slots → Type 0

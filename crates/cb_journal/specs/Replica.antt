@@ -8,7 +8,7 @@ use Rattle.cb_state.specs.State as relay
 use Rattle.cb_journal.specs.declared.answer.Answer.{Answer}
 use Rattle.cb_journal.specs.declared.entry.Entry.{Entry}
 use Rattle.cb_journal.specs.declared.entry.Entry.TheVariants.{Asked, Kick, Opened, Submitted}
-use Rattle.cb_journal.specs.Connections.{Slots, changed_at, counted, first_slots, is_kicked, kicked, latest_of, opened, put_in}
+use Rattle.cb_journal.specs.Connections.{Slots, changed_at, counted, first_slots, is_kicked, kicked, latest_of, most_peers, opened, put_in}
 use Rattle.cb_journal.specs.Replies.{Replies, Submits}
 
 -- The state that the peers share, what is known of their connections, and how many entries there
@@ -22,10 +22,11 @@ pub record ReplicaState : Type 0 where
 abbrev pub opening : ReplicaState
 opening = record { relay = relay.opening; connections = first_slots; entries = 0 }
 
--- The connection is the next one of one of the 64 peers.
+-- The connection is the next one of one of the peers.
 abbrev pub IsNext : Slots → Connection → Type 0
 IsNext connections connection =
-    (connection.peer < 64) × (connection.generation ≡ latest_of connections connection.peer + 1)
+    (connection.peer < most_peers)
+    × (connection.generation ≡ latest_of connections connection.peer + 1)
 
 -- The entry can come next. Only the opening of a connection is restricted.
 abbrev pub IsFit : Slots → Entry → Type 0

@@ -1,14 +1,14 @@
 ghost use Rattle.std.specs.Prelude.{◌≡◌, ◌-◌, ◌<◌, ◌^◌, ◌++◌, ◌∷◌, [], replicate, IfOk, IfSome, IsOkUnless, OnErr, OnOk};
 ghost use Rattle.cb_base.specs.declared.fault.Fault.TheVariants.{Memory};
-ghost use Rattle.cb_journal.specs.Connections.{changed_at, connected_at, connected_of, counted, fresh, in_slot, is_kicked, kicked, latest_of, opened, put_in};
+ghost use Rattle.cb_journal.specs.Connections.{changed_at, connected_at, connected_of, counted, first_slots, fresh, in_slot, is_kicked, kicked, latest_of, most_peers, opened, put_in};
 
 use cb_base::Fault;
 use cb_state::Connection;
 use std::alloc::Global;
 use std::marker::Model;
 
-/// How many peers a node can have. They are numbered 0 to 63.
-pub const PEERS: u16 = 64;
+/// How many peers a node can have. They are numbered 0 to 1,023.
+pub const PEERS: u16 = 1_024;
 
 /// What is known of a connection.
 #[derive(Clone, Copy, PartialEq, Eq)]
@@ -98,7 +98,7 @@ impl PeerConnections {
     }
 }
 
-/// What is known of all connections of all peers. Its model is one list for each of the 64 peers,
+/// What is known of all connections of all peers. Its model is one list for each of the peers,
 /// with the connection of generation 1 first.
 #[derive(Drop)]
 pub struct Connections {
@@ -107,23 +107,24 @@ pub struct Connections {
 
 impl Model for Connections {
     ghost use Rattle.std.specs.Prelude.{◌≡◌, List, length};
+    ghost use Rattle.cb_journal.specs.Connections.{most_peers};
     ghost use Rattle.cb_journal.specs.declared.connections.Connected.{Connected};
 
     ghost Value = { List (List Connected) };
 
     ghost view = { λ connections. connections.slots.items };
 
-    ghost invariant = { λ connections. length connections.slots.items ≡ 64 };
+    ghost invariant = { λ connections. length connections.slots.items ≡ most_peers };
 }
 
 impl Connections {
     /// The first connection of each peer. Fails only with `Fault::Memory`.
     pub fn new(alloc: Global) -> Result<Connections, Fault>
-        ensures first { IfOk result (λ connections. connections ≡ replicate 64 (fresh ∷ [])) }
+        ensures first { IfOk result (λ connections. connections ≡ first_slots) }
         ensures memory { IsOkUnless result Memory }
     {
         Ok(Connections {
-            slots: first_slots(alloc)?,
+            slots: slots_of(alloc, PEERS)?,
         })
     }
 
@@ -200,7 +201,7 @@ impl Connections {
 
     /// Opens a peer's next connection. Fails only with `Fault::Memory`; nothing is then changed.
     pub(crate) fn open(&mut self, peer: u16) -> Result<(), Fault>
-        requires { peer < 64 }
+        requires { peer < most_peers }
         ensures ok { OnOk result (self.new ≡ changed_at opened peer self.old) }
         ensures err { OnErr result (self.new ≡ self.old) }
         ensures memory { IsOkUnless result Memory }
@@ -219,13 +220,13 @@ impl Connections {
     }
 }
 
-/// The first connection of each peer. Fails only with `Fault::Memory`.
-fn first_slots(alloc: Global) -> Result<Vec<PeerConnections>, Fault>
-    ensures first { IfOk result (λ slots. slots.items ≡ replicate 64 (fresh ∷ [])) }
+/// The first connections of that many peers. Fails only with `Fault::Memory`.
+fn slots_of(alloc: Global, peers: u16) -> Result<Vec<PeerConnections>, Fault>
+    ensures first { IfOk result (λ slots. slots.items ≡ replicate peers (fresh ∷ [])) }
     ensures memory { IsOkUnless result Memory }
 {
-    let mut slots = Vec::with_capacity(alloc, PEERS as usize)?;
-    for _ in 0..PEERS {
+    let mut slots = Vec::with_capacity(alloc, peers as usize)?;
+    for _ in 0..peers {
         slots.push(PeerConnections::new(alloc)?)?;
     }
     Ok(slots)

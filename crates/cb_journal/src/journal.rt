@@ -94,7 +94,7 @@ impl Journal {
     }
 
     /// Applies a call to the latest state and logs it. The call must be one that can come next: an
-    /// opened connection must be the next one of one of the 64 peers. Returns the answer, if the
+    /// opened connection must be the next one of one of the peers. Returns the answer, if the
     /// call has one. If the journal has 1,000,000 entries, or they would count for more than
     /// 64,000,000 bytes with the new one, it starts over and holds the new entry alone.
     ///

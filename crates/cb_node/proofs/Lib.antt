@@ -1,2 +1,3 @@
 mod OnBest
 mod Slots
+pub mod Times

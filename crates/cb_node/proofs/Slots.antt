@@ -19,6 +19,7 @@ use Rattle.cb_slots.specs.declared.fault.NodeFault.{NodeFault}
 use Rattle.cb_slots.specs.declared.fault.NodeFault.TheVariants.{NoSlot}
 use Rattle.cb_slots.specs.Choosing.{HasNone, IsChosen, IsLowest}
 use Rattle.cb_slots.specs.Slot.{AreAlike, AreAlikeBut, AreSlotsOf, AreThreadsOf, IsInboxOf, IsNew, SlotState, WaitsAt, attached, inboxes_of, names_in, new_slot, uses_of}
+use Rattle.cb_node.specs.declared.settings.NodeSettings.{NodeSettings}
 use Rattle.cb_node.specs.Node.{IsServed, NodeState, end_of, first_labels, first_of as first_slot, node_state, with_used}
 
 -- ---- one slot changes
@@ -89,21 +90,21 @@ kept_if (Err fault) old new but alike = alike.inboxes
 
 -- ---- a node's slots change
 
-abbrev seen : CrewState → ℕ → Option SocketAddr → List Bool → NodeState
-seen crew inbound listens used = record { crew = crew; inbound = inbound; listens = listens; used = used }
+abbrev seen : CrewState → NodeSettings → Option SocketAddr → List Bool → NodeState
+seen crew settings listens used = record { crew = crew; settings = settings; listens = listens; used = used }
 
 -- what contracts see of a node one of whose slots got a socket
-pub used_then : (crew : CrewState) (inbound : ℕ) (listens : Option SocketAddr) (old new : List SlotState) (n : ℕ) (node : NodeState) → node_state crew inbound listens old ≡ node → AreAlikeBut n old new
-    → node_state crew inbound listens new ≡ with_used node n
-used_then crew inbound listens old new n node is but =
-    let here : node_state crew inbound listens new ≡ with_used (node_state crew inbound listens old) n = ap (seen crew inbound listens) but.uses in
+pub used_then : (crew : CrewState) (settings : NodeSettings) (listens : Option SocketAddr) (old new : List SlotState) (n : ℕ) (node : NodeState) → node_state crew settings listens old ≡ node → AreAlikeBut n old new
+    → node_state crew settings listens new ≡ with_used node n
+used_then crew settings listens old new n node is but =
+    let here : node_state crew settings listens new ≡ with_used (node_state crew settings listens old) n = ap (seen crew settings listens) but.uses in
     here ∙ ap (λ (k : NodeState). with_used k n) is
 
 -- and of one whose slots are alike
-pub same_then : (crew : CrewState) (inbound : ℕ) (listens : Option SocketAddr) (old new : List SlotState) (node : NodeState) → node_state crew inbound listens old ≡ node → AreAlike old new
-    → node_state crew inbound listens new ≡ node
-same_then crew inbound listens old new node is alike =
-    let here : node_state crew inbound listens new ≡ node_state crew inbound listens old = ap (seen crew inbound listens) alike.uses in
+pub same_then : (crew : CrewState) (settings : NodeSettings) (listens : Option SocketAddr) (old new : List SlotState) (node : NodeState) → node_state crew settings listens old ≡ node → AreAlike old new
+    → node_state crew settings listens new ≡ node
+same_then crew settings listens old new node is alike =
+    let here : node_state crew settings listens new ≡ node_state crew settings listens old = ap (seen crew settings listens) alike.uses in
     here ∙ is
 
 -- each slot of a kind had a socket
@@ -113,25 +114,25 @@ none_of kind node used first end is from to none =
     subst (λ k. HasNone node.used false k (end_of kind node)) from (subst (λ k. HasNone node.used false first k) to (subst (λ us. HasNone us false first end) is none))
 
 -- what a node answers whose slots served a connection by one of them, or refused it
-pub served : (kind : Bool) (crew : CrewState) (inbound : ℕ) (listens : Option SocketAddr) (old new : List SlotState) (first end : ℕ) (node : NodeState) (result : Result ℕ NodeFault)
-    → node_state crew inbound listens old ≡ node → first ≡ first_slot kind node → end ≡ end_of kind node
+pub served : (kind : Bool) (crew : CrewState) (settings : NodeSettings) (listens : Option SocketAddr) (old new : List SlotState) (first end : ℕ) (node : NodeState) (result : Result ℕ NodeFault)
+    → node_state crew settings listens old ≡ node → first ≡ first_slot kind node → end ≡ end_of kind node
     → IfOk result (IsChosen (uses_of old) first end) → IfOk result (λ n. AreAlikeBut n old new) → OnErr result (AreAlike old new) → (result ≡ Err NoSlot → HasNone (uses_of old) false first end)
-    → IsServed kind node (node_state crew inbound listens new) result
-served kind crew inbound listens old new first end node (Ok n) is from to chosen but alike none =
+    → IsServed kind node (node_state crew settings listens new) result
+served kind crew settings listens old new first end node (Ok n) is from to chosen but alike none =
     let used : uses_of old ≡ node.used = ap (λ (k : NodeState). k.used) is in
     let here : IsChosen node.used first end n = subst (λ us. IsChosen us first end n) used chosen in
     record {
       chosen = subst (λ k. IsChosen node.used k (end_of kind node) n) from (subst (λ k. IsChosen node.used first k n) to here);
-      ok = used_then crew inbound listens old new n node is but;
+      ok = used_then crew settings listens old new n node is but;
       err = tt;
       no_slot = λ no. absurd (let same : Ok n ≡ Err NoSlot = no in cc);
     }
-served kind crew inbound listens old new first end node (Err fault) is from to chosen but alike none =
+served kind crew settings listens old new first end node (Err fault) is from to chosen but alike none =
     let used : uses_of old ≡ node.used = ap (λ (k : NodeState). k.used) is in
     record {
       chosen = tt;
       ok = tt;
-      err = same_then crew inbound listens old new node is alike;
+      err = same_then crew settings listens old new node is alike;
       no_slot = λ no.
           subst (λ k. HasNone node.used false k (end_of kind node)) from (subst (λ k. HasNone node.used false first k) to (subst (λ us. HasNone us false first end) used (none no)));
     }

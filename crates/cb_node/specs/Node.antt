@@ -1,7 +1,8 @@
 -- How contracts see a node.
-use Rattle.std.specs.Prelude.{◌≡◌, ℕ, pos, nat_lt, ◌+◌, Bool, true, false, List, length, map, replicate, All, Option, None, Some, Result, Ok, Err, IfOk, OnErr, slice_set}
+use Rattle.std.specs.Prelude.{◌≡◌, ℕ, ℤ, pos, nat_lt, ◌+◌, Bool, true, false, List, length, map, replicate, All, Option, None, Some, Result, Ok, Err, IfOk, OnErr, slice_set}
 use Rattle.std.specs.List.{range_with_len}
 use Rattle.std.specs.declared.net.socket_addr.SocketAddr.{SocketAddr}
+use Rattle.std.specs.Net.Socket.{socket_port}
 use Rattle.cb_crew.specs.declared.reader_side.ReaderSide.{ReaderSide}
 use Rattle.cb_crew.specs.Desk.{DeskState}
 use Rattle.cb_crew.specs.Crew.{AreSidesOf, CrewState}
@@ -14,21 +15,20 @@ use Rattle.cb_slots.specs.declared.fault.NodeFault.{NodeFault}
 use Rattle.cb_slots.specs.declared.fault.NodeFault.TheVariants.{NoSlot}
 use Rattle.cb_slots.specs.Choosing.{HasNone, IsChosen}
 use Rattle.cb_slots.specs.Slot.{SlotState, uses_of}
-use Rattle.cb_node.specs.declared.peering.Admitted.{Admitted}
 use Rattle.cb_node.specs.declared.settings.NodeSettings.{NodeSettings}
 
--- A node: its crew, how many slots serve peers that connect to it, where it listens, and which
--- slots ever had a socket. The inbound slots come first.
+-- A node: its crew, the settings with which it makes what it serves next, where it listens, and
+-- which slots ever had a socket. The inbound slots come first.
 pub record NodeState : Type 0 where
   pub crew : CrewState
-  pub inbound : ℕ
+  pub settings : NodeSettings
   pub listens : Option SocketAddr
   pub used : List Bool
 
-abbrev pub node_state : CrewState → ℕ → Option SocketAddr → List SlotState → NodeState
-node_state crew inbound listens slots = record {
+abbrev pub node_state : CrewState → NodeSettings → Option SocketAddr → List SlotState → NodeState
+node_state crew settings listens slots = record {
   crew = crew;
-  inbound = inbound;
+  settings = settings;
   listens = listens;
   used = uses_of slots;
 }
@@ -50,21 +50,25 @@ first_labels count =
 
 -- ---- what calls do
 
--- A node of so many slots, none of which ever had a socket. The first work of each is that of the
--- slot's first connection.
-pub record IsNewNode (inbound outbound handlers : ℕ) (made : NodeState) : Type 0 where
-  pub inbound_is : made.inbound ≡ inbound
-  pub slots : length made.crew.inboxes ≡ inbound + outbound
-  pub handlers_is : made.crew.handlers ≡ handlers
+-- how many slots a node with these settings has
+abbrev pub slots_in : NodeSettings → ℕ
+slots_in settings = settings.inbound + settings.outbound
+
+-- A node with these settings and their slots, none of which ever had a socket. The first work of
+-- each is that of the slot's first connection.
+pub record IsNewNode (settings : NodeSettings) (made : NodeState) : Type 0 where
+  pub settings_are : made.settings ≡ settings
+  pub slots : length made.crew.inboxes ≡ slots_in settings
+  pub handlers : made.crew.handlers ≡ settings.handlers
   pub quiet : made.listens ≡ None
-  pub unused : made.used ≡ replicate (inbound + outbound) false
-  pub works : made.crew.labels ≡ first_labels (inbound + outbound)
+  pub unused : made.used ≡ replicate (slots_in settings) false
+  pub works : made.crew.labels ≡ first_labels (slots_in settings)
 
 -- this slot has or had a socket
 abbrev pub with_used : NodeState → ℕ → NodeState
 with_used n slot = record {
   crew = n.crew;
-  inbound = n.inbound;
+  settings = n.settings;
   listens = n.listens;
   used = slice_set n.used slot true;
 }
@@ -72,19 +76,28 @@ with_used n slot = record {
 abbrev pub with_listens : NodeState → Option SocketAddr → NodeState
 with_listens n listens = record {
   crew = n.crew;
-  inbound = n.inbound;
+  settings = n.settings;
   listens = listens;
   used = n.used;
 }
+
+-- it listens at an address with this port
+abbrev pub ListensBy : ℕ → NodeState → NodeState → Type 0
+ListensBy port old new =
+    (at : SocketAddr) × (port ≡ socket_port at) × (new ≡ with_listens old (Some at))
+
+-- the sessions that it makes next tell this time
+abbrev pub with_time : NodeState → ℤ → NodeState
+with_time n time = record n { settings = record n.settings { time = time } }
 
 -- The slots of a kind, which serve peers that connect to the node or those to which it connects:
 -- the first, and the one behind the last.
 abbrev pub first_of : Bool → NodeState → ℕ
 first_of true n = 0
-first_of false n = n.inbound
+first_of false n = n.settings.inbound
 
 abbrev pub end_of : Bool → NodeState → ℕ
-end_of true n = n.inbound
+end_of true n = n.settings.inbound
 end_of false n = length n.used
 
 -- each slot of the kind has or had a socket
@@ -100,12 +113,6 @@ pub record IsServed (inbound : Bool) (old new : NodeState) (result : Result ℕ 
   pub ok : IfOk result (λ slot. new ≡ with_used old slot)
   pub err : OnErr result (new ≡ old)
   pub no_slot : result ≡ Err NoSlot → HasNoUnused inbound old
-
--- The same of a call that serves a peer by an inbound slot, if one waits.
-abbrev pub IsAdmitted : NodeState → NodeState → Result (Option Admitted) NodeFault → Type 0
-IsAdmitted old new (Ok (Some admitted)) = IsServed true old new (Ok admitted.slot)
-IsAdmitted old new (Ok None) = new ≡ old
-IsAdmitted old new (Err fault) = IsServed true old new (Err fault)
 
 -- The node's crew has finished: its peers' readers left these sides, one of each inbox, in order,
 -- and the desks served all that they queued. Of each connection they queued what bytes spell.

@@ -22,5 +22,5 @@ pub use cb_work::PeerWork;
 pub use looking::BlockLook;
 pub use node::{Node, NodeEnd};
 pub use opening::NodeWork;
-pub use peering::Admitted;
+pub use peering::Waiting;
 pub use settings::NodeSettings;

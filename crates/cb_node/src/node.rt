@@ -1,8 +1,9 @@
 ghost use Rattle.std.specs.Prelude.{◌≡◌, ◌≢◌, ◌⊎◌, ◌↔◌, ◌<◌, ◌≤◌, length, IfErr, Err};
 ghost use Rattle.cb_base.specs.declared.fault.Fault.TheVariants as faults;
+ghost use Rattle.cb_journal.specs.Connections.{most_peers};
 ghost use Rattle.cb_slots.specs.declared.fault.NodeFault.TheVariants.{Memory, NoSlot};
 ghost use Rattle.cb_slots.specs.declared.fault.NodeFault.TheVariants as told;
-ghost use Rattle.cb_node.specs.Node.{HasFinished};
+ghost use Rattle.cb_node.specs.Node.{HasFinished, with_time};
 
 use crate::opening::NodeWork;
 use crate::serving::Service;
@@ -19,6 +20,9 @@ use std::marker::{Copy, Model, Send};
 use std::sync::{Mutex, Wait};
 use std::thread::Threads;
 
+/// For how many ticks that are due one handler is woken.
+const TICKS_A_HANDLER: u32 = 64;
+
 /// What is left of a node that has finished.
 #[derive(Drop)]
 pub struct NodeEnd<R: Wait + Drop> {
@@ -29,8 +33,8 @@ pub struct NodeEnd<R: Wait + Drop> {
 }
 
 /// A node: slots for its peers' connections, the hall, and the threads that serve them. Contracts
-/// see its crew, how many slots serve peers that connect to it, where it listens, and which slots
-/// ever had a socket.
+/// see its crew, the settings with which it makes what it serves next, where it listens, and which
+/// slots ever had a socket.
 ///
 /// The inbound slots come first. A slot serves one connection after another, at most 256. A
 /// connection is served by the lowest slot of its kind that never had a socket, or else by the
@@ -55,16 +59,18 @@ pub struct Node<R: Wait + Drop> {
 
 impl<R: Wait + Drop> Model for Node<R> {
     ghost use Rattle.std.specs.Prelude.{◌≡◌, ◌≤◌, [], length, vec_capacity};
+    ghost use Rattle.cb_journal.specs.Connections.{most_peers};
     ghost use Rattle.cb_slots.specs.Slot.{AreSlotsOf, AreThreadsOf};
     ghost use Rattle.cb_node.specs.Node.{NodeState, node_state};
 
     ghost Value = { NodeState };
 
-    ghost view = { λ node. node_state node.common.crew node.service.settings.inbound node.listening
+    ghost view = { λ node. node_state node.common.crew node.service.settings node.listening
         node.slots.items };
 
     ghost invariant = { λ node. AreSlotsOf node.common.crew node.slots.items
-        × (node.service.settings.inbound ≤ length node.slots.items) × (length node.slots.items ≤ 64)
+        × (node.service.settings.inbound ≤ length node.slots.items)
+        × (length node.slots.items ≤ most_peers)
         × AreThreadsOf node.common.crew node.handling.items × (node.handlers.items ≡ [])
         × (length node.handling.items ≤ vec_capacity node.handlers) × (node.sides.items ≡ [])
         × (length node.slots.items ≤ vec_capacity node.sides) };
@@ -73,9 +79,9 @@ impl<R: Wait + Drop> Model for Node<R> {
 impl<R: Threads + Wait + Copy + Send + Drop + 'static> Node<R> {
     /// The time that the `version` messages of later connections tell, in seconds since 1970.
     pub fn set_time(&mut self, time: i64)
-        ensures { self.new ≡ self.old }
+        ensures { self.new ≡ with_time self.old time }
     {
-        self.service.settings.time = time;
+        self.service.settings = self.service.settings.at(time);
     }
 
     /// Takes a transaction or a block from the node's own user. Peers are told of it by the next
@@ -90,9 +96,21 @@ impl<R: Threads + Wait + Copy + Send + Drop + 'static> Node<R> {
     }
 
     /// Makes a tick of each slot's latest connection due: its session tells its peer what is new.
+    /// A handler is woken for each 64 of them, since each that wakes goes round all slots.
     pub fn tick(&self) {
+        let signals = &self.common.signals;
+        let mut due = 0u32;
         for slot in self.slots.as_slice() {
-            slot.tick(&self.common.signals);
+            if slot.set_tick() {
+                due = due.saturating_add(1);
+            }
+            if due >= TICKS_A_HANDLER {
+                due = 0;
+                signals.ring();
+            }
+        }
+        if due > 0 {
+            signals.ring();
         }
     }
 
@@ -118,7 +136,7 @@ impl<R: Threads + Wait + Copy + Send + Drop + 'static> Node<R> {
 
     /// Kicks a slot's latest connection in the hall.
     fn kick_in_hall(&self, slot: u16) -> Result<(), NodeFault>
-        requires { slot < 64 }
+        requires { slot < most_peers }
         ensures there { result ≢ Err NoSlot }
         ensures kinds { IfErr result
             (λ fault. (fault ≡ told.Hall faults.JournalFull) ⊎ (fault ≡ Memory)) }

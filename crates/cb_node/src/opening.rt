@@ -96,7 +96,8 @@ impl<R: Wait + Copy + Drop> Service<R> {
         ensures slot { IfOk result (λ ends. ends.outlet.slot ≡ connection.peer) }
         ensures sink { IfOk result (λ ends. (ends.outlet.sink.failure ≡ None)
             × IsLinkOf connection ends.outlet.sink.link) }
-        ensures flags { IfOk result (λ ends. HasLooked ends.flags.looked ends.flags.found []) }
+        ensures flags { IfOk result
+            (λ ends. HasLooked ends.flags.looked ends.flags.found ends.flags.probes []) }
         ensures link { IfOk result (λ ends. IsLinkOf connection ends.link) }
     {
         let Connection { peer, generation } = connection;

@@ -1,7 +1,8 @@
 //! Where a node listens, and how its peers come to be served.
 ghost use Rattle.std.specs.Prelude.{◌≡◌, ◌⊎◌, ◌↔◌, ◌≤◌, true, false, None, Some, length, IfErr, IfOk, IfSome, OnErr, Ok, Err};
+ghost use Rattle.std.specs.Net.Socket.{socket_port};
 ghost use Rattle.cb_slots.specs.declared.fault.NodeFault.TheVariants.{Io, Memory, NoSlot};
-ghost use Rattle.cb_node.specs.Node.{HasNoUnused, IsAdmitted, IsServed, end_of, first_of, with_listens};
+ghost use Rattle.cb_node.specs.Node.{HasNoUnused, IsServed, ListensBy, end_of, first_of, with_listens};
 
 use crate::node::Node;
 use cb_base::Shared;
@@ -13,11 +14,11 @@ use std::net::{IpAddr, Ipv4Addr, Net, SocketAddr, TcpListener, TcpStream};
 use std::sync::Wait;
 use std::thread::Threads;
 
-/// A connection that a peer made.
-#[derive(Clone, Copy)]
-pub struct Admitted {
-    /// The slot that serves it.
-    pub slot: u16,
+/// A connection that a peer made and that no slot serves yet. It is closed when it is let go.
+#[derive(Drop)]
+pub struct Waiting {
+    /// Its stream.
+    pub stream: TcpStream,
     /// Where the peer is.
     pub address: SocketAddr,
 }
@@ -33,7 +34,13 @@ impl<
 > Node<R> {
     /// Listens on the loopback address, and returns the port. A node that listens already returns
     /// its port.
-    pub fn listen(&mut self) -> Result<u16, NodeFault> {
+    pub fn listen(&mut self) -> Result<u16, NodeFault>
+        ensures ok { IfOk result (λ port. ListensBy port self.old self.new) }
+        ensures again { IfSome self.old.listens
+            (λ at. (result ≡ Ok (socket_port at)) × (self.new ≡ self.old)) }
+        ensures err { OnErr result (self.new ≡ self.old) }
+        ensures kinds { IfErr result (λ fault. fault ≡ Io) }
+    {
         Ok(self.listen_at(loopback(0))?.port())
     }
 
@@ -82,7 +89,7 @@ impl<R: Threads + Wait + Copy + Send + Drop + 'static> Node<R> {
     ///
     /// Fails with the first of these that applies; no slot is used then:
     /// - `NodeFault::NoSlot` if no slot can serve it. A peer that waits to be accepted still waits
-    ///   then (`turn_away`).
+    ///   then (`next_waiting`).
     /// - `NodeFault::Io` if the node doesn't listen, a socket fails or no thread can be started;
     /// - what the hall refuses, and `NodeFault::Memory`.
     pub fn accept(&mut self) -> Result<u16, NodeFault>
@@ -102,21 +109,28 @@ impl<R: Threads + Wait + Copy + Send + Drop + 'static> Node<R> {
         self.listening()?.accept(&self.service.rt)
     }
 
-    /// Serves a peer that waits to be accepted by an inbound slot, and tells where it is. Returns
-    /// `None` if no peer waits. It doesn't wait for one.
+    /// Accepts a peer that waits, and tells where it is. Returns `None` if no peer waits. It
+    /// doesn't wait for one, and uses no slot (`admit`).
     ///
-    /// Fails as `accept` does.
-    pub fn try_admit(&mut self) -> Result<Option<Admitted>, NodeFault>
-        ensures served { IsAdmitted self.old self.new result }
-        ensures deaf { self.old.listens ≡ None → (result ≡ Err NoSlot) ⊎ (result ≡ Err Io) }
+    /// Fails with `NodeFault::Io` if the node doesn't listen or a socket fails.
+    pub fn next_waiting(&self) -> Result<Option<Waiting>, NodeFault>
+        ensures deaf { self.now.listens ≡ None → result ≡ Err Io }
+        ensures kinds { IfErr result (λ fault. fault ≡ Io) }
     {
-        self.look_for_slot(true)?;
         let Some(stream) = self.listening()?.poll()? else {
             return Ok(None);
         };
         let address = stream.peer_addr()?;
-        let slot = self.serve(true, stream)?;
-        Ok(Some(Admitted { slot, address }))
+        Ok(Some(Waiting { stream, address }))
+    }
+
+    /// Serves a peer that connected by an inbound slot, whose number is returned. Fails as `accept`
+    /// does; its stream is closed then.
+    pub fn admit(&mut self, peer: TcpStream) -> Result<u16, NodeFault>
+        ensures { IsServed true self.old self.new result }
+    {
+        self.look_for_slot(true)?;
+        self.serve(true, peer)
     }
 
     /// Serves a stream that is connected to a peer by an outbound slot, whose number is returned,
@@ -139,15 +153,18 @@ impl<R: Threads + Wait + Copy + Send + Drop + 'static> Node<R> {
         self.has_slot(false)
     }
 
-    /// Closes the connection of a peer that waits to be accepted. Returns whether one waited. A
-    /// node whose slots are all busy so refuses peers.
-    ///
-    /// Fails with `NodeFault::Io` if the node doesn't listen or a socket fails.
-    pub fn turn_away(&self) -> Result<bool, NodeFault>
-        ensures deaf { self.now.listens ≡ None → result ≡ Err Io }
-        ensures kinds { IfErr result (λ fault. fault ≡ Io) }
+    /// Whether an inbound slot, as it seems, can serve a connection.
+    pub fn can_admit(&self) -> bool
+        ensures none { result ≡ false → HasNoUnused true self.now }
     {
-        Ok(self.listening()?.poll()?.is_some())
+        self.has_slot(true)
+    }
+
+    /// Makes a tick of a slot's latest connection due, if the node has the slot.
+    pub fn wake(&self, slot: u16) {
+        if let Some(slot) = self.slots.get(usize::from(slot)) {
+            slot.tick(&self.common.signals);
+        }
     }
 
     /// What the threads of a slot's latest connection share with the node: its generation, its

@@ -1,5 +1,6 @@
 //! How a slot comes to serve a connection.
 ghost use Rattle.std.specs.Prelude.{◌≡◌, ◌≢◌, ◌<◌, ◌≤◌, true, false, length, IfOk, OnErr, OnOk, Ok, Err};
+ghost use Rattle.cb_journal.specs.Connections.{most_peers};
 ghost use Rattle.cb_slots.specs.declared.fault.NodeFault.TheVariants.{NoSlot};
 ghost use Rattle.cb_slots.specs.Choosing.{HasNone, IsChosen};
 ghost use Rattle.cb_slots.specs.Slot.{AreAlike, AreAlikeBut, AreSlotsOf, IsInboxOf, IsNew, WaitsAt, uses_of};
@@ -45,7 +46,8 @@ impl<R: Threads + Wait + Copy + Send + Drop + 'static> Service<R> {
         stream: TcpStream,
     ) -> Result<u16, NodeFault>
         requires slots { AreSlotsOf common.now.crew slots.old.items }
-        requires end { (end ≤ length slots.old.items) × (length slots.old.items ≤ 64) }
+        requires end { (end ≤ length slots.old.items)
+            × (length slots.old.items ≤ most_peers) }
         ensures chosen { IfOk result (IsChosen (uses_of slots.old.items) first end) }
         ensures ok { IfOk result (λ slot. AreAlikeBut slot slots.old.items slots.new.items) }
         ensures err { OnErr result (AreAlike slots.old.items slots.new.items) }
@@ -70,7 +72,8 @@ impl<R: Threads + Wait + Copy + Send + Drop + 'static> Service<R> {
         end: u16,
     ) -> Result<u16, NodeFault>
         requires slots { AreSlotsOf common.now.crew slots.old.items }
-        requires end { (end ≤ length slots.old.items) × (length slots.old.items ≤ 64) }
+        requires end { (end ≤ length slots.old.items)
+            × (length slots.old.items ≤ most_peers) }
         ensures alike { AreAlike slots.old.items slots.new.items }
         ensures within { IfOk result (λ slot. slot < length slots.new.items) }
         ensures chosen { IfOk result (IsChosen (uses_of slots.old.items) first end) }
@@ -98,7 +101,7 @@ impl<R: Threads + Wait + Copy + Send + Drop + 'static> Service<R> {
         slot: &mut Slot<NodeWork<R>>,
     ) -> Result<bool, NodeFault>
         requires slot { IsInboxOf common.now.crew slot.old.inbox }
-        requires few { slot.old.inbox.peer < 64 }
+        requires few { slot.old.inbox.peer < most_peers }
         ensures same { (slot.new.inbox ≡ slot.old.inbox) × (slot.new.used ≡ slot.old.used) }
         ensures waits { result ≡ Ok true → slot.new.waits ≡ true }
         ensures kinds { result ≢ Err NoSlot }
@@ -118,7 +121,7 @@ impl<R: Threads + Wait + Copy + Send + Drop + 'static> Service<R> {
 
     /// Makes a slot's next connection ready to be opened.
     fn prepare(&self, slot: &mut Slot<NodeWork<R>>) -> Result<(), NodeFault>
-        requires { slot.old.inbox.peer < 64 }
+        requires { slot.old.inbox.peer < most_peers }
         ensures same { slot.new ≡ slot.old }
         ensures kinds { result ≢ Err NoSlot }
     {
@@ -140,7 +143,7 @@ impl<R: Threads + Wait + Copy + Send + Drop + 'static> Service<R> {
 
     /// Opens a slot's next connection in the hall.
     fn open_in_hall(&self, number: u16) -> Result<Badge, Fault>
-        requires { number < 64 }
+        requires { number < most_peers }
         ensures badge { IfOk result IsNew }
         ensures slot { IfOk result (λ badge. badge.connection.peer ≡ number) }
     {

@@ -1,5 +1,6 @@
 ghost use Rattle.std.specs.Prelude.{◌≡◌};
 ghost use Rattle.cb_node.specs.Node.{session_settings};
+ghost use Rattle.cb_node.specs.Times.{settings_at};
 
 use cb_peer::Settings;
 
@@ -15,10 +16,20 @@ pub struct NodeSettings {
     pub salt: u64,
     /// How many slots serve peers that connect to the node.
     pub inbound: u16,
-    /// How many slots serve peers to which the node connects. With `inbound` 1 to 64.
+    /// How many slots serve peers to which the node connects. With `inbound` 1 to
+    /// 1,024.
     pub outbound: u16,
     /// How many handler threads serve the slots, 1 to 16.
     pub handlers: u16,
+}
+
+impl NodeSettings {
+    /// The same at another time, in seconds since 1970.
+    pub(crate) fn at(&self, time: i64) -> NodeSettings
+        ensures { result ≡ settings_at self.now time }
+    {
+        NodeSettings { time, ..*self }
+    }
 }
 
 /// With what the sessions of a slot begin.

@@ -1,6 +1,7 @@
 //! How a node starts.
 ghost use Rattle.std.specs.Prelude.{◌≡◌, ◌+◌, ◌≤◌, length, IfOk};
 ghost use Rattle.cb_crew.specs.Crew.{AreHandlersOf};
+ghost use Rattle.cb_journal.specs.Connections.{most_peers};
 ghost use Rattle.cb_node.specs.Node.{IsNewNode, first_labels};
 
 use crate::node::Node;
@@ -24,9 +25,9 @@ impl<R: Threads + Wait + Copy + Send + Drop + 'static> Node<R> {
     /// thread that was started has returned then.
     pub fn start(rt: R, alloc: Global, settings: NodeSettings) -> Result<Node<R>, NodeFault>
         requires slots { (1 ≤ settings.inbound + settings.outbound)
-            × (settings.inbound + settings.outbound ≤ 64) }
+            × (settings.inbound + settings.outbound ≤ most_peers) }
         requires handlers { (1 ≤ settings.handlers) × (settings.handlers ≤ 16) }
-        ensures { IfOk result (IsNewNode settings.inbound settings.outbound settings.handlers) }
+        ensures { IfOk result (IsNewNode settings) }
     {
         Node::start_with_seed(rt, alloc, settings, Seed::fixed())
     }
@@ -42,9 +43,9 @@ impl<R: Threads + Wait + Copy + Send + Drop + 'static> Node<R> {
         seed: Seed,
     ) -> Result<Node<R>, NodeFault>
         requires slots { (1 ≤ settings.inbound + settings.outbound)
-            × (settings.inbound + settings.outbound ≤ 64) }
+            × (settings.inbound + settings.outbound ≤ most_peers) }
         requires handlers { (1 ≤ settings.handlers) × (settings.handlers ≤ 16) }
-        ensures { IfOk result (IsNewNode settings.inbound settings.outbound settings.handlers) }
+        ensures { IfOk result (IsNewNode settings) }
     {
         let count = settings.inbound + settings.outbound;
         let links = shared(alloc, Links::new(alloc, count)?)?;
@@ -76,13 +77,12 @@ fn man<R: Threads + Wait + Copy + Send + Drop + 'static>(
 ) -> Result<Node<R>, NodeFault>
     requires count { length crewed.common.crew.inboxes
         ≡ service.settings.inbound + service.settings.outbound }
-    requires most { service.settings.inbound + service.settings.outbound ≤ 64 }
+    requires most { service.settings.inbound + service.settings.outbound ≤ most_peers }
     requires works { crewed.common.crew.labels
         ≡ first_labels (service.settings.inbound + service.settings.outbound) }
     requires handlers { AreHandlersOf crewed.common.crew crewed.handlers.items
         × (crewed.common.crew.handlers ≡ service.settings.handlers) }
-    ensures { IfOk result (IsNewNode service.settings.inbound service.settings.outbound
-        service.settings.handlers) }
+    ensures { IfOk result (IsNewNode service.settings) }
 {
     let Crewed {
         common,

@@ -33,6 +33,12 @@ already_is_known e = absurd cc
 pub own_is_known : refusals.Own ≢ refusals.Unreadable
 own_is_known e = absurd cc
 
+pub not_dialled_is_known : refusals.NotDialled ≢ refusals.Unreadable
+not_dialled_is_known e = absurd cc
+
+pub off_is_known : refusals.Off ≢ refusals.Unreadable
+off_is_known e = absurd cc
+
 -- a node refuses no line as unreadable
 pub node_refuses : (fault : NodeFault) → refusal_of fault ≢ refusals.Unreadable
 node_refuses node.Io e = absurd cc
@@ -58,6 +64,8 @@ refuses (orders.Block hash) refusal can known = record { can = inr (refused refu
 refuses orders.Pool refusal can known = record { can = inr (refused refusal known); well = λ well restarts. absurd cc }
 refuses orders.Peers refusal can known = record { can = inr (refused refusal known); well = λ well restarts. absurd cc }
 refuses (orders.Connect address) refusal can known = record { can = inr (refused refusal known); well = λ well restarts. absurd cc }
+refuses (orders.Disconnect address) refusal can known = record { can = inr (refused refusal known); well = λ well restarts. absurd cc }
+refuses (orders.Network on) refusal can known = record { can = inr (refused refusal known); well = λ well restarts. absurd cc }
 refuses orders.Stats refusal can known = absurd can
 refuses orders.Restart refusal can known = record { can = inr (refused refusal known); well = λ well restarts. inr (refused refusal known) }
 refuses orders.Quit refusal can known = absurd can

@@ -50,6 +50,14 @@ impl<R: ProcessHost> Process<R> {
                 self.connect(address)?;
                 Ok(Response::Silence)
             }
+            Order::Disconnect(address) => {
+                self.disconnect(address)?;
+                Ok(Response::Reply(Reply::Disconnected(address)))
+            }
+            Order::Network(on) => {
+                self.switch(on);
+                Ok(Response::Reply(Reply::Network(on)))
+            }
             Order::Stats => Ok(Response::Reply(Reply::Stats(self.stats()))),
             Order::Restart => self.restart(log).map_err(|fault| refusal_of(fault)),
             Order::Quit => Ok(Response::End(None)),
@@ -104,7 +112,7 @@ impl<R: ProcessHost> Process<R> {
     fn peer_reports(&self) -> Result<Vec<PeerReport>, Fault> {
         let mut peers = Vec::with_capacity(self.alloc, self.watched.len())?;
         for watched in self.watched.as_slice() {
-            peers.push(watched.report())?;
+            peers.push(watched.report(self.alloc)?)?;
         }
         Ok(peers)
     }
@@ -117,6 +125,7 @@ impl<R: ProcessHost> Process<R> {
             lasting: self.watched.len() as u64,
             all: self.connections,
             moved: self.moved_in_all(),
+            refused: self.refused,
         }
     }
 

@@ -2,16 +2,17 @@
 //! an audit.
 #![tactic(auto)]
 
+mod admitting;
 mod answering;
+mod guarding;
 mod host;
+mod linking;
 mod orders;
 mod polling;
 mod process;
 mod reading;
 mod running;
 mod start_fault;
-mod stopwatch;
-mod watching;
 
 pub use host::ProcessHost;
 pub use orders::NodeOrders;

@@ -1,3 +1,4 @@
+use cb_limits::Limits;
 use log::LevelFilter;
 use std::net::SocketAddr;
 
@@ -12,6 +13,8 @@ pub struct NodeOrders {
     pub handlers: u16,
     /// How many milliseconds pass from tick to tick, 1 to 60,000.
     pub tick: u64,
+    /// What it lets peers do.
+    pub limits: Limits,
     /// Which records are logged.
     pub level: LevelFilter,
 }

@@ -1,26 +1,20 @@
-//! What a process does between two lines: it notes connections that ended, accepts and dials peers,
-//! and ticks. Each is logged. Nothing of it fails: what can't be done now is tried again later.
+//! What a process does between two lines: it notes connections that ended, ends those that are
+//! late, accepts and dials peers, and ticks. Each is logged. Nothing of it fails: what can't be
+//! done now is tried again later.
 ghost use Rattle.std.specs.Prelude.{◌≢◌, ◌<◌, length, IfErr, IfSome};
 ghost use Rattle.cb_control.specs.declared.refusal.Refusal.TheVariants.{Unreadable};
 
 use crate::host::ProcessHost;
 use crate::process::Process;
-use crate::watching::Watched;
 use cb_base::Hash256;
 use cb_control::Refusal;
-use cb_dialling::{Target, is_own, is_target};
 use cb_driver::{refusal_of, tip_of};
-use cb_node::{CloseReason, NodeFault};
+use cb_limits::Watch;
+use cb_node::CloseReason;
 use cb_pipes::{Pace, unix_time};
+use cb_watching::Watched;
 use log::{Level, Log, debug, info, log_enabled, warn};
 use std::net::{SocketAddr, TcpStream};
-
-/// How many peers are accepted between two lines at most.
-const MOST_ADMITTED: u32 = 64;
-
-/// How many milliseconds pass at least between two lines of the log which tell that a peer wasn't
-/// accepted. Where descriptors have run out, each try fails.
-const COMPLAINT_MILLISECONDS: u64 = 1_000;
 
 impl<R: ProcessHost> Process<R> {
     /// Does what is due.
@@ -28,6 +22,7 @@ impl<R: ProcessHost> Process<R> {
         let now = self.now();
         self.node.set_time(unix_time(&self.rt));
         self.note_ends(log, now);
+        self.guard(now);
         self.admit(log, now);
         for place in (0..self.targets.len()).rev() {
             self.start_dial(log, place, now);
@@ -35,6 +30,7 @@ impl<R: ProcessHost> Process<R> {
         for place in (0..self.targets.len()).rev() {
             self.note_dial(log, place, now);
         }
+        self.end_undone(now);
         tell_others(log, self.pace.take_due(now));
         if self.next_tick <= now {
             self.next_tick = now.saturating_add(self.tick);
@@ -50,7 +46,7 @@ impl<R: ProcessHost> Process<R> {
                 let gone = self.watched.remove(place);
                 self.moved = self.moved.with(gone.moved());
                 if may_tell(&mut self.pace, log, Level::Info, now) {
-                    note_end(log, &gone, reason.name());
+                    note_end(log, &gone, gone.end_name(reason));
                 }
                 self.put_off(log, &gone, now);
             }
@@ -90,7 +86,7 @@ impl<R: ProcessHost> Process<R> {
     /// one may have its slot already.
     fn put_off<L: Log>(&mut self, log: &L, gone: &Watched, now: u64) {
         for target in self.targets.as_mut_slice() {
-            if target.lasts_in(gone.slot, gone.since) {
+            if target.lasts_in(gone.slot, gone.watch.made) {
                 let (address, seconds) = (target.address, target.put_off(now));
                 if may_tell(&mut self.pace, log, Level::Debug, now) {
                     debug!(log; "{address} is dialled again in {seconds} s");
@@ -99,47 +95,15 @@ impl<R: ProcessHost> Process<R> {
         }
     }
 
-    /// Serves the peers that wait to be accepted. If no slot can serve them, they are turned away.
-    fn admit<L: Log>(&mut self, log: &L, now: u64) {
-        for _ in 0..MOST_ADMITTED {
-            match self.node.try_admit() {
-                Ok(Some(admitted)) => self.watch(log, admitted.slot, true, admitted.address, now),
-                Ok(None) => return,
-                Err(NodeFault::NoSlot) => {
-                    if !self.turn_away(log, now) {
-                        return;
-                    }
-                }
-                Err(fault) => {
-                    self.complain(log, now, fault);
-                    return;
-                }
-            }
-        }
-    }
-
-    /// Logs that a peer wasn't accepted, unless that was logged a moment ago.
-    fn complain<L: Log>(&mut self, log: &L, now: u64, fault: NodeFault) {
-        if self.next_complaint <= now {
-            self.next_complaint = now.saturating_add(COMPLAINT_MILLISECONDS);
-            if may_tell(&mut self.pace, log, Level::Warn, now) {
-                warn!(log; "a peer wasn't accepted: {fault}");
-            }
-        }
-    }
-
-    /// Turns a peer away that waits to be accepted. Returns whether one waited.
-    fn turn_away<L: Log>(&mut self, log: &L, now: u64) -> bool {
-        let turned = self.node.turn_away() == Ok(true);
-        if turned && may_tell(&mut self.pace, log, Level::Warn, now) {
-            let why = self.lack_of_slots(true);
-            warn!(log; "a peer was turned away: {why}");
-        }
-        turned
-    }
-
     /// Watches a connection that was made, and logs it.
-    fn watch<L: Log>(&mut self, log: &L, slot: u16, inbound: bool, address: SocketAddr, now: u64) {
+    pub(crate) fn watch<L: Log>(
+        &mut self,
+        log: &L,
+        slot: u16,
+        inbound: bool,
+        address: SocketAddr,
+        now: u64,
+    ) {
         self.connections = self.connections.saturating_add(1);
         if may_tell(&mut self.pace, log, Level::Info, now) {
             let way = if inbound { "from" } else { "to" };
@@ -157,7 +121,10 @@ impl<R: ProcessHost> Process<R> {
             inbound,
             address,
             link,
-            since: now,
+            made: unix_time(&self.rt),
+            watch: Watch::new(now),
+            ending: None,
+            kicked: false,
         };
         if self.watched.push(watched).is_err() {
             warn!(log; "slot {slot} isn't watched: memory ran out");
@@ -170,7 +137,7 @@ impl<R: ProcessHost> Process<R> {
         let Some(target) = self.targets.get_mut(place) else {
             return;
         };
-        if !target.is_due(now) {
+        if self.off || !target.is_due(now) {
             return;
         }
         let address = target.address;
@@ -195,6 +162,10 @@ impl<R: ProcessHost> Process<R> {
         }
         let address = target.address;
         let stream = target.take_stream(&self.rt, now);
+        if self.off {
+            target.put_off(now);
+            return;
+        }
         let served = self.serve(log, stream, address, now);
         self.tell(address, served);
         match served {
@@ -266,34 +237,12 @@ impl<R: ProcessHost> Process<R> {
     }
 
     /// Why no slot of a kind can serve a connection, in words.
-    fn lack_of_slots(&self, inbound: bool) -> &'static str {
+    pub(crate) fn lack_of_slots(&self, inbound: bool) -> &'static str {
         if self.node.is_spent(inbound) {
             "all slots are used up, which restart mends"
         } else {
             "no slot is free"
         }
-    }
-
-    /// Lets an operator wait for the first dial of an address. Refused if it is the node's own or
-    /// dialled already, or no outbound slot is free.
-    #[tactic(auto, using(crate::proofs::Printing::memory_is_known, crate::proofs::Printing::no_slot_is_known, crate::proofs::Printing::already_is_known, crate::proofs::Printing::own_is_known))]
-    pub fn connect(&mut self, address: SocketAddr) -> Result<(), Refusal>
-        ensures { IfErr result (λ refusal. refusal ≢ Unreadable) }
-    {
-        if is_own(self.address, address) {
-            return Err(Refusal::Own);
-        }
-        if is_target(self.targets.as_slice(), address) {
-            return Err(Refusal::Already);
-        }
-        if !self.node.can_connect() {
-            return Err(Refusal::NoSlot);
-        }
-        if self.targets.push(Target::new(address, false)).is_err() {
-            return Err(Refusal::Memory);
-        }
-        self.awaited = Some(address);
-        Ok(())
     }
 
     /// Logs the tip if it is another one than before.
@@ -315,7 +264,7 @@ impl<R: ProcessHost> Process<R> {
 }
 
 /// Whether a line about a connection may be logged at this time. If it may not, it is counted.
-fn may_tell<L: Log>(pace: &mut Pace, log: &L, level: Level, now: u64) -> bool {
+pub fn may_tell<L: Log>(pace: &mut Pace, log: &L, level: Level, now: u64) -> bool {
     log_enabled!(log; level) && pace.admits(now)
 }
 

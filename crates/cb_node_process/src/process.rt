@@ -1,5 +1,5 @@
 //! A node's process: its node, the connections that last, and the addresses that it dials.
-ghost use Rattle.std.specs.Prelude.{◌≡◌, ◌≤◌, true, IfOk};
+ghost use Rattle.std.specs.Prelude.{◌≡◌, ◌+◌, ◌≤◌, true, IfOk};
 ghost use Rattle.cb_control.specs.declared.order.Order.TheVariants.{Restart};
 ghost use Rattle.cb_control.specs.Outcomes.{says_yes};
 ghost use Rattle.cb_driver.specs.Auditing.{IsAudited};
@@ -9,14 +9,14 @@ use crate::answering::Response;
 use crate::host::ProcessHost;
 use crate::orders::NodeOrders;
 use crate::start_fault::{StartFault, listen};
-use crate::stopwatch::Stopwatch;
-use crate::watching::Watched;
 use cb_base::{Hash256, Seed};
 use cb_control::{Moved, Refusal, Reply, Verdict};
 use cb_dialling::{Target, is_own, targets_of};
 use cb_driver::{finish_audited, tip_of};
-use cb_node::{Node, NodeEnd, NodeFault, NodeSettings};
+use cb_limits::{Doors, Limits};
+use cb_node::{Node, NodeEnd, NodeFault, NodeSettings, Waiting};
 use cb_pipes::{Pace, unix_time};
+use cb_watching::{Stopwatch, Watched};
 use log::{Log, error, warn};
 use std::alloc::Global;
 use std::mem;
@@ -24,10 +24,8 @@ use std::net::SocketAddr;
 use std::random::RandomSource;
 use std::rt::Clock;
 
-/// How many slots serve peers that connect to the node, and how many those to which it connects.
-const INBOUND: u16 = 48;
-
-const OUTBOUND: u16 = 16;
+/// How many slots a node has at most.
+const MOST_SLOTS: u16 = 1_000;
 
 /// A node's process.
 #[derive(Drop)]
@@ -54,14 +52,28 @@ pub struct Process<R: ProcessHost> {
     pub(crate) tip: Hash256,
     /// The connections that last.
     pub(crate) watched: Vec<Watched>,
+    /// What peers may do.
+    pub(crate) limits: Limits,
+    /// Who was let in a moment ago.
+    pub(crate) doors: Doors,
+    /// The peer that waits for a slot.
+    pub(crate) waiting: Option<Waiting>,
+    /// Until when that peer waits for the slot of a connection that is ended.
+    pub(crate) room_by: u64,
+    /// Whether the operator has the node have no connections.
+    pub(crate) off: bool,
     /// The addresses that it dials.
     pub(crate) targets: Vec<Target>,
+    /// Those that it doesn't dial any more, while threads still do.
+    pub(crate) undone: Vec<Target>,
     /// The address whose first dial an operator waits for.
     pub(crate) awaited: Option<SocketAddr>,
     /// What that came to: the address, and the slot that serves the connection.
     pub(crate) outcome: Option<(SocketAddr, Result<u16, Refusal>)>,
     /// How many connections there were.
     pub(crate) connections: u64,
+    /// How many were turned away.
+    pub(crate) refused: u64,
     /// What the connections that ended moved.
     pub(crate) moved: Moved,
 }
@@ -75,7 +87,7 @@ impl<R: ProcessHost> Process<R> {
         seed: Seed,
         orders: &NodeOrders,
     ) -> Result<Process<R>, StartFault> {
-        let settings = settings_of(&rt, orders.handlers)?;
+        let settings = settings_of(&rt, orders.handlers, &orders.limits)?;
         let pace = Pace::new(alloc)?;
         let mut node = Node::start_with_seed(rt, alloc, settings, seed)?;
         match listen_and_aim(&rt, alloc, &mut node, orders) {
@@ -93,10 +105,17 @@ impl<R: ProcessHost> Process<R> {
                 next_complaint: 0,
                 pace,
                 watched: Vec::new(alloc),
+                limits: orders.limits,
+                doors: Doors::new(alloc),
+                waiting: None,
+                room_by: 0,
+                off: false,
                 targets,
+                undone: Vec::new(alloc),
                 awaited: None,
                 outcome: None,
                 connections: 0,
+                refused: 0,
                 moved: Moved::nothing(),
             }),
             Err(fault) => {
@@ -131,10 +150,12 @@ impl<R: ProcessHost> Process<R> {
             alloc,
             node,
             targets,
+            undone,
             ..
         } = self;
-        let mut dialled = targets;
+        let (mut dialled, mut undone) = (targets, undone);
         end_dials(&rt, dialled.as_mut_slice());
+        end_dials(&rt, undone.as_mut_slice());
         let reached = dialled
             .iter()
             .all(|target| target.reached || !target.keeps_trying);
@@ -152,10 +173,11 @@ impl<R: ProcessHost> Process<R> {
         ensures told { IfOk result (λ response. Responds Restart response) }
         ensures audited { IfOk result (TellsAudit R self.old.node.crew) }
     {
-        let settings = settings_of(&self.rt, self.settings.handlers)?;
+        let settings = settings_of(&self.rt, self.settings.handlers, &self.limits)?;
         let fresh = Node::start_with_seed(self.rt, self.alloc, settings, self.seed)?;
         let old = mem::replace(&mut self.node, fresh);
         end_dials(&self.rt, self.targets.as_mut_slice());
+        end_dials(&self.rt, self.undone.as_mut_slice());
         self.note_all_ends(log);
         let (end, verdict) = finish_audited(&self.rt, self.alloc, old);
         self.settings = settings;
@@ -235,10 +257,20 @@ fn listen_and_aim<R: ProcessHost>(
     Ok((address, targets))
 }
 
-/// With what a node with so many handlers is started, at least 1 and at most 16. Its nonce and its
-/// salt are drawn; its time is the clock's.
-fn settings_of<R: RandomSource + Clock>(rt: &R, handlers: u16) -> Result<NodeSettings, NodeFault>
-    ensures slots { IfOk result (λ settings. (settings.inbound ≡ 48) × (settings.outbound ≡ 16)) }
+/// With what a node with so many handlers, at least 1 and at most 16, is started under these
+/// limits. Its nonce and its salt are drawn; its time is the clock's. It has a slot of each kind at
+/// least, and 1,000 at most.
+fn settings_of<R: RandomSource + Clock>(
+    rt: &R,
+    handlers: u16,
+    limits: &Limits,
+) -> Result<NodeSettings, NodeFault>
+    ensures slots { IfOk result (λ settings. (1 ≤ settings.inbound + settings.outbound)
+        × (settings.inbound + settings.outbound ≤ 1000)) }
+    ensures as_asked { 1 ≤ limits.now.inbound → 1 ≤ limits.now.outbound
+        → limits.now.inbound + limits.now.outbound ≤ 1000
+        → IfOk result (λ settings. (settings.inbound ≡ limits.now.inbound)
+        × (settings.outbound ≡ limits.now.outbound)) }
     ensures handlers { IfOk result
         (λ settings. (1 ≤ settings.handlers) × (settings.handlers ≤ 16)) }
     ensures same { 1 ≤ handlers → handlers ≤ 16 →
@@ -248,12 +280,13 @@ fn settings_of<R: RandomSource + Clock>(rt: &R, handlers: u16) -> Result<NodeSet
     let mut salt = [0u8; 8];
     rt.fill_bytes(&mut nonce)?;
     rt.fill_bytes(&mut salt)?;
+    let inbound = limits.inbound.clamp(1, MOST_SLOTS - 1);
     Ok(NodeSettings {
         nonce: u64::from_le_bytes(nonce),
         time: unix_time(rt),
         salt: u64::from_le_bytes(salt),
-        inbound: INBOUND,
-        outbound: OUTBOUND,
+        inbound,
+        outbound: limits.outbound.clamp(1, MOST_SLOTS - inbound),
         handlers: handlers.clamp(1, 16),
     })
 }

@@ -1,4 +1,4 @@
-ghost use Rattle.std.specs.Prelude.{◌≡◌, [], true, None, IfOk, IsOk, IsOkUnless, OnErr, is_some};
+ghost use Rattle.std.specs.Prelude.{◌≡◌, [], true, None, length, IfOk, IsOk, IsOkUnless, OnErr, is_some};
 ghost use Rattle.cb_base.specs.declared.fault.Fault.TheVariants.{Memory};
 ghost use Rattle.cb_fetch.specs.Fetching.{idle};
 ghost use Rattle.cb_peer_state.specs.declared.state.CloseReason.TheVariants as reasons;
@@ -6,7 +6,7 @@ ghost use Rattle.cb_peer_state.specs.Outcomes.{Answers};
 ghost use Rattle.cb_peer_state.specs.Session.{closes, is_light, openings, spares, step_of, takes_no_memory};
 ghost use Rattle.cb_peer_state.specs.State.{opening, over};
 
-use crate::stepping::{arrive, end_of, hear_answer, starve};
+use crate::stepping::{arrive, end_of, hear_answer, probe, starve};
 use cb_base::{Fault, Seed};
 use cb_fetch::Fetch;
 use cb_journal::Question;
@@ -91,6 +91,13 @@ impl Session {
         self.kept.pending.is_some()
     }
 
+    /// How many blocks are in flight: requested and not received yet.
+    pub fn in_flight(&self) -> usize
+        ensures { result ≡ length self.now.fetch.flight }
+    {
+        self.kept.fetch.flight().len()
+    }
+
     /// An equal copy that shares the item whose question is open.
     ///
     /// Fails only with `Fault::Memory`, and never if no question is open and no block is being
@@ -115,6 +122,7 @@ impl Session {
                 fetch: kept.fetch.copy(alloc)?,
                 resume_from: kept.resume_from,
                 compact: kept.compact.copy(alloc)?,
+                probes: kept.probes,
                 pending,
             },
         })
@@ -125,7 +133,8 @@ impl Session {
     ///
     /// Fails only with `Fault::Memory`; the session is then closed. A closed session ignores all
     /// events, and any session ignores an event that doesn't fit: an item or tick while a question
-    /// is open, or an answer that doesn't fit its open question.
+    /// is open, an answer that doesn't fit its open question, or a probe before the handshake is
+    /// complete.
     #[tactic(auto, unfolding(cb_peer_state::specs::Session::step_of, cb_peer_state::specs::Session::open_step))]
     pub fn step(
         &mut self,
@@ -139,7 +148,7 @@ impl Session {
         ensures calm { takes_no_memory event.now ≡ true → IsOk result }
         // An answer takes no memory if it doesn't fit, or if nothing is hashed for it
         // (`weighs_at`), it lists nothing missing or needed, no message is sent to it, and no
-        // question but for the locator or for news follows.
+        // question but for the locator or for news follows. A probe takes none if nothing is sent.
         ensures silent { spares self.old event.now ≡ true →
             (step_of self.old event.now).messages ≡ [] →
             is_light (step_of self.old event.now).question ≡ true → IsOk result }
@@ -156,6 +165,7 @@ impl Session {
                 }
             },
             Event::Tick => Ok(arrive(&mut self.kept, alloc, None)),
+            Event::Probe => probe(&mut self.kept, alloc),
             Event::Told(answer) => hear_answer(&mut self.kept, alloc, answer),
             Event::Broken(_)
             | Event::ReaderEnd

@@ -11,7 +11,7 @@ ghost use Rattle.cb_peer_state.specs.Event.{ends_at_once};
 ghost use Rattle.cb_peer_state.specs.Outcomes.{Answers, IsLightOutcome, Makes};
 ghost use Rattle.cb_peer_state.specs.Receiving.{Outcome};
 ghost use Rattle.cb_peer_state.specs.Replying.{answered, replied};
-ghost use Rattle.cb_peer_state.specs.Session.{arrives, closes, for_item, is_light, open_step, spares, told, weighs_at};
+ghost use Rattle.cb_peer_state.specs.Session.{arrives, closes, for_item, is_light, open_step, probed, spares, told, weighs_at};
 ghost use Rattle.cb_peer_state.specs.State.{bare, over};
 
 use crate::{process, reply};
@@ -41,6 +41,27 @@ pub(crate) fn arrive(
         stage: Stage::Admit,
     });
     (Vec::new(alloc), Some(Question::Admit))
+}
+
+/// Sends a `ping` once the handshake is complete (BIP 31), whether or not a question is open.
+pub(crate) fn probe(
+    session: &mut SessionState,
+    alloc: Global,
+) -> Result<(Vec<Outgoing>, Option<Question>), Fault>
+    ensures ok { IfOk result
+        (λ made. Answers (probed session.old) session.new made.0.items made.1) }
+    ensures err { OnErr result (session.new ≡ over reasons.Memory session.old) }
+    ensures memory { IsOkUnless result Memory }
+    ensures silent { (probed session.old).messages ≡ [] → IsOk result }
+{
+    if !session.state.is_ready() {
+        return Ok((Vec::new(alloc), None));
+    }
+    let settings = session.settings;
+    match session.ping(alloc) {
+        Ok(sent) => Ok((sent, None)),
+        Err(_) => Err(starve(session, alloc, settings)),
+    }
 }
 
 /// Handles the hall's answer. A session ignores an answer that doesn't fit its open question.
@@ -186,6 +207,6 @@ pub(crate) fn end_of(event: &Event) -> CloseReason
         Event::HallFull => CloseReason::HallFull,
         Event::WriteFault => CloseReason::WriteFault,
         Event::ReaderEnd => CloseReason::Bye,
-        Event::Said(_) | Event::Tick | Event::Told(_) => unreachable!(),
+        Event::Said(_) | Event::Tick | Event::Probe | Event::Told(_) => unreachable!(),
     }
 }

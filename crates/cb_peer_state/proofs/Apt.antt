@@ -52,10 +52,10 @@ use Rattle.cb_peer_state.specs.Laws.{IsReached}
 use Rattle.cb_peer_state.specs.Laws.IsReached.{opens, steps, stops}
 use Rattle.cb_peer_state.specs.Receiving.{Outcome, asks, by_compact, by_headers, by_phase, completed_by, ended, ends, falls_back, filled_by, given_up, gives, gives_up, heard_of, in_greeted, in_ready, in_start, introduced, brought, processed, received, short_heard, txs_heard}
 use Rattle.cb_peer_state.specs.Replying.{answered, before_first, before_parent, excerpt_answered, given_told, heads_by, heads_for, heads_told, is_workless, need_told, news_told, paired, pairs_told, rebuilt_by, replied, served_told, short_told, taken_told, wanted_told}
-use Rattle.cb_peer_state.specs.Session.{arrives, open_step, pending_item, pending_of, step_of, told}
+use Rattle.cb_peer_state.specs.Session.{Stepped, arrives, open_step, pending_item, pending_of, pinged, stays, step_of, told}
 use Rattle.cb_block.specs.Decision.{is_sound_block}
 use Rattle.cb_peer_state.specs.declared.session_state.SessionState.{SessionState}
-use Rattle.cb_peer_state.specs.State.{freed, is_closed, landing, remembers, unless_remembered, with_fallen, with_fetch, with_lacking, with_partial, with_pending}
+use Rattle.cb_peer_state.specs.State.{freed, is_closed, is_ready, landing, remembers, unless_remembered, with_fallen, with_fetch, with_lacking, with_partial, with_pending}
 use Rattle.cb_peer_state.proofs.Cases.{brought_cases, by_test, dropping_cases, ends_cases}
 use Rattle.cb_peer_state.proofs.Resuming.{resuming_cases}
 
@@ -344,11 +344,15 @@ told_apt (Some pending) s answer apt =
 pub over_apt : (s : SessionState) → s.fetch ≡ idle → s.pending ≡ None → IsApt s
 over_apt s fetch pending = record { suits = rw (fetch, pending) (none_suits idle None nothing_yet) }
 
+pinged_apt : (s : SessionState) → IsApt s → IsApt (pinged s).session
+pinged_apt s apt = record { suits = apt.suits }
+
 open_apt : (s : SessionState) (event : Event) → IsApt s → IsApt (open_step s event).session
 unfolding open_step
 open_apt s (events.Said item) apt = arrives_apt s.pending s (Some item) apt
 open_apt s (events.Broken fault) apt = over_apt _ refl refl
 open_apt s events.Tick apt = arrives_apt s.pending s None apt
+open_apt s events.Probe apt = by_test (λ (made : Stepped). IsApt made.session) (is_ready s.state) (pinged s) (stays s) (λ _. pinged_apt s apt) (λ _. apt)
 open_apt s (events.Told answer) apt = told_apt s.pending s answer apt
 open_apt s events.ReaderEnd apt = over_apt _ refl refl
 open_apt s events.NoMemory apt = over_apt _ refl refl

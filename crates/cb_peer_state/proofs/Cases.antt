@@ -15,7 +15,7 @@ use Rattle.cb_peer_state.specs.declared.state.CloseReason.TheVariants as reasons
 use Rattle.cb_peer_state.specs.Receiving.{Outcome, asks, brought, ended, ends, heard_of, sends}
 use Rattle.cb_block.specs.Decision.{is_sound_block}
 use Rattle.cb_peer_state.specs.declared.session_state.SessionState.{SessionState}
-use Rattle.cb_peer_state.specs.Session.{open_step, stays, step_of, told}
+use Rattle.cb_peer_state.specs.Session.{open_step, probed, stays, step_of, told}
 use Rattle.cb_peer_state.specs.State.{dropping, is_closed, is_partial, is_ready, landing, with_partial}
 
 pub by_test : {A : Type 0} (P : A → Type 0) (test : Bool) (x y : A) → (test ≡ true → P x) → (test ≡ false → P y) → P (cond test x y)
@@ -52,4 +52,12 @@ unfolding step_of open_step
 step_told s kept event answer same is going =
     sym (ap (λ (closed : Bool). cond closed (stays kept) (open_step kept (events.Told answer))) going)
     ∙ ap (λ (t : SessionState). step_of t (events.Told answer)) same
+    ∙ ap (step_of s) (sym is)
+
+-- a probe
+pub step_probed : (s kept : SessionState) (event : Event) → kept ≡ s → event ≡ events.Probe → is_closed kept.state ≡ false → probed kept ≡ step_of s event
+unfolding step_of open_step
+step_probed s kept event same is going =
+    sym (ap (λ (closed : Bool). cond closed (stays kept) (open_step kept events.Probe)) going)
+    ∙ ap (λ (t : SessionState). step_of t events.Probe) same
     ∙ ap (step_of s) (sym is)

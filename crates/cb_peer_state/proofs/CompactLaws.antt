@@ -49,7 +49,7 @@ pub reached_suits : (s : SessionState) → IsReached s → pending_suits s.pendi
 reached_suits s (opens settings) = refl
 reached_suits s (steps before event reached) =
     let there = reached_suits before reached in
-    step_by (λ (step : Stepped). pending_suits step.session.pending ≡ true) before event there (λ why. refl) (λ item. refl)
+    step_by (λ (step : Stepped). pending_suits step.session.pending ≡ true) before event there there (λ why. refl) (λ item. refl)
     (λ answer pending e fit going.
     let suited : suits pending.stage pending.item ≡ true = sym (ap pending_suits e) ∙ there in
     let outcome = answered (freed before) pending.item pending.stage answer in
@@ -66,7 +66,7 @@ fate_by s partial pending outcome at e (came brought) = comes (ap (λ (waits : O
 
 pub fate_of : (s : SessionState) (event : Event) (partial : Unfilled) → s.compact.partial ≡ Some partial → Fate partial s (step_of s event)
 fate_of s event partial at =
-    step_by (Fate partial s) s event (still at) (λ why. over_now refl) (λ item. still at)
+    step_by (Fate partial s) s event (still at) (still at) (λ why. over_now refl) (λ item. still at)
     (λ answer pending e fit going. fate_by s partial pending (answered (freed s) pending.item pending.stage answer) at e (any_turns s pending answer).keeps)
 
 -- ---- what is requested
@@ -80,7 +80,7 @@ requests_by under exact s pending outcome e (asking short pairs partial request 
 
 pub requests_of : LackUnder → LackExact → (s : SessionState) (event : Event) → Requests s (step_of s event)
 requests_of under exact s event =
-    step_by (Requests s) s event (unasked refl) (λ why. unasked refl) (λ item. unasked refl)
+    step_by (Requests s) s event (unasked refl) (unasked refl) (λ why. unasked refl) (λ item. unasked refl)
     (λ answer pending e fit going. requests_by under exact s pending (answered (freed s) pending.item pending.stage answer) e (any_turns s pending answer).requested)
 
 -- ---- nonces
@@ -102,7 +102,7 @@ counted_by s item outcome (used count sent next) =
 
 pub counted : (s : SessionState) (event : Event) → IsCounted s (step_of s event)
 counted s event =
-    step_by (IsCounted s) s event (refl, λ _. next_stays s.settings.salt s.compact.made) (λ why. (refl, λ going. absurd cc)) (λ item. (refl, λ _. next_stays s.settings.salt s.compact.made))
+    step_by (IsCounted s) s event (refl, λ _. next_stays s.settings.salt s.compact.made) (refl, λ _. next_stays s.settings.salt s.compact.made) (λ why. (refl, λ going. absurd cc)) (λ item. (refl, λ _. next_stays s.settings.salt s.compact.made))
     (λ answer pending e fit going. counted_by s pending.item (answered (freed s) pending.item pending.stage answer) (any_turns s pending answer).counts)
 
 small_nonce : (n : ℕ) → (n % 2 ^ 64) % 2 ^ 64 ≡ n % 2 ^ 64
@@ -178,5 +178,5 @@ wishes_by s item outcome (one_wish high sent new) = told_one high sent (record {
 
 pub wishes_of : (s : SessionState) (event : Event) → is_ready s.state ≡ true → Wishes s (step_of s event)
 wishes_of s event ready =
-    step_by (Wishes s) s event (untold refl) (λ why. untold refl) (λ item. untold refl)
+    step_by (Wishes s) s event (untold refl) (untold refl) (λ why. untold refl) (λ item. untold refl)
     (λ answer pending e fit going. wishes_by s pending.item (answered (freed s) pending.item pending.stage answer) ((any_turns s pending answer).tells ready))

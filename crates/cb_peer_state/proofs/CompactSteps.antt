@@ -17,7 +17,7 @@ use Rattle.cb_peer_state.specs.declared.state.State.TheVariants.{Start, Greeted,
 use Rattle.cb_peer_state.specs.Questions.{fits, question_of}
 use Rattle.cb_peer_state.specs.Receiving.{Outcome, asks, ends, sends}
 use Rattle.cb_peer_state.specs.Replying.{answered}
-use Rattle.cb_peer_state.specs.Session.{Stepped, arrives, closes, for_item, open_step, stays, step_of, told}
+use Rattle.cb_peer_state.specs.Session.{Stepped, arrives, closes, for_item, open_step, pinged, stays, step_of, told}
 use Rattle.cb_peer_state.specs.State.{freed, is_closed, is_ready}
 
 pub ready_is : (state : State) → is_ready state ≡ true → state ≡ Ready
@@ -68,18 +68,19 @@ arrives_by : (P : Stepped → Type 0) (s : SessionState) (pending : Option Pendi
 arrives_by P s None item idle waits = waits
 arrives_by P s (Some pending) item idle waits = idle
 
-opened_by : (P : Stepped → Type 0) (s : SessionState) (event : Event) → is_closed s.state ≡ false → P (stays s) → ((why : CloseReason) → P (closes why s)) → ((item : Option Item) → P (for_item item (asks s [] Admit))) → ((answer : Answer) → ByAnswer P s answer) → P (open_step s event)
+opened_by : (P : Stepped → Type 0) (s : SessionState) (event : Event) → is_closed s.state ≡ false → P (stays s) → P (pinged s) → ((why : CloseReason) → P (closes why s)) → ((item : Option Item) → P (for_item item (asks s [] Admit))) → ((answer : Answer) → ByAnswer P s answer) → P (open_step s event)
 unfolding open_step
-opened_by P s (events.Said item) going idle over waits handled = arrives_by P s s.pending (Some item) idle (waits (Some item))
-opened_by P s (events.Broken fault) going idle over waits handled = over reasons.BadStream
-opened_by P s events.Tick going idle over waits handled = arrives_by P s s.pending None idle (waits None)
-opened_by P s (events.Told answer) going idle over waits handled = pending_by P s answer s.pending idle (handled answer) refl going
-opened_by P s events.ReaderEnd going idle over waits handled = over reasons.Bye
-opened_by P s events.NoMemory going idle over waits handled = over reasons.Memory
-opened_by P s events.HallFull going idle over waits handled = over reasons.HallFull
-opened_by P s events.WriteFault going idle over waits handled = over reasons.WriteFault
+opened_by P s (events.Said item) going idle pings over waits handled = arrives_by P s s.pending (Some item) idle (waits (Some item))
+opened_by P s (events.Broken fault) going idle pings over waits handled = over reasons.BadStream
+opened_by P s events.Tick going idle pings over waits handled = arrives_by P s s.pending None idle (waits None)
+opened_by P s events.Probe going idle pings over waits handled = by_test P (is_ready s.state) (pinged s) (stays s) (λ _. pings) (λ _. idle)
+opened_by P s (events.Told answer) going idle pings over waits handled = pending_by P s answer s.pending idle (handled answer) refl going
+opened_by P s events.ReaderEnd going idle pings over waits handled = over reasons.Bye
+opened_by P s events.NoMemory going idle pings over waits handled = over reasons.Memory
+opened_by P s events.HallFull going idle pings over waits handled = over reasons.HallFull
+opened_by P s events.WriteFault going idle pings over waits handled = over reasons.WriteFault
 
-pub step_by : (P : Stepped → Type 0) (s : SessionState) (event : Event) → P (stays s) → ((why : CloseReason) → P (closes why s)) → ((item : Option Item) → P (for_item item (asks s [] Admit))) → ((answer : Answer) → ByAnswer P s answer) → P (step_of s event)
+pub step_by : (P : Stepped → Type 0) (s : SessionState) (event : Event) → P (stays s) → P (pinged s) → ((why : CloseReason) → P (closes why s)) → ((item : Option Item) → P (for_item item (asks s [] Admit))) → ((answer : Answer) → ByAnswer P s answer) → P (step_of s event)
 unfolding step_of
-step_by P s event idle over waits handled =
-    by_test P (is_closed s.state) (stays s) (open_step s event) (λ _. idle) (λ going. opened_by P s event going idle over waits handled)
+step_by P s event idle pings over waits handled =
+    by_test P (is_closed s.state) (stays s) (open_step s event) (λ _. idle) (λ going. opened_by P s event going idle pings over waits handled)

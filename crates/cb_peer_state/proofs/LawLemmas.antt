@@ -161,7 +161,7 @@ not_following answer headers e same = absurd (let f : is_following (events.Told 
 
 pub no_headers_unasked : (s : SessionState) (event : Event) → s.peer.by_headers ≡ false → is_following event ≡ false → None_of is_headers (step_of s event).messages
 no_headers_unasked s event plain e =
-    step_none is_headers s event headers_mild
+    step_none is_headers s event headers_mild (λ _. refl)
     (λ waiting answer _ is.
     record {
       need = λ need. no_headers_asked (filter_map tx_request need.entries);
@@ -241,7 +241,7 @@ not_asked_twice s event hash reached isnt asked =
       | inl flies ↦
           absurd
           (let none : None_of (asks_for_block hash) (step_of s event).messages =
-          step_none (asks_for_block hash) s event (blocks_mild hash)
+          step_none (asks_for_block hash) s event (blocks_mild hash) (λ _. refl)
           (λ waiting answer kept is.
           record {
             need = λ need. asked_by_entries hash (filter_map tx_request need.entries) (no_block_among_txs hash need.entries);

@@ -60,8 +60,8 @@ use Rattle.cb_peer_state.specs.declared.state.State.TheVariants.{Start, Greeted,
 use Rattle.cb_peer_state.specs.Questions.{is_nil, short_in, told_of}
 use Rattle.cb_peer_state.specs.Receiving.{Outcome, asks, brought, by_compact, by_headers, by_phase, completed_by, ended, ends, falls_back, filled_by, given_up, gives, gives_up, greeting, heard_of, in_greeted, in_ready, in_start, introduced, last_hash, processed, received, sends, short_heard, txs_heard}
 use Rattle.cb_peer_state.specs.Replying.{answered, asks_news, before_first, before_parent, differ, excerpt_answered, given_told, heads_by, heads_for, heads_told, is_block, is_untold, is_workless, more_headers, need_told, news_told, paired, pairs_told, rebuilt_by, replied, resumed, resumes, resuming, served_told, short_told, taken_told, tip_by, tip_told, tx_request, wanted_told, wish_told, without_brought}
-use Rattle.cb_peer_state.specs.Session.{Stepped, arrives, for_item, open_step, pending_of, stays, step_of}
-use Rattle.cb_peer_state.specs.State.{dropping, freed, is_closed, is_partial, landing, next_nonce, remembers, unless_remembered, with_fallen, with_fetch, with_lacking, with_made, with_partial, with_peer, with_pending, with_state}
+use Rattle.cb_peer_state.specs.Session.{Stepped, arrives, for_item, open_step, pending_of, pinged, stays, step_of}
+use Rattle.cb_peer_state.specs.State.{dropping, freed, is_closed, is_partial, is_ready, landing, next_nonce, remembers, unless_remembered, with_fallen, with_fetch, with_lacking, with_made, with_partial, with_peer, with_pending, with_state}
 use Rattle.cb_peer_state.proofs.Cases.{brought_cases, by_test, dropping_cases, ends_cases}
 use Rattle.cb_peer_state.proofs.Resuming.{resuming_cases}
 use Rattle.cb_peer_state.specs.Laws.{IsReached, asks_for_headers, completes, is_short_of, rebuilds, rebuilds_at, rebuilds_by}
@@ -184,7 +184,7 @@ answered_calm s item stage answer inner = resuming_calm inner (replied s item st
 pub none_remembered : (s : SessionState) (pending : Pending) → IsReached s → s.pending ≡ Some pending → pending.stage ≡ Fresh → wants_none s.fetch ≡ true → s.resume_from ≡ None
 none_remembered s pending (opens settings) e fresh none = refl
 none_remembered s pending (steps old event reached) e fresh none =
-    step_by (λ (step : Stepped). Calm step.session) old event (λ waits same news nothing. none_remembered old waits reached same news nothing) (λ why _ _ _ _. refl)
+    step_by (λ (step : Stepped). Calm step.session) old event (λ waits same news nothing. none_remembered old waits reached same news nothing) (λ waits same news nothing. none_remembered old waits reached same news nothing) (λ why _ _ _ _. refl)
     (λ item waits same news _. absurd (let is : record { item = item; stage = Admit } ≡ waits = cc in let clash : Admit ≡ Fresh = ap (λ (p : Pending). p.stage) is ∙ news in cc))
     (λ answer waits same fit going. answered_calm (freed old) waits.item waits.stage answer waits.item) pending e fresh none
 none_remembered s pending (stops old why reached) e fresh none = refl
@@ -500,7 +500,7 @@ answered_resumes before s item inner stage answer at = resumes_by before s.fetch
 
 pub resumes_of : (s : SessionState) (event : Event) (before : Hash256) → s.resume_from ≡ Some before → Resumes before (step_of s event)
 resumes_of s event before at =
-    step_by (Resumes before) s event (waits at refl) (λ why. is_ended refl refl) (λ item. waits at refl) (λ answer pending e fit going. answered_resumes before (freed s) pending.item pending.item pending.stage answer at)
+    step_by (Resumes before) s event (waits at refl) (waits at refl) (λ why. is_ended refl refl) (λ item. waits at refl) (λ answer pending e fit going. answered_resumes before (freed s) pending.item pending.item pending.stage answer at)
 
 wanted_of : (before : Hash256) (old : List Hash256) (joins : Hash256 → Type 0) (outcome : Outcome) (hash : Hash256) → Rests before old joins outcome → has outcome.session.fetch.wanted hash ≡ true → (has old hash ≡ true) ⊎ joins hash
 wanted_of before old joins outcome hash (rests at none wants) there = wants hash there
@@ -533,6 +533,7 @@ opens_wanted : (hash : Hash256) (s : SessionState) (event : Event) → ((answer 
 unfolding open_step
 opens_wanted hash s (events.Said item) other there = arrives_wanted hash s s.pending (Some item) there
 opens_wanted hash s events.Tick other there = arrives_wanted hash s s.pending None there
+opens_wanted hash s events.Probe other there = by_test (λ (step : Stepped). has step.session.fetch.wanted hash ≡ true → has s.fetch.wanted hash ≡ true) (is_ready s.state) (pinged s) (stays s) (λ _ kept. kept) (λ _ kept. kept) there
 opens_wanted hash s (events.Told answer) other there = absurd (other answer refl)
 opens_wanted hash s (events.Broken fault) other there = absurd (let clash : false ≡ true = there in cc)
 opens_wanted hash s events.ReaderEnd other there = absurd (let clash : false ≡ true = there in cc)

@@ -60,9 +60,9 @@ use Rattle.cb_peer_state.specs.Questions.{fits, is_nil, question_of, short_in, t
 use Rattle.cb_peer_state.specs.Laws.{completes, is_short_of, rebuilds_by}
 use Rattle.cb_peer_state.specs.Receiving.{Outcome, asks, by_phase, completed_by, ended, ends, falls_back, filled_by, greeting, heard_of, in_greeted, in_ready, in_start, introduced, last_hash, processed, received, short_heard, txs_heard}
 use Rattle.cb_peer_state.specs.Replying.{answered, before_first, before_parent, differ, excerpt_answered, given_told, heads_by, heads_for, heads_told, is_block, is_workless, more_behind, more_headers, need_told, news_told, paired, pairs_told, rebuilt_by, replied, served_told, short_told, is_untold, taken_told, tip_by, tip_told, tx_request, wanted_told, wish_told, without_brought}
-use Rattle.cb_peer_state.specs.Session.{arrives, open_step, step_of, told}
+use Rattle.cb_peer_state.specs.Session.{Stepped, arrives, open_step, pinged, stays, step_of, told}
 use Rattle.cb_peer_state.specs.declared.session_state.SessionState.{SessionState}
-use Rattle.cb_peer_state.specs.State.{freed, is_closed, landing, next_nonce, unless_remembered, with_fallen, with_lacking, with_made, with_partial}
+use Rattle.cb_peer_state.specs.State.{freed, is_closed, is_ready, landing, next_nonce, next_ping, unless_remembered, with_fallen, with_lacking, with_made, with_partial}
 use Rattle.cb_peer_state.proofs.Cases.{brought_cases, by_test, sent_at_end}
 use Rattle.cb_peer_state.proofs.Resuming.{resuming_cases}
 use Rattle.cb_peer_state.proofs.Behind.{unless_all}
@@ -71,7 +71,7 @@ use Rattle.cb_peer_state.proofs.Behind.{unless_all}
 abbrev pub None_of : (Message → Bool) → List Message → Type 0
 None_of test sent = list_any test sent ≡ false
 
--- a test that only headers and `getdata` may meet
+-- a test that only headers, `getdata` and `ping` may meet
 pub record IsMild (test : Message → Bool) : Type 0 where
   pub version : (v : Version) → test (messages.Version v) ≡ false
   pub verack : test messages.Verack ≡ false
@@ -349,7 +349,7 @@ replied_none test s item Wanted (answers.Need need) m calm = calm.wanted need re
 replied_none test s item Fresh (answers.News news) m calm = news_none test s item news m (calm.tip news)
 replied_none test s item stage other m calm = refl
 
-answered_none : (test : Message → Bool) (s : SessionState) (item : Option Item) (stage : Stage) (answer : Answer) → IsMild test → IsCalm test s item stage answer → None_of test (answered s item stage answer).messages
+pub answered_none : (test : Message → Bool) (s : SessionState) (item : Option Item) (stage : Stage) (answer : Answer) → IsMild test → IsCalm test s item stage answer → None_of test (answered s item stage answer).messages
 unfolding answered
 answered_none test s item stage answer m calm =
     let outcome = replied s item stage answer in
@@ -370,17 +370,18 @@ told_none test (Some pending) s answer m calm =
       | inr misfit ↦ rw misfit refl
     ]
 
-open_none : (test : Message → Bool) (s : SessionState) (event : Event) → IsMild test → ((waiting : Pending) (answer : Answer) → s.pending ≡ Some waiting → event ≡ events.Told answer → IsCalm test (freed s) waiting.item waiting.stage answer) → None_of test (open_step s event).messages
+open_none : (test : Message → Bool) (s : SessionState) (event : Event) → IsMild test → ((nonce : ℕ) → test (messages.Ping nonce) ≡ false) → ((waiting : Pending) (answer : Answer) → s.pending ≡ Some waiting → event ≡ events.Told answer → IsCalm test (freed s) waiting.item waiting.stage answer) → None_of test (open_step s event).messages
 unfolding open_step
-open_none test s (events.Said item) m calm = arrives_none test s.pending s (Some item)
-open_none test s events.Tick m calm = arrives_none test s.pending s None
-open_none test s (events.Told answer) m calm = told_none test s.pending s answer m (λ waiting same. calm waiting answer same refl)
-open_none test s other m calm = refl
+open_none test s (events.Said item) m ping calm = arrives_none test s.pending s (Some item)
+open_none test s events.Tick m ping calm = arrives_none test s.pending s None
+open_none test s events.Probe m ping calm = by_test (λ (made : Stepped). None_of test made.messages) (is_ready s.state) (pinged s) (stays s) (λ _. none_of_one test _ (ping (next_ping s))) (λ _. refl)
+open_none test s (events.Told answer) m ping calm = told_none test s.pending s answer m (λ waiting same. calm waiting answer same refl)
+open_none test s other m ping calm = refl
 
-pub step_none : (test : Message → Bool) (s : SessionState) (event : Event) → IsMild test → ((waiting : Pending) (answer : Answer) → s.pending ≡ Some waiting → event ≡ events.Told answer → IsCalm test (freed s) waiting.item waiting.stage answer) → None_of test (step_of s event).messages
+pub step_none : (test : Message → Bool) (s : SessionState) (event : Event) → IsMild test → ((nonce : ℕ) → test (messages.Ping nonce) ≡ false) → ((waiting : Pending) (answer : Answer) → s.pending ≡ Some waiting → event ≡ events.Told answer → IsCalm test (freed s) waiting.item waiting.stage answer) → None_of test (step_of s event).messages
 unfolding step_of
-step_none test s event m calm =
+step_none test s event m ping calm =
     elim (cases_Bool (is_closed s.state)) [
       | inl closed ↦ rw closed refl
-      | inr going ↦ rw going (open_none test s event m calm)
+      | inr going ↦ rw going (open_none test s event m ping calm)
     ]

@@ -59,12 +59,12 @@ use Rattle.cb_peer_state.specs.Event.{ends_at_once, is_reader_end}
 use Rattle.cb_peer_state.specs.Pings.{item_ping, ping_nonce, pong_nonce, pongs}
 use Rattle.cb_peer_state.specs.Receiving.{Outcome, asks, brought, by_compact, by_headers, by_phase, completed_by, ended, ends, falls_back, filled_by, given_up, gives, greeting, heard_of, in_greeted, in_ready, in_start, introduced, last_hash, processed, received, sends, short_heard, txs_heard}
 use Rattle.cb_peer_state.specs.Replying.{answered, before_first, before_parent, differ, excerpt_answered, given_told, heads_by, heads_for, heads_told, is_block, is_untold, is_workless, more_behind, more_headers, need_told, news_told, paired, pairs_told, rebuilt_by, replied, resumed, served_told, short_told, taken_told, tip_by, tip_told, tx_request, wanted_told, wish_told, without_brought}
-use Rattle.cb_peer_state.specs.Session.{Stepped, arrives, closes, for_item, open_step, pending_of, stays, told}
+use Rattle.cb_peer_state.specs.Session.{Stepped, arrives, closes, for_item, open_step, pending_of, pinged, stays, told}
 use Rattle.cb_peer_state.specs.declared.session_state.SessionState.{SessionState}
 use Rattle.cb_peer_state.proofs.Cases.{brought_cases, dropping_cases}
 use Rattle.cb_peer_state.proofs.Resuming.{resuming_cases}
 use Rattle.cb_peer_state.proofs.Behind.{found_more, unless_all}
-use Rattle.cb_peer_state.specs.State.{bare, freed, is_closed, is_ready, landing, next_nonce, unless_remembered, with_fallen, with_fetch, with_lacking, with_made, with_partial, with_peer, with_pending, with_state}
+use Rattle.cb_peer_state.specs.State.{bare, freed, is_closed, is_ready, landing, next_nonce, unless_remembered, with_fallen, with_fetch, with_lacking, with_made, with_partial, with_peer, with_pending, with_probe, with_state}
 
 -- one of two
 if_either : {A : Type 0} (P : A → Type 0) (b : Bool) (x y : A) → P x → P y → P (cond b x y)
@@ -85,31 +85,38 @@ next_left (Some stage) = question_left stage
 abbrev pub stopped : Settings → CloseReason → Outcome
 stopped settings why = record { session = bare settings (Closed why); messages = []; next = None }
 
+-- what neither an item nor an answer changes: the settings, and how many times `ping` was sent
+abbrev pub Fixed : Type 0
+Fixed = Settings × ℕ
+
+abbrev pub fixed_of : SessionState → Fixed
+fixed_of s = (s.settings, s.probes)
+
 -- What an outcome of a session that went on comes to. It goes on, leads to fewer answers than so many, and sends these pongs; or it
 -- ends, in another way than by the peer's end.
-pub data Comes (settings : Settings) (left : ℕ) (nonces : List ℕ) (outcome : Outcome) : Type 0 where
-  goes : is_closed outcome.session.state ≡ false → outcome.session.settings ≡ settings → next_left outcome.next < left → pongs outcome.messages ≡ nonces → Comes settings left nonces outcome
-  stops : (why : CloseReason) → why ≢ reasons.Bye → outcome ≡ stopped settings why → Comes settings left nonces outcome
+pub data Comes (fixed : Fixed) (left : ℕ) (nonces : List ℕ) (outcome : Outcome) : Type 0 where
+  goes : is_closed outcome.session.state ≡ false → fixed_of outcome.session ≡ fixed → next_left outcome.next < left → pongs outcome.messages ≡ nonces → Comes fixed left nonces outcome
+  stops : (why : CloseReason) → why ≢ reasons.Bye → outcome ≡ stopped fixed.0 why → Comes fixed left nonces outcome
 
-more : (settings : Settings) (left most : ℕ) (nonces : List ℕ) (outcome : Outcome) → left ≤ most → Comes settings left nonces outcome → Comes settings most nonces outcome
-more settings left most nonces outcome few (goes going same next sent) = goes going same (omega (arith, next, few)) sent
-more settings left most nonces outcome few (stops why other e) = stops why other e
+more : (fixed : Fixed) (left most : ℕ) (nonces : List ℕ) (outcome : Outcome) → left ≤ most → Comes fixed left nonces outcome → Comes fixed most nonces outcome
+more fixed left most nonces outcome few (goes going same next sent) = goes going same (omega (arith, next, few)) sent
+more fixed left most nonces outcome few (stops why other e) = stops why other e
 
-renamed : (settings : Settings) (left : ℕ) (nonces nonces' : List ℕ) (outcome : Outcome) → nonces ≡ nonces' → Comes settings left nonces outcome → Comes settings left nonces' outcome
-renamed settings left nonces nonces' outcome e c = subst (λ (ns : List ℕ). Comes settings left ns outcome) e c
+renamed : (fixed : Fixed) (left : ℕ) (nonces nonces' : List ℕ) (outcome : Outcome) → nonces ≡ nonces' → Comes fixed left nonces outcome → Comes fixed left nonces' outcome
+renamed fixed left nonces nonces' outcome e c = subst (λ (ns : List ℕ). Comes fixed left ns outcome) e c
 
 -- the end of an item, or of a tick
-ends_comes : (s : SessionState) (sent : List Message) → is_closed s.state ≡ false → Comes s.settings 3 (pongs sent) (ends s sent)
+ends_comes : (s : SessionState) (sent : List Message) → is_closed s.state ≡ false → Comes (fixed_of s) 3 (pongs sent) (ends s sent)
 unfolding ends
 ends_comes s sent going =
-    if_either (Comes s.settings 3 (pongs sent)) (not (is_ready s.state)) (sends s sent) (cond (is_due s.fetch) (asks s sent Wanted) (asks s sent Fresh)) (goes going refl (omega arith) refl)
-    (if_either (Comes s.settings 3 (pongs sent)) (is_due s.fetch) (asks s sent Wanted) (asks s sent Fresh) (goes going refl (omega arith) refl) (goes going refl (omega arith) refl))
+    if_either (Comes (fixed_of s) 3 (pongs sent)) (not (is_ready s.state)) (sends s sent) (cond (is_due s.fetch) (asks s sent Wanted) (asks s sent Fresh)) (goes going refl (omega arith) refl)
+    (if_either (Comes (fixed_of s) 3 (pongs sent)) (is_due s.fetch) (asks s sent Wanted) (asks s sent Fresh) (goes going refl (omega arith) refl) (goes going refl (omega arith) refl))
 
 unless_plain : (s : SessionState) (sent : List Message) → pongs sent ≡ [] → pongs (unless_remembered s sent) ≡ []
 unless_plain s sent plain = unless_all (λ (list : List Message). pongs list ≡ []) s sent refl plain
 
-ends_unless : (s : SessionState) (sent : List Message) → pongs sent ≡ [] → is_closed s.state ≡ false → Comes s.settings 3 [] (ends s (unless_remembered s sent))
-ends_unless s sent plain going = renamed s.settings 3 (pongs (unless_remembered s sent)) [] (ends s (unless_remembered s sent)) (unless_plain s sent plain) (ends_comes s (unless_remembered s sent) going)
+ends_unless : (s : SessionState) (sent : List Message) → pongs sent ≡ [] → is_closed s.state ≡ false → Comes (fixed_of s) 3 [] (ends s (unless_remembered s sent))
+ends_unless s sent plain going = renamed (fixed_of s) 3 (pongs (unless_remembered s sent)) [] (ends s (unless_remembered s sent)) (unless_plain s sent plain) (ends_comes s (unless_remembered s sent) going)
 
 -- ---- messages that are no pongs
 
@@ -194,15 +201,15 @@ news_plain s item news =
 
 -- ---- a message that was let in
 
-introduced_comes : (s : SessionState) (version : Version) → is_closed s.state ≡ false → Comes s.settings 6 [] (introduced s version)
+introduced_comes : (s : SessionState) (version : Version) → is_closed s.state ≡ false → Comes (fixed_of s) 6 [] (introduced s version)
 unfolding introduced
 introduced_comes s version going =
     let greeted : SessionState =
     with_state Greeted (with_peer (record { version = version.version; by_headers = s.peer.by_headers; capable = s.peer.capable; wants_high = s.peer.wants_high }) s) in
-    if_either (Comes s.settings 6 []) (version.nonce == s.settings.nonce) (ended reasons.SelfPeer s) (cond (int_lt version.version (pos 70001)) (ended reasons.OldPeer s) (sends greeted (greeting s.settings))) (stops reasons.SelfPeer (λ e. cc) refl)
-    (if_either (Comes s.settings 6 []) (int_lt version.version (pos 70001)) (ended reasons.OldPeer s) (sends greeted (greeting s.settings)) (stops reasons.OldPeer (λ e. cc) refl) (goes refl refl (omega arith) (greeting_plain s.settings)))
+    if_either (Comes (fixed_of s) 6 []) (version.nonce == s.settings.nonce) (ended reasons.SelfPeer s) (cond (int_lt version.version (pos 70001)) (ended reasons.OldPeer s) (sends greeted (greeting s.settings))) (stops reasons.SelfPeer (λ e. cc) refl)
+    (if_either (Comes (fixed_of s) 6 []) (int_lt version.version (pos 70001)) (ended reasons.OldPeer s) (sends greeted (greeting s.settings)) (stops reasons.OldPeer (λ e. cc) refl) (goes refl refl (omega arith) (greeting_plain s.settings)))
 
-in_start_comes : (s : SessionState) (message : Message) → is_closed s.state ≡ false → Comes s.settings 6 [] (in_start s message)
+in_start_comes : (s : SessionState) (message : Message) → is_closed s.state ≡ false → Comes (fixed_of s) 6 [] (in_start s message)
 unfolding in_start
 in_start_comes s (messages.Version version) going = introduced_comes s version going
 in_start_comes s other going = goes going refl (omega arith) refl
@@ -212,67 +219,67 @@ compact_either P relay s changed same =
     let peer : Peer = record { version = s.peer.version; by_headers = s.peer.by_headers; capable = true; wants_high = relay.high_bandwidth } in
     if_either P (relay.version == 1) (with_peer peer s) s (changed peer) same
 
-in_greeted_comes : (s : SessionState) (message : Message) → is_closed s.state ≡ false → Comes s.settings 6 [] (in_greeted s message)
+in_greeted_comes : (s : SessionState) (message : Message) → is_closed s.state ≡ false → Comes (fixed_of s) 6 [] (in_greeted s message)
 unfolding in_greeted
 in_greeted_comes s messages.Verack going =
     goes refl refl (omega arith) (wishes_by (int_lt s.peer.version (pos 70012)) (int_lt s.peer.version (pos 70014)) (record { high_bandwidth = false; version = 1 }))
 in_greeted_comes s messages.SendHeaders going = goes going refl (omega arith) refl
 in_greeted_comes s (messages.SendCmpct relay) going =
-    compact_either (λ (x : SessionState). Comes s.settings 6 [] (sends x [])) relay s (λ peer. goes going refl (omega arith) refl) (goes going refl (omega arith) refl)
+    compact_either (λ (x : SessionState). Comes (fixed_of s) 6 [] (sends x [])) relay s (λ peer. goes going refl (omega arith) refl) (goes going refl (omega arith) refl)
 in_greeted_comes s other going = goes going refl (omega arith) refl
 
-brought_comes : (s : SessionState) (block : Block) → is_closed s.state ≡ false → Comes s.settings 6 [] (brought s block)
+brought_comes : (s : SessionState) (block : Block) → is_closed s.state ≡ false → Comes (fixed_of s) 6 [] (brought s block)
 brought_comes s block going =
     let hash : Hash256 = block_hash block.header in
-    brought_cases (Comes s.settings 6 []) s block
-    (λ _. dropping_cases (λ (x : SessionState). Comes s.settings 6 [] (asks (heard_of hash x) [] (About subjects.Block))) hash (landing hash s) (goes going refl (omega arith) refl) (goes going refl (omega arith) refl))
+    brought_cases (Comes (fixed_of s) 6 []) s block
+    (λ _. dropping_cases (λ (x : SessionState). Comes (fixed_of s) 6 [] (asks (heard_of hash x) [] (About subjects.Block))) hash (landing hash s) (goes going refl (omega arith) refl) (goes going refl (omega arith) refl))
     (stops reasons.BadBlock (λ e. cc) refl)
 
-quiet_comes : (s : SessionState) → is_closed s.state ≡ false → Comes s.settings 6 [] (ends s [])
-quiet_comes s going = more s.settings 3 6 [] (ends s []) (omega arith) (ends_comes s [] going)
+quiet_comes : (s : SessionState) → is_closed s.state ≡ false → Comes (fixed_of s) 6 [] (ends s [])
+quiet_comes s going = more (fixed_of s) 3 6 [] (ends s []) (omega arith) (ends_comes s [] going)
 
 -- ---- compact blocks
 
-falls_back_comes : (s : SessionState) (hash before : Hash256) → is_closed s.state ≡ false → Comes s.settings 3 [] (falls_back s hash before)
+falls_back_comes : (s : SessionState) (hash before : Hash256) → is_closed s.state ≡ false → Comes (fixed_of s) 3 [] (falls_back s hash before)
 unfolding falls_back
 falls_back_comes s hash before going =
     let fallen : SessionState = with_fallen hash before s in
     let sent : List Message = cond (asks_now s.fetch hash) (asking_block hash ∷ []) [] in
-    renamed s.settings 3 (pongs sent) [] (ends fallen sent) (if_either (λ (sent : List Message). pongs sent ≡ []) (asks_now s.fetch hash) (asking_block hash ∷ []) [] refl refl) (ends_comes fallen sent going)
+    renamed (fixed_of s) 3 (pongs sent) [] (ends fallen sent) (if_either (λ (sent : List Message). pongs sent ≡ []) (asks_now s.fetch hash) (asking_block hash ∷ []) [] refl refl) (ends_comes fallen sent going)
 
-gives_comes : (s : SessionState) (block : Block) → is_closed s.state ≡ false → Comes s.settings 4 [] (gives s block)
+gives_comes : (s : SessionState) (block : Block) → is_closed s.state ≡ false → Comes (fixed_of s) 4 [] (gives s block)
 gives_comes s block going = goes going refl (omega arith) refl
 
-short_heard_comes : (s : SessionState) (short : HeaderAndShortIds) → is_closed s.state ≡ false → Comes s.settings 6 [] (short_heard s short)
+short_heard_comes : (s : SessionState) (short : HeaderAndShortIds) → is_closed s.state ≡ false → Comes (fixed_of s) 6 [] (short_heard s short)
 unfolding short_heard
 short_heard_comes s short going =
-    if_either (Comes s.settings 6 []) (has_places short.txs) (asks (heard_of (block_hash short.header) s) [] (About subjects.Headers)) (ended reasons.BadMessage s) (goes going refl (omega arith) refl) (stops reasons.BadMessage (λ e. cc) refl)
+    if_either (Comes (fixed_of s) 6 []) (has_places short.txs) (asks (heard_of (block_hash short.header) s) [] (About subjects.Headers)) (ended reasons.BadMessage s) (goes going refl (omega arith) refl) (stops reasons.BadMessage (λ e. cc) refl)
 
-filled_by_comes : (s : SessionState) (hash before : Hash256) (filled : Result Filled Fault) → is_closed s.state ≡ false → Comes s.settings 4 [] (filled_by s hash before filled)
+filled_by_comes : (s : SessionState) (hash before : Hash256) (filled : Result Filled Fault) → is_closed s.state ≡ false → Comes (fixed_of s) 4 [] (filled_by s hash before filled)
 filled_by_comes s hash before (Ok (Sound block)) going = gives_comes s block going
-filled_by_comes s hash before (Ok Wrong) going = more s.settings 3 4 [] (falls_back s hash before) (omega arith) (falls_back_comes s hash before going)
+filled_by_comes s hash before (Ok Wrong) going = more (fixed_of s) 3 4 [] (falls_back s hash before) (omega arith) (falls_back_comes s hash before going)
 filled_by_comes s hash before (Err fault) going = stops reasons.BadMessage (λ e. cc) refl
 
-completed_by_comes : (s : SessionState) (given : BlockTransactions) (partial : Option Unfilled) → is_closed s.state ≡ false → Comes s.settings 6 [] (completed_by s given partial)
+completed_by_comes : (s : SessionState) (given : BlockTransactions) (partial : Option Unfilled) → is_closed s.state ≡ false → Comes (fixed_of s) 6 [] (completed_by s given partial)
 completed_by_comes s given None going = quiet_comes s going
 completed_by_comes s given (Some partial) going =
     let filled : Outcome = filled_by (with_partial None s) given.block partial.header.prev (completed_of partial given) in
-    if_either (Comes s.settings 6 []) (same (block_hash partial.header) given.block) filled (ends s [])
-    (more s.settings 4 6 [] filled (omega arith) (filled_by_comes (with_partial None s) given.block partial.header.prev (completed_of partial given) going)) (quiet_comes s going)
+    if_either (Comes (fixed_of s) 6 []) (same (block_hash partial.header) given.block) filled (ends s [])
+    (more (fixed_of s) 4 6 [] filled (omega arith) (filled_by_comes (with_partial None s) given.block partial.header.prev (completed_of partial given) going)) (quiet_comes s going)
 
-txs_heard_comes : (s : SessionState) (given : BlockTransactions) → is_closed s.state ≡ false → Comes s.settings 6 [] (txs_heard s given)
+txs_heard_comes : (s : SessionState) (given : BlockTransactions) → is_closed s.state ≡ false → Comes (fixed_of s) 6 [] (txs_heard s given)
 unfolding txs_heard
 txs_heard_comes s given going = completed_by_comes s given s.compact.partial going
 
-in_ready_comes : (s : SessionState) (message : Message) → is_closed s.state ≡ false → Comes s.settings 6 [] (in_ready s message)
+in_ready_comes : (s : SessionState) (message : Message) → is_closed s.state ≡ false → Comes (fixed_of s) 6 [] (in_ready s message)
 unfolding in_ready
 in_ready_comes s messages.SendHeaders going = quiet_comes (by_headers s) going
 in_ready_comes s (messages.SendCmpct relay) going =
-    compact_either (λ (x : SessionState). Comes s.settings 6 [] (ends x [])) relay s (λ peer. quiet_comes (with_peer peer s) going) (quiet_comes s going)
+    compact_either (λ (x : SessionState). Comes (fixed_of s) 6 [] (ends x [])) relay s (λ peer. quiet_comes (with_peer peer s) going) (quiet_comes s going)
 in_ready_comes s (messages.Headers []) going = quiet_comes s going
 in_ready_comes s (messages.Headers (first ∷ others)) going = goes going refl (omega arith) refl
 in_ready_comes s (messages.Inv entries) going =
-    if_either (Comes s.settings 6 []) (is_nil (told_of entries)) (ends s []) (asks s [] (About subjects.Inventory)) (quiet_comes s going) (goes going refl (omega arith) refl)
+    if_either (Comes (fixed_of s) 6 []) (is_nil (told_of entries)) (ends s []) (asks s [] (About subjects.Inventory)) (quiet_comes s going) (goes going refl (omega arith) refl)
 in_ready_comes s (messages.GetData entries) going = goes going refl (omega arith) refl
 in_ready_comes s (messages.GetHeaders request) going = goes going refl (omega arith) refl
 in_ready_comes s (messages.NotFound entries) going = quiet_comes (with_fetch (given_up entries s.fetch) s) going
@@ -283,7 +290,7 @@ in_ready_comes s (messages.GetBlockTxn request) going = goes going refl (omega a
 in_ready_comes s (messages.BlockTxn given) going = txs_heard_comes s given going
 in_ready_comes s other going = quiet_comes s going
 
-by_phase_comes : (state : State) (s : SessionState) (message : Message) → is_closed s.state ≡ false → Comes s.settings 6 [] (by_phase state s message)
+by_phase_comes : (state : State) (s : SessionState) (message : Message) → is_closed s.state ≡ false → Comes (fixed_of s) 6 [] (by_phase state s message)
 by_phase_comes Start s message going = in_start_comes s message going
 by_phase_comes Greeted s message going = in_greeted_comes s message going
 by_phase_comes Ready s message going = in_ready_comes s message going
@@ -294,9 +301,9 @@ abbrev pub nonces_of : Option ℕ → List ℕ
 nonces_of None = []
 nonces_of (Some nonce) = nonce ∷ []
 
-received_comes : (s : SessionState) (message : Message) → is_closed s.state ≡ false → Comes s.settings 6 (nonces_of (ping_nonce message)) (received s message)
+received_comes : (s : SessionState) (message : Message) → is_closed s.state ≡ false → Comes (fixed_of s) 6 (nonces_of (ping_nonce message)) (received s message)
 unfolding received
-received_comes s (messages.Ping nonce) going = more s.settings 3 6 (nonce ∷ []) (ends s (messages.Pong nonce ∷ [])) (omega arith) (ends_comes s (messages.Pong nonce ∷ []) going)
+received_comes s (messages.Ping nonce) going = more (fixed_of s) 3 6 (nonce ∷ []) (ends s (messages.Pong nonce ∷ [])) (omega arith) (ends_comes s (messages.Pong nonce ∷ []) going)
 received_comes s other going = by_phase_comes s.state s other going
 
 -- what an item owes in pongs, and a tick none
@@ -304,7 +311,7 @@ abbrev pub owed_by : Option Item → List ℕ
 owed_by None = []
 owed_by (Some item) = nonces_of (item_ping item)
 
-processed_comes : (s : SessionState) (item : Option Item) → is_closed s.state ≡ false → Comes s.settings 6 (owed_by item) (processed s item)
+processed_comes : (s : SessionState) (item : Option Item) → is_closed s.state ≡ false → Comes (fixed_of s) 6 (owed_by item) (processed s item)
 unfolding processed
 processed_comes s None going = quiet_comes s going
 processed_comes s (Some (Good message)) going = received_comes s message going
@@ -313,102 +320,102 @@ processed_comes s (Some (Bad command fault)) going = stops reasons.BadMessage (�
 
 -- ---- an answer
 
-heads_by_comes : (s : SessionState) (item : Option Item) (refused : Option Fault) (locator : List Hash256) → is_closed s.state ≡ false → Comes s.settings 3 [] (heads_by s item refused locator)
+heads_by_comes : (s : SessionState) (item : Option Item) (refused : Option Fault) (locator : List Hash256) → is_closed s.state ≡ false → Comes (fixed_of s) 3 [] (heads_by s item refused locator)
 heads_by_comes s item (Some faults.BadWork) locator going = stops reasons.BadBlock (λ e. cc) refl
 heads_by_comes s item (Some faults.NoParent) locator going = ends_unless s (asking_headers locator ∷ []) refl going
 heads_by_comes s item (Some other) locator going = ends_comes s [] going
 heads_by_comes s item None locator going = ends_unless s (more_headers item) (more_headers_plain item) going
 
 -- the header of a compact block
-short_told_comes : (s : SessionState) (hash : Hash256) (heads : Heads) → is_closed s.state ≡ false → Comes s.settings 5 [] (short_told s hash heads)
+short_told_comes : (s : SessionState) (hash : Hash256) (heads : Heads) → is_closed s.state ≡ false → Comes (fixed_of s) 5 [] (short_told s hash heads)
 unfolding short_told
 short_told_comes s hash heads going =
     let sent : List Message = unless_remembered s (before_parent heads.refused heads.locator) in
     let plain : pongs sent ≡ [] = unless_plain s (before_parent heads.refused heads.locator) (before_plain heads.refused heads.locator) in
     let known : Outcome = ends (landing hash s) sent in
-    if_either (Comes s.settings 5 []) (is_workless heads.refused) (ended reasons.BadBlock s) (cond (is_nil heads.lack) known (asks s sent Match)) (stops reasons.BadBlock (λ e. cc) refl)
-    (if_either (Comes s.settings 5 []) (is_nil heads.lack) known (asks s sent Match)
-    (more s.settings 3 5 [] known (omega arith) (renamed s.settings 3 (pongs sent) [] known plain (ends_comes (landing hash s) sent going)))
+    if_either (Comes (fixed_of s) 5 []) (is_workless heads.refused) (ended reasons.BadBlock s) (cond (is_nil heads.lack) known (asks s sent Match)) (stops reasons.BadBlock (λ e. cc) refl)
+    (if_either (Comes (fixed_of s) 5 []) (is_nil heads.lack) known (asks s sent Match)
+    (more (fixed_of s) 3 5 [] known (omega arith) (renamed (fixed_of s) 3 (pongs sent) [] known plain (ends_comes (landing hash s) sent going)))
     (goes going refl (omega arith) plain))
 
-heads_for_comes : (s : SessionState) (item : Option Item) (short : Option HeaderAndShortIds) (heads : Heads) → is_closed s.state ≡ false → Comes s.settings 5 [] (heads_for s item short heads)
+heads_for_comes : (s : SessionState) (item : Option Item) (short : Option HeaderAndShortIds) (heads : Heads) → is_closed s.state ≡ false → Comes (fixed_of s) 5 [] (heads_for s item short heads)
 heads_for_comes s item None heads going =
     let wanting : SessionState = with_lacking heads.lack (before_first item) s in
-    more s.settings 3 5 [] (heads_by wanting item heads.refused heads.locator) (omega arith) (heads_by_comes wanting item heads.refused heads.locator going)
+    more (fixed_of s) 3 5 [] (heads_by wanting item heads.refused heads.locator) (omega arith) (heads_by_comes wanting item heads.refused heads.locator going)
 heads_for_comes s item (Some short) heads going = short_told_comes s (block_hash short.header) heads going
 
-heads_told_comes : (s : SessionState) (item : Option Item) (heads : Heads) → is_closed s.state ≡ false → Comes s.settings 5 [] (heads_told s item heads)
+heads_told_comes : (s : SessionState) (item : Option Item) (heads : Heads) → is_closed s.state ≡ false → Comes (fixed_of s) 5 [] (heads_told s item heads)
 unfolding heads_told
 heads_told_comes s item heads going = heads_for_comes s item (short_in item) heads going
 
 -- a block that is rebuilt
-rebuilt_by_comes : (s : SessionState) (header : Header) (rebuilt : Rebuilt) → is_closed s.state ≡ false → Comes s.settings 4 [] (rebuilt_by s header rebuilt)
+rebuilt_by_comes : (s : SessionState) (header : Header) (rebuilt : Rebuilt) → is_closed s.state ≡ false → Comes (fixed_of s) 4 [] (rebuilt_by s header rebuilt)
 rebuilt_by_comes s header (rebuilts.Sound block) going = gives_comes s block going
 rebuilt_by_comes s header (rebuilts.Lacking partial request) going =
     let kept : SessionState = with_partial (Some partial) s in
-    more s.settings 3 4 [] (ends kept (asking_txs request ∷ [])) (omega arith) (ends_comes kept (asking_txs request ∷ []) going)
-rebuilt_by_comes s header rebuilts.Useless going = more s.settings 3 4 [] (falls_back s (block_hash header) header.prev) (omega arith) (falls_back_comes s (block_hash header) header.prev going)
+    more (fixed_of s) 3 4 [] (ends kept (asking_txs request ∷ [])) (omega arith) (ends_comes kept (asking_txs request ∷ []) going)
+rebuilt_by_comes s header rebuilts.Useless going = more (fixed_of s) 3 4 [] (falls_back s (block_hash header) header.prev) (omega arith) (falls_back_comes s (block_hash header) header.prev going)
 
-paired_comes : (s : SessionState) (short : Option HeaderAndShortIds) (pairs : List Pair) → is_closed s.state ≡ false → Comes s.settings 4 [] (paired s short pairs)
+paired_comes : (s : SessionState) (short : Option HeaderAndShortIds) (pairs : List Pair) → is_closed s.state ≡ false → Comes (fixed_of s) 4 [] (paired s short pairs)
 paired_comes s None pairs going = goes going refl (omega arith) refl
 paired_comes s (Some short) pairs going =
-    if_either (Comes s.settings 4 []) (has_places short.txs) (rebuilt_by s short.header (rebuilt_of short pairs)) (ended reasons.BadMessage s)
+    if_either (Comes (fixed_of s) 4 []) (has_places short.txs) (rebuilt_by s short.header (rebuilt_of short pairs)) (ended reasons.BadMessage s)
     (rebuilt_by_comes s short.header (rebuilt_of short pairs) going) (stops reasons.BadMessage (λ e. cc) refl)
 
-pairs_told_comes : (s : SessionState) (item : Option Item) (pairs : List Pair) → is_closed s.state ≡ false → Comes s.settings 4 [] (pairs_told s item pairs)
+pairs_told_comes : (s : SessionState) (item : Option Item) (pairs : List Pair) → is_closed s.state ≡ false → Comes (fixed_of s) 4 [] (pairs_told s item pairs)
 unfolding pairs_told
 pairs_told_comes s item pairs going = paired_comes s (short_in item) pairs going
 
-given_told_comes : (s : SessionState) (refused : Option Fault) (locator : List Hash256) → is_closed s.state ≡ false → Comes s.settings 3 [] (given_told s refused locator)
+given_told_comes : (s : SessionState) (refused : Option Fault) (locator : List Hash256) → is_closed s.state ≡ false → Comes (fixed_of s) 3 [] (given_told s refused locator)
 unfolding given_told
 given_told_comes s refused locator going = ends_unless s (before_parent refused locator) (before_plain refused locator) going
 
 -- what the peer requested
-told_of_excerpt : (s : SessionState) (excerpt : Excerpt) → is_closed s.state ≡ false → Comes s.settings 3 [] (ends s (excerpt_told excerpt))
-told_of_excerpt s excerpt going = renamed s.settings 3 (pongs (excerpt_told excerpt)) [] (ends s (excerpt_told excerpt)) (excerpt_plain excerpt) (ends_comes s (excerpt_told excerpt) going)
+told_of_excerpt : (s : SessionState) (excerpt : Excerpt) → is_closed s.state ≡ false → Comes (fixed_of s) 3 [] (ends s (excerpt_told excerpt))
+told_of_excerpt s excerpt going = renamed (fixed_of s) 3 (pongs (excerpt_told excerpt)) [] (ends s (excerpt_told excerpt)) (excerpt_plain excerpt) (ends_comes s (excerpt_told excerpt) going)
 
-excerpt_answered_comes : (s : SessionState) (excerpt : Excerpt) → is_closed s.state ≡ false → Comes s.settings 3 [] (excerpt_answered s excerpt)
+excerpt_answered_comes : (s : SessionState) (excerpt : Excerpt) → is_closed s.state ≡ false → Comes (fixed_of s) 3 [] (excerpt_answered s excerpt)
 unfolding excerpt_answered
 excerpt_answered_comes s (excerpts.Refused fault) going = stops reasons.BadRequest (λ e. cc) refl
 excerpt_answered_comes s other going = told_of_excerpt s other going
 
-served_told_comes : (s : SessionState) (pieces : List Piece) → is_closed s.state ≡ false → Comes s.settings 3 [] (served_told s pieces)
+served_told_comes : (s : SessionState) (pieces : List Piece) → is_closed s.state ≡ false → Comes (fixed_of s) 3 [] (served_told s pieces)
 unfolding served_told
 served_told_comes s pieces going =
     let sent : List Message = served (next_nonce s) pieces in
-    renamed s.settings 3 (pongs sent) [] (ends (with_made (shorts pieces) s) sent) (served_plain (next_nonce s) pieces) (ends_comes (with_made (shorts pieces) s) sent going)
+    renamed (fixed_of s) 3 (pongs sent) [] (ends (with_made (shorts pieces) s) sent) (served_plain (next_nonce s) pieces) (ends_comes (with_made (shorts pieces) s) sent going)
 
-taken_told_comes : (s : SessionState) (refused : Option Fault) (locator : List Hash256) → is_closed s.state ≡ false → Comes s.settings 3 [] (taken_told s refused locator)
+taken_told_comes : (s : SessionState) (refused : Option Fault) (locator : List Hash256) → is_closed s.state ≡ false → Comes (fixed_of s) 3 [] (taken_told s refused locator)
 unfolding taken_told
 taken_told_comes s None locator going = ends_comes s [] going
 taken_told_comes s (Some faults.Known) locator going = ends_comes s [] going
 taken_told_comes s (Some faults.NoParent) locator going = ends_unless s (asking_headers locator ∷ []) refl going
 taken_told_comes s (Some other) locator going = stops reasons.BadBlock (λ e. cc) refl
 
-need_told_comes : (s : SessionState) (need : Need) → is_closed s.state ≡ false → Comes s.settings 3 [] (need_told s need)
+need_told_comes : (s : SessionState) (need : Need) → is_closed s.state ≡ false → Comes (fixed_of s) 3 [] (need_told s need)
 unfolding need_told
 need_told_comes s need going =
     let sent : List Message = asking_for (filter_map tx_request need.entries) ++ unless_remembered s (cond (list_any is_block need.entries) (asking_headers need.locator ∷ []) []) in
-    renamed s.settings 3 (pongs sent) [] (ends s sent) (need_plain s (filter_map tx_request need.entries) (list_any is_block need.entries) need.locator) (ends_comes s sent going)
+    renamed (fixed_of s) 3 (pongs sent) [] (ends s sent) (need_plain s (filter_map tx_request need.entries) (list_any is_block need.entries) need.locator) (ends_comes s sent going)
 
-wanted_told_comes : (s : SessionState) (need : Need) → is_closed s.state ≡ false → Comes s.settings 2 [] (wanted_told s need)
+wanted_told_comes : (s : SessionState) (need : Need) → is_closed s.state ≡ false → Comes (fixed_of s) 2 [] (wanted_told s need)
 unfolding wanted_told
 wanted_told_comes s need going = goes going refl (omega arith) (asking_plain (requests_of (need.near && s.peer.capable) (taken_on (blocks_in need.entries)).flight))
 
-news_told_comes : (s : SessionState) (item : Option Item) (news : News) → is_closed s.state ≡ false → Comes s.settings 1 [] (news_told s item news)
+news_told_comes : (s : SessionState) (item : Option Item) (news : News) → is_closed s.state ≡ false → Comes (fixed_of s) 1 [] (news_told s item news)
 unfolding news_told
 news_told_comes s item news going = goes going refl (omega arith) (news_plain s item news)
 
 -- what comes to fewer than three is fewer than what an item leads to
-later : (s : SessionState) (outcome : Outcome) → Comes s.settings 3 [] outcome → Comes s.settings 5 [] outcome
-later s outcome c = more s.settings 3 5 [] outcome (omega arith) c
+later : (s : SessionState) (outcome : Outcome) → Comes (fixed_of s) 3 [] outcome → Comes (fixed_of s) 5 [] outcome
+later s outcome c = more (fixed_of s) 3 5 [] outcome (omega arith) c
 
 -- what is owed in pongs where something was asked for an item: it is pending until the hall's leave
 abbrev pub owed_at : Stage → Option Item → List ℕ
 owed_at Admit item = owed_by item
 owed_at other item = []
 
-replied_comes : (q s : SessionState) (item : Option Item) (stage : Stage) (answer : Answer) → fits (question_of q item stage) answer ≡ true → is_closed s.state ≡ false → Comes s.settings (question_left stage) (owed_at stage item) (replied s item stage answer)
+replied_comes : (q s : SessionState) (item : Option Item) (stage : Stage) (answer : Answer) → fits (question_of q item stage) answer ≡ true → is_closed s.state ≡ false → Comes (fixed_of s) (question_left stage) (owed_at stage item) (replied s item stage answer)
 unfolding replied
 replied_comes q s item stage answers.Kicked fit going = stops reasons.Kicked (λ e. cc) refl
 replied_comes q s item Admit answers.Go fit going = processed_comes s item going
@@ -427,25 +434,28 @@ replied_comes q s item Wanted (answers.Need need) fit going = wanted_told_comes 
 replied_comes q s item Fresh (answers.News news) fit going = news_told_comes s item news going
 replied_comes q s item stage other fit going = goes going refl (omega arith) refl
 
-resumed_comes : (settings : Settings) (left : ℕ) (nonces : List ℕ) (outcome : Outcome) (hash : Hash256) → outcome.next ≡ Some Fresh → Comes settings left nonces outcome → Comes settings left nonces (resumed hash outcome)
-resumed_comes settings left nonces outcome hash news (goes going same next sent) = goes going same next (found_more pong_nonce outcome.messages (hash ∷ []) refl ∙ sent)
-resumed_comes settings left nonces outcome hash news (stops why other e) =
+resumed_comes : (fixed : Fixed) (left : ℕ) (nonces : List ℕ) (outcome : Outcome) (hash : Hash256) → outcome.next ≡ Some Fresh → Comes fixed left nonces outcome → Comes fixed left nonces (resumed hash outcome)
+resumed_comes fixed left nonces outcome hash news (goes going same next sent) = goes going same next (found_more pong_nonce outcome.messages (hash ∷ []) refl ∙ sent)
+resumed_comes fixed left nonces outcome hash news (stops why other e) =
     absurd (let clash : Some Fresh ≡ None = sym news ∙ ap (λ (o : Outcome). o.next) e in cc)
 
 -- an answer that fits leaves fewer to be waited for, and only leave answers a ping
-pub answered_comes : (q s : SessionState) (item : Option Item) (stage : Stage) (answer : Answer) → fits (question_of q item stage) answer ≡ true → is_closed s.state ≡ false → Comes s.settings (question_left stage) (owed_at stage item) (answered s item stage answer)
+pub answered_comes : (q s : SessionState) (item : Option Item) (stage : Stage) (answer : Answer) → fits (question_of q item stage) answer ≡ true → is_closed s.state ≡ false → Comes (fixed_of s) (question_left stage) (owed_at stage item) (answered s item stage answer)
 unfolding answered
 answered_comes q s item stage answer fit going =
     let outcome = replied s item stage answer in
     let comes = replied_comes q s item stage answer fit going in
-    resuming_cases (Comes s.settings (question_left stage) (owed_at stage item)) outcome comes (λ hash news _ _. resumed_comes s.settings (question_left stage) (owed_at stage item) outcome hash news comes)
+    resuming_cases (Comes (fixed_of s) (question_left stage) (owed_at stage item)) outcome comes (λ hash news _ _. resumed_comes (fixed_of s) (question_left stage) (owed_at stage item) outcome hash news comes)
 
 -- ---- what is asked is what is open
 
--- The question that a step asks is the one that is open after it. Where it asks none, none is open, or nothing changed: the event
--- didn't fit.
+-- Nothing is asked, and what was open stays open: the event didn't fit, or was a probe.
+abbrev pub AsksNothing : SessionState → Stepped → Type 0
+AsksNothing s made = (made.question ≡ None) × (made.session.pending ≡ s.pending) × (pending_question made.session ≡ pending_question s)
+
+-- The question that a step asks is the one that is open after it, or it asks nothing.
 abbrev pub AsksIt : SessionState → Stepped → Type 0
-AsksIt s made = (made.question ≡ pending_question made.session) ⊎ (made ≡ stays s)
+AsksIt s made = (made.question ≡ pending_question made.session) ⊎ AsksNothing s made
 
 question_same : (s : SessionState) (pending : Option Pending) (item : Option Item) (stage : Stage) → question_of s item stage ≡ question_of (with_pending pending s) item stage
 question_same s pending item Admit = refl
@@ -462,25 +472,46 @@ question_same s pending item (Give block) = refl
 question_same s pending item Wanted = refl
 question_same s pending item Fresh = refl
 
+question_probed : (s : SessionState) (item : Option Item) (stage : Stage) → question_of (with_probe s) item stage ≡ question_of s item stage
+question_probed s item Admit = refl
+question_probed s item (About subjects.Headers) = refl
+question_probed s item (About subjects.Locator) = refl
+question_probed s item (About subjects.Inventory) = refl
+question_probed s item (About subjects.Tx) = refl
+question_probed s item (About subjects.Block) = refl
+question_probed s item (About subjects.Items) = refl
+question_probed s item (About subjects.After) = refl
+question_probed s item (About subjects.Places) = refl
+question_probed s item Match = refl
+question_probed s item (Give block) = refl
+question_probed s item Wanted = refl
+question_probed s item Fresh = refl
+
+-- a `ping` leaves an open question as it is
+probed_same : (s : SessionState) (pending : Option Pending) → question_at (with_probe s) pending ≡ question_at s pending
+probed_same s None = refl
+probed_same s (Some pending) = ap (λ (question : Question). Some question) (question_probed s pending.item pending.stage)
+
 asks_next : (item : Option Item) (s : SessionState) (next : Option Stage) → option_map (question_of s item) next ≡ pending_question (with_pending (pending_of item next) s)
 asks_next item s None = refl
 asks_next item s (Some stage) = ap (λ (question : Question). Some question) (question_same s (pending_of item (Some stage)) item stage)
 
 arrives_asks : (pending : Option Pending) (s : SessionState) (item : Option Item) → AsksIt s (arrives pending s item)
 arrives_asks None s item = inl refl
-arrives_asks (Some other) s item = inr refl
+arrives_asks (Some other) s item = inr (refl, refl, refl)
 
 told_asks : (pending : Option Pending) (s : SessionState) (answer : Answer) → AsksIt s (told pending s answer)
-told_asks None s answer = inr refl
+told_asks None s answer = inr (refl, refl, refl)
 told_asks (Some pending) s answer =
     let outcome : Outcome = answered (freed s) pending.item pending.stage answer in
-    if_either (AsksIt s) (fits (question_of s pending.item pending.stage) answer) (for_item pending.item outcome) (stays s) (inl (asks_next pending.item outcome.session outcome.next)) (inr refl)
+    if_either (AsksIt s) (fits (question_of s pending.item pending.stage) answer) (for_item pending.item outcome) (stays s) (inl (asks_next pending.item outcome.session outcome.next)) (inr (refl, refl, refl))
 
 pub open_asks : (s : SessionState) (event : Event) → AsksIt s (open_step s event)
 unfolding open_step
 open_asks s (events.Said item) = arrives_asks s.pending s (Some item)
 open_asks s (events.Broken fault) = inl refl
 open_asks s events.Tick = arrives_asks s.pending s None
+open_asks s events.Probe = if_either (AsksIt s) (is_ready s.state) (pinged s) (stays s) (inr (refl, refl, probed_same s s.pending)) (inr (refl, refl, refl))
 open_asks s (events.Told answer) = told_asks s.pending s answer
 open_asks s events.ReaderEnd = inl refl
 open_asks s events.NoMemory = inl refl
@@ -496,8 +527,8 @@ pub data Steps (s : SessionState) (event : Event) (made : Stepped) : Type 0 wher
   goes_on : is_closed made.session.state ≡ false → made.session.settings ≡ s.settings → Steps s event made
   ends_by : (why : CloseReason) → (why ≡ reasons.Bye → is_reader_end event ≡ true) → made ≡ closes why s → Steps s event made
 
-outcome_steps : (s : SessionState) (event : Event) (item : Option Item) (left : ℕ) (nonces : List ℕ) (outcome : Outcome) → Comes s.settings left nonces outcome → Steps s event (for_item item outcome)
-outcome_steps s event item left nonces outcome (goes going same next sent) = goes_on going same
+outcome_steps : (s : SessionState) (event : Event) (item : Option Item) (left : ℕ) (nonces : List ℕ) (outcome : Outcome) → Comes (fixed_of s) left nonces outcome → Steps s event (for_item item outcome)
+outcome_steps s event item left nonces outcome (goes going same next sent) = goes_on going (ap (λ (fixed : Fixed). fixed.0) same)
 outcome_steps s event item left nonces outcome (stops why other e) = ends_by why (λ bye. absurd (other bye)) (ap (for_item item) e)
 
 arrives_steps : (pending : Option Pending) (s : SessionState) (event : Event) (item : Option Item) → is_closed s.state ≡ false → Steps s event (arrives pending s item)
@@ -520,6 +551,7 @@ unfolding open_step
 open_steps s (events.Said item) going = arrives_steps s.pending s (events.Said item) (Some item) going
 open_steps s (events.Broken fault) going = ends_by reasons.BadStream (λ e. absurd cc) refl
 open_steps s events.Tick going = arrives_steps s.pending s events.Tick None going
+open_steps s events.Probe going = if_either (Steps s events.Probe) (is_ready s.state) (pinged s) (stays s) (goes_on going refl) (passes refl)
 open_steps s (events.Told answer) going = told_steps s.pending s answer going
 open_steps s events.ReaderEnd going = ends_by reasons.Bye (λ e. refl) refl
 open_steps s events.NoMemory going = ends_by reasons.Memory (λ e. absurd cc) refl
@@ -569,6 +601,7 @@ unfolding open_step
 open_ends s (events.Said item) e = absurd cc
 open_ends s (events.Broken fault) e = refl
 open_ends s events.Tick e = absurd cc
+open_ends s events.Probe e = absurd cc
 open_ends s (events.Told answer) e = absurd cc
 open_ends s events.ReaderEnd e = refl
 open_ends s events.NoMemory e = refl
@@ -581,9 +614,9 @@ pending_left : (item : Option Item) (next : Option Stage) → questions_left (pe
 pending_left item None = refl
 pending_left item (Some stage) = refl
 
-outcome_fewer : (settings : Settings) (item : Option Item) (left : ℕ) (nonces : List ℕ) (outcome : Outcome) → Comes settings left nonces outcome → is_closed (for_item item outcome).session.state ≡ false → questions_left (for_item item outcome).session.pending < left
-outcome_fewer settings item left nonces outcome (goes going same next sent) after = (let is = pending_left item outcome.next in omega (arith, is, next))
-outcome_fewer settings item left nonces outcome (stops why other e) after = open_clash (is_closed outcome.session.state) after (ap (λ (p : Outcome). is_closed p.session.state) e)
+outcome_fewer : (fixed : Fixed) (item : Option Item) (left : ℕ) (nonces : List ℕ) (outcome : Outcome) → Comes fixed left nonces outcome → is_closed (for_item item outcome).session.state ≡ false → questions_left (for_item item outcome).session.pending < left
+outcome_fewer fixed item left nonces outcome (goes going same next sent) after = (let is = pending_left item outcome.next in omega (arith, is, next))
+outcome_fewer fixed item left nonces outcome (stops why other e) after = open_clash (is_closed outcome.session.state) after (ap (λ (p : Outcome). is_closed p.session.state) e)
 
 told_fits : (s : SessionState) (pending : Pending) (answer : Answer) → fits (question_of s pending.item pending.stage) answer ≡ true → told (Some pending) s answer ≡ for_item pending.item (answered (freed s) pending.item pending.stage answer)
 told_fits s pending answer fit = ap (λ (b : Bool). cond b (for_item pending.item (answered (freed s) pending.item pending.stage answer)) (stays s)) fit
@@ -592,7 +625,7 @@ told_fewer : (s : SessionState) (pending : Pending) (answer : Answer) → is_clo
     → questions_left (told (Some pending) s answer).session.pending < question_left pending.stage
 told_fewer s pending answer going fit =
     subst (λ (made : Stepped). is_closed made.session.state ≡ false → questions_left made.session.pending < question_left pending.stage) (sym (told_fits s pending answer fit))
-    (outcome_fewer s.settings pending.item (question_left pending.stage) (owed_at pending.stage pending.item) (answered (freed s) pending.item pending.stage answer) (answered_comes s (freed s) pending.item pending.stage answer fit going))
+    (outcome_fewer (fixed_of s) pending.item (question_left pending.stage) (owed_at pending.stage pending.item) (answered (freed s) pending.item pending.stage answer) (answered_comes s (freed s) pending.item pending.stage answer fit going))
 
 fewer_of : (pending : Option Pending) (s : SessionState) (question : Question) (answer : Answer) → is_closed s.state ≡ false → question_at s pending ≡ Some question → fits question answer ≡ true
     → is_closed (told pending s answer).session.state ≡ false → questions_left (told pending s answer).session.pending < questions_left pending

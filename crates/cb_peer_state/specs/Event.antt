@@ -15,7 +15,7 @@ use Rattle.cb_peer_state.specs.declared.event.Event.TheVariants as events
 pub data Kind : Type 0 where
   -- Input from the peer: an item, a fault of its stream, or its end.
   Input : Kind
-  -- A tick: a timer event.
+  -- A tick or a probe: a timer event.
   Beat : Kind
   -- The hall's answer to a question.
   Reply : Kind
@@ -30,6 +30,7 @@ abbrev pub kind_of : Event → Kind
 kind_of (events.Said item) = Input
 kind_of (events.Broken fault) = Input
 kind_of events.Tick = Beat
+kind_of events.Probe = Beat
 kind_of (events.Told answer) = Reply
 kind_of events.ReaderEnd = Input
 kind_of events.NoMemory = Shortage
@@ -40,9 +41,9 @@ abbrev pub is_input : Kind → Bool
 is_input Input = true
 is_input other = false
 
-abbrev pub is_tick : Kind → Bool
-is_tick Beat = true
-is_tick other = false
+abbrev pub is_beat : Kind → Bool
+is_beat Beat = true
+is_beat other = false
 
 abbrev pub is_told : Kind → Bool
 is_told Reply = true
@@ -60,7 +61,7 @@ abbrev pub is_write_fault : Kind → Bool
 is_write_fault Loss = true
 is_write_fault other = false
 
--- What begins a new item: input from the peer, or a tick.
+-- What begins a new item: input from the peer, a tick, or a probe.
 abbrev pub begins : Kind → Bool
 begins Input = true
 begins Beat = true
@@ -76,6 +77,7 @@ loses other = false
 abbrev pub ends_at_once : Event → Bool
 ends_at_once (events.Said item) = false
 ends_at_once events.Tick = false
+ends_at_once events.Probe = false
 ends_at_once (events.Told answer) = false
 ends_at_once other = true
 

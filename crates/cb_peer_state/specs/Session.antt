@@ -28,7 +28,7 @@ use Rattle.cb_peer_state.specs.Questions.{fits, is_nil, question_of, short_in}
 use Rattle.cb_peer_state.specs.Replying.{answered, is_workless}
 use Rattle.cb_peer_state.specs.Receiving.{Outcome, asks}
 use Rattle.cb_peer_state.specs.declared.session_state.SessionState.{SessionState}
-use Rattle.cb_peer_state.specs.State.{freed, is_closed, is_count_of, is_partial, over, with_pending}
+use Rattle.cb_peer_state.specs.State.{freed, is_closed, is_count_of, is_partial, is_ready, next_ping, over, with_pending, with_probe}
 
 -- The result of a step: the session after it, the messages to send, and the question to ask.
 pub record Stepped : Type 0 where
@@ -75,10 +75,25 @@ told (Some pending) s answer =
     then for_item pending.item (answered (freed s) pending.item pending.stage answer)
     else stays s
 
+-- One `ping` with the next nonce is sent (BIP 31). Nothing is asked, and an open question stays
+-- open.
+abbrev pub pinged : SessionState → Stepped
+pinged s =
+    record {
+      session = with_probe s;
+      messages = messages.Ping (next_ping s) ∷ [];
+      question = None;
+    }
+
+-- A probe pings the peer once the handshake is complete.
+abbrev pub probed : SessionState → Stepped
+probed s = if is_ready s.state then pinged s else stays s
+
 unfoldable pub open_step : SessionState → Event → Stepped
 open_step s (events.Said item) = arrives s.pending s (Some item)
 open_step s (events.Broken fault) = closes reasons.BadStream s
 open_step s events.Tick = arrives s.pending s None
+open_step s events.Probe = probed s
 open_step s (events.Told answer) = told s.pending s answer
 open_step s events.ReaderEnd = closes reasons.Bye s
 open_step s events.NoMemory = closes reasons.Memory s
@@ -92,6 +107,7 @@ step_of s event = if is_closed s.state then stays s else open_step s event
 -- An event whose step takes no memory.
 abbrev pub takes_no_memory : Event → Bool
 takes_no_memory (events.Said item) = false
+takes_no_memory events.Probe = false
 takes_no_memory (events.Told answers.Kicked) = true
 takes_no_memory (events.Told other) = false
 takes_no_memory other = true
@@ -150,11 +166,12 @@ spares_pending (Some pending) s answer =
     not (fits (question_of s pending.item pending.stage) answer)
     || not (weighs_at (freed s) pending.item pending.stage answer)
 
--- An answer that doesn't fit, or that leads to nothing that is hashed, copied or listed. It takes
--- no memory if nothing is sent to it and nothing is asked but for the locator or what is new
--- (`is_light`).
+-- A probe, an answer that doesn't fit, or one that leads to nothing that is hashed, copied or
+-- listed. It takes no memory if nothing is sent to it and nothing is asked but for the locator or
+-- what is new (`is_light`).
 abbrev pub spares : SessionState → Event → Bool
 spares s (events.Told answer) = spares_pending s.pending s answer
+spares s events.Probe = true
 spares s other = false
 
 abbrev pub is_light : Option Question → Bool

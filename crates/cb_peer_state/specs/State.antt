@@ -40,6 +40,7 @@ bare settings state = record {
   fetch = idle;
   resume_from = None;
   compact = no_compact;
+  probes = 0;
   pending = None;
 }
 
@@ -68,6 +69,7 @@ with_state state s = record {
   fetch = s.fetch;
   resume_from = s.resume_from;
   compact = s.compact;
+  probes = s.probes;
   pending = s.pending;
 }
 
@@ -80,6 +82,7 @@ with_peer peer s = record {
   fetch = s.fetch;
   resume_from = s.resume_from;
   compact = s.compact;
+  probes = s.probes;
   pending = s.pending;
 }
 
@@ -92,6 +95,7 @@ with_marks marks s = record {
   fetch = s.fetch;
   resume_from = s.resume_from;
   compact = s.compact;
+  probes = s.probes;
   pending = s.pending;
 }
 
@@ -104,6 +108,7 @@ with_fetch fetch s = record {
   fetch = fetch;
   resume_from = s.resume_from;
   compact = s.compact;
+  probes = s.probes;
   pending = s.pending;
 }
 
@@ -116,6 +121,7 @@ with_pending pending s = record {
   fetch = s.fetch;
   resume_from = s.resume_from;
   compact = s.compact;
+  probes = s.probes;
   pending = pending;
 }
 
@@ -128,6 +134,7 @@ with_compact compact s = record {
   fetch = s.fetch;
   resume_from = s.resume_from;
   compact = compact;
+  probes = s.probes;
   pending = s.pending;
 }
 
@@ -140,6 +147,7 @@ with_resume_from hash s = record {
   fetch = s.fetch;
   resume_from = hash;
   compact = s.compact;
+  probes = s.probes;
   pending = s.pending;
 }
 
@@ -207,6 +215,24 @@ with_asked_high high s =
 -- The nonce of the next compact block that is made for the peer.
 abbrev pub next_nonce : SessionState → ℕ
 next_nonce s = (s.settings.salt + s.compact.made) % 2 ^ 64
+
+-- With one more `ping` sent, modulo 2^64.
+abbrev pub with_probe : SessionState → SessionState
+with_probe s = record {
+  settings = s.settings;
+  state = s.state;
+  peer = s.peer;
+  marks = s.marks;
+  fetch = s.fetch;
+  resume_from = s.resume_from;
+  compact = s.compact;
+  probes = (s.probes + 1) % 2 ^ 64;
+  pending = s.pending;
+}
+
+-- The nonce of the next `ping`.
+abbrev pub next_ping : SessionState → ℕ
+next_ping s = (s.settings.nonce + s.probes) % 2 ^ 64
 
 -- A block came: it is no longer in flight.
 abbrev pub landing : Hash256 → SessionState → SessionState

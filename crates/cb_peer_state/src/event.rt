@@ -21,6 +21,9 @@ pub enum Event {
     Broken(Fault),
     /// A timer event: it is time to look for news.
     Tick,
+    /// A timer event: the peer has been silent. Once the handshake is complete it is sent a `ping`
+    /// (BIP 31).
+    Probe,
     /// The hall's answer to the open question.
     Told(Answer),
     /// The peer's stream ended, or isn't read any further.
@@ -42,8 +45,12 @@ impl Event {
     {
         match self {
             Event::Said(_) | Event::Broken(_) | Event::ReaderEnd => true,
-            Event::Tick | Event::Told(_) | Event::NoMemory | Event::HallFull | Event::WriteFault =>
-                false,
+            Event::Tick
+            | Event::Probe
+            | Event::Told(_)
+            | Event::NoMemory
+            | Event::HallFull
+            | Event::WriteFault => false,
         }
     }
 
@@ -56,6 +63,7 @@ impl Event {
             Event::Said(_)
             | Event::Broken(_)
             | Event::Tick
+            | Event::Probe
             | Event::ReaderEnd
             | Event::NoMemory
             | Event::HallFull
@@ -74,6 +82,7 @@ impl Event {
             Event::Told(answer) => list_weight(entries_of(answer)).saturating_add(64),
             Event::Broken(_)
             | Event::Tick
+            | Event::Probe
             | Event::ReaderEnd
             | Event::NoMemory
             | Event::HallFull

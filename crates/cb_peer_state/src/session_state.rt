@@ -1,13 +1,14 @@
-ghost use Rattle.std.specs.Prelude.{◌≡◌, [], true, false, None, Option, IfOk, IsOk, IsOkUnless, OnOk, option_map};
+ghost use Rattle.std.specs.Prelude.{◌≡◌, [], ◌∷◌, true, false, None, Option, IfOk, IsOk, IsOkUnless, OnErr, OnOk, option_map};
 ghost use Rattle.cb_base.specs.declared.fault.Fault.TheVariants.{Memory};
 ghost use Rattle.cb_fetch.specs.Fetching.{asks_now};
 ghost use Rattle.cb_wire.specs.declared.item.Item.{Item};
+ghost use Rattle.cb_wire.specs.declared.message.Message.TheVariants as messages;
 ghost use Rattle.cb_journal.specs.declared.question.Question.TheVariants as questions;
 ghost use Rattle.cb_peer_state.specs.declared.stage.Stage.TheVariants as stages;
 ghost use Rattle.cb_peer_state.specs.Outcomes.{Makes, is_light_stage};
 ghost use Rattle.cb_peer_state.specs.Receiving.{Outcome, ends, falls_back, gives};
 ghost use Rattle.cb_peer_state.specs.Replying.{asks_news, resuming};
-ghost use Rattle.cb_peer_state.specs.State.{bare, next_nonce, over, remembers, with_fallen, with_lacking, with_made};
+ghost use Rattle.cb_peer_state.specs.State.{bare, next_nonce, next_ping, over, remembers, with_fallen, with_lacking, with_made, with_probe};
 
 use crate::compact::CompactState;
 use crate::pending::Pending;
@@ -20,6 +21,7 @@ use cb_block::SoundBlock;
 use cb_fetch::Fetch;
 use cb_journal::{GivenBlock, Question, Told};
 use cb_talk::{Outgoing, asking_block, asking_headers};
+use cb_wire::Message;
 use std::alloc::Global;
 
 /// What is known of a peer that has sent nothing.
@@ -55,6 +57,8 @@ pub struct SessionState {
     pub resume_from: Option<Hash256>,
     /// What it keeps for compact blocks (BIP 152).
     pub compact: CompactState,
+    /// How many times it sent `ping`, modulo 2^64.
+    pub probes: u64,
     /// The item or tick whose question is open, if there is one.
     pub pending: Option<Pending>,
 }
@@ -72,6 +76,7 @@ impl SessionState {
             fetch: Fetch::new(alloc),
             resume_from: None,
             compact: CompactState::new(),
+            probes: 0,
             pending: None,
         }
     }
@@ -220,6 +225,22 @@ impl SessionState {
         ensures { result ≡ remembers self.now }
     {
         self.resume_from.is_some()
+    }
+
+    /// A `ping` with the session's next nonce (BIP 31), which is counted.
+    ///
+    /// Fails only with `Fault::Memory`. The session is then unchanged.
+    pub fn ping(&mut self, alloc: Global) -> Result<Vec<Outgoing>, Fault>
+        ensures session { OnOk result (self.new ≡ with_probe self.old) }
+        ensures messages { IfOk result
+            (λ sent. sent.items ≡ messages.Ping (next_ping self.old) ∷ []) }
+        ensures memory { IsOkUnless result Memory }
+        ensures err { OnErr result (self.new ≡ self.old) }
+    {
+        let nonce = self.settings.nonce.wrapping_add(self.probes);
+        let sent = one_message(alloc, Outgoing::new(Message::Ping(nonce)))?;
+        self.probes = self.probes.wrapping_add(1);
+        Ok(sent)
     }
 
     /// Queues missing blocks for download, in order, as far as there is room. If some had none, the

@@ -61,6 +61,7 @@ end_is_input (entry ∷ history) e = by_event entry.event e (end_is_input histor
     by_event (events.Said item) e later = later e
     by_event (events.Broken fault) e later = later e
     by_event events.Tick e later = later e
+    by_event events.Probe e later = later e
     by_event (events.Told answer) e later = later e
     by_event events.ReaderEnd e later = refl
     by_event events.NoMemory e later = later e

@@ -22,17 +22,17 @@ use Rattle.cb_peer_state.specs.declared.event.Event.{Event}
 use Rattle.cb_peer_state.specs.declared.event.Event.TheVariants as events
 use Rattle.cb_trace.specs.declared.trace.TraceEntry.{TraceEntry}
 use Rattle.cb_peer_state.specs.Questions.{fits, questions_left, pending_question}
-use Rattle.cb_peer_state.specs.Event.{Kind, begins, ends_at_once, is_hall_full, is_input, is_no_memory, is_tick, is_told, is_write_fault, kind_of, loses}
+use Rattle.cb_peer_state.specs.Event.{Kind, begins, ends_at_once, is_beat, is_hall_full, is_input, is_no_memory, is_told, is_write_fault, kind_of, loses}
 use Rattle.cb_peer_state.specs.Session.{Stepped}
 use Rattle.cb_peer_state.specs.declared.session_state.SessionState.{SessionState}
 use Rattle.cb_peer_state.specs.State.{is_closed}
 use Rattle.cb_peer_state.proofs.Steps.{no_question, none_pending, some_left}
-use Rattle.cb_trace.specs.Fold.{Account, EachOpen, account_of, account_step, entry_step, first_account, has_kind, inputs_of, number_of, replies, replies_to, sends, session_of}
+use Rattle.cb_trace.specs.Fold.{Account, EachOpen, account_of, account_step, beats_of, entry_step, first_account, has_kind, inputs_of, number_of, replies, replies_to, sends, session_of}
 use Rattle.cb_trace.specs.Trace.{AsksPending, Grows, IsAsBefore, IsOpen, Readied, TraceSteps, TraceView, next_step}
 use Rattle.cb_trace.proofs.Entries.{entry_ends, entry_fewer, entry_over}
 use Rattle.cb_trace.proofs.Folds.{EachPrompt_more, account_of_more, number_more}
 use Rattle.cb_trace.proofs.Traces.{next_is}
-use Rattle.cb_session.specs.Conversation.{Accounts, AnswerOf, Gave, IsLoss, Lacked, Origin, Progress, IsAnswered, IsPending, MayAsk, Sent, Settled, Underway, input_in, left_of, open_question, progress}
+use Rattle.cb_session.specs.Conversation.{Accounts, AnswerOf, Gave, IsLoss, Lacked, Origin, Progress, IsAnswered, IsPending, MayAsk, Sent, Settled, Underway, beat_in, input_in, left_of, open_question, progress}
 
 -- what the hall told, call by call
 pub record IsOracle {H : Type 0} (told : H → BadgeState → List Reply → H → BadgeState → Type 0) (refused : H → BadgeState → Fault → Type 0) : Type 0 where
@@ -66,6 +66,12 @@ inputs_more entries entry =
     ap (filter (λ (e : Event). is_input (kind_of e))) (map-append (λ (e : TraceEntry). e.event) entries (entry ∷ []))
     ∙ filter-append (λ (e : Event). is_input (kind_of e)) (map (λ (e : TraceEntry). e.event) entries) (entry.event ∷ [])
 
+-- a timer event is one more, and nothing else is
+beats_more : (entries : List TraceEntry) (entry : TraceEntry) → beats_of (entries ++ entry ∷ []) ≡ beats_of entries ++ beat_in entry.event
+beats_more entries entry =
+    ap (filter (λ (e : Event). is_beat (kind_of e))) (map-append (λ (e : TraceEntry). e.event) entries (entry ∷ []))
+    ∙ filter-append (λ (e : Event). is_beat (kind_of e)) (map (λ (e : TraceEntry). e.event) entries) (entry.event ∷ [])
+
 pub no_input : (event : Event) → is_input (kind_of event) ≡ false → input_in event ≡ []
 no_input event e = ap (λ b. cond b (event ∷ []) []) e
 
@@ -89,6 +95,7 @@ loses_ends : (event : Event) → loses (kind_of event) ≡ true → ends_at_once
 loses_ends (events.Said item) e = absurd cc
 loses_ends (events.Broken fault) e = absurd cc
 loses_ends events.Tick e = absurd cc
+loses_ends events.Probe e = absurd cc
 loses_ends (events.Told answer) e = absurd cc
 loses_ends events.ReaderEnd e = absurd cc
 loses_ends events.NoMemory e = refl
@@ -122,6 +129,7 @@ shortage_loses : (event : Event) → is_no_memory (kind_of event) ≡ true → l
 shortage_loses (events.Said item) e = absurd cc
 shortage_loses (events.Broken fault) e = absurd cc
 shortage_loses events.Tick e = absurd cc
+shortage_loses events.Probe e = absurd cc
 shortage_loses (events.Told answer) e = absurd cc
 shortage_loses events.ReaderEnd e = absurd cc
 shortage_loses events.NoMemory e = refl
@@ -164,7 +172,7 @@ open_kept told refused from now inputs unkept going s =
           write_fault = a.write_fault;
           hall_full = a.hall_full;
           no_memory = λ h. no_shortage told refused from now inputs s.sent.missing s.sent.lost unkept a going h;
-          ticks_are = a.ticks_are;
+          beats_are = a.beats_are;
           losses = a.losses;
         };
         whole = s.sent.whole;
@@ -196,9 +204,9 @@ pub record Changes {H : Type 0} (told : H → BadgeState → List Reply → H �
   pub one_told : length (replies_to (pending_question trace.session) event) ≡ cond (is_told (kind_of event)) 1 0
   pub free : begins (kind_of event) ≡ true → trace.session.pending ≡ None
 
--- what an entry adds to the ticks, the inputs, the missing bytes, and what was lost
-pub record Adds (trace : TraceView) (entry : TraceEntry) (ticks ticks' : ℕ) (inputs inputs' : List Event) (missing missing' : List ℕ) (lost lost' : Bool) : Type 0 where
-  pub ticks_are : ticks' ≡ ticks + cond (is_tick (kind_of entry.event)) 1 0
+-- what an entry adds to the timer events, the inputs, the missing bytes, and what was lost
+pub record Adds (trace : TraceView) (entry : TraceEntry) (beats beats' : List Event) (inputs inputs' : List Event) (missing missing' : List ℕ) (lost lost' : Bool) : Type 0 where
+  pub beats_are : beats ++ beat_in entry.event ≡ beats'
   pub inputs_are : inputs ++ input_in entry.event ≡ inputs'
   pub missing_are : missing ++ texts (next_step trace entry).messages ≡ missing'
   pub lost_is : (lost || (loses (kind_of entry.event) || false)) ≡ lost'
@@ -208,18 +216,18 @@ pub record AccountsOf {H : Type 0} (told : H → BadgeState → List Reply → H
   pub accounts : Accounts told refused from now inputs missing lost unkept
   pub history_is : accounts.history ≡ entries
 
--- the same origin with so many ticks
-abbrev pub ticked : {H : Type 0} → Origin H → ℕ → Origin H
-ticked from ticks = record from { ticks = ticks }
+-- the same origin with these timer events
+abbrev pub with_beats : {H : Type 0} → Origin H → List Event → Origin H
+with_beats from beats = record from { beats = beats }
 
 -- the trace grew by an entry
 pub accounts_grow : {H : Type 0} (told : H → BadgeState → List Reply → H → BadgeState → Type 0) (refused : H → BadgeState → Fault → Type 0) (oracle : IsOracle told refused) (from : Origin H) (trace trace' : TraceView) (hall hall' : H) (badge badge' : BadgeState)
-    (held : Option (List ℕ)) (failed : Bool) (written : ℕ) (ticks : ℕ) (inputs inputs' : List Event) (missing missing' : List ℕ) (lost lost' unkept : Bool) (entry : TraceEntry) → IsOpen trace
+    (held : Option (List ℕ)) (failed : Bool) (written : ℕ) (beats : List Event) (inputs inputs' : List Event) (missing missing' : List ℕ) (lost lost' unkept : Bool) (entry : TraceEntry) → IsOpen trace
     → (a : Accounts told refused from (progress trace hall badge held failed written) inputs missing lost false) → Grows trace trace' entry → Changes told refused trace failed hall hall' badge badge' entry.event
-    → Adds trace entry from.ticks ticks inputs inputs' missing missing' lost lost'
+    → Adds trace entry from.beats beats inputs inputs' missing missing' lost lost'
     → (is_no_memory (kind_of entry.event) ≡ true → Lacked refused (progress trace' hall' badge' held failed written) missing' ⊎ (unkept ≡ true))
-    → AccountsOf told refused (ticked from ticks) (progress trace' hall' badge' held failed written) inputs' missing' lost' unkept (a.history ++ entry ∷ [])
-accounts_grow told refused oracle from trace trace' hall hall' badge badge' held failed written ticks inputs inputs' missing missing' lost lost' unkept entry going a g c adds lacked =
+    → AccountsOf told refused (with_beats from beats) (progress trace' hall' badge' held failed written) inputs' missing' lost' unkept (a.history ++ entry ∷ [])
+accounts_grow told refused oracle from trace trace' hall hall' badge badge' held failed written beats inputs inputs' missing missing' lost lost' unkept entry going a g c adds lacked =
     let h : List TraceEntry = a.history in
     let s : Settings = from.settings in
     let step_is : next_step trace entry ≡ entry_step (account_of s h).count (session_of s h) entry =
@@ -234,8 +242,6 @@ accounts_grow told refused oracle from trace trace' hall hall' badge badge' held
     let answers : length (replies s (h ++ entry ∷ [])) ≡ length (replies s h) + length given = ap length replies_more ∙ length-append (replies s h) given in
     let counted : number_of is_told h ≡ length (replies s h) = a.each_told in
     let one : length given ≡ cond (is_told (kind_of entry.event)) 1 0 = c.one_told in
-    let beats : number_of is_tick h ≡ from.ticks = a.ticks_are in
-    let ticks_more : ticks ≡ from.ticks + cond (is_tick (kind_of entry.event)) 1 0 = adds.ticks_are in
     record {
       accounts = record {
         settings = g.settings ∙ a.settings;
@@ -267,7 +273,7 @@ accounts_grow told refused oracle from trace trace' hall hall' badge badge' held
               | inl y ↦ no_shortage told refused from (progress trace hall badge held failed written) inputs missing lost false a going y
               | inr y ↦ lacked y
             ];
-        ticks_are = omega (arith, number_more is_tick h entry, beats, ticks_more);
+        beats_are = beats_more h entry ∙ ap (λ (x : List Event). x ++ beat_in entry.event) a.beats_are ∙ adds.beats_are;
         losses = has_more loses h entry ∙ ap (λ b. b || (loses (kind_of entry.event) || false)) a.losses ∙ adds.lost_is;
       };
       history_is = refl;
@@ -291,7 +297,7 @@ accounts_rest told refused from trace trace' hall badge held failed written inpu
         write_fault = a.write_fault;
         hall_full = a.hall_full;
         no_memory = λ h. no_shortage told refused from (progress trace hall badge held failed written) inputs missing lost false a going h;
-        ticks_are = a.ticks_are;
+        beats_are = a.beats_are;
         losses = a.losses;
       };
       history_is = refl;
@@ -315,10 +321,11 @@ ended_more trace trace' entry going g ends = ap (λ (s : SessionState). is_close
 
 -- ---- an event that loses messages
 
-pub loss_plain : (event : Event) → loses (kind_of event) ≡ true → (is_input (kind_of event) ≡ false) × (is_tick (kind_of event) ≡ false) × (begins (kind_of event) ≡ false) × (is_hall_full (kind_of event) ≡ false) × (is_told (kind_of event) ≡ false)
+pub loss_plain : (event : Event) → loses (kind_of event) ≡ true → (is_input (kind_of event) ≡ false) × (is_beat (kind_of event) ≡ false) × (begins (kind_of event) ≡ false) × (is_hall_full (kind_of event) ≡ false) × (is_told (kind_of event) ≡ false)
 loss_plain (events.Said item) e = absurd cc
 loss_plain (events.Broken fault) e = absurd cc
 loss_plain events.Tick e = absurd cc
+loss_plain events.Probe e = absurd cc
 loss_plain (events.Told answer) e = absurd cc
 loss_plain events.ReaderEnd e = absurd cc
 loss_plain events.NoMemory e = (refl, refl, refl, refl, refl)
@@ -329,6 +336,7 @@ loss_replies : (pending : Option Question) (event : Event) → loses (kind_of ev
 loss_replies pending (events.Said item) e = absurd cc
 loss_replies pending (events.Broken fault) e = absurd cc
 loss_replies pending events.Tick e = absurd cc
+loss_replies pending events.Probe e = absurd cc
 loss_replies pending (events.Told answer) e = absurd cc
 loss_replies pending events.ReaderEnd e = absurd cc
 loss_replies None events.NoMemory e = refl
@@ -337,10 +345,9 @@ loss_replies pending events.HallFull e = absurd cc
 loss_replies None events.WriteFault e = refl
 loss_replies (Some question) events.WriteFault e = refl
 
--- an event that is no tick adds none
-pub same_ticks : (n : ℕ) (b : Bool) → b ≡ false → n ≡ n + cond b 1 0
-same_ticks n false e = omega arith
-same_ticks n true e = absurd cc
+-- an event that is no timer event adds none
+pub same_beats : (beats : List Event) (event : Event) → is_beat (kind_of event) ≡ false → beats ++ beat_in event ≡ beats
+same_beats beats event e = ap (λ b. beats ++ cond b (event ∷ []) []) e ∙ append-nil beats
 
 -- what isn't the hall's answer is no reply
 pub no_answer : (given : List Reply) (b : Bool) → given ≡ [] → b ≡ false → length given ≡ cond b 1 0
@@ -376,15 +383,15 @@ accounts_lost told refused oracle from trace mid trace' hall badge held failed w
       one_told = no_answer _ _ none plain.4;
       free = λ e. not_both (begins (kind_of entry.event)) plain.2 e;
     } in
-    let adds : Adds mid entry from.ticks from.ticks inputs inputs missing missing lost true =
+    let adds : Adds mid entry from.beats from.beats inputs inputs missing missing lost true =
     record {
-      ticks_are = same_ticks from.ticks (is_tick (kind_of entry.event)) plain.1;
+      beats_are = same_beats from.beats entry.event plain.1;
       inputs_are = same_inputs inputs entry.event plain.0;
       missing_are = same_missing missing _ (silent_more mid trace' entry going' g (ended_more mid trace' entry going' g l.ends));
       lost_is = or_last lost (loses (kind_of entry.event)) l.loses_messages;
     } in
     subst (λ (h : List TraceEntry). AccountsOf told refused from (progress trace' hall badge held failed written) inputs missing true unkept (h ++ entry ∷ [])) b.history_is
-    (accounts_grow told refused oracle from mid trace' hall hall badge badge held failed written from.ticks inputs inputs missing missing lost true unkept entry going' b.accounts g changes adds lacked)
+    (accounts_grow told refused oracle from mid trace' hall hall badge badge held failed written from.beats inputs inputs missing missing lost true unkept entry going' b.accounts g changes adds lacked)
 
 pub no_memory_loss : IsLoss events.NoMemory
 no_memory_loss = record { loses_messages = refl; ends = refl }
@@ -448,17 +455,19 @@ answer_changes told refused trace failed hall hall' badge badge' question events
 answer_changes told refused trace failed hall hall' badge badge' question (events.Said item) stands a = absurd a
 answer_changes told refused trace failed hall hall' badge badge' question (events.Broken fault) stands a = absurd a
 answer_changes told refused trace failed hall hall' badge badge' question events.Tick stands a = absurd a
+answer_changes told refused trace failed hall hall' badge badge' question events.Probe stands a = absurd a
 answer_changes told refused trace failed hall hall' badge badge' question events.ReaderEnd stands a = absurd a
 answer_changes told refused trace failed hall hall' badge badge' question events.WriteFault stands a = absurd a
 
 answer_plain : {H : Type 0} (told : H → BadgeState → List Reply → H → BadgeState → Type 0) (refused : H → BadgeState → Fault → Type 0) (hall hall' : H) (badge badge' : BadgeState) (question : Question) (event : Event)
-    → AnswerOf told refused hall badge hall' badge' question event → (is_input (kind_of event) ≡ false) × (is_tick (kind_of event) ≡ false)
+    → AnswerOf told refused hall badge hall' badge' question event → (is_input (kind_of event) ≡ false) × (is_beat (kind_of event) ≡ false)
 answer_plain told refused hall hall' badge badge' question (events.Told answer) a = (refl, refl)
 answer_plain told refused hall hall' badge badge' question events.HallFull a = (refl, refl)
 answer_plain told refused hall hall' badge badge' question events.NoMemory a = (refl, refl)
 answer_plain told refused hall hall' badge badge' question (events.Said item) a = absurd a
 answer_plain told refused hall hall' badge badge' question (events.Broken fault) a = absurd a
 answer_plain told refused hall hall' badge badge' question events.Tick a = absurd a
+answer_plain told refused hall hall' badge badge' question events.Probe a = absurd a
 answer_plain told refused hall hall' badge badge' question events.ReaderEnd a = absurd a
 answer_plain told refused hall hall' badge badge' question events.WriteFault a = absurd a
 
@@ -471,6 +480,7 @@ answer_lacked told refused hall hall' badge badge' question events.NoMemory a e 
 answer_lacked told refused hall hall' badge badge' question (events.Said item) a e = absurd a
 answer_lacked told refused hall hall' badge badge' question (events.Broken fault) a e = absurd a
 answer_lacked told refused hall hall' badge badge' question events.Tick a e = absurd a
+answer_lacked told refused hall hall' badge badge' question events.Probe a e = absurd a
 answer_lacked told refused hall hall' badge badge' question events.ReaderEnd a e = absurd a
 answer_lacked told refused hall hall' badge badge' question events.WriteFault a e = absurd a
 
@@ -483,14 +493,14 @@ accounts_asked told refused oracle from trace mid trace' hall hall' badge badge'
     let b = accounts_rest told refused from trace mid hall badge held failed written inputs [] false going r a in
     let stands' : pending_question mid.session ≡ Some question = ap pending_question r.session ∙ stands in
     let plain = answer_plain told refused hall hall' badge badge' question event answer in
-    let adds : Adds mid (record { event = event; starved = t.starved }) from.ticks from.ticks inputs inputs [] (texts sent) false (loses (kind_of event) || false) =
+    let adds : Adds mid (record { event = event; starved = t.starved }) from.beats from.beats inputs inputs [] (texts sent) false (loses (kind_of event) || false) =
     record {
-      ticks_are = same_ticks from.ticks (is_tick (kind_of event)) plain.1;
+      beats_are = same_beats from.beats event plain.1;
       inputs_are = same_inputs inputs event plain.0;
       missing_are = ap texts (sym t.messages);
       lost_is = refl;
     } in
-    let grown = accounts_grow told refused oracle from mid trace' hall hall' badge badge' held failed written from.ticks inputs inputs [] (texts sent) false (loses (kind_of event) || false) false (record { event = event; starved = t.starved }) (rest_open trace mid r going) b.accounts t.grows
+    let grown = accounts_grow told refused oracle from mid trace' hall hall' badge badge' held failed written from.beats inputs inputs [] (texts sent) false (loses (kind_of event) || false) false (record { event = event; starved = t.starved }) (rest_open trace mid r going) b.accounts t.grows
     (answer_changes told refused mid failed hall hall' badge badge' question event stands' answer) adds
     (λ e. inl (inr (inl (record { before = mid; question = question; asked = stands'; entry = record { event = event; starved = t.starved }; ran_out = e; grows = t.grows }, answer_lacked told refused hall hall' badge badge' question event answer e)))) in
     record { lost = loses (kind_of event) || false; accounts = grown.accounts }
@@ -556,6 +566,7 @@ left_asked told refused hall hall' badge badge' trace mid trace' question events
 left_asked told refused hall hall' badge badge' trace mid trace' question (events.Said item) starved stands r a g = absurd a
 left_asked told refused hall hall' badge badge' trace mid trace' question (events.Broken fault) starved stands r a g = absurd a
 left_asked told refused hall hall' badge badge' trace mid trace' question events.Tick starved stands r a g = absurd a
+left_asked told refused hall hall' badge badge' trace mid trace' question events.Probe starved stands r a g = absurd a
 left_asked told refused hall hall' badge badge' trace mid trace' question events.ReaderEnd starved stands r a g = absurd a
 left_asked told refused hall hall' badge badge' trace mid trace' question events.WriteFault starved stands r a g = absurd a
 
@@ -563,13 +574,13 @@ left_asked told refused hall hall' badge badge' trace mid trace' question events
 pub asks_next : (trace mid trace' : TraceView) (question : Question) (asked : Option Question) → open_question trace ≡ Some question → IsAsBefore trace mid → AsksPending mid.session trace'.session asked → left_of trace' < left_of trace → IsPending trace' asked
 asks_next trace mid trace' question asked stands r (inl is) fewer going = is
 asks_next trace mid trace' question asked stands r (inr same) fewer going =
-    let e : trace'.session ≡ trace.session = same.1 ∙ r.session in
-    absurd (omega (arith, fewer, left_open trace' going, left_open trace (question_open trace question stands).0, ap (λ (s : SessionState). questions_left s.pending) e))
+    let e : trace'.session.pending ≡ trace.session.pending = same.1 ∙ ap (λ (s : SessionState). s.pending) r.session in
+    absurd (omega (arith, fewer, left_open trace' going, left_open trace (question_open trace question stands).0, ap questions_left e))
 
 -- what an input makes a session ask is open, where nothing was before it
 pub asks_first : (mid trace' : TraceView) (asked : Option Question) → mid.session.pending ≡ None → AsksPending mid.session trace'.session asked → IsPending trace' asked
 asks_first mid trace' asked free (inl is) going = is
-asks_first mid trace' asked free (inr same) going = same.0 ∙ sym (no_question trace'.session (ap (λ (s : SessionState). s.pending) same.1 ∙ free))
+asks_first mid trace' asked free (inr same) going = same.0 ∙ sym (no_question trace'.session (same.1 ∙ free))
 
 -- whatever is asked may be asked on
 pub may_ask : (before after : SessionState) (trace : TraceView) (asked : Option Question) → AsksPending before after asked → (is_closed trace.session.state ≡ false → trace.session ≡ after) → MayAsk trace asked
@@ -644,7 +655,7 @@ accounts_wrote told refused from trace hall badge held held' failed failed' writ
             | false ↦ λ going h. no_shortage told refused from (progress trace hall badge held failed written) inputs (text ++ following) lost false a going h
           ] in
           by_state (is_closed trace.session.state) refl;
-      ticks_are = a.ticks_are;
+      beats_are = a.beats_are;
       losses = a.losses;
     }
 

@@ -125,7 +125,7 @@ accounts_first told refused oracle settings trace hall badge held failed message
         write_fault = λ h. absurd cc;
         hall_full = λ h. absurd cc;
         no_memory = λ h. absurd cc;
-        ticks_are = refl;
+        beats_are = refl;
         losses = refl;
       };
       history_is = refl;

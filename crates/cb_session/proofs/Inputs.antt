@@ -329,6 +329,7 @@ end_cases : (event : Event) (more : Bool) (inputs : List Event) → more ≡ lis
 end_cases (events.Said item) more inputs e = e
 end_cases (events.Broken fault) more inputs e = e
 end_cases events.Tick more inputs e = e
+end_cases events.Probe more inputs e = e
 end_cases (events.Told answer) more inputs e = e
 end_cases events.ReaderEnd more inputs e = refl
 end_cases events.NoMemory more inputs e = e

@@ -11,15 +11,15 @@ use Rattle.cb_peer_state.specs.declared.settings.Settings.{Settings}
 use Rattle.cb_peer_state.specs.declared.event.Event.{Event}
 use Rattle.cb_peer_state.specs.declared.event.Event.TheVariants as events
 use Rattle.cb_peer_state.specs.declared.session_state.SessionState.{SessionState}
-use Rattle.cb_peer_state.specs.Event.{Kind, begins, is_hall_full, is_input, is_no_memory, is_tick, is_told, is_write_fault, kind_of, loses}
+use Rattle.cb_peer_state.specs.Event.{Kind, begins, is_beat, is_hall_full, is_input, is_no_memory, is_told, is_write_fault, kind_of, loses}
 use Rattle.cb_peer_state.specs.Questions.{pending_question}
 use Rattle.cb_peer_state.specs.Session.{openings}
 use Rattle.cb_peer_state.specs.State.{is_closed}
 use Rattle.cb_trace.specs.declared.trace.TraceEntry.{TraceEntry}
 use Rattle.cb_trace.specs.Fold.{has_kind, replies_to}
 use Rattle.cb_trace.specs.Trace.{IsAsBefore, IsOpen, Readied, StandsFor, TraceSteps, TraceView, next_step}
-use Rattle.cb_session.specs.Conversation.{Accounts, Gave, IsAnswered, IsLoss, Lacked, Origin, Progress, Sent, Settled, Stands, Underway, input_in, origin_of, progress, with_event, with_tick}
-use Rattle.cb_session.proofs.Accounts.{AccountsOf, Adds, Changes, IsOracle, accounts_grow, accounts_lost, accounts_ran, accounts_rest, ended_more, loss_plain, no_answer, none_more, not_both, one_input, open_told, open_whole, ran_closed, ran_out, rest_open, same_missing, silent_step, ticked}
+use Rattle.cb_session.specs.Conversation.{Accounts, Gave, IsAnswered, IsLoss, Lacked, Origin, Progress, Sent, Settled, Stands, Underway, beat_in, input_in, origin_of, progress, with_event}
+use Rattle.cb_session.proofs.Accounts.{AccountsOf, Adds, Changes, IsOracle, accounts_grow, accounts_lost, accounts_ran, accounts_rest, ended_more, loss_plain, no_answer, none_more, not_both, one_input, open_told, open_whole, ran_closed, ran_out, rest_open, same_beats, same_missing, silent_step, with_beats}
 use Rattle.cb_session.proofs.Ending.{accounts_first, first_free}
 
 -- ---- nothing is held back
@@ -138,45 +138,35 @@ begins_plain : (event : Event) → begins (kind_of event) ≡ true → IsPlain e
 begins_plain (events.Said item) e = record { no_told = refl; no_write = refl; no_hall = refl; no_shortage = refl; no_loss = refl; replies_none = elim [ None ↦ refl | Some q ↦ refl ] }
 begins_plain (events.Broken fault) e = record { no_told = refl; no_write = refl; no_hall = refl; no_shortage = refl; no_loss = refl; replies_none = elim [ None ↦ refl | Some q ↦ refl ] }
 begins_plain events.Tick e = record { no_told = refl; no_write = refl; no_hall = refl; no_shortage = refl; no_loss = refl; replies_none = elim [ None ↦ refl | Some q ↦ refl ] }
+begins_plain events.Probe e = record { no_told = refl; no_write = refl; no_hall = refl; no_shortage = refl; no_loss = refl; replies_none = elim [ None ↦ refl | Some q ↦ refl ] }
 begins_plain (events.Told answer) e = absurd cc
 begins_plain events.ReaderEnd e = record { no_told = refl; no_write = refl; no_hall = refl; no_shortage = refl; no_loss = refl; replies_none = elim [ None ↦ refl | Some q ↦ refl ] }
 begins_plain events.NoMemory e = absurd cc
 begins_plain events.HallFull e = absurd cc
 begins_plain events.WriteFault e = absurd cc
 
--- an input begins something new, and is no tick
+-- an input begins something new, and is no timer event
 pub input_begins : (event : Event) → is_input (kind_of event) ≡ true → begins (kind_of event) ≡ true
 input_begins (events.Said item) e = refl
 input_begins (events.Broken fault) e = refl
 input_begins events.Tick e = refl
+input_begins events.Probe e = refl
 input_begins (events.Told answer) e = absurd cc
 input_begins events.ReaderEnd e = refl
 input_begins events.NoMemory e = absurd cc
 input_begins events.HallFull e = absurd cc
 input_begins events.WriteFault e = absurd cc
 
-input_no_tick : (event : Event) → is_input (kind_of event) ≡ true → is_tick (kind_of event) ≡ false
-input_no_tick (events.Said item) e = refl
-input_no_tick (events.Broken fault) e = refl
-input_no_tick events.Tick e = absurd cc
-input_no_tick (events.Told answer) e = refl
-input_no_tick events.ReaderEnd e = refl
-input_no_tick events.NoMemory e = refl
-input_no_tick events.HallFull e = refl
-input_no_tick events.WriteFault e = refl
-
--- so many ticks with it
-abbrev ticks_with : ℕ → Event → ℕ
-ticks_with n event = cond (is_tick (kind_of event)) (n + 1) n
-
-ticks_more : (n : ℕ) (b : Bool) → cond b (n + 1) n ≡ n + cond b 1 0
-ticks_more n true = refl
-ticks_more n false = omega arith
-
--- the origin with it
-origin_with : {H : Type 0} (from : Origin H) (b : Bool) → ticked from (cond b (from.ticks + 1) from.ticks) ≡ cond b (with_tick from) from
-origin_with from true = refl
-origin_with from false = refl
+input_no_beat : (event : Event) → is_input (kind_of event) ≡ true → is_beat (kind_of event) ≡ false
+input_no_beat (events.Said item) e = refl
+input_no_beat (events.Broken fault) e = refl
+input_no_beat events.Tick e = absurd cc
+input_no_beat events.Probe e = absurd cc
+input_no_beat (events.Told answer) e = refl
+input_no_beat events.ReaderEnd e = refl
+input_no_beat events.NoMemory e = refl
+input_no_beat events.HallFull e = refl
+input_no_beat events.WriteFault e = refl
 
 -- what was lost is so with it
 or_kept : (a b : Bool) → b ≡ false → (a || (b || false)) ≡ a
@@ -189,7 +179,7 @@ accounts_begun : {H : Type 0} (told : H → BadgeState → List Reply → H → 
     (held : Option (List ℕ)) (failed : Bool) (written : ℕ) (inputs : List Event) (missing : List ℕ) (lost : Bool) (event : Event) (sent : List Message) (asked : Option Question)
     → IsOpen trace → begins (kind_of event) ≡ true → trace.session.pending ≡ None → (t : TraceSteps trace trace' event sent asked)
     → (a : Accounts told refused from (progress trace hall badge held failed written) inputs missing lost false)
-    → AccountsOf told refused (ticked from (ticks_with from.ticks event)) (progress trace' hall badge held failed written) (inputs ++ input_in event) (missing ++ texts sent) lost false (a.history ++ record { event = event; starved = t.starved } ∷ [])
+    → AccountsOf told refused (with_event from event) (progress trace' hall badge held failed written) (inputs ++ input_in event) (missing ++ texts sent) lost false (a.history ++ record { event = event; starved = t.starved } ∷ [])
 accounts_begun told refused oracle from trace trace' hall badge held failed written inputs missing lost event sent asked going new free t a =
     let p = begins_plain event new in
     let none = p.replies_none (pending_question trace.session) in
@@ -201,14 +191,14 @@ accounts_begun told refused oracle from trace trace' hall badge held failed writ
       one_told = no_answer _ _ none p.no_told;
       free = λ _. free;
     } in
-    let adds : Adds trace (record { event = event; starved = t.starved }) from.ticks (ticks_with from.ticks event) inputs (inputs ++ input_in event) missing (missing ++ texts sent) lost lost =
+    let adds : Adds trace (record { event = event; starved = t.starved }) from.beats (from.beats ++ beat_in event) inputs (inputs ++ input_in event) missing (missing ++ texts sent) lost lost =
     record {
-      ticks_are = ticks_more from.ticks (is_tick (kind_of event));
+      beats_are = refl;
       inputs_are = refl;
       missing_are = ap (λ (ms : List Message). missing ++ texts ms) (sym t.messages);
       lost_is = or_kept lost (loses (kind_of event)) p.no_loss;
     } in
-    accounts_grow told refused oracle from trace trace' hall hall badge badge held failed written (ticks_with from.ticks event) inputs (inputs ++ input_in event) missing (missing ++ texts sent) lost lost false
+    accounts_grow told refused oracle from trace trace' hall hall badge badge held failed written (from.beats ++ beat_in event) inputs (inputs ++ input_in event) missing (missing ++ texts sent) lost lost false
     (record { event = event; starved = t.starved }) going a t.grows changes adds (λ h. not_both (is_no_memory (kind_of event)) p.no_shortage h)
 
 -- it ended the session, and nothing was written
@@ -219,8 +209,7 @@ pub stands_ended : {H : Type 0} (told : H → BadgeState → List Reply → H �
 stands_ended {H = H} told refused oracle from trace trace' hall badge held failed written inputs held_back event sent asked going new t closed s =
     let a = accounts_begun told refused oracle from trace trace' hall badge held failed written inputs s.sent.missing s.sent.lost event sent asked going new (s.answered going) t s.sent.accounts in
     let silent : sent ≡ [] = silent_step trace trace' event sent asked going t closed in
-    subst (λ (o : Origin H). Stands told refused o (progress trace' hall badge held failed written) (inputs ++ input_in event) held_back false) (origin_with from (is_tick (kind_of event)))
-    (record {
+    record {
       sent = record {
         missing = s.sent.missing ++ texts sent;
         lost = s.sent.lost;
@@ -230,7 +219,7 @@ stands_ended {H = H} told refused oracle from trace trace' hall badge held faile
       };
       unasked = λ some. ap (has_kind is_told) a.history_is ∙ none_more is_told s.sent.accounts.history (record { event = event; starved = t.starved }) (s.unasked some) (begins_plain event new).no_told;
       answered = λ h. not_both (is_closed trace'.session.state) h closed;
-    })
+    }
 
 -- it didn't end the session: what was held back and its messages are on their way, and lead to
 -- where nothing is held back
@@ -242,9 +231,8 @@ pub stands_on : {H : Type 0} (told : H → BadgeState → List Reply → H → B
 stands_on {H = H} told refused oracle from trace trace' hall badge held failed written now inputs held_back left event sent asked going new t none leads s =
     let before : Progress H = progress trace hall badge held failed written in
     let a = accounts_begun told refused oracle from trace trace' hall badge held failed written inputs held_back false event sent asked going new (s.answered going) t (open_whole told refused from before inputs held_back s.sent going) in
-    subst (λ (o : Origin H). Stands told refused o now (inputs ++ input_in event) left false) (origin_with from (is_tick (kind_of event)))
-    (settled_stands told refused (ticked from (ticks_with from.ticks event)) now (inputs ++ input_in event) left false none
-    (leads (ticked from (ticks_with from.ticks event)) (λ h. open_told told refused from before inputs held_back s.sent going h) (record { lost = false; accounts = a.accounts })))
+    settled_stands told refused (with_event from event) now (inputs ++ input_in event) left false none
+    (leads (with_event from event) (λ h. open_told told refused from before inputs held_back s.sent going h) (record { lost = false; accounts = a.accounts }))
 
 -- ---- an input given where nothing is held back
 
@@ -252,7 +240,7 @@ stands_on {H = H} told refused oracle from trace trace' hall badge held failed w
 pub stands_gave : {H : Type 0} (told : H → BadgeState → List Reply → H → BadgeState → Type 0) (refused : H → BadgeState → Fault → Type 0) (from : Origin H) (now : Progress H) (inputs : List Event) (held_back : List ℕ) (event : Event) → is_input (kind_of event) ≡ true → held_back ≡ []
     → Stands told refused (with_event from event) now (inputs ++ input_in event) held_back false → Gave told refused from now inputs event
 stands_gave {H = H} told refused from now inputs held_back event input none s =
-    let same : with_event from event ≡ from = ap (λ b. cond b (with_tick from) from) (input_no_tick event input) in
+    let same : with_event from event ≡ from = ap (with_beats from) (same_beats from.beats event (input_no_beat event input)) in
     let one : inputs ++ input_in event ≡ inputs ++ event ∷ [] = ap (λ (is : List Event). inputs ++ is) (one_input event input) in
     record {
       given = inputs ++ event ∷ [];

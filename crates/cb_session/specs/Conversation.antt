@@ -13,9 +13,9 @@ use Rattle.cb_peer_state.specs.declared.event.Event.{Event}
 use Rattle.cb_peer_state.specs.declared.event.Event.TheVariants as events
 use Rattle.cb_trace.specs.declared.trace.TraceEntry.{TraceEntry}
 use Rattle.cb_peer_state.specs.Questions.{fits, questions_left, pending_question}
-use Rattle.cb_peer_state.specs.Event.{ends_at_once, is_hall_full, is_input, is_no_memory, is_tick, is_told, is_write_fault, kind_of, loses}
+use Rattle.cb_peer_state.specs.Event.{ends_at_once, is_beat, is_hall_full, is_input, is_no_memory, is_told, is_write_fault, kind_of, loses}
 use Rattle.cb_peer_state.specs.State.{is_closed}
-use Rattle.cb_trace.specs.Fold.{first_account, has_kind, inputs_of, number_of, replies, sends}
+use Rattle.cb_trace.specs.Fold.{beats_of, first_account, has_kind, inputs_of, number_of, replies, sends}
 use Rattle.cb_trace.specs.Prompt.{EachPrompt}
 use Rattle.cb_trace.specs.Trace.{Grows, LacksBase, StandsFor, TraceView}
 use Rattle.cb_session.specs.declared.conversation.Conversation.{Conversation}
@@ -27,16 +27,16 @@ SameReferences old new =
     × (new.hall.ghost_name ≡ old.hall.ghost_name) × (new.badge.ghost_name ≡ old.badge.ghost_name)
 
 -- Where a conversation began: the settings, the hall and the badge, what the sink held, and whether
--- it had failed. And how many ticks the session was given since.
+-- it had failed. And which timer events the session was given since, in order: ticks and probes.
 pub record Origin (H : Type 0) : Type 0 where
   pub settings : Settings
   pub hall : H
   pub badge : BadgeState
   pub held : Option (List ℕ)
   pub failed : Bool
-  pub ticks : ℕ
+  pub beats : List Event
 
--- A conversation that began here and was given no tick.
+-- A conversation that began here and was given no timer event.
 abbrev pub origin_of : {H : Type 0} → Settings → H → BadgeState → Option (List ℕ) → Bool → Origin H
 origin_of settings hall badge held failed = record {
   settings = settings;
@@ -44,16 +44,16 @@ origin_of settings hall badge held failed = record {
   badge = badge;
   held = held;
   failed = failed;
-  ticks = 0;
+  beats = [];
 }
 
--- The session was given one more tick.
-abbrev pub with_tick : {H : Type 0} → Origin H → Origin H
-with_tick from = record from { ticks = from.ticks + 1 }
+-- The event as a list of timer events, which is empty if it is none.
+abbrev pub beat_in : Event → List Event
+beat_in event = if is_beat (kind_of event) then event ∷ [] else []
 
--- The session was given one more event, which is counted if it is a tick.
+-- The session was given one more event, which is noted if it is a timer event.
 abbrev pub with_event : {H : Type 0} → Origin H → Event → Origin H
-with_event from event = if is_tick (kind_of event) then with_tick from else from
+with_event from event = record from { beats = from.beats ++ beat_in event }
 
 -- The event as a list of inputs, which is empty if it is none.
 abbrev pub input_in : Event → List Event
@@ -139,7 +139,7 @@ pub record Accounts {H : Type 0} (told : H → BadgeState → List Reply → H �
   pub hall_full : has_kind is_hall_full history ≡ true → refused now.hall now.badge JournalFull
   pub no_memory : has_kind is_no_memory history ≡ true
       → Lacked refused now missing ⊎ (unkept ≡ true)
-  pub ticks_are : number_of is_tick history ≡ from.ticks
+  pub beats_are : beats_of history ≡ from.beats
   pub losses : has_kind loses history ≡ lost
 
 -- The account while messages are still to be written.

@@ -2,6 +2,7 @@ ghost use Rattle.std.specs.Prelude.{◌≡◌, ◌≤◌, [], length, map, vec_c
 ghost use Rattle.std.specs.List.{range_with_len};
 ghost use Rattle.cb_base.specs.declared.fault.Fault.TheVariants.{Memory};
 ghost use Rattle.cb_crew.specs.Crew.{AreHandlersOf, AreOpeningSeats, HasPlace, inbox_of};
+ghost use Rattle.cb_crew.specs.Ring.{most_peers};
 ghost use Rattle.cb_peers.specs.Reading.{QueuedWhatItRead};
 ghost use Rattle.cb_slots.specs.Linking.{link_label};
 ghost use Rattle.cb_slots.specs.Slot.{AreSlotsOf, AreThreadsOf, names_in, new_slot};
@@ -20,8 +21,14 @@ use std::marker::{Copy, Send};
 use std::sync::Wait;
 use std::thread::Threads;
 
-/// How many marks a slot's inbox holds.
-const CAPACITY: usize = 256;
+/// How many marks a slot's inbox holds at most, and at least.
+const MOST_MARKS: usize = 256;
+
+const FEWEST_MARKS: usize = 16;
+
+/// How many marks the inboxes of a node hold together. A place takes as much as a connection's
+/// work, so this is most of what a node takes at its start.
+const ALL_MARKS: usize = 16_384;
 
 /// How many marks a handler takes in a turn at most.
 const BUDGET: u32 = 64;
@@ -67,7 +74,7 @@ pub fn crew_slots<W: Work<Item = Input>, R: Wait>(
     firsts: Vec<NextConnection<W>>,
     handlers: u16,
 ) -> Result<Crewed<W>, Fault>
-    requires firsts { (1 ≤ length firsts.items) × (length firsts.items ≤ 64) }
+    requires firsts { (1 ≤ length firsts.items) × (length firsts.items ≤ most_peers) }
     requires in_order { map (λ first. first.link.peer) firsts.items
         ≡ range_with_len 0 (length firsts.items) }
     requires handlers { (1 ≤ handlers) × (handlers ≤ 16) }
@@ -99,6 +106,15 @@ pub fn crew_slots<W: Work<Item = Input>, R: Wait>(
     })
 }
 
+/// How many marks the inbox of each of so many slots holds: 256 of up to 64 slots, and fewer of
+/// more.
+fn capacity_for(slots: usize) -> usize
+    requires { 1 ≤ slots }
+    ensures { (1 ≤ result) × (result ≤ 1024) }
+{
+    (ALL_MARKS / slots).clamp(FEWEST_MARKS, MOST_MARKS)
+}
+
 /// A crew with the works of these connections, and their links. Fails only with `Fault::Memory`.
 fn new_crew<W: Work<Item = Input>, R: Wait>(
     rt: &R,
@@ -106,7 +122,7 @@ fn new_crew<W: Work<Item = Input>, R: Wait>(
     firsts: Vec<NextConnection<W>>,
     handlers: u16,
 ) -> Result<(NewCrew<W>, Vec<Shared<Link>>), Fault>
-    requires firsts { (1 ≤ length firsts.items) × (length firsts.items ≤ 64) }
+    requires firsts { (1 ≤ length firsts.items) × (length firsts.items ≤ most_peers) }
     requires handlers { (1 ≤ handlers) × (handlers ≤ 16) }
     ensures crew { IfOk result (λ made. (length made.0.crew.inboxes ≡ length firsts.items)
         × (made.0.crew.handlers ≡ handlers)) }
@@ -125,7 +141,8 @@ fn new_crew<W: Work<Item = Input>, R: Wait>(
         works.push(first.work.into_work())?;
         links.push(first.link)?;
     }
-    match Crew::new(rt, alloc, works, handlers, CAPACITY) {
+    let capacity = capacity_for(works.len());
+    match Crew::new(rt, alloc, works, handlers, capacity) {
         Ok(made) => Ok((made, links)),
         Err((_, fault)) => Err(fault),
     }

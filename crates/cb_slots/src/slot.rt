@@ -140,10 +140,19 @@ impl<W: Work<Item = Input>> Slot<W> {
         self.used && !self.is_spent() && (!is_lent || self.latest.is_left())
     }
 
-    /// Makes a tick of the latest connection due, if it has a socket.
+    /// Makes a tick of the latest connection due, if it has a socket and its session isn't over.
+    /// Returns whether that was done. Then `Signals::ring` is to be called.
+    pub fn set_tick(&self) -> bool {
+        if self.waits || self.latest.status.is_stopped() {
+            return false;
+        }
+        self.latest.status.set_tick();
+        true
+    }
+
+    /// As `set_tick`, and wakes a handler.
     pub fn tick(&self, signals: &Signals) {
-        if !self.waits {
-            self.latest.status.set_tick();
+        if self.set_tick() {
             signals.ring();
         }
     }

@@ -19,9 +19,10 @@ use Rattle.cb_peer_state.specs.declared.state.CloseReason.{CloseReason}
 use Rattle.cb_peer_state.specs.Questions.{fits, question_of}
 use Rattle.cb_peer_state.specs.Receiving.{Outcome}
 use Rattle.cb_peer_state.specs.Replying.{answered, differ}
-use Rattle.cb_peer_state.specs.Session.{Stepped, arrives, closes, for_item, open_step, openings, pending_of, stays, told}
+use Rattle.cb_peer_state.specs.Session.{Stepped, arrives, closes, for_item, open_step, openings, pending_of, pinged, stays, told}
 use Rattle.cb_peer_state.specs.declared.session_state.SessionState.{SessionState}
 use Rattle.cb_peer_state.specs.State.{freed, is_closed, is_ready, with_pending}
+use Rattle.cb_peer_state.proofs.Cases.{by_test}
 use Rattle.cb_trace.specs.declared.trace.TraceEntry.{TraceEntry}
 use Rattle.cb_trace.specs.Fold.{Account, account_of, account_step, entry_step, first_account, sends}
 use Rattle.cb_trace.specs.Whole.{AreAlternating, high_in, highs_in}
@@ -80,11 +81,15 @@ told_plays (Some pending) s answer late timely =
       | inr misfit ↦ rw misfit (stays_plays s timely)
     ]
 
+pinged_plays : (s : SessionState) → IsTimely s → PlaysMade s (pinged s)
+pinged_plays s timely = record { plays = plain (record { shorts = refl; relays = refl }) refl refl (λ ready. ready); timely = timely }
+
 open_plays : (s : SessionState) (event : Event) → IsTimely s → PlaysMade s (open_step s event)
 unfolding open_step
 open_plays s (events.Said item) timely = arrives_plays s.pending s (Some item) timely
 open_plays s (events.Broken fault) timely = closes_plays s _
 open_plays s events.Tick timely = arrives_plays s.pending s None timely
+open_plays s events.Probe timely = by_test (PlaysMade s) (is_ready s.state) (pinged s) (stays s) (λ _. pinged_plays s timely) (λ _. stays_plays s timely)
 open_plays s (events.Told answer) timely = told_plays s.pending s answer timely timely
 open_plays s events.ReaderEnd timely = closes_plays s _
 open_plays s events.NoMemory timely = closes_plays s _
@@ -116,14 +121,14 @@ more_nonces sent messages none = filter_map-append nonce_in sent messages ∙ ap
 more_highs : (sent messages : List Message) → highs_in messages ≡ [] → highs_in (sent ++ messages) ≡ highs_in sent
 more_highs sent messages none = filter_map-append high_in sent messages ∙ ap (λ (l : List Bool). highs_in sent ++ l) none ∙ append-nil (highs_in sent)
 
-small : (salt : ℕ) → salt % 2 ^ 64 < 2 ^ 64
+pub small : (salt : ℕ) → salt % 2 ^ 64 < 2 ^ 64
 small salt = omega arith
 
 -- the next nonce is the one behind all
-next_is : (salt own made count : ℕ) → own ≡ salt → made ≡ count % 2 ^ 64 → (own + made) % 2 ^ 64 ≡ behind (salt % 2 ^ 64) count
+pub next_is : (salt own made count : ℕ) → own ≡ salt → made ≡ count % 2 ^ 64 → (own + made) % 2 ^ 64 ≡ behind (salt % 2 ^ 64) count
 next_is salt own made count same is = omega (arith, same, is)
 
-made_more : (made count more new : ℕ) → made ≡ count % 2 ^ 64 → new ≡ (made + more) % 2 ^ 64 → new ≡ (count + more) % 2 ^ 64
+pub made_more : (made count more new : ℕ) → made ≡ count % 2 ^ 64 → new ≡ (made + more) % 2 ^ 64 → new ≡ (count + more) % 2 ^ 64
 made_more made count more new is next = omega (arith, is, next)
 
 turned : (old highs : List Bool) (asked new : Bool) → asked ≡ last_of old → Turns asked highs new → AreAlternating old → AreAlternating (old ++ highs) × (new ≡ last_of (old ++ highs))

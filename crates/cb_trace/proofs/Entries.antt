@@ -85,7 +85,7 @@ entry_bye count s entry =
 
 -- the question that an entry asks is open, or nothing changed
 pub entry_asks_any : (count : ℕ) (s : SessionState) (entry : TraceEntry) → AsksIt s (entry_step count s entry)
-entry_asks_any count s entry = entry_either (AsksIt s) count s entry (λ _. inr refl) (λ going. entry_asks count s entry going)
+entry_asks_any count s entry = entry_either (AsksIt s) count s entry (λ _. inr (refl, refl, refl)) (λ going. entry_asks count s entry going)
 
 -- ---- what is left of a session that is over
 

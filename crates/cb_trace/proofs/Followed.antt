@@ -29,11 +29,11 @@ use Rattle.cb_peer_state.specs.Event.{is_input, is_told, kind_of}
 use Rattle.cb_peer_state.specs.Laws.{is_following, is_headers}
 use Rattle.cb_peer_state.specs.Receiving.{Outcome, ends}
 use Rattle.cb_peer_state.specs.Replying.{answered, replied, resuming}
-use Rattle.cb_peer_state.specs.Session.{Stepped, arrives, closes, for_item, open_step, openings, pending_item, pending_of, stays, told}
+use Rattle.cb_peer_state.specs.Session.{Stepped, arrives, closes, for_item, open_step, openings, pending_item, pending_of, pinged, stays, told}
 use Rattle.cb_peer_state.specs.declared.session_state.SessionState.{SessionState}
-use Rattle.cb_peer_state.specs.State.{freed, is_closed}
+use Rattle.cb_peer_state.specs.State.{freed, is_closed, is_ready}
 use Rattle.cb_peer_state.proofs.LawLemmas.{no_headers_unasked}
-use Rattle.cb_peer_state.proofs.Cases.{sent_at_end}
+use Rattle.cb_peer_state.proofs.Cases.{by_test, sent_at_end}
 use Rattle.cb_peer_state.proofs.Resuming.{resuming_cases}
 use Rattle.cb_peer_state.proofs.Behind.{found_more}
 use Rattle.cb_peer_state.proofs.Steps.{no_question, open_over}
@@ -82,6 +82,7 @@ unfolding open_step
 open_unasked s (events.Said item) e un = arrives_unasked s.pending s (Some item) e un
 open_unasked s (events.Broken fault) e un = closes_unasked s _
 open_unasked s events.Tick e un = arrives_unasked s.pending s None refl un
+open_unasked s events.Probe e un = by_test (λ (made : Stepped). IsUnasked made.session) (is_ready s.state) (pinged s) (stays s) (λ _. record { plain = un.plain; item = un.item }) (λ _. un)
 open_unasked s (events.Told answer) e un = told_unasked s.pending s answer un.item un
 open_unasked s events.ReaderEnd e un = closes_unasked s _
 open_unasked s events.NoMemory e un = closes_unasked s _
@@ -238,6 +239,7 @@ says_more : (event : Event) (later : List Event) → list_any says_send_headers 
 says_more (events.Said item) later = refl
 says_more (events.Broken fault) later = refl
 says_more events.Tick later = refl
+says_more events.Probe later = refl
 says_more (events.Told answer) later = refl
 says_more events.ReaderEnd later = refl
 says_more events.NoMemory later = refl

@@ -23,10 +23,11 @@ use Rattle.cb_peer_state.specs.Event.{begins, is_input, kind_of}
 use Rattle.cb_peer_state.specs.Pings.{event_ping, item_ping, pings, pong_nonce, pongs}
 use Rattle.cb_peer_state.specs.Receiving.{Outcome}
 use Rattle.cb_peer_state.specs.Replying.{answered}
-use Rattle.cb_peer_state.specs.Session.{Stepped, arrives, for_item, open_step, openings, pending_of, stays, told}
+use Rattle.cb_peer_state.specs.Session.{Stepped, arrives, for_item, open_step, openings, pending_of, pinged, stays, told}
 use Rattle.cb_peer_state.specs.declared.session_state.SessionState.{SessionState}
-use Rattle.cb_peer_state.specs.State.{freed, is_closed}
-use Rattle.cb_peer_state.proofs.Steps.{Comes, answered_comes, goes, next_left, nonces_of, owed_at, owed_by, stops}
+use Rattle.cb_peer_state.specs.State.{freed, is_closed, is_ready}
+use Rattle.cb_peer_state.proofs.Cases.{by_test}
+use Rattle.cb_peer_state.proofs.Steps.{Comes, Fixed, answered_comes, fixed_of, goes, next_left, nonces_of, owed_at, owed_by, stops}
 use Rattle.cb_trace.specs.declared.trace.TraceEntry.{TraceEntry}
 use Rattle.cb_trace.specs.Fold.{Account, EachOpen, account_of, account_step, entry_step, first_account, inputs_of, session_of}
 use Rattle.cb_trace.specs.Prompt.{EachPrompt}
@@ -81,10 +82,10 @@ left_most (Give block) n few = omega (arith, few)
 left_most Wanted n few = omega (arith, few)
 left_most Fresh n few = omega (arith, few)
 
-outcome_settles : (settings : Settings) (item : Option Item) (stage : Stage) (outcome : Outcome) → Comes settings (question_left stage) (owed_at stage item) outcome → Settles (owed_at stage item) (for_item item outcome)
-outcome_settles settings item stage outcome (goes going same next sent) fine =
+outcome_settles : (fixed : Fixed) (item : Option Item) (stage : Stage) (outcome : Outcome) → Comes fixed (question_left stage) (owed_at stage item) outcome → Settles (owed_at stage item) (for_item item outcome)
+outcome_settles fixed item stage outcome (goes going same next sent) fine =
     sym sent ∙ sym (append-nil (pongs outcome.messages)) ∙ ap (λ (ns : List ℕ). pongs outcome.messages ++ ns) (sym (owed_next item outcome.next (left_most stage (next_left outcome.next) next)))
-outcome_settles settings item stage outcome (stops why other e) fine =
+outcome_settles fixed item stage outcome (stops why other e) fine =
     no_bye outcome.session.state (ap (λ (p : Outcome). is_closed p.session.state) e) (λ bye. other (reason_is why reasons.Bye (ap (λ (p : Outcome). p.session.state) (sym e) ∙ bye))) fine
 
 told_settles : (pending : Option Pending) (s : SessionState) (answer : Answer) → is_closed s.state ≡ false → s.pending ≡ pending → Settles (owed pending) (told pending s answer)
@@ -93,7 +94,7 @@ told_settles (Some pending) s answer going same =
     let outcome : Outcome = answered (freed s) pending.item pending.stage answer in
     let by_fit : (b : Bool) → fits (question_of s pending.item pending.stage) answer ≡ b → Settles (owed (Some pending)) (cond b (for_item pending.item outcome) (stays s)) =
     elim [
-      | true ↦ λ fit. outcome_settles s.settings pending.item pending.stage outcome (answered_comes s (freed s) pending.item pending.stage answer fit going)
+      | true ↦ λ fit. outcome_settles (fixed_of s) pending.item pending.stage outcome (answered_comes s (freed s) pending.item pending.stage answer fit going)
       | false ↦ λ fit fine. sym (ap owed same)
     ] in
     by_fit (fits (question_of s pending.item pending.stage) answer) refl
@@ -107,6 +108,8 @@ unfolding open_step
 open_settles s (events.Said item) going prompt fine = arrives_settles s.pending s (Some item) (prompt refl) fine
 open_settles s (events.Broken fault) going prompt fine = no_bye (Closed reasons.BadStream) refl (λ e. cc) fine
 open_settles s events.Tick going prompt fine = arrives_settles s.pending s None (prompt refl) fine
+open_settles s events.Probe going prompt fine =
+    by_test (Settles (due_at s events.Probe)) (is_ready s.state) (pinged s) (stays s) (λ _ _. append-nil (owed s.pending)) (λ _ _. append-nil (owed s.pending)) fine
 open_settles s (events.Told answer) going prompt fine = append-nil (owed s.pending) ∙ told_settles s.pending s answer going refl fine
 open_settles s events.ReaderEnd going prompt fine = append-nil (owed s.pending) ∙ ap owed (prompt refl)
 open_settles s events.NoMemory going prompt fine = no_bye (Closed reasons.Memory) refl (λ e. cc) fine
@@ -130,6 +133,7 @@ pings_more : (event : Event) (later : List Event) → pings (cond (is_input (kin
 pings_more (events.Said item) later = ping_more item later
 pings_more (events.Broken fault) later = refl
 pings_more events.Tick later = refl
+pings_more events.Probe later = refl
 pings_more (events.Told answer) later = refl
 pings_more events.ReaderEnd later = refl
 pings_more events.NoMemory later = refl

@@ -11,6 +11,7 @@ pub mod Keeping
 pub mod LawLemmas
 pub mod Missing
 pub mod Numbered
+pub mod Probed
 pub mod Questions
 pub mod Quiet
 pub mod Reached

@@ -22,9 +22,10 @@ use Rattle.cb_peer_state.specs.declared.state.CloseReason.{CloseReason}
 use Rattle.cb_peer_state.specs.Questions.{fits, question_at, question_of, pending_question}
 use Rattle.cb_peer_state.specs.Receiving.{Outcome}
 use Rattle.cb_peer_state.specs.Replying.{answered}
-use Rattle.cb_peer_state.specs.Session.{Stepped, arrives, closes, for_item, open_step, openings, pending_of, stays, told}
+use Rattle.cb_peer_state.specs.Session.{Stepped, arrives, closes, for_item, open_step, openings, pending_of, pinged, stays, told}
 use Rattle.cb_peer_state.specs.declared.session_state.SessionState.{SessionState}
-use Rattle.cb_peer_state.specs.State.{freed}
+use Rattle.cb_peer_state.specs.State.{freed, is_ready}
+use Rattle.cb_peer_state.proofs.Cases.{by_test}
 use Rattle.cb_peer_state.specs.Laws.{asks_for_block}
 use Rattle.cb_trace.specs.declared.trace.TraceEntry.{TraceEntry}
 use Rattle.cb_trace.specs.Fold.{Account, account_of, account_step, entry_step, replies, replies_to, sends, session_of}
@@ -80,11 +81,15 @@ told_so t (Some pending) s answer tells each is =
       | inr misfit ↦ rw misfit (stays_so t s is)
     ]
 
+pinged_so : (t : Tests) (s : SessionState) → IsSo t s → MakesSo t (pinged s)
+pinged_so t s is = record { is = record { fetches = is.fetches; sought = is.sought }; asked = none_asked t.needed (pinged s).messages (λ _. refl) }
+
 open_so : (t : Tests) (s : SessionState) (event : Event) → TellsAt t (pending_question s) event → IsSo t s → MakesSo t (open_step s event)
 unfolding open_step
 open_so t s (events.Said item) tells is = arrives_so t s.pending s (Some item) is
 open_so t s (events.Broken fault) tells is = closes_so t s _
 open_so t s events.Tick tells is = arrives_so t s.pending s None is
+open_so t s events.Probe tells is = by_test (MakesSo t) (is_ready s.state) (pinged s) (stays s) (λ _. pinged_so t s is) (λ _. stays_so t s is)
 open_so t s (events.Told answer) tells is = told_so t s.pending s answer tells is.sought is
 open_so t s events.ReaderEnd tells is = closes_so t s _
 open_so t s events.NoMemory tells is = closes_so t s _

@@ -116,5 +116,5 @@ pub pending_is_after : (count : ℕ) (s s' : SessionState) (entry : TraceEntry) 
 pending_is_after count s s' entry waiting asked before same question =
     elim (entry_asks_any count s entry) [
       | inl stands ↦ inl (question ∙ stands ∙ ap pending_question (sym same))
-      | inr e ↦ inr (question ∙ ap (λ (m : Stepped). m.question) e, before ∙ ap pending_question (sym (same ∙ ap (λ (m : Stepped). m.session) e)))
+      | inr e ↦ inr (question ∙ e.0, before ∙ sym (ap pending_question same ∙ e.2))
     ]

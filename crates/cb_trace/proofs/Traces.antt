@@ -111,10 +111,10 @@ trace_more base settings before es es' x x' t t' r r' entry sent asked p =
       limit = λ h. (let more = entry_full t.entries x entry p.going (stepped h) in omega (arith, more, few, counted));
     }
 
--- the question that was asked is open, or nothing changed
+-- the question that was asked is open, or none was asked
 asks_pending : (s s' : SessionState) (made : Stepped) (asked : Option Question) → s' ≡ made.session → asked ≡ made.question → AsksIt s made → AsksPending s s' asked
 asks_pending s s' made asked same question (inl stands) = inl (question ∙ stands ∙ ap pending_question (sym same))
-asks_pending s s' made asked same question (inr e) = inr (question ∙ ap (λ (m : Stepped). m.question) e, same ∙ ap (λ (m : Stepped). m.session) e)
+asks_pending s s' made asked same question (inr e) = inr (question ∙ e.0, ap (λ (x : SessionState). x.pending) same ∙ e.1, ap pending_question same ∙ e.2)
 
 pub trace_steps : (base : SessionState) (settings : Settings) (before : Counts) (es es' : List TraceEntry) (x x' : SessionState) (t t' : Counts) (r r' : ℕ) (event : Event) (starved : Bool) (sent : List Message) (asked : Option Question)
     → Puts base settings before es es' x x' t t' r r' (record { event = event; starved = starved }) sent asked → (takes_no_memory event ≡ true → starved ≡ false)

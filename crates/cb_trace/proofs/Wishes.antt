@@ -21,9 +21,10 @@ use Rattle.cb_peer_state.specs.declared.state.State.TheVariants.{Start, Greeted,
 use Rattle.cb_peer_state.specs.Questions.{fits, question_of}
 use Rattle.cb_peer_state.specs.Receiving.{Outcome}
 use Rattle.cb_peer_state.specs.Replying.{answered}
-use Rattle.cb_peer_state.specs.Session.{Stepped, arrives, closes, for_item, open_step, openings, stays, told}
+use Rattle.cb_peer_state.specs.Session.{Stepped, arrives, closes, for_item, open_step, openings, pinged, stays, told}
 use Rattle.cb_peer_state.specs.declared.session_state.SessionState.{SessionState}
 use Rattle.cb_peer_state.specs.State.{freed, is_closed, is_ready}
+use Rattle.cb_peer_state.proofs.Cases.{by_test}
 use Rattle.cb_trace.specs.declared.trace.TraceEntry.{TraceEntry}
 use Rattle.cb_trace.specs.Fold.{Account, account_of, account_step, entry_step, first_account, sends}
 use Rattle.cb_trace.specs.Whole.{came_to, is_send_headers, knows_send_headers, number_sent}
@@ -84,6 +85,7 @@ unfolding open_step
 open_tells s (events.Said item) = arrives_tells s.pending s (Some item)
 open_tells s (events.Broken fault) = closes_tells s _
 open_tells s events.Tick = arrives_tells s.pending s None
+open_tells s events.Probe = by_test (Tells s) (is_ready s.state) (pinged s) (stays s) (λ _. quiet refl (λ knows. knows) (λ past. past)) (λ _. stays_tells s)
 open_tells s (events.Told answer) = told_tells s.pending s answer
 open_tells s events.ReaderEnd = closes_tells s _
 open_tells s events.NoMemory = closes_tells s _

@@ -10,7 +10,7 @@ use Rattle.cb_peer_state.specs.declared.state.CloseReason.TheVariants as reasons
 use Rattle.cb_peer_state.specs.declared.event.Event.{Event}
 use Rattle.cb_peer_state.specs.declared.event.Event.TheVariants as events
 use Rattle.cb_peer_state.specs.Questions.{pending_question}
-use Rattle.cb_peer_state.specs.Event.{Kind, kind_of, is_input}
+use Rattle.cb_peer_state.specs.Event.{Kind, kind_of, is_beat, is_input}
 use Rattle.cb_peer_state.specs.Session.{Stepped, openings, stays, closes, open_step}
 use Rattle.cb_peer_state.specs.declared.session_state.SessionState.{SessionState}
 use Rattle.cb_peer_state.specs.State.{is_closed, opening}
@@ -83,6 +83,10 @@ has_kind test entries = list_any (λ entry. test (kind_of entry.event)) entries
 -- The number of entries whose event is of such a kind.
 abbrev pub number_of : (Kind → Bool) → List TraceEntry → ℕ
 number_of test entries = length (filter (λ entry. test (kind_of entry.event)) entries)
+
+-- The timer events, in order: ticks and probes.
+abbrev pub beats_of : List TraceEntry → List Event
+beats_of entries = filter (λ event. is_beat (kind_of event)) (map (λ entry. entry.event) entries)
 
 -- The inputs from the peer, in order: items, a fault of the stream, its end.
 abbrev pub inputs_of : List TraceEntry → List Event

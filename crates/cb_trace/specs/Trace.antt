@@ -107,15 +107,17 @@ pub record Grows (old new : TraceView) (entry : TraceEntry) : Type 0 where
       → StandsFor new (history ++ entry ∷ [])
 
 -- The question asked is the one that is open afterwards. If none is asked, none is open, or the
--- session is unchanged because the event didn't fit.
+-- item and the question that were open stay so, since the event didn't fit or was a probe.
 abbrev pub AsksPending : SessionState → SessionState → Option Question → Type 0
 AsksPending before after asked =
-    (asked ≡ pending_question after) ⊎ ((asked ≡ None) × (after ≡ before))
+    (asked ≡ pending_question after)
+    ⊎ ((asked ≡ None) × (after.pending ≡ before.pending)
+    × (pending_question after ≡ pending_question before))
 
 -- The trace was given an event, and returned what its session sent and asked. The entry is starved
 -- only if the step takes memory. An answer is never starved if it doesn't fit. Nor is one to which
 -- nothing is hashed, copied or listed (`weighs_at` of cb_peer_state), nothing is sent, and nothing
--- is asked but for the locator or what is new.
+-- is asked but for the locator or what is new; nor a probe to which nothing is sent.
 pub record TraceSteps (old new : TraceView) (event : Event) (sent : List Message)
     (asked : Option Question) : Type 0 where
   pub starved : Bool

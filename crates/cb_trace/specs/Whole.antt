@@ -1,5 +1,5 @@
 -- What was sent and answered over a whole trace, in the protocol's words.
-use Rattle.std.specs.Prelude.{◌≡◌, ℕ, pos, Bool, true, false, not, ◌&&◌, ◌||◌, int_lt, if◌then◌else◌, List, [], ◌∷◌, ◌++◌, length, filter, filter_map, Option, Some, None}
+use Rattle.std.specs.Prelude.{◌≡◌, ℕ, ◌+◌, pos, Bool, true, false, not, ◌&&◌, ◌||◌, int_lt, if◌then◌else◌, List, [], ◌∷◌, ◌++◌, length, filter, filter_map, Option, Some, None}
 use Rattle.cb_base.specs.declared.hash.Hash256.{Hash256}
 use Rattle.cb_block.specs.declared.header.Header.{Header}
 use Rattle.cb_chain.specs.Entries.{block_hash}
@@ -18,6 +18,7 @@ use Rattle.cb_peer_state.specs.declared.event.Event.{Event}
 use Rattle.cb_peer_state.specs.declared.event.Event.TheVariants as events
 use Rattle.cb_peer_state.specs.declared.settings.Settings.{Settings}
 use Rattle.cb_peer_state.specs.declared.session_state.SessionState.{SessionState}
+use Rattle.cb_peer_state.specs.Pings.{ping_nonce}
 use Rattle.cb_peer_state.specs.Questions.{is_nil}
 use Rattle.cb_peer_state.specs.Replying.{differ}
 use Rattle.cb_peer_state.specs.State.{is_closed, is_ready}
@@ -73,6 +74,28 @@ pub record SendsWhatFollows (settings : Settings) (entries : List TraceEntry) : 
   pub parts : filter_map following (replies settings entries)
       ≡ filter_map headers_in (sends settings entries) ++ unsent
   pub all : is_closed (session_of settings entries).state ≡ false → unsent ≡ []
+
+-- ---- pings (BIP 31)
+
+abbrev pub is_probe : Event → Bool
+is_probe events.Probe = true
+is_probe other = false
+
+-- The event is a probe that found the session ready and left it so. It doesn't where memory runs
+-- out for the `ping`, or the trace is full.
+abbrev pub is_heeded : SessionState → Event → SessionState → Bool
+is_heeded before event after = is_probe event && (is_ready before.state && is_ready after.state)
+
+-- The number of such probes.
+abbrev pub probes_heeded : Account → List TraceEntry → ℕ
+probes_heeded account [] = 0
+probes_heeded account (entry ∷ entries) =
+    (if is_heeded account.session entry.event (account_step account entry).session then 1 else 0)
+    + probes_heeded (account_step account entry) entries
+
+-- The nonces of the pings among messages, in order.
+abbrev pub pings_in : List Message → List ℕ
+pings_in sent = filter_map ping_nonce sent
 
 -- ---- blocks being downloaded
 

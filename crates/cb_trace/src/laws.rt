@@ -15,13 +15,26 @@ ghost use Rattle.cb_trace.specs.declared.trace.TraceEntry.{TraceEntry};
 ghost use Rattle.cb_trace.specs.Blocks.{IsOnlySound, blocks_given};
 ghost use Rattle.cb_trace.specs.Fold.{first_account, inputs_of, replies, sends, session_of};
 ghost use Rattle.cb_trace.specs.Laws.{AnswersPings, EndsPromptly};
-ghost use Rattle.cb_trace.specs.Whole.{AreAlternating, SendsWhatFollows, came_to, following, headers_in, highs_in, is_send_headers, knows_send_headers, number_sent, says_send_headers, tells_lacking, tells_missing, tells_needed};
+ghost use Rattle.cb_trace.specs.Whole.{AreAlternating, SendsWhatFollows, came_to, following, headers_in, highs_in, is_send_headers, knows_send_headers, number_sent, pings_in, probes_heeded, says_send_headers, tells_lacking, tells_missing, tells_needed};
 
 /// If a trace is prompt (each item was answered before the next) and the peer's own end closed it,
 /// the pongs sent are those of the peer's pings, in order (BIP 31).
 pub fn each_ping_is_answered()
     ensures { (settings : Settings) (entries : List TraceEntry) → EndsPromptly settings entries →
         AnswersPings settings entries }
+{}
+
+/// The pings that a session sends are as many as the probes that found it ready, each with the next
+/// nonce of its own, within 64 bits (BIP 31). So none is sent before the handshake is complete, and
+/// none without a probe. A probe for whose `ping` memory ran out, or that filled the trace, ended
+/// the session and isn't counted.
+pub fn each_probe_is_a_ping()
+    ensures nonces { (settings : Settings) (entries : List TraceEntry) →
+        pings_in (sends settings entries)
+        ≡ nonces_from (settings.nonce % 2 ^ 64) (probes_heeded (first_account settings) entries) }
+    ensures many { (settings : Settings) (entries : List TraceEntry) →
+        length (pings_in (sends settings entries))
+        ≡ probes_heeded (first_account settings) entries }
 {}
 
 /// The open question of a session leaves at most six answers to wait for: an item asks no more

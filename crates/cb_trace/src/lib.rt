@@ -12,9 +12,9 @@ mod trace;
 
 pub use laws::{
     a_block_being_rebuilt_was_missing, bandwidth_wishes_alternate, blocks_are_fetched_as_told,
-    each_block_given_is_the_only_sound_list, each_ping_is_answered, each_session_is_reached,
-    few_questions_are_pending, headers_are_told_where_asked_for, no_nonce_is_used_twice,
-    send_headers_goes_out_once, settings_stay,
+    each_block_given_is_the_only_sound_list, each_ping_is_answered, each_probe_is_a_ping,
+    each_session_is_reached, few_questions_are_pending, headers_are_told_where_asked_for,
+    no_nonce_is_used_twice, send_headers_goes_out_once, settings_stay,
 };
 pub use oracle::Oracle;
 pub use trace::{Counts, Trace, TraceEntry};

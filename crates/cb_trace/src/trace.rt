@@ -182,6 +182,13 @@ impl Trace {
         self.session.state()
     }
 
+    /// How many blocks the session has in flight: requested and not received yet.
+    pub fn in_flight(&self) -> usize
+        ensures { result ≡ length self.now.session.fetch.flight }
+    {
+        self.session.in_flight()
+    }
+
     /// The entries since the base, in order.
     pub fn entries(&self) -> &[TraceEntry]
         ensures entries { result.now ≡ self.now.entries }

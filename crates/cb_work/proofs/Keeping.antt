@@ -1,5 +1,5 @@
 -- What every work keeps, one call at a time.
-use Rattle.std.proofs.Common.{◌≡◌, ℕ, Bool, true, false, List, sym, ap, ◌∙◌}
+use Rattle.std.proofs.Common.{◌≡◌, ℕ, Bool, true, false, List, ◌++◌, sym, ap, ◌∙◌}
 use Rattle.std.specs.Prelude.{Option}
 use Rattle.cb_base.specs.declared.fault.Fault.{Fault}
 use Rattle.cb_state.specs.declared.connection.Connection.{Connection}
@@ -7,22 +7,23 @@ use Rattle.cb_hall.specs.Badge.{BadgeState}
 use Rattle.cb_hall.specs.Histories.{Reply}
 use Rattle.cb_peer_state.specs.declared.event.Event.{Event}
 use Rattle.cb_peer_state.specs.Event.{begins, kind_of}
+use Rattle.cb_session.specs.Conversation.{beat_in}
 use Rattle.cb_crew.specs.declared.work.Given.{Given}
 use Rattle.cb_reader.specs.declared.input.Input.{Input}
-use Rattle.cb_work.specs.PeerWork.{IsPeerWork, Serves, WorkState, is_over, items_after, ticks_after}
+use Rattle.cb_work.specs.PeerWork.{IsPeerWork, Serves, WorkState, is_over, items_after}
 use Rattle.cb_work.proofs.Serving.{Begins, KeepsConnection, next_badge, serves_flags, serves_next}
 
 -- the slot is still its peer's, and it served something
 pub keeps : {S H F : Type 0} (told : H → BadgeState → List Reply → H → BadgeState → Type 0) (refused : H → BadgeState → Fault → Type 0) (contents : S → Option (List ℕ)) (has_failed : S → Bool) (is_stopped : F → Bool)
-    (old new : WorkState S H F) (items : List (Given Input)) (ticks : ℕ) → IsPeerWork told refused contents has_failed is_stopped old
+    (old new : WorkState S H F) (items : List (Given Input)) (beats : List Event) → IsPeerWork told refused contents has_failed is_stopped old
     → new.slot ≡ old.slot → new.badge.connection ≡ old.badge.connection → (is_over new ≡ true → is_stopped new.flags ≡ true)
-    → Serves told refused contents has_failed new items ticks → IsPeerWork told refused contents has_failed is_stopped new
-keeps told refused contents has_failed is_stopped old new items ticks p slot badge stopped serves =
+    → Serves told refused contents has_failed new items beats → IsPeerWork told refused contents has_failed is_stopped new
+keeps told refused contents has_failed is_stopped old new items beats p slot badge stopped serves =
     record {
       slot = slot ∙ p.slot ∙ ap (λ (c : Connection). c.peer) (sym badge);
       stopped = stopped;
       items = items;
-      ticks = ticks;
+      beats = beats;
       serves = serves;
     }
 
@@ -32,9 +33,9 @@ pub keeps_next : {S H F : Type 0} (told : H → BadgeState → List Reply → H 
     → is_over old ≡ false → begins (kind_of event) ≡ true → Begins told refused contents has_failed old event new
     → new.slot ≡ old.slot → (is_over new ≡ true → is_stopped new.flags ≡ true) → IsPeerWork told refused contents has_failed is_stopped new
 keeps_next told refused contents has_failed is_stopped same old new event p going begun leads slot stopped =
-    keeps told refused contents has_failed is_stopped old new (items_after p.items event) (ticks_after p.ticks event) p slot
-    (next_badge told refused contents has_failed same old new event p.items p.ticks going leads p.serves) stopped
-    (serves_next told refused contents has_failed same old new event p.items p.ticks going begun leads p.serves)
+    keeps told refused contents has_failed is_stopped old new (items_after p.items event) (p.beats ++ beat_in event) p slot
+    (next_badge told refused contents has_failed same old new event p.items p.beats going leads p.serves) stopped
+    (serves_next told refused contents has_failed same old new event p.items p.beats going begun leads p.serves)
 
 -- with other flags that say as much of the stop
 pub keeps_flags : {S H F : Type 0} (told : H → BadgeState → List Reply → H → BadgeState → Type 0) (refused : H → BadgeState → Fault → Type 0) (contents : S → Option (List ℕ)) (has_failed : S → Bool) (is_stopped : F → Bool)
@@ -45,6 +46,6 @@ keeps_flags told refused contents has_failed is_stopped work flags same p =
       slot = p.slot;
       stopped = λ over. same ∙ p.stopped over;
       items = p.items;
-      ticks = p.ticks;
-      serves = serves_flags told refused contents has_failed work flags p.items p.ticks p.serves;
+      beats = p.beats;
+      serves = serves_flags told refused contents has_failed work flags p.items p.beats p.serves;
     }

@@ -7,13 +7,14 @@ use Rattle.cb_wire.specs.declared.message.Message.{Message}
 use Rattle.cb_wire.specs.Stream.{texts}
 use Rattle.cb_hall.specs.Badge.{BadgeState, fresh_badge}
 use Rattle.cb_hall.specs.Histories.{Reply}
-use Rattle.cb_peer_state.specs.Event.{is_tick, loses}
+use Rattle.cb_peer_state.specs.declared.event.Event.{Event}
+use Rattle.cb_peer_state.specs.Event.{loses}
 use Rattle.cb_peer_state.specs.Session.{openings}
 use Rattle.cb_peer_state.specs.State.{is_closed}
 use Rattle.cb_peer_state.specs.declared.session_state.SessionState.{SessionState}
 use Rattle.cb_trace.specs.declared.trace.Counts.{Counts}
 use Rattle.cb_trace.specs.declared.trace.TraceEntry.{TraceEntry}
-use Rattle.cb_trace.specs.Fold.{account_of, has_kind, inputs_of, number_of, replies, sends}
+use Rattle.cb_trace.specs.Fold.{account_of, beats_of, has_kind, inputs_of, replies, sends}
 use Rattle.cb_trace.specs.Trace.{StandsFor, TraceView}
 use Rattle.cb_talk.specs.Writing.{counted}
 use Rattle.cb_crew.specs.declared.work.Given.{Given}
@@ -57,7 +58,7 @@ opens_anew trace stands = ap (λ (s : SessionState). is_closed s.state) stands.s
 anew_first : {S H F : Type 0} (told : H → BadgeState → List Reply → H → BadgeState → Type 0) (refused : H → BadgeState → Fault → Type 0) (contents : S → Option (List ℕ)) (has_failed : S → Bool)
     (old : WorkState S H F) (trace : TraceView) (unsent : List Message)
     → old.trace.total.entries ≡ 0 → StandsFor trace [] → unsent ≡ openings trace.settings
-    → Serves told refused contents has_failed old [] 0 → Serves told refused contents has_failed (anew old trace unsent) [] 0
+    → Serves told refused contents has_failed old [] [] → Serves told refused contents has_failed (anew old trace unsent) [] []
 unfolding account_of
 anew_first told refused contents has_failed old trace unsent none stands first s =
     let a = s.stands.sent.accounts in
@@ -93,7 +94,7 @@ anew_first told refused contents has_failed old trace unsent none stands first s
             write_fault = λ h. absurd cc;
             hall_full = λ h. absurd cc;
             no_memory = λ h. absurd cc;
-            ticks_are = refl;
+            beats_are = refl;
             losses = refl;
           };
           whole = λ _. refl;
@@ -108,17 +109,17 @@ anew_first told refused contents has_failed old trace unsent none stands first s
 
 -- whatever the work served, it was nothing
 pub serves_anew : {S H F : Type 0} (told : H → BadgeState → List Reply → H → BadgeState → Type 0) (refused : H → BadgeState → Fault → Type 0) (contents : S → Option (List ℕ)) (has_failed : S → Bool)
-    (old : WorkState S H F) (trace : TraceView) (unsent : List Message) (items : List (Given Input)) (ticks : ℕ)
+    (old : WorkState S H F) (trace : TraceView) (unsent : List Message) (items : List (Given Input)) (beats : List Event)
     → is_over old ≡ false → old.trace.total.entries ≡ 0 → StandsFor trace [] → unsent ≡ openings trace.settings
-    → Serves told refused contents has_failed old items ticks → Serves told refused contents has_failed (anew old trace unsent) items ticks
-serves_anew told refused contents has_failed old trace unsent items ticks going none stands first s =
+    → Serves told refused contents has_failed old items beats → Serves told refused contents has_failed (anew old trace unsent) items beats
+serves_anew told refused contents has_failed old trace unsent items beats going none stands first s =
     let a = s.stands.sent.accounts in
     let e : a.history ≡ [] = no_history old.trace a.history none a.stands in
-    let nothing : items ≡ [] = no_items items (unstarved told refused contents has_failed old items ticks going s) (sym a.inputs_are ∙ ap inputs_of e) in
-    let unticked : ticks ≡ 0 = sym a.ticks_are ∙ ap (number_of is_tick) e in
+    let nothing : items ≡ [] = no_items items (unstarved told refused contents has_failed old items beats going s) (sym a.inputs_are ∙ ap inputs_of e) in
+    let unticked : beats ≡ [] = sym a.beats_are ∙ ap beats_of e in
     let new = anew old trace unsent in
-    subst (λ (i : List (Given Input)). Serves told refused contents has_failed new i ticks) (sym nothing)
-    (subst (λ (n : ℕ). Serves told refused contents has_failed new [] n) (sym unticked)
+    subst (λ (i : List (Given Input)). Serves told refused contents has_failed new i beats) (sym nothing)
+    (subst (λ (bs : List Event). Serves told refused contents has_failed new [] bs) (sym unticked)
     (anew_first told refused contents has_failed old trace unsent none stands first
-    (subst (λ (n : ℕ). Serves told refused contents has_failed old [] n) unticked
-    (subst (λ (i : List (Given Input)). Serves told refused contents has_failed old i ticks) nothing s))))
+    (subst (λ (bs : List Event). Serves told refused contents has_failed old [] bs) unticked
+    (subst (λ (i : List (Given Input)). Serves told refused contents has_failed old i beats) nothing s))))

@@ -1,5 +1,5 @@
 -- The account of a work, one event at a time.
-use Rattle.std.proofs.Common.{◌≡◌, ◌⊎◌, ◌≤◌, ◌<◌, ℕ, ◌+◌, Bool, true, false, List, [], ◌∷◌, ◌++◌, length, Option, inl, inr, refl, sym, ap, subst, ◌∙◌, zero-add, arith}
+use Rattle.std.proofs.Common.{◌≡◌, ◌⊎◌, ◌≤◌, ◌<◌, ℕ, ◌+◌, Bool, true, false, List, [], ◌∷◌, ◌++◌, length, Option, inl, inr, refl, sym, ap, subst, ◌∙◌, zero-add}
 use Rattle.std.specs.Prelude.{None}
 use Rattle.std.proofs.lemmas.Bool.{cases_lt}
 use Rattle.std.proofs.lemmas.List.{append-nil}
@@ -19,14 +19,14 @@ use Rattle.cb_peer_state.specs.declared.session_state.SessionState.{SessionState
 use Rattle.cb_trace.specs.Fold.{has_kind}
 use Rattle.cb_trace.specs.Trace.{IsShed, Readied, StandsFor, TraceView, weight_of}
 use Rattle.cb_trace.specs.declared.trace.Counts.{Counts}
-use Rattle.cb_session.specs.Conversation.{Accounts, Origin, Stands, input_in, progress, with_event}
+use Rattle.cb_session.specs.Conversation.{Accounts, Origin, Stands, beat_in, input_in, progress, with_event}
 use Rattle.cb_session.proofs.Accounts.{AccountsOf, IsOracle, not_both}
 use Rattle.cb_session.proofs.Standing.{stands_first, stands_ready, stands_starved}
 use Rattle.cb_crew.specs.declared.work.Given.{Given}
 use Rattle.cb_crew.specs.declared.work.Given.TheVariants as given
 use Rattle.cb_reader.specs.declared.input.Input.{Input}
 use Rattle.cb_reader.specs.declared.input.Input.TheVariants as inputs
-use Rattle.cb_work.specs.PeerWork.{HoldsNothing, Serves, WorkState, beginning, events_of, is_over, items_after, reached, ticks_after, was_starved}
+use Rattle.cb_work.specs.PeerWork.{HoldsNothing, Serves, WorkState, beginning, events_of, is_over, items_after, reached, was_starved}
 
 -- ---- one item more
 
@@ -54,6 +54,7 @@ after_starved : (items : List (Given Input)) (event : Event) → was_starved ite
 after_starved items (events.Said item) e = starved_more items (given.Item (inputs.Said item)) e
 after_starved items (events.Broken fault) e = starved_more items (given.Item (inputs.Broken fault)) e
 after_starved items events.Tick e = e
+after_starved items events.Probe e = e
 after_starved items (events.Told answer) e = e
 after_starved items events.ReaderEnd e = starved_more items given.End e
 after_starved items events.NoMemory e = e
@@ -64,38 +65,33 @@ after_events : (items : List (Given Input)) (event : Event) → was_starved item
 after_events items (events.Said item) e = events_more items (given.Item (inputs.Said item)) e
 after_events items (events.Broken fault) e = events_more items (given.Item (inputs.Broken fault)) e
 after_events items events.Tick e = sym (append-nil (events_of items))
+after_events items events.Probe e = sym (append-nil (events_of items))
 after_events items (events.Told answer) e = sym (append-nil (events_of items))
 after_events items events.ReaderEnd e = events_more items given.End e
 after_events items events.NoMemory e = sym (append-nil (events_of items))
 after_events items events.HallFull e = sym (append-nil (events_of items))
 after_events items events.WriteFault e = sym (append-nil (events_of items))
 
--- what begins something new is an item or a tick
-some_after : {P : Type 0} (items : List (Given Input)) (ticks : ℕ) (event : Event) → begins (kind_of event) ≡ true → items_after items event ≡ [] → ticks_after ticks event ≡ 0 → P
-some_after items ticks (events.Said item) b e f = more_than_none items _ e
-some_after items ticks (events.Broken fault) b e f = more_than_none items _ e
-some_after items ticks events.Tick b e f = absurd (omega (arith, f))
-some_after items ticks (events.Told answer) b e f = absurd cc
-some_after items ticks events.ReaderEnd b e f = more_than_none items _ e
-some_after items ticks events.NoMemory b e f = absurd cc
-some_after items ticks events.HallFull b e f = absurd cc
-some_after items ticks events.WriteFault b e f = absurd cc
+-- what begins something new is an item, a tick or a probe
+some_after : {P : Type 0} (items : List (Given Input)) (beats : List Event) (event : Event) → begins (kind_of event) ≡ true → items_after items event ≡ [] → beats ++ beat_in event ≡ [] → P
+some_after items beats (events.Said item) b e f = more_than_none items _ e
+some_after items beats (events.Broken fault) b e f = more_than_none items _ e
+some_after items beats events.Tick b e f = more_than_none beats _ f
+some_after items beats events.Probe b e f = more_than_none beats _ f
+some_after items beats (events.Told answer) b e f = absurd cc
+some_after items beats events.ReaderEnd b e f = more_than_none items _ e
+some_after items beats events.NoMemory b e f = absurd cc
+some_after items beats events.HallFull b e f = absurd cc
+some_after items beats events.WriteFault b e f = absurd cc
 
 -- ---- where a work began
 
-abbrev origin : {H : Type 0} → H → Option (List ℕ) → ℕ → Settings → Connection → Origin H
-origin hall held ticks settings connection = record { settings = settings; hall = hall; badge = fresh_badge connection; held = held; failed = false; ticks = ticks }
+abbrev origin : {H : Type 0} → H → Option (List ℕ) → List Event → Settings → Connection → Origin H
+origin hall held beats settings connection = record { settings = settings; hall = hall; badge = fresh_badge connection; held = held; failed = false; beats = beats }
 
-origin_after : {H : Type 0} (hall : H) (held : Option (List ℕ)) (ticks : ℕ) (settings : Settings) (connection : Connection) (event : Event)
-    → with_event (origin hall held ticks settings connection) event ≡ origin hall held (ticks_after ticks event) settings connection
-origin_after hall held ticks settings connection (events.Said item) = refl
-origin_after hall held ticks settings connection (events.Broken fault) = refl
-origin_after hall held ticks settings connection events.Tick = refl
-origin_after hall held ticks settings connection (events.Told answer) = refl
-origin_after hall held ticks settings connection events.ReaderEnd = refl
-origin_after hall held ticks settings connection events.NoMemory = refl
-origin_after hall held ticks settings connection events.HallFull = refl
-origin_after hall held ticks settings connection events.WriteFault = refl
+origin_after : {H : Type 0} (hall : H) (held : Option (List ℕ)) (beats : List Event) (settings : Settings) (connection : Connection) (event : Event)
+    → with_event (origin hall held beats settings connection) event ≡ origin hall held (beats ++ beat_in event) settings connection
+origin_after hall held beats settings connection event = refl
 
 -- an oracle keeps the badge's connection
 abbrev pub KeepsConnection : {H : Type 0} → (H → BadgeState → List Reply → H → BadgeState → Type 0) → Type 0
@@ -103,20 +99,20 @@ KeepsConnection {H} told = (a b : H) (x y : BadgeState) (replies : List Reply) �
 
 -- an account from where a work began is one from where it begins as it is now
 moved : {S H F : Type 0} (told : H → BadgeState → List Reply → H → BadgeState → Type 0) (refused : H → BadgeState → Fault → Type 0) (contents : S → Option (List ℕ)) (has_failed : S → Bool)
-    (same : KeepsConnection told) (hall : H) (held : Option (List ℕ)) (ticks : ℕ) (settings : Settings) (connection : Connection) (new : WorkState S H F) (given : List Event) (unsent : List ℕ) (unkept : Bool)
-    → Stands told refused (origin hall held ticks settings connection) (reached contents has_failed new) given unsent unkept
-    → Stands told refused (beginning new hall held ticks) (reached contents has_failed new) given unsent unkept
-moved told refused contents has_failed same hall held ticks settings connection new given unsent unkept s =
+    (same : KeepsConnection told) (hall : H) (held : Option (List ℕ)) (beats : List Event) (settings : Settings) (connection : Connection) (new : WorkState S H F) (given : List Event) (unsent : List ℕ) (unkept : Bool)
+    → Stands told refused (origin hall held beats settings connection) (reached contents has_failed new) given unsent unkept
+    → Stands told refused (beginning new hall held beats) (reached contents has_failed new) given unsent unkept
+moved told refused contents has_failed same hall held beats settings connection new given unsent unkept s =
     let kept : new.badge.connection ≡ connection = same _ _ _ _ _ s.sent.accounts.replies_are in
     let set : new.trace.settings ≡ settings = s.sent.accounts.settings in
-    subst (λ (c : Connection). Stands told refused (origin hall held ticks new.trace.settings c) (reached contents has_failed new) given unsent unkept) (sym kept)
-    (subst (λ (t : Settings). Stands told refused (origin hall held ticks t connection) (reached contents has_failed new) given unsent unkept) (sym set) s)
+    subst (λ (c : Connection). Stands told refused (origin hall held beats new.trace.settings c) (reached contents has_failed new) given unsent unkept) (sym kept)
+    (subst (λ (t : Settings). Stands told refused (origin hall held beats t connection) (reached contents has_failed new) given unsent unkept) (sym set) s)
 
 -- the badge's connection stays
 pub same_badge : {S H F : Type 0} (told : H → BadgeState → List Reply → H → BadgeState → Type 0) (refused : H → BadgeState → Fault → Type 0) (contents : S → Option (List ℕ)) (has_failed : S → Bool)
-    (same : KeepsConnection told) (old new : WorkState S H F) (hall : H) (held : Option (List ℕ)) (ticks : ℕ) (given : List Event) (unsent : List ℕ) (unkept : Bool)
-    → Stands told refused (beginning old hall held ticks) (reached contents has_failed new) given unsent unkept → new.badge.connection ≡ old.badge.connection
-same_badge told refused contents has_failed same old new hall held ticks given unsent unkept s = same _ _ _ _ _ s.sent.accounts.replies_are
+    (same : KeepsConnection told) (old new : WorkState S H F) (hall : H) (held : Option (List ℕ)) (beats : List Event) (given : List Event) (unsent : List ℕ) (unkept : Bool)
+    → Stands told refused (beginning old hall held beats) (reached contents has_failed new) given unsent unkept → new.badge.connection ≡ old.badge.connection
+same_badge told refused contents has_failed same old new hall held beats given unsent unkept s = same _ _ _ _ _ s.sent.accounts.replies_are
 
 -- ---- a work that goes on
 
@@ -126,16 +122,16 @@ not_starved false over ends going = refl
 
 -- its items don't say that memory ran out
 pub unstarved : {S H F : Type 0} (told : H → BadgeState → List Reply → H → BadgeState → Type 0) (refused : H → BadgeState → Fault → Type 0) (contents : S → Option (List ℕ)) (has_failed : S → Bool)
-    (work : WorkState S H F) (items : List (Given Input)) (ticks : ℕ) → is_over work ≡ false → Serves told refused contents has_failed work items ticks → was_starved items ≡ false
-unstarved told refused contents has_failed work items ticks going s = not_starved (was_starved items) (is_over work) s.starved going
+    (work : WorkState S H F) (items : List (Given Input)) (beats : List Event) → is_over work ≡ false → Serves told refused contents has_failed work items beats → was_starved items ≡ false
+unstarved told refused contents has_failed work items beats going s = not_starved (was_starved items) (is_over work) s.starved going
 
 -- and its account says that all was kept
 stands_kept : {S H F : Type 0} (told : H → BadgeState → List Reply → H → BadgeState → Type 0) (refused : H → BadgeState → Fault → Type 0) (contents : S → Option (List ℕ)) (has_failed : S → Bool)
-    (work : WorkState S H F) (items : List (Given Input)) (ticks : ℕ) → is_over work ≡ false → (s : Serves told refused contents has_failed work items ticks)
-    → Stands told refused (beginning work s.hall (contents s.sink) ticks) (reached contents has_failed work) (events_of items) (texts work.unsent) false
-stands_kept told refused contents has_failed work items ticks going s =
-    subst (λ (b : Bool). Stands told refused (beginning work s.hall (contents s.sink) ticks) (reached contents has_failed work) (events_of items) (texts work.unsent) b)
-    (unstarved told refused contents has_failed work items ticks going s) s.stands
+    (work : WorkState S H F) (items : List (Given Input)) (beats : List Event) → is_over work ≡ false → (s : Serves told refused contents has_failed work items beats)
+    → Stands told refused (beginning work s.hall (contents s.sink) beats) (reached contents has_failed work) (events_of items) (texts work.unsent) false
+stands_kept told refused contents has_failed work items beats going s =
+    subst (λ (b : Bool). Stands told refused (beginning work s.hall (contents s.sink) beats) (reached contents has_failed work) (events_of items) (texts work.unsent) b)
+    (unstarved told refused contents has_failed work items beats going s) s.stands
 
 -- ---- the calls
 
@@ -147,53 +143,53 @@ Begins {S} {H} {F} told refused contents has_failed old event new =
 
 -- an event was given that begins something new
 pub serves_next : {S H F : Type 0} (told : H → BadgeState → List Reply → H → BadgeState → Type 0) (refused : H → BadgeState → Fault → Type 0) (contents : S → Option (List ℕ)) (has_failed : S → Bool)
-    (same : KeepsConnection told) (old new : WorkState S H F) (event : Event) (items : List (Given Input)) (ticks : ℕ)
+    (same : KeepsConnection told) (old new : WorkState S H F) (event : Event) (items : List (Given Input)) (beats : List Event)
     → is_over old ≡ false → begins (kind_of event) ≡ true → Begins told refused contents has_failed old event new
-    → Serves told refused contents has_failed old items ticks → Serves told refused contents has_failed new (items_after items event) (ticks_after ticks event)
-serves_next {H = H} told refused contents has_failed same old new event items ticks going begun leads s =
-    let none = unstarved told refused contents has_failed old items ticks going s in
+    → Serves told refused contents has_failed old items beats → Serves told refused contents has_failed new (items_after items event) (beats ++ beat_in event)
+serves_next {H = H} told refused contents has_failed same old new event items beats going begun leads s =
+    let none = unstarved told refused contents has_failed old items beats going s in
     let held = contents s.sink in
-    let after = leads (beginning old s.hall held ticks) (events_of items) (stands_kept told refused contents has_failed old items ticks going s) in
+    let after = leads (beginning old s.hall held beats) (events_of items) (stands_kept told refused contents has_failed old items beats going s) in
     let from = subst (λ (o : Origin H). Stands told refused o (reached contents has_failed new) (events_of items ++ input_in event) (texts new.unsent) false)
-    (origin_after s.hall held ticks old.trace.settings old.badge.connection event) after in
-    let here = moved told refused contents has_failed same s.hall held (ticks_after ticks event) old.trace.settings old.badge.connection new (events_of items ++ input_in event) (texts new.unsent) false from in
+    (origin_after s.hall held beats old.trace.settings old.badge.connection event) after in
+    let here = moved told refused contents has_failed same s.hall held (beats ++ beat_in event) old.trace.settings old.badge.connection new (events_of items ++ input_in event) (texts new.unsent) false from in
     record {
       hall = s.hall;
       sink = s.sink;
       empty = s.empty;
       unfailed = s.unfailed;
       stands =
-          subst (λ (b : Bool). Stands told refused (beginning new s.hall held (ticks_after ticks event)) (reached contents has_failed new) (events_of (items_after items event)) (texts new.unsent) b)
+          subst (λ (b : Bool). Stands told refused (beginning new s.hall held (beats ++ beat_in event)) (reached contents has_failed new) (events_of (items_after items event)) (texts new.unsent) b)
           (sym (after_starved items event none))
-          (subst (λ (es : List Event). Stands told refused (beginning new s.hall held (ticks_after ticks event)) (reached contents has_failed new) es (texts new.unsent) false)
+          (subst (λ (es : List Event). Stands told refused (beginning new s.hall held (beats ++ beat_in event)) (reached contents has_failed new) es (texts new.unsent) false)
           (sym (after_events items event none)) here);
       starved = λ h. not_both _ (after_starved items event none) h;
-      waits = λ e f. some_after items ticks event begun e f;
+      waits = λ e f. some_after items beats event begun e f;
     }
 
 -- the badge that it leaves
 pub next_badge : {S H F : Type 0} (told : H → BadgeState → List Reply → H → BadgeState → Type 0) (refused : H → BadgeState → Fault → Type 0) (contents : S → Option (List ℕ)) (has_failed : S → Bool)
-    (same : KeepsConnection told) (old new : WorkState S H F) (event : Event) (items : List (Given Input)) (ticks : ℕ)
+    (same : KeepsConnection told) (old new : WorkState S H F) (event : Event) (items : List (Given Input)) (beats : List Event)
     → is_over old ≡ false → Begins told refused contents has_failed old event new
-    → Serves told refused contents has_failed old items ticks → new.badge.connection ≡ old.badge.connection
-next_badge {H = H} told refused contents has_failed same old new event items ticks going leads s =
+    → Serves told refused contents has_failed old items beats → new.badge.connection ≡ old.badge.connection
+next_badge {H = H} told refused contents has_failed same old new event items beats going leads s =
     let held = contents s.sink in
-    let after = leads (beginning old s.hall held ticks) (events_of items) (stands_kept told refused contents has_failed old items ticks going s) in
-    same_badge told refused contents has_failed same old new s.hall held (ticks_after ticks event) _ _ _
+    let after = leads (beginning old s.hall held beats) (events_of items) (stands_kept told refused contents has_failed old items beats going s) in
+    same_badge told refused contents has_failed same old new s.hall held (beats ++ beat_in event) _ _ _
     (subst (λ (o : Origin H). Stands told refused o (reached contents has_failed new) (events_of items ++ input_in event) (texts new.unsent) false)
-    (origin_after s.hall held ticks old.trace.settings old.badge.connection event) after)
+    (origin_after s.hall held beats old.trace.settings old.badge.connection event) after)
 
 -- memory ran out for what the peer sent
 pub serves_lost : {S H F : Type 0} (told : H → BadgeState → List Reply → H → BadgeState → Type 0) (refused : H → BadgeState → Fault → Type 0) (contents : S → Option (List ℕ)) (has_failed : S → Bool)
-    (same : KeepsConnection told) (old new : WorkState S H F) (items : List (Given Input)) (ticks : ℕ)
+    (same : KeepsConnection told) (old new : WorkState S H F) (items : List (Given Input)) (beats : List Event)
     → is_over old ≡ false → is_over new ≡ true → new.unsent ≡ old.unsent
     → ((from : Origin H) (given : List Event) (held_back : List ℕ) → Stands told refused from (reached contents has_failed old) given held_back false → Stands told refused from (reached contents has_failed new) given held_back true)
-    → Serves told refused contents has_failed old items ticks → Serves told refused contents has_failed new (items ++ given.Item inputs.NoMemory ∷ []) ticks
-serves_lost told refused contents has_failed same old new items ticks going over unsent leads s =
-    let none = unstarved told refused contents has_failed old items ticks going s in
+    → Serves told refused contents has_failed old items beats → Serves told refused contents has_failed new (items ++ given.Item inputs.NoMemory ∷ []) beats
+serves_lost told refused contents has_failed same old new items beats going over unsent leads s =
+    let none = unstarved told refused contents has_failed old items beats going s in
     let held = contents s.sink in
-    let after = leads (beginning old s.hall held ticks) (events_of items) (texts old.unsent) (stands_kept told refused contents has_failed old items ticks going s) in
-    let here = moved told refused contents has_failed same s.hall held ticks old.trace.settings old.badge.connection new (events_of items) (texts old.unsent) true after in
+    let after = leads (beginning old s.hall held beats) (events_of items) (texts old.unsent) (stands_kept told refused contents has_failed old items beats going s) in
+    let here = moved told refused contents has_failed same s.hall held beats old.trace.settings old.badge.connection new (events_of items) (texts old.unsent) true after in
     let kept = events_more items (given.Item inputs.NoMemory) none ∙ append-nil (events_of items) in
     record {
       hall = s.hall;
@@ -201,10 +197,10 @@ serves_lost told refused contents has_failed same old new items ticks going over
       empty = s.empty;
       unfailed = s.unfailed;
       stands =
-          subst (λ (b : Bool). Stands told refused (beginning new s.hall held ticks) (reached contents has_failed new) (events_of (items ++ given.Item inputs.NoMemory ∷ [])) (texts new.unsent) b)
+          subst (λ (b : Bool). Stands told refused (beginning new s.hall held beats) (reached contents has_failed new) (events_of (items ++ given.Item inputs.NoMemory ∷ [])) (texts new.unsent) b)
           (sym (starved_more items (given.Item inputs.NoMemory) none))
-          (subst (λ (es : List Event). Stands told refused (beginning new s.hall held ticks) (reached contents has_failed new) es (texts new.unsent) true) (sym kept)
-          (subst (λ (ms : List Message). Stands told refused (beginning new s.hall held ticks) (reached contents has_failed new) (events_of items) (texts ms) true) (sym unsent) here));
+          (subst (λ (es : List Event). Stands told refused (beginning new s.hall held beats) (reached contents has_failed new) es (texts new.unsent) true) (sym kept)
+          (subst (λ (ms : List Message). Stands told refused (beginning new s.hall held beats) (reached contents has_failed new) (events_of items) (texts ms) true) (sym unsent) here));
       starved = λ _. over;
       waits = λ e f. more_than_none items _ e;
     }
@@ -215,14 +211,14 @@ with_trace work trace = record work { trace = trace }
 
 -- room was made, or there was none
 pub serves_readied : {S H F : Type 0} (told : H → BadgeState → List Reply → H → BadgeState → Type 0) (refused : H → BadgeState → Fault → Type 0) (contents : S → Option (List ℕ)) (has_failed : S → Bool)
-    (oracle : IsOracle told refused) (same : KeepsConnection told) (old : WorkState S H F) (trace : TraceView) (made : Bool) (items : List (Given Input)) (ticks : ℕ)
+    (oracle : IsOracle told refused) (same : KeepsConnection told) (old : WorkState S H F) (trace : TraceView) (made : Bool) (items : List (Given Input)) (beats : List Event)
     → is_over old ≡ false → Readied old.trace trace made
-    → Serves told refused contents has_failed old items ticks → Serves told refused contents has_failed (with_trace old trace) items ticks
-serves_readied told refused contents has_failed oracle same old trace made items ticks going readied s =
-    let none = unstarved told refused contents has_failed old items ticks going s in
+    → Serves told refused contents has_failed old items beats → Serves told refused contents has_failed (with_trace old trace) items beats
+serves_readied told refused contents has_failed oracle same old trace made items beats going readied s =
+    let none = unstarved told refused contents has_failed old items beats going s in
     let held = contents s.sink in
-    let from = beginning old s.hall held ticks in
-    let before = stands_kept told refused contents has_failed old items ticks going s in
+    let from = beginning old s.hall held beats in
+    let before = stands_kept told refused contents has_failed old items beats going s in
     let on : (b : Bool) → Readied old.trace trace b → Stands told refused from (reached contents has_failed (with_trace old trace)) (events_of items) (texts old.unsent) false =
     elim [
       | true ↦ λ r. stands_ready told refused from old.trace trace old.hall old.badge (contents old.sink) (has_failed old.sink) old.written (events_of items) (texts old.unsent) going r before
@@ -236,8 +232,8 @@ serves_readied told refused contents has_failed oracle same old trace made items
       empty = s.empty;
       unfailed = s.unfailed;
       stands =
-          subst (λ (b : Bool). Stands told refused (beginning (with_trace old trace) s.hall held ticks) (reached contents has_failed (with_trace old trace)) (events_of items) (texts old.unsent) b) (sym none)
-          (moved told refused contents has_failed same s.hall held ticks old.trace.settings old.badge.connection (with_trace old trace) (events_of items) (texts old.unsent) false after);
+          subst (λ (b : Bool). Stands told refused (beginning (with_trace old trace) s.hall held beats) (reached contents has_failed (with_trace old trace)) (events_of items) (texts old.unsent) b) (sym none)
+          (moved told refused contents has_failed same s.hall held beats old.trace.settings old.badge.connection (with_trace old trace) (events_of items) (texts old.unsent) false after);
       starved = λ h. not_both _ none h;
       waits = λ e f. s.waits e f ∙ ap openings (sym set);
     }
@@ -260,7 +256,7 @@ accounts_shed told refused from trace trace' hall badge held failed written inpu
         write_fault = a.write_fault;
         hall_full = a.hall_full;
         no_memory = λ _. inl (inl (inl shed.room));
-        ticks_are = a.ticks_are;
+        beats_are = a.beats_are;
         losses = a.losses;
       };
       history_is = refl;
@@ -279,21 +275,21 @@ stands_shed told refused from trace trace' hall badge held failed written inputs
 
 -- its trace was shed, or is as it was
 pub serves_shed : {S H F : Type 0} (told : H → BadgeState → List Reply → H → BadgeState → Type 0) (refused : H → BadgeState → Fault → Type 0) (contents : S → Option (List ℕ)) (has_failed : S → Bool)
-    (same : KeepsConnection told) (old : WorkState S H F) (trace : TraceView) (items : List (Given Input)) (ticks : ℕ)
+    (same : KeepsConnection told) (old : WorkState S H F) (trace : TraceView) (items : List (Given Input)) (beats : List Event)
     → (trace ≡ old.trace) ⊎ IsShed old.trace trace
-    → Serves told refused contents has_failed old items ticks → Serves told refused contents has_failed (with_trace old trace) items ticks
-serves_shed told refused contents has_failed same old trace items ticks (inl e) s =
-    subst (λ (t : TraceView). Serves told refused contents has_failed (with_trace old t) items ticks) (sym e) s
-serves_shed told refused contents has_failed same old trace items ticks (inr shed) s =
+    → Serves told refused contents has_failed old items beats → Serves told refused contents has_failed (with_trace old trace) items beats
+serves_shed told refused contents has_failed same old trace items beats (inl e) s =
+    subst (λ (t : TraceView). Serves told refused contents has_failed (with_trace old t) items beats) (sym e) s
+serves_shed told refused contents has_failed same old trace items beats (inr shed) s =
     let held = contents s.sink in
     let after =
-    stands_shed told refused (beginning old s.hall held ticks) old.trace trace old.hall old.badge (contents old.sink) (has_failed old.sink) old.written (events_of items) (texts old.unsent) (was_starved items) shed s.stands in
+    stands_shed told refused (beginning old s.hall held beats) old.trace trace old.hall old.badge (contents old.sink) (has_failed old.sink) old.written (events_of items) (texts old.unsent) (was_starved items) shed s.stands in
     record {
       hall = s.hall;
       sink = s.sink;
       empty = s.empty;
       unfailed = s.unfailed;
-      stands = moved told refused contents has_failed same s.hall held ticks old.trace.settings old.badge.connection (with_trace old trace) (events_of items) (texts old.unsent) (was_starved items) after;
+      stands = moved told refused contents has_failed same s.hall held beats old.trace.settings old.badge.connection (with_trace old trace) (events_of items) (texts old.unsent) (was_starved items) after;
       starved = λ h. ap (λ (x : SessionState). is_closed x.state) shed.same.session ∙ s.starved h;
       waits = λ e f. s.waits e f ∙ ap openings (sym shed.same.settings);
     }
@@ -309,9 +305,9 @@ shed_closed old new (inr shed) = ap (λ (x : SessionState). is_closed x.state) s
 
 -- the flags are no part of it
 pub serves_flags : {S H F : Type 0} (told : H → BadgeState → List Reply → H → BadgeState → Type 0) (refused : H → BadgeState → Fault → Type 0) (contents : S → Option (List ℕ)) (has_failed : S → Bool)
-    (work : WorkState S H F) (flags : F) (items : List (Given Input)) (ticks : ℕ)
-    → Serves told refused contents has_failed work items ticks → Serves told refused contents has_failed (record work { flags = flags }) items ticks
-serves_flags told refused contents has_failed work flags items ticks s =
+    (work : WorkState S H F) (flags : F) (items : List (Given Input)) (beats : List Event)
+    → Serves told refused contents has_failed work items beats → Serves told refused contents has_failed (record work { flags = flags }) items beats
+serves_flags told refused contents has_failed work flags items beats s =
     record { hall = s.hall; sink = s.sink; empty = s.empty; unfailed = s.unfailed; stands = s.stands; starved = s.starved; waits = s.waits }
 
 -- ---- a new work
@@ -325,12 +321,12 @@ fresh_is badge none unmarked =
 pub serves_first : {S H F : Type 0} (told : H → BadgeState → List Reply → H → BadgeState → Type 0) (refused : H → BadgeState → Fault → Type 0) (contents : S → Option (List ℕ)) (has_failed : S → Bool)
     (oracle : IsOracle told refused) (work : WorkState S H F)
     → StandsFor work.trace [] → work.unsent ≡ openings work.trace.settings → work.badge.count ≡ 0 → work.badge.full ≡ false → work.written ≡ 0
-    → HoldsNothing (contents work.sink) → has_failed work.sink ≡ false → Serves told refused contents has_failed work [] 0
+    → HoldsNothing (contents work.sink) → has_failed work.sink ≡ false → Serves told refused contents has_failed work [] []
 serves_first {H = H} told refused contents has_failed oracle work stands unsent none unmarked unwritten empty unfailed =
     let held = contents work.sink in
     let first = stands_first told refused oracle work.trace.settings work.trace work.hall work.badge held (has_failed work.sink) work.unsent refl stands unsent in
     let on : ℕ → Bool → BadgeState → Type 0 =
-    λ written failed badge. Stands told refused (record { settings = work.trace.settings; hall = work.hall; badge = badge; held = held; failed = failed; ticks = 0 }) (progress work.trace work.hall work.badge held (has_failed work.sink) written) [] (texts work.unsent) false in
+    λ written failed badge. Stands told refused (record { settings = work.trace.settings; hall = work.hall; badge = badge; held = held; failed = failed; beats = [] }) (progress work.trace work.hall work.badge held (has_failed work.sink) written) [] (texts work.unsent) false in
     record {
       hall = work.hall;
       sink = work.sink;
@@ -349,8 +345,8 @@ serves_first {H = H} told refused contents has_failed oracle work stands unsent 
 -- the session was given as many answers as the badge counts
 pub counted_told : {S H F : Type 0} (told : H → BadgeState → List Reply → H → BadgeState → Type 0) (refused : H → BadgeState → Fault → Type 0) (contents : S → Option (List ℕ)) (has_failed : S → Bool)
     (counts : (a b : H) (x y : BadgeState) (replies : List Reply) → told a x replies b y → y.count ≡ x.count + length replies)
-    (work : WorkState S H F) (items : List (Given Input)) (ticks : ℕ) → Serves told refused contents has_failed work items ticks → work.trace.total.told ≡ work.badge.count
-counted_told told refused contents has_failed counts work items ticks s =
+    (work : WorkState S H F) (items : List (Given Input)) (beats : List Event) → Serves told refused contents has_failed work items beats → work.trace.total.told ≡ work.badge.count
+counted_told told refused contents has_failed counts work items beats s =
     let a = s.stands.sent.accounts in
     let n = counts _ _ _ _ _ a.replies_are in
     ap (λ (c : Counts). c.told) a.stands.total ∙ a.each_told ∙ sym (n ∙ zero-add _)

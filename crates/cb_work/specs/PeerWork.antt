@@ -1,6 +1,6 @@
 -- A connection's work: what it was given of its connection, what its session made of that, and what
 -- it wrote and asked.
-use Rattle.std.specs.Prelude.{◌≡◌, ℕ, ◌+◌, ◌*◌, ◌^◌, ◌%◌, ◌≤◌, ◌⊎◌, Bool, true, false, List, [], ◌∷◌, ◌++◌, length, Option, None, Some}
+use Rattle.std.specs.Prelude.{◌≡◌, ℕ, ◌+◌, ◌*◌, ◌^◌, ◌%◌, ◌≤◌, Bool, true, false, List, [], ◌∷◌, ◌++◌, length, Option, None, Some}
 use Rattle.cb_base.specs.declared.fault.Fault.{Fault}
 use Rattle.cb_state.specs.declared.connection.Connection.{Connection}
 use Rattle.cb_hall.specs.Badge.{BadgeState, fresh_badge}
@@ -13,12 +13,13 @@ use Rattle.cb_peer_state.specs.declared.event.Event.TheVariants as events
 use Rattle.cb_peer_state.specs.Session.{openings}
 use Rattle.cb_peer_state.specs.State.{is_closed}
 use Rattle.cb_trace.specs.Trace.{TraceView}
-use Rattle.cb_session.specs.Conversation.{Origin, Progress, Stands, progress}
+use Rattle.cb_session.specs.Conversation.{Origin, Progress, Stands, beat_in, progress}
 use Rattle.cb_crew.specs.declared.work.Given.{Given}
 use Rattle.cb_crew.specs.declared.work.Given.TheVariants as given
 use Rattle.cb_reader.specs.declared.input.Input.{Input}
 use Rattle.cb_reader.specs.declared.input.Input.TheVariants as inputs
-use Rattle.cb_work.specs.Flags.{ticks_in}
+use Rattle.cb_work.specs.declared.flags.Beats.{Beats}
+use Rattle.cb_work.specs.Flags.{due_in}
 
 -- A work: the trace of its session, the badge under which it asks, the slot of its sink and the
 -- sink, the hall, the flags, the number of bytes written, and the messages that are held back until
@@ -85,15 +86,16 @@ HoldsNothing (Some bytes) = bytes ≡ []
 
 -- Where a work began: with its own settings, this hall, the badge of its connection under which
 -- nothing was asked, and a sink that held this and hadn't failed. Since then its session was given
--- so many ticks.
-abbrev pub beginning : {S H F : Type 0} → WorkState S H F → H → Option (List ℕ) → ℕ → Origin H
-beginning work hall held ticks = record {
+-- these timer events.
+abbrev pub beginning : {S H F : Type 0} → WorkState S H F → H → Option (List ℕ) → List Event
+    → Origin H
+beginning work hall held beats = record {
   settings = work.trace.settings;
   hall = hall;
   badge = fresh_badge work.badge.connection;
   held = held;
   failed = false;
-  ticks = ticks;
+  beats = beats;
 }
 
 -- How far a work is.
@@ -103,50 +105,53 @@ reached contents has_failed work =
     progress work.trace work.hall work.badge (contents work.sink) (has_failed work.sink)
     work.written
 
--- The work served exactly these items, and its session was given so many ticks. Its session is the
--- fold of what it was given; each item had its answers before the next came, and none was left
--- waiting; what was written is a prefix of what the session sends, which lacks only what is held
--- back (`Stands`). If memory ran out for what the peer sent, the session is over. Until the first
--- tick or item, all that the session opens with is held back.
+-- The work served exactly these items, and its session was given exactly these ticks and probes.
+-- Its session is the fold of what it was given; each item had its answers before the next came, and
+-- none was left waiting; what was written is a prefix of what the session sends, which lacks only
+-- what is held back (`Stands`). If memory ran out for what the peer sent, the session is over.
+-- Until the first tick, probe or item, all that the session opens with is held back.
 pub record Serves {S H F : Type 0} (told : H → BadgeState → List Reply → H → BadgeState → Type 0)
     (refused : H → BadgeState → Fault → Type 0) (contents : S → Option (List ℕ))
-    (has_failed : S → Bool) (work : WorkState S H F) (items : List (Given Input)) (ticks : ℕ)
-    : Type 0 where
+    (has_failed : S → Bool) (work : WorkState S H F) (items : List (Given Input))
+    (beats : List Event) : Type 0 where
   pub hall : H
   pub sink : S  -- the sink as it was in the beginning
   pub empty : HoldsNothing (contents sink)
   pub unfailed : has_failed sink ≡ false
-  pub stands : Stands told refused (beginning work hall (contents sink) ticks)
+  pub stands : Stands told refused (beginning work hall (contents sink) beats)
       (reached contents has_failed work) (events_of items) (texts work.unsent) (was_starved items)
   pub starved : was_starved items ≡ true → is_over work ≡ true
-  pub waits : items ≡ [] → ticks ≡ 0 → work.unsent ≡ openings work.trace.settings
+  pub waits : items ≡ [] → beats ≡ [] → work.unsent ≡ openings work.trace.settings
 
 -- The work was given exactly these items.
 abbrev pub WasGiven : {S H F : Type 0} → (H → BadgeState → List Reply → H → BadgeState → Type 0)
     → (H → BadgeState → Fault → Type 0) → (S → Option (List ℕ)) → (S → Bool) → WorkState S H F
     → List (Given Input) → Type 0
 WasGiven told refused contents has_failed work items =
-    (ticks : ℕ) × Serves told refused contents has_failed work items ticks
+    (beats : List Event) × Serves told refused contents has_failed work items beats
 
--- As many ticks were given as looks found the tick flag set. Or one fewer: there was no place for
--- that tick, and the session is over.
-abbrev pub EachTick : ℕ → List Bool → Bool → Type 0
-EachTick ticks answers closed =
-    (ticks ≡ ticks_in answers) ⊎ ((ticks + 1 ≡ ticks_in answers) × (closed ≡ true))
+-- A tick was given where a look found the tick flag set, and a probe where it found the probe flag
+-- set, in order. If the session is over, those of the last look may be missing: there was no place
+-- for them.
+pub record EachBeat (beats : List Event) (answers : List Beats) (closed : Bool) : Type 0 where
+  pub missing : List Event
+  pub parts : due_in answers ≡ beats ++ missing
+  pub few : length missing ≤ 2
+  pub all : closed ≡ false → missing ≡ []
 
--- The work was ticked as often as the list is long: it looked at its tick flag so often. Its
--- session was given a tick each time the flag was set.
+-- The work was ticked as often as the list is long: it looked at its flags so often. Its session
+-- was given a tick each time the tick flag was set, and a probe each time the probe flag was.
 pub record WasTicked {S H F : Type 0} (told : H → BadgeState → List Reply → H → BadgeState → Type 0)
     (refused : H → BadgeState → Fault → Type 0) (contents : S → Option (List ℕ))
-    (has_failed : S → Bool) (looks : F → List Bool → Type 0) (work : WorkState S H F) (at : List ℕ)
+    (has_failed : S → Bool) (looks : F → List Beats → Type 0) (work : WorkState S H F) (at : List ℕ)
     : Type 0 where
-  pub answers : List Bool
+  pub answers : List Beats
   pub looked : looks work.flags answers
   pub often : length answers ≡ length at
   pub items : List (Given Input)
-  pub ticks : ℕ
-  pub serves : Serves told refused contents has_failed work items ticks
-  pub each : EachTick ticks answers (is_over work)
+  pub beats : List Event
+  pub serves : Serves told refused contents has_failed work items beats
+  pub each : EachBeat beats answers (is_over work)
 
 -- What every work keeps. Its sink is its peer's slot's. If its session is over, the stop flag is
 -- set. It has an account of all that it was given.
@@ -157,17 +162,17 @@ pub record IsPeerWork {S H F : Type 0}
   pub slot : work.slot ≡ work.badge.connection.peer
   pub stopped : is_over work ≡ true → is_stopped work.flags ≡ true
   pub items : List (Given Input)
-  pub ticks : ℕ
-  pub serves : Serves told refused contents has_failed work items ticks
+  pub beats : List Event
+  pub serves : Serves told refused contents has_failed work items beats
 
 -- ---- one step
 
--- The work serves the same connection into the same slot, and didn't look at its tick flag.
-pub record IsSamePeer {S H F : Type 0} (looks : F → List Bool → Type 0) (old new : WorkState S H F)
+-- The work serves the same connection into the same slot, and didn't look at its flags.
+pub record IsSamePeer {S H F : Type 0} (looks : F → List Beats → Type 0) (old new : WorkState S H F)
     : Type 0 where
   pub connection : new.badge.connection ≡ old.badge.connection
   pub slot : new.slot ≡ old.slot
-  pub looked : (answers : List Bool) → looks old.flags answers → looks new.flags answers
+  pub looked : (answers : List Beats) → looks old.flags answers → looks new.flags answers
 
 -- The settings are the same but for the time.
 abbrev pub IsAtTime : Settings → Settings → Type 0
@@ -180,26 +185,37 @@ items_after items (events.Broken fault) = items ++ given.Item (inputs.Broken fau
 items_after items events.ReaderEnd = items ++ given.End ∷ []
 items_after items other = items
 
--- The number of ticks after an event was given.
-abbrev pub ticks_after : ℕ → Event → ℕ
-ticks_after ticks events.Tick = ticks + 1
-ticks_after ticks other = ticks
-
 -- Whatever the work served, it served that and this event.
 abbrev pub ServesNext : {S H F : Type 0} → (H → BadgeState → List Reply → H → BadgeState → Type 0)
     → (H → BadgeState → Fault → Type 0) → (S → Option (List ℕ)) → (S → Bool) → WorkState S H F
     → Event → WorkState S H F → Type 0
 ServesNext told refused contents has_failed old event new =
-    (items : List (Given Input)) (ticks : ℕ)
-    → Serves told refused contents has_failed old items ticks
+    (items : List (Given Input)) (beats : List Event)
+    → Serves told refused contents has_failed old items beats
     → Serves told refused contents has_failed new (items_after items event)
-    (ticks_after ticks event)
+    (beats ++ beat_in event)
 
 -- Whatever the work served, it is all that it served still.
 abbrev pub ServesOn : {S H F : Type 0} → (H → BadgeState → List Reply → H → BadgeState → Type 0)
     → (H → BadgeState → Fault → Type 0) → (S → Option (List ℕ)) → (S → Bool) → WorkState S H F
     → WorkState S H F → Type 0
 ServesOn told refused contents has_failed old new =
-    (items : List (Given Input)) (ticks : ℕ)
-    → Serves told refused contents has_failed old items ticks
-    → Serves told refused contents has_failed new items ticks
+    (items : List (Given Input)) (beats : List Event)
+    → Serves told refused contents has_failed old items beats
+    → Serves told refused contents has_failed new items beats
+
+-- Of these timer events the work's session was given the first, and nothing else. Those that are
+-- missing had no place, and the session is over; a session that was over was given none.
+pub record GaveBeats {S H F : Type 0}
+    (told : H → BadgeState → List Reply → H → BadgeState → Type 0)
+    (refused : H → BadgeState → Fault → Type 0) (contents : S → Option (List ℕ))
+    (has_failed : S → Bool) (old : WorkState S H F) (due : List Event) (new : WorkState S H F)
+    : Type 0 where
+  pub given : List Event
+  pub missing : List Event
+  pub parts : due ≡ given ++ missing
+  pub all : is_over new ≡ false → missing ≡ []
+  pub none : is_over old ≡ true → (given ≡ []) × (is_over new ≡ true)
+  pub serves : (items : List (Given Input)) (beats : List Event)
+      → Serves told refused contents has_failed old items beats
+      → Serves told refused contents has_failed new items (beats ++ given)

@@ -1,5 +1,5 @@
 use crate::traffic::{BlockPath, Brought};
-use cb_base::Hash256;
+use cb_base::{Hash256, Shared};
 use cb_crew::Given;
 use cb_journal::Answer;
 use cb_peer::Event;
@@ -27,6 +27,8 @@ pub(crate) struct Carried {
     pub messages: u64,
     /// The number of payload bytes.
     pub payload: u64,
+    /// The number of messages that are a `pong`: 0 or 1.
+    pub pongs: u64,
     content: Content,
 }
 
@@ -37,6 +39,7 @@ impl Carried {
             Given::Item(input) => Carried {
                 messages: u64::from(matches!(input, Input::Said(_))),
                 payload: input.payload_len(),
+                pongs: u64::from(is_pong(input)),
                 content: content_of(input),
             },
             Given::End => Carried::nothing(),
@@ -48,21 +51,49 @@ impl Carried {
         Carried {
             messages: 0,
             payload: 0,
+            pongs: 0,
             content: Content::Other,
         }
     }
 }
 
-/// What an input carries that leads to a block.
-fn content_of(input: &Input) -> Content {
+/// The message of an input, if it has one that was read.
+fn message_of(input: &Input) -> Option<&Message> {
     let Input::Said(item) = input else {
-        return Content::Other;
+        return None;
     };
     let item: &Item = item;
     let Item::Good(message) = item else {
+        return None;
+    };
+    Some(message.message())
+}
+
+/// Whether an input is a `pong`.
+fn is_pong(input: &Input) -> bool {
+    matches!(message_of(input), Some(Message::Pong(_)))
+}
+
+/// The item of a work's next input, if that is a `version`.
+pub(crate) fn greeting_of(given: &Given<Input>) -> Option<&Shared<Item>> {
+    let Given::Item(input) = given else {
+        return None;
+    };
+    let Some(Message::Version(_)) = message_of(input) else {
+        return None;
+    };
+    match input {
+        Input::Said(item) => Some(item),
+        Input::Broken(_) | Input::NoMemory => None,
+    }
+}
+
+/// What an input carries that leads to a block.
+fn content_of(input: &Input) -> Content {
+    let Some(message) = message_of(input) else {
         return Content::Other;
     };
-    match message.message() {
+    match message {
         Message::Block(block) => Content::Block(block.header.hash()),
         Message::CmpctBlock(compact) => Content::CompactBlock(compact.header.hash()),
         Message::BlockTxn(txs) => Content::Transactions(txs.block),
@@ -152,7 +183,8 @@ fn taken(entries: &[TraceEntry]) -> bool {
         match &entry.event {
             Event::Told(Answer::Taken(_)) => return true,
             Event::Told(_) | Event::NoMemory | Event::HallFull | Event::WriteFault => {}
-            Event::Said(_) | Event::Broken(_) | Event::Tick | Event::ReaderEnd => return false,
+            Event::Said(_) | Event::Broken(_) | Event::Tick | Event::Probe | Event::ReaderEnd =>
+                return false,
         }
     }
     false

@@ -1,10 +1,12 @@
 ghost use Rattle.std.specs.Prelude.{◌≡◌, false, []};
 ghost use Rattle.cb_work.specs.Flags.{HasLooked};
 
-use crate::flags::Flags;
+use crate::flags::{Beats, Flags};
 use crate::traffic::{BlockPath, Brought, Totals, Traffic};
 use cb_base::Shared;
 use cb_peer_state::{CloseReason, State};
+use cb_wire::Item;
+use std::sync::OnceLock;
 use std::sync::atomic::{AtomicBool, AtomicI64, AtomicU64, Ordering};
 
 /// What the threads of one connection share. A handler's thread serves the connection's
@@ -13,6 +15,7 @@ use std::sync::atomic::{AtomicBool, AtomicI64, AtomicU64, Ordering};
 #[derive(Drop)]
 pub struct ConnectionStatus {
     tick: AtomicBool,
+    probe: AtomicBool,
     stop: AtomicBool,
     /// How many payload bytes lie in the connection's inbox.
     queued: AtomicU64,
@@ -20,6 +23,9 @@ pub struct ConnectionStatus {
     payload: AtomicU64,
     written: AtomicU64,
     sent: AtomicU64,
+    pongs: AtomicU64,
+    /// How many blocks were in flight after the latest step.
+    flight: AtomicU64,
     full: AtomicU64,
     compact: AtomicU64,
     completed: AtomicU64,
@@ -37,6 +43,8 @@ pub struct ConnectionStatus {
     is_made: AtomicBool,
     /// That time, in seconds since 1970.
     made: AtomicI64,
+    /// The item with the peer's first `version`.
+    greeting: OnceLock<Shared<Item>>,
 }
 
 impl ConnectionStatus {
@@ -44,12 +52,15 @@ impl ConnectionStatus {
     pub fn new() -> ConnectionStatus {
         ConnectionStatus {
             tick: AtomicBool::new(false),
+            probe: AtomicBool::new(false),
             stop: AtomicBool::new(false),
             queued: AtomicU64::new(0),
             messages: AtomicU64::new(0),
             payload: AtomicU64::new(0),
             written: AtomicU64::new(0),
             sent: AtomicU64::new(0),
+            pongs: AtomicU64::new(0),
+            flight: AtomicU64::new(0),
             full: AtomicU64::new(0),
             compact: AtomicU64::new(0),
             completed: AtomicU64::new(0),
@@ -61,6 +72,7 @@ impl ConnectionStatus {
             starved: AtomicBool::new(false),
             is_made: AtomicBool::new(false),
             made: AtomicI64::new(0),
+            greeting: OnceLock::new(),
         }
     }
 
@@ -85,9 +97,17 @@ impl ConnectionStatus {
         self.tick.store(true, Ordering::SeqCst);
     }
 
-    /// Whether a tick was due. None is due afterwards.
-    fn take_tick(&self) -> bool {
-        self.tick.swap(false, Ordering::SeqCst)
+    /// Makes a probe due: the next tick of the work gives the session a `Probe`.
+    pub fn set_probe(&self) {
+        self.probe.store(true, Ordering::SeqCst);
+    }
+
+    /// Whether a tick was due, and whether a probe was. None is due afterwards.
+    fn take_beats(&self) -> Beats {
+        Beats {
+            tick: self.tick.swap(false, Ordering::SeqCst),
+            probe: self.probe.swap(false, Ordering::SeqCst),
+        }
     }
 
     /// Tells the connection's reader to stop.
@@ -131,6 +151,34 @@ impl ConnectionStatus {
         }
     }
 
+    /// How many blocks were in flight after the latest step: requested from the peer, and not
+    /// received yet.
+    pub fn flight(&self) -> u64 {
+        self.flight.load(Ordering::SeqCst)
+    }
+
+    /// How many `pong` messages were read (BIP 31).
+    pub fn pongs(&self) -> u64 {
+        self.pongs.load(Ordering::SeqCst)
+    }
+
+    /// The item with the peer's first `version`, once that was read.
+    pub fn greeting(&self) -> Option<&Item> {
+        match self.greeting.get() {
+            None => None,
+            Some(shared) => Some(shared),
+        }
+    }
+
+    /// Keeps the item of a `version`, if none is kept. Want of an owner keeps none.
+    fn keep_greeting(&self, item: &Shared<Item>) {
+        if self.greeting.get().is_none()
+            && let Ok(shared) = item.clone()
+        {
+            let _kept = self.greeting.try_set(shared);
+        }
+    }
+
     /// The connection's socket took nothing for too long: it is about to be shut.
     pub fn set_still(&self) {
         self.still.store(true, Ordering::SeqCst);
@@ -171,6 +219,8 @@ impl ConnectionStatus {
         self.payload.fetch_add(traffic.payload, Ordering::SeqCst);
         self.written.fetch_add(traffic.written, Ordering::SeqCst);
         self.sent.fetch_add(traffic.sent, Ordering::SeqCst);
+        self.pongs.fetch_add(traffic.pongs, Ordering::SeqCst);
+        self.flight.store(traffic.flight, Ordering::SeqCst);
         if let Some(brought) = traffic.block {
             self.blocks(brought.path).fetch_add(1, Ordering::SeqCst);
             self.saved
@@ -208,26 +258,28 @@ impl ConnectionStatus {
 /// The flags of a connection over a status that other threads hold too.
 ///
 /// An atomic word tells a contract nothing of its content, since any thread may change it. So the
-/// flags keep beside it how often the tick flag was looked at, how often it was set, and whether
-/// the stop flag was set here.
+/// flags keep beside it how often the tick flag and the probe flag were looked at, how often each
+/// was set, and whether the stop flag was set here.
 #[derive(Drop)]
 pub struct PeerFlags {
     status: Shared<ConnectionStatus>,
     looked: u64,
     found: u64,
+    probes: u64,
     stopped: bool,
 }
 
 impl PeerFlags {
     /// The flags over this status, which weren't looked at yet.
     pub fn new(status: Shared<ConnectionStatus>) -> PeerFlags
-        ensures looks { HasLooked result.looked result.found [] }
+        ensures looks { HasLooked result.looked result.found result.probes [] }
         ensures stopped { result.stopped ≡ false }
     {
         PeerFlags {
             status,
             looked: 0,
             found: 0,
+            probes: 0,
             stopped: false,
         }
     }
@@ -237,33 +289,41 @@ impl PeerFlags {
         &self.status
     }
 
-    /// How often the tick flag was looked at; `u64::MAX` if that is more.
+    /// How often the tick flag and the probe flag were looked at; `u64::MAX` if that is more.
     pub fn looked(&self) -> u64
         ensures { result ≡ self.now.looked }
     {
         self.looked
     }
 
-    /// How often it was set then; `u64::MAX` if that is more.
+    /// How often the tick flag was set then; `u64::MAX` if that is more.
     pub fn found(&self) -> u64
         ensures { result ≡ self.now.found }
     {
         self.found
+    }
+
+    /// How often the probe flag was set then; `u64::MAX` if that is more.
+    pub fn probes(&self) -> u64
+        ensures { result ≡ self.now.probes }
+    {
+        self.probes
     }
 }
 
 impl Flags for PeerFlags {
     ghost use Rattle.cb_work.specs.Flags.{HasLooked};
 
-    // The two numbers are those of the answers.
-    ghost looks = { λ flags answers. HasLooked flags.looked flags.found answers };
+    // The three numbers are those of the answers.
+    ghost looks = { λ flags answers. HasLooked flags.looked flags.found flags.probes answers };
 
     ghost is_stopped = { λ flags. flags.stopped };
 
-    fn take_tick(&mut self) -> bool {
-        let due = self.status.take_tick();
+    fn take_beats(&mut self) -> Beats {
+        let due = self.status.take_beats();
         self.looked = self.looked.saturating_add(1);
-        self.found = self.found.saturating_add(u64::from(due));
+        self.found = self.found.saturating_add(u64::from(due.tick));
+        self.probes = self.probes.saturating_add(u64::from(due.probe));
         due
     }
 
@@ -274,6 +334,10 @@ impl Flags for PeerFlags {
     fn stop(&mut self) {
         self.status.stop();
         self.stopped = true;
+    }
+
+    fn keep_greeting(&mut self, item: &Shared<Item>) {
+        self.status.keep_greeting(item);
     }
 
     fn count_traffic(&mut self, traffic: &Traffic) {

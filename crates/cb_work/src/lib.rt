@@ -19,7 +19,7 @@ pub use cb_reader::Input;
 pub use cb_talk::MessageSink;
 pub use cb_trace::{Oracle, Trace};
 pub use connection_status::{ConnectionStatus, PeerFlags};
-pub use flags::Flags;
+pub use flags::{Beats, Flags};
 pub use outlet::Outlet;
 pub use peer_work::{NotStarted, PeerWork};
 pub use shared_hall::SharedHall;

@@ -1,18 +1,20 @@
-ghost use Rattle.std.specs.Prelude.{◌≡◌, ◌++◌, ◌∷◌, true, false, Bool, List, ℕ, [], IfOk, IfErr};
+ghost use Rattle.std.specs.Prelude.{◌≡◌, ◌++◌, ◌∷◌, true, false, List, ℕ, [], IfOk, IfErr, if◌then◌else◌};
 ghost use Rattle.cb_base.specs.declared.fault.Fault.TheVariants.{Memory};
 ghost use Rattle.cb_crew.specs.declared.work.Given.{Given};
 ghost use Rattle.cb_crew.specs.declared.work.Given.TheVariants as given;
 ghost use Rattle.cb_crew.specs.Work.{IsEnd, IsFresh};
 ghost use Rattle.cb_reader.specs.declared.input.Input.{Input};
 ghost use Rattle.cb_reader.specs.declared.input.Input.TheVariants as inputs;
-ghost use Rattle.cb_peer_state.specs.Event.{begins, ends_at_once, kind_of};
+ghost use Rattle.cb_peer_state.specs.declared.event.Event.{Event};
+ghost use Rattle.cb_peer_state.specs.Event.{begins, ends_at_once, is_beat, kind_of};
 ghost use Rattle.cb_peer_state.specs.State.{is_closed};
 ghost use Rattle.cb_trace.specs.Kept.{KeepsHistory, StillKeeps};
 ghost use Rattle.cb_trace.specs.Trace.{weight_of};
-ghost use Rattle.cb_work.specs.PeerWork.{HoldsNothing, IsAtTime, IsPrimed, IsSamePeer, Serves, ServesNext, ServesOn, WasGiven, WasTicked, is_over, label_of};
+ghost use Rattle.cb_work.specs.declared.flags.Beats.{Beats};
+ghost use Rattle.cb_work.specs.PeerWork.{GaveBeats, HoldsNothing, IsAtTime, IsPrimed, IsSamePeer, Serves, ServesNext, ServesOn, WasGiven, WasTicked, is_over, label_of};
 
-use crate::carried::{Carried, Rebuilding};
-use crate::flags::Flags;
+use crate::carried::{Carried, Rebuilding, greeting_of};
+use crate::flags::{Beats, Flags};
 use crate::outlet::Outlet;
 use crate::traffic::Traffic;
 use cb_base::Fault;
@@ -187,8 +189,8 @@ impl<S: MessageSink + Drop, H: Oracle + Drop, F: Flags> PeerWork<S, H, F> {
     /// sink is its peer's slot's. If its session is over, the stop flag is set. Its session was
     /// given as many answers as its badge counts.
     pub fn served(&self)
-        ensures serves { (items : List (Given Input)) × (ticks : ℕ)
-            × Serves H.told H.refused S.contents S.has_failed self.now items ticks }
+        ensures serves { (items : List (Given Input)) × (beats : List Event)
+            × Serves H.told H.refused S.contents S.has_failed self.now items beats }
         ensures slot { self.now.slot ≡ self.now.badge.connection.peer }
         ensures stopped { is_over self.now ≡ true → F.is_stopped self.now.flags ≡ true }
         ensures counted { self.now.trace.total.told ≡ self.now.badge.count }
@@ -251,9 +253,9 @@ impl<S: MessageSink + Drop, H: Oracle + Drop, F: Flags> PeerWork<S, H, F> {
         }
     }
 
-    /// Gives the session an event that begins something new: input from the peer, or a tick. Writes
-    /// what is held back and what the session sends, and asks the hall what it asks, until no
-    /// question is open.
+    /// Gives the session an event that begins something new: input from the peer, a tick, or a
+    /// probe. Writes what is held back and what the session sends, and asks the hall what it asks,
+    /// until no question is open.
     fn begin(&mut self, event: Event)
         requires primed { IsPrimed self.old }
         requires begins { begins (kind_of event) ≡ true }
@@ -285,10 +287,10 @@ impl<S: MessageSink + Drop, H: Oracle + Drop, F: Flags> PeerWork<S, H, F> {
         ensures ended { is_over self.new ≡ true }
         ensures same { IsSamePeer F.looks self.old self.new }
         ensures keeps { StillKeeps self.old.trace self.new.trace }
-        ensures serves { (items : List (Given Input)) (ticks : ℕ) →
-            Serves H.told H.refused S.contents S.has_failed self.old items ticks →
+        ensures serves { (items : List (Given Input)) (beats : List Event) →
+            Serves H.told H.refused S.contents S.has_failed self.old items beats →
             Serves H.told H.refused S.contents S.has_failed self.new
-            (items ++ given.Item inputs.NoMemory ∷ []) ticks }
+            (items ++ given.Item inputs.NoMemory ∷ []) beats }
     {
         lose_by(
             &mut self.trace,
@@ -306,9 +308,9 @@ impl<S: MessageSink + Drop, H: Oracle + Drop, F: Flags> PeerWork<S, H, F> {
         ensures ended { IsEnd item → is_over self.new ≡ true }
         ensures same { IsSamePeer F.looks self.old self.new }
         ensures keeps { StillKeeps self.old.trace self.new.trace }
-        ensures serves { (items : List (Given Input)) (ticks : ℕ) →
-            Serves H.told H.refused S.contents S.has_failed self.old items ticks →
-            Serves H.told H.refused S.contents S.has_failed self.new (items ++ item ∷ []) ticks }
+        ensures serves { (items : List (Given Input)) (beats : List Event) →
+            Serves H.told H.refused S.contents S.has_failed self.old items beats →
+            Serves H.told H.refused S.contents S.has_failed self.new (items ++ item ∷ []) beats }
     {
         match item {
             Given::Item(Input::Said(item)) => self.begin(Event::Said(item)),
@@ -329,6 +331,55 @@ impl<S: MessageSink + Drop, H: Oracle + Drop, F: Flags> PeerWork<S, H, F> {
         self.trace.shed(0);
     }
 
+    /// Keeps the peer's first `version`, if this is one.
+    fn note(&mut self, given: &Given<Input>)
+        ensures primed { IsPrimed self.old → IsPrimed self.new }
+        ensures over { is_over self.new ≡ is_over self.old }
+        ensures same { IsSamePeer F.looks self.old self.new }
+        ensures keeps { StillKeeps self.old.trace self.new.trace }
+        ensures serves { ServesOn H.told H.refused S.contents S.has_failed self.old self.new }
+    {
+        let Some(item) = greeting_of(given) else {
+            return;
+        };
+        self.flags.keep_greeting(item);
+    }
+
+    /// Which timer events are due. After the call none is, until its flag is set again.
+    fn look(&mut self) -> Beats
+        ensures over { is_over self.new ≡ is_over self.old }
+        ensures connection { self.new.badge.connection ≡ self.old.badge.connection }
+        ensures looked { (answers : List Beats) → F.looks self.old.flags answers →
+            F.looks self.new.flags (answers ++ result ∷ []) }
+        ensures keeps { StillKeeps self.old.trace self.new.trace }
+        ensures serves { ServesOn H.told H.refused S.contents S.has_failed self.old self.new }
+    {
+        self.flags.take_beats()
+    }
+
+    /// Gives the session a timer event that is due, if there is a place for it. One that isn't due
+    /// is passed over, and so is any once the session is over.
+    fn beat(&mut self, due: bool, event: Event)
+        requires beat { is_beat (kind_of event) ≡ true }
+        ensures gave { GaveBeats H.told H.refused S.contents S.has_failed self.old
+            (if due then event ∷ [] else []) self.new }
+        ensures same { IsSamePeer F.looks self.old self.new }
+        ensures keeps { StillKeeps self.old.trace self.new.trace }
+    {
+        if !due {
+            return;
+        }
+        if self.closed() {
+            return;
+        }
+        if !self.prepare() {
+            return;
+        }
+        let written = self.written;
+        self.begin(event);
+        self.count(Carried::nothing(), written);
+    }
+
     /// Counts what a step moved, which began with so many bytes written.
     fn count(&mut self, carried: Carried, written: u64)
         ensures over { is_over self.new ≡ is_over self.old }
@@ -342,6 +393,8 @@ impl<S: MessageSink + Drop, H: Oracle + Drop, F: Flags> PeerWork<S, H, F> {
             payload: carried.payload,
             written: self.written.saturating_sub(written),
             sent: mem::replace(&mut self.untold, 0),
+            pongs: carried.pongs,
+            flight: self.trace.in_flight() as u64,
             block,
             state: self.trace.state(),
         });
@@ -397,21 +450,16 @@ impl<S: MessageSink + Drop, H: Oracle + Drop, F: Flags> Work for PeerWork<S, H, 
             WasTicked H.told H.refused S.contents S.has_failed F.looks self.new at }
     {
         let carried = Carried::of(&item);
+        self.note(&item);
         let written = self.written;
         self.give(item);
         self.count(carried, written);
     }
 
     fn tick<R: Wait>(&mut self, _rt: &R) {
-        if !self.flags.take_tick() {
-            return;
-        }
-        if !self.prepare() {
-            return;
-        }
-        let written = self.written;
-        self.begin(Event::Tick);
-        self.count(Carried::nothing(), written);
+        let due = self.look();
+        self.beat(due.tick, Event::Tick);
+        self.beat(due.probe, Event::Probe);
     }
 
     fn weighs(&self) -> u64 {
@@ -426,7 +474,8 @@ impl<S: MessageSink + Drop, H: Oracle + Drop, F: Flags> Work for PeerWork<S, H, 
 /// Sets the stop flag if the session is over. Before that it tells why.
 fn stop_if_over<F: Flags>(trace: &Trace, flags: &mut F)
     ensures stopped { is_closed trace.now.session.state ≡ true → F.is_stopped flags.new ≡ true }
-    ensures looked { (answers : List Bool) → F.looks flags.old answers → F.looks flags.new answers }
+    ensures looked { (answers : List Beats) → F.looks flags.old answers →
+        F.looks flags.new answers }
 {
     let state = trace.state();
     if state.is_closed() {

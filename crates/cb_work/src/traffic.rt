@@ -35,6 +35,10 @@ pub struct Traffic {
     pub written: u64,
     /// The number of messages written, or taken by a sink that keeps them.
     pub sent: u64,
+    /// The number of messages read that are a `pong` (BIP 31): 0 or 1.
+    pub pongs: u64,
+    /// How many blocks are in flight after the step.
+    pub flight: u64,
     /// The block that the step handed to the hall, if it did.
     pub block: Option<Brought>,
     /// How far the session is after the step.
@@ -42,13 +46,15 @@ pub struct Traffic {
 }
 
 impl Traffic {
-    /// Nothing was moved by a session that is so far.
+    /// Nothing was moved by a session that is so far, and no block is in flight.
     pub fn nothing(state: State) -> Traffic {
         Traffic {
             messages: 0,
             payload: 0,
             written: 0,
             sent: 0,
+            pongs: 0,
+            flight: 0,
             block: None,
             state,
         }

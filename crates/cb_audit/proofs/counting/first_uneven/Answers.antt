@@ -1,8 +1,8 @@
 use Rattle.std.proofs.Common.{◌≡◌, ◌∙◌, ap, subst}
-use Rattle.cb_journal.specs.Connections.{Slots}
+use Rattle.cb_journal.specs.Connections.{Slots, most_peers}
 use Rattle.cb_journal.specs.Replica.{ReplicaState}
 use Rattle.cb_audit.specs.Counting.{HasTrace, IsFoundAmong, IsOfPeers}
-use Rattle.cb_audit.proofs.Numbers.{are_64, first_of_all, of_64}
+use Rattle.cb_audit.proofs.Numbers.{as_many, first_of_all, of_all}
 use Rattle.cb_audit.proofs.counting.first_uneven.Goals as goal
 
 pub returns-clause-exact : goal.returns-clause-exact
@@ -11,6 +11,6 @@ returns-clause-exact c =
     let same : c.connections-connections.result.now ≡ journal.latest.connections =
     c.connections-connections.ensures.connections ∙ ap (λ (replica : ReplicaState). replica.connections) c.latest-2.ensures in
     first_of_all journal.latest.connections c.args.audited.now c.first_with_trace.result c.first_known.result c.earlier.result
-    (of_64 journal.latest.connections (are_64 journal.base journal.latest journal.entries c.entries.ensures.past))
+    (of_all journal.latest.connections (as_many journal.base journal.latest journal.entries c.entries.ensures.past))
     (subst (λ (slots : Slots). IsFoundAmong slots c.args.audited.now (HasTrace c.args.audited.now) c.first_with_trace.result) same c.first_with_trace.ensures)
-    (subst (λ (slots : Slots). IsFoundAmong slots c.args.audited.now (IsOfPeers slots 64) c.first_known.result) same c.first_known.ensures) c.earlier.ensures.none c.earlier.ensures.found
+    (subst (λ (slots : Slots). IsFoundAmong slots c.args.audited.now (IsOfPeers slots most_peers) c.first_known.result) same c.first_known.ensures) c.earlier.ensures.none c.earlier.ensures.found

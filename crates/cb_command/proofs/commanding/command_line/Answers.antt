@@ -1,15 +1,12 @@
-use Rattle.std.proofs.Common.{rules, ◌≡◌, ap, ap₂, codes, ◌∙◌}
-use Rattle.clap.specs.Words.{App, app_of, new_app, with_rule, with_subcommand}
+use Rattle.std.proofs.Common.{◌≡◌, ap, ap₂, ◌∙◌}
+use Rattle.clap.specs.Words.{App, app_of, with_subcommand}
+use Rattle.clap.proofs.SimpleLemmas.{plain_fields}
 use Rattle.cb_command.specs.NodeWords.{node_line}
 use Rattle.cb_command.proofs.Entering.{if_ok_more}
 use Rattle.cb_command.proofs.commanding.command_line.Goals as goal
 
 pub returns : goal.returns
 returns c =
-    let bare : app_of c.after_help.result ≡ new_app (codes "node") = search rules in
-    let one = c.in_ok-arg.ensures.shape c.listen_arg.ensures.local ∙ ap₂ with_rule bare c.listen_arg.ensures.rule in
-    let two = c.in_ok-arg-2.ensures.shape c.connect_arg.ensures.local ∙ ap₂ with_rule one c.connect_arg.ensures.rule in
-    let three = c.in_ok-arg-3.ensures.shape c.threads_arg.ensures.local ∙ ap₂ with_rule two c.threads_arg.ensures.rule in
-    let four = c.in_ok-arg-4.ensures.shape c.tick_arg.ensures.local ∙ ap₂ with_rule three c.tick_arg.ensures.rule in
-    let five : app_of c.in_ok-node.node ≡ node_line = c.in_ok-node.ensures.shape c.log_arg.ensures.local ∙ ap₂ with_rule four c.log_arg.ensures.rule in
-    if_ok_more c.subcommand.result (λ line adds. adds.shape (search rules) ∙ ap₂ with_subcommand c.in_ok-line.ensures (ap (λ (a : App). a.top) five)) c.subcommand.ensures
+    let node : app_of c.in_ok-node.node ≡ node_line = c.in_ok-node.ensures in
+    let plain = plain_fields c.in_ok-node.node (ap (λ (a : App). a.top.is_plain) node) in
+    if_ok_more c.subcommand.result (λ line adds. adds.shape plain.globals ∙ ap₂ with_subcommand c.in_ok-line.ensures (ap (λ (a : App). a.top) node)) c.subcommand.ensures

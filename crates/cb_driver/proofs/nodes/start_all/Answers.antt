@@ -10,5 +10,5 @@ loop-number-preserved g c = (
   c.push_reserved.ensures.capacity ∙ c.loop-number.invariant.1,
   subst (All HasSlots) (sym c.push_reserved.ensures.items)
       (All-push HasSlots c.loop-number.list.items c.in_ok-start_with_seed.field-0 c.loop-number.invariant.2
-      (starts c.settings_of-settings.result.inbound c.settings_of-settings.result.outbound c.settings_of-settings.result.handlers c.in_ok-start_with_seed.field-0 c.settings_of-settings.ensures.slots c.in_ok-start_with_seed.ensures)),
+      (starts c.settings_of-settings.result c.in_ok-start_with_seed.field-0 c.settings_of-settings.ensures.slots c.in_ok-start_with_seed.ensures)),
 )

@@ -1,4 +1,5 @@
 use Rattle.std.proofs.Common.{◌≡◌, ◌≤◌, ◌∙◌, length, vec_capacity, sym, ap, subst}
+use Rattle.cb_journal.specs.Connections.{most_peers}
 use Rattle.cb_slots.specs.Slot.{inboxes_of}
 use Rattle.cb_node.specs.Node.{NodeState}
 use Rattle.cb_node.proofs.Slots.{as_many, kept_if, served, still_of, uses_count}
@@ -16,7 +17,7 @@ invariant_of-self g c =
     let many : length old ≡ length new = sym (as_many old new same) in (
       still_of c.self.inside.common.crew old new c.self.invariant.0 same,
       subst (λ n. c.self.inside.service.settings.inbound ≤ n) many c.self.invariant.1,
-      subst (λ n. n ≤ 64) many c.self.invariant.2,
+      subst (λ n. n ≤ most_peers) many c.self.invariant.2,
       c.self.invariant.3,
       c.self.invariant.4,
       c.self.invariant.5,

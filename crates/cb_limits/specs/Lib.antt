@@ -1,0 +1,4 @@
+pub mod Doors
+pub mod Limits
+pub mod Places
+pub mod Watching
