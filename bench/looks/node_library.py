@@ -5,7 +5,8 @@ It needs the built program (crates/cbrelay/out/cbrelay, as ./build leaves it), L
 python3 finds. The library knows nothing of this project: each block that comes from the node goes through its CheckBlock. It takes some
 seconds.
 
-- The handshake and a `ping`, where the peer dials the node, and where the node dials the peer.
+- The handshake and a `ping`, where the peer dials the node, and where the node dials the peer. Each `version` of a node tells its nonce and
+  the time.
 - Blocks from the node: the peer is told of the last one, asks for all headers and then for the blocks.
 - Blocks to the node: the peer tells headers, is asked for the blocks, 16 at a time, and gives them; then it tells one by its hash. A branch
   that is longer makes the node reorganise.
@@ -17,6 +18,7 @@ The status is 0 where all came out so.
 
 import socket
 import sys
+import time
 from pathlib import Path
 
 if not __package__:  # called as a file
@@ -79,6 +81,15 @@ class Library(ProcessLooks):
             self.look("the connection", [one.place() for one in node.peers()], [(0, 1, "from")])
 
         self.served(pinged)
+        with NodeProcess(self.program) as node, NodeProcess(self.program) as other:
+            port, versions = node.port(), []
+            for at in (port, port, other.port()):
+                with dialled(at, SECONDS) as peer:
+                    versions.append(peer.shake_hands()[0])
+            self.look("their times are now", [abs(one.nTime - time.time()) < SECONDS for one in versions], [True] * 3)
+            self.look("a node's nonce, and another's", (versions[0].nNonce == versions[1].nNonce, versions[0].nNonce == versions[2].nNonce), (True, False))
+            self.ends(node, "quit")
+            self.ends(other, "quit")
         with NodeProcess(self.program) as node, socket.create_server(("127.0.0.1", 0)) as listener:
             listener.settimeout(SECONDS)
             node.address()

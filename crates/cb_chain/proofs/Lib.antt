@@ -20,6 +20,7 @@ pub mod Partings
 pub mod PathsDown
 pub mod Places
 pub mod Planning
+mod Reading
 pub mod Reached
 pub mod Reasons
 pub mod Roots

@@ -49,6 +49,10 @@ IsLeftBy tree unspent =
     (blocks : List Block) × AreBlocksOf tree (drop 1 (active tree)) blocks
     × (spend finite.empty (txs_of blocks) ≡ Ok unspent)
 
+-- the headers above the genesis block's, in the order in which they were accepted
+abbrev pub accepted_headers : Tree → List Header
+accepted_headers tree = map (λ entry. entry.header) (reverse tree)
+
 -- a kept block can't be connected: it can't be spent over the UTXO set after its parent, for this
 -- fault
 pub record CannotConnect (tree : Tree) (hash : Hash256) (fault : Fault) : Type 0 where

@@ -1,8 +1,9 @@
-ghost use Rattle.std.specs.Prelude.{◌≡◌, ◌<◌, suc, [], length, drop, take, IfOk, IfSome, IsOk, IsOkUnless};
+ghost use Rattle.std.specs.Prelude.{◌≡◌, ◌<◌, suc, [], length, drop, option_copied, slice_get, take, IfOk, IfSome, IsOk, IsOkUnless};
 ghost use Rattle.cb_base.specs.declared.fault.Fault.TheVariants.{Memory};
 ghost use Rattle.cb_chain.specs.Best.{active};
 ghost use Rattle.cb_chain.specs.Following.{headers_above, headers_after, place_in, start_of, up_to};
 ghost use Rattle.cb_chain.specs.Keeping.{IsTree, active_places, tree_of};
+ghost use Rattle.cb_chain.specs.Laws.{accepted_headers, active_hashes};
 ghost use Rattle.cb_chain.specs.Locator.{locator_of};
 
 use crate::branch::fork_of;
@@ -75,7 +76,7 @@ fn headers_to(
 
 impl Chain {
     /// The height of a hash, if it is on the active chain.
-    fn active_height(&self, hash: &Hash256) -> Option<usize>
+    pub fn active_height(&self, hash: &Hash256) -> Option<usize>
         ensures height { result ≡ place_in (active self.now) 0 hash.now }
         ensures low { IfSome result (λ height. height < length (active_places self.now)) }
     {
@@ -119,6 +120,29 @@ impl Chain {
             start.height as usize,
             stop,
         )
+    }
+
+    /// The hash of the active chain's header at a height; `None` above the tip.
+    pub fn at(&self, height: usize) -> Option<Hash256>
+        ensures { result ≡ slice_get (active_hashes self.now) height }
+    {
+        let len = self.tree.len();
+        match self.active.get(height) {
+            Some(place) if *place < len => Some(self.tree.block_index(*place).hash),
+            _ => None,
+        }
+    }
+
+    /// The header that was accepted at a place in the order of acceptance, counted from 0 without
+    /// the genesis block's; `None` if fewer were.
+    pub fn accepted(&self, place: usize) -> Option<&Header>
+        ensures { option_copied result ≡ slice_get (accepted_headers self.now) place }
+    {
+        let len = self.tree.len();
+        if len < 2 || len - 2 < place {
+            return None;
+        }
+        Some(&self.tree.block_index(place + 1).header)
     }
 
     /// The headers of the active chain above the fork with the branch of a known header, up to the

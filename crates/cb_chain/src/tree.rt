@@ -121,7 +121,8 @@ impl Tree {
 
     /// The number of block indexes.
     pub(crate) fn len(&self) -> usize
-        ensures { result ≡ length self.now.block_indexes }
+        ensures len { result ≡ length self.now.block_indexes }
+        ensures tree { IsTree self.now.block_indexes }
     {
         self.marks.len()
     }

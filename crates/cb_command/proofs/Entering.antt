@@ -9,7 +9,7 @@ use Rattle.clap.proofs.OnLiterals.{clap_on_literals}
 use Rattle.cb_command.specs.Words.{AreRefused, program, task_in}
 use Rattle.cb_command.specs.declared.commanding.Task.TheVariants.{Decode, Serve, Sim, Run, Node}
 use Rattle.cb_command.specs.declared.node_words.BadWords.{BadWords}
-use Rattle.cb_node_process.specs.declared.orders.NodeOrders.{NodeOrders}
+use Rattle.cb_process.specs.declared.orders.NodeOrders.{NodeOrders}
 use Rattle.cb_driver.specs.declared.running.RunOrders.{RunOrders}
 
 pub program_is_simple : is_simple program ≡ true

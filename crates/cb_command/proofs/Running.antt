@@ -15,8 +15,7 @@ use Rattle.cb_command.specs.Words.{AreAsked, ByTask, entered, program, task_in, 
 use Rattle.cb_command.specs.declared.commanding.Task.{Task}
 use Rattle.cb_command.specs.declared.commanding.Task.TheVariants.{Decode, Serve, Sim, Run, Node}
 use Rattle.cb_command.specs.declared.node_words.BadWords.{BadWords}
-use Rattle.cb_node_process.specs.declared.orders.NodeOrders.{NodeOrders}
-use Rattle.cb_node_process.specs.declared.start_fault.StartFault.{StartFault}
+use Rattle.cb_process.specs.declared.orders.NodeOrders.{NodeOrders}
 
 -- a run with its status, or one that ended early
 pub done : (Prints : ℕ → Type 0) (Same : Type 0) (input : Option (List ℕ)) (read_failed write_failed : Bool) (told tells : Option (List ℕ)) (failed : Bool) (ended : Result ℕ Halt) (code : ℕ) → IfOk ended Prints
@@ -115,19 +114,19 @@ quiet_of contents mid told marked (Err halt) quiet =
     ]
 
 -- A node ran, or told why it can't listen, or ended early; and standard error was told of that.
-pub node_ran : (Prints : ℕ → Type 0) (Before After Same : Type 0) (told mid tells : Option (List ℕ)) (text : StartFault → List ℕ) (write_failed marked failed : Bool) (ended : Result ℕ Halt) (code : ℕ)
-    → IfOk ended (λ status. (Prints status × Before) ⊎ ((fault : StartFault) × Appends told mid (text fault) × (status ≡ 3)))
+pub node_ran : (Prints : ℕ → Type 0) (Before After Same : Type 0) (told mid tells : Option (List ℕ)) (Deaf : Option (List ℕ) → Type 0) (write_failed marked failed : Bool) (ended : Result ℕ Halt) (code : ℕ)
+    → IfOk ended (λ status. (Prints status × Before) ⊎ (Deaf mid × (status ≡ 3)))
     → IfErr ended (λ halt. (halt ≡ Memory) ⊎ ((halt ≡ ReadFailed) ⊎ ((halt ≡ WriteFailed) × ((write_failed ≡ true) ⊎ (marked ≡ true)))))
     → IfErr ended (λ halt. (mid ≡ told) ⊎ (marked ≡ true))
     → MatchResult ended (λ c. (code ≡ c) × After) (EndsEarly mid tells failed code)
     → (Before → After → Same) → (After → tells ≡ mid) → (marked ≡ true → failed ≡ true)
-    → (Prints code × Same) ⊎ (((fault : StartFault) × Appends told tells (text fault) × (code ≡ 3)) ⊎ EndsNode write_failed told tells failed code)
-node_ran Prints Before After Same told mid tells text write_failed marked failed (Ok status) code ok why quiet settled both same stays =
+    → (Prints code × Same) ⊎ ((Deaf tells × (code ≡ 3)) ⊎ EndsNode write_failed told tells failed code)
+node_ran Prints Before After Same told mid tells Deaf write_failed marked failed (Ok status) code ok why quiet settled both same stays =
     elim ok [
       | inl ran ↦ inl (subst Prints (sym settled.0) ran.0, both ran.1 settled.1)
-      | inr deaf ↦ inr (inl (deaf.0, subst (λ (x : Option (List ℕ)). Appends told x (text deaf.0)) (sym (same settled.1)) deaf.1, settled.0 ∙ deaf.2))
+      | inr deaf ↦ inr (inl (subst Deaf (sym (same settled.1)) deaf.0, settled.0 ∙ deaf.1))
     ]
-node_ran Prints Before After Same told mid tells text write_failed marked failed (Err halt) code ok why quiet settled both same stays =
+node_ran Prints Before After Same told mid tells Deaf write_failed marked failed (Err halt) code ok why quiet settled both same stays =
     inr (inr (node_halted told mid tells write_failed marked failed halt code why quiet settled stays))
 
 -- Words of `node` that can't be followed: standard error was told so, or that memory ran out.

@@ -12,9 +12,9 @@ use Rattle.cb_control.specs.declared.verdict.Verdict.{Verdict}
 use Rattle.cb_command.specs.declared.node_words.BadWords.{BadWords}
 use Rattle.cb_command.specs.NodeWords.{bad_words_text}
 use Rattle.cb_command.specs.Peer.{closed_text, reason_status}
-use Rattle.cb_node_process.specs.declared.orders.NodeOrders.{NodeOrders}
-use Rattle.cb_node_process.specs.declared.start_fault.StartFault.{StartFault}
-use Rattle.cb_node_process.specs.Telling.{TellsAll, deaf_text}
+use Rattle.cb_process.specs.Starting.{IsDeaf}
+use Rattle.cb_process.specs.declared.orders.NodeOrders.{NodeOrders}
+use Rattle.cb_node_process.specs.Telling.{TellsAll}
 
 -- The exit status as a number.
 abbrev pub code_of : Result Status Halt → Result ℕ Halt
@@ -92,7 +92,7 @@ abbrev pub RunsNode : (Verdict → Type 0) → Type 0 → Option (List ℕ) → 
     → Option (List ℕ) → Option (List ℕ) → Bool → Result NodeOrders BadWords → ℕ → Type 0
 RunsNode IsAudit Same held holds write_failed told tells errors_failed (Ok orders) code =
     (TellsAll IsAudit held holds code × Same)
-    ⊎ (((fault : StartFault) × Appends told tells (deaf_text orders.listen fault) × (code ≡ 3))
+    ⊎ ((IsDeaf orders told tells × (code ≡ 3))
     ⊎ EndsNode write_failed told tells errors_failed code)
 RunsNode IsAudit Same held holds write_failed told tells errors_failed (Err bad) code =
     (Appends told tells (bad_words_text bad) × (code ≡ 3))

@@ -1,4 +1,5 @@
 pub mod Command
 pub mod NodeWords
 pub mod Peer
+pub mod RpcWords
 pub mod Words

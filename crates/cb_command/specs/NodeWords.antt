@@ -1,5 +1,5 @@
 -- What the words of `node` ask for.
-use Rattle.std.specs.Prelude.{◌≡◌, ℕ, ◌≤◌, ◌⊎◌, ◌*◌, ◌-◌, ◌^◌, nat_le, ◌&&◌, if◌then◌else◌, ◌++◌, pos, List, [], codes, Option, Some, None}
+use Rattle.std.specs.Prelude.{◌≡◌, ℕ, ◌≤◌, ◌⊎◌, ◌*◌, ◌-◌, ◌^◌, nat_le, ◌&&◌, if◌then◌else◌, ◌++◌, pos, true, false, not, is_some, List, [], codes, Option, Some, None}
 use Rattle.std.specs.Net.Addr.{IsLoopbackV4, IsLoopbackV6, MatchIp}
 use Rattle.std.specs.Net.Socket.{socket_ip}
 use Rattle.std.specs.Option.{option_map_or}
@@ -13,9 +13,10 @@ use Rattle.cb_limits.specs.Limits.{dialled_of}
 use Rattle.cb_limits.specs.declared.limits.Limits.{Limits}
 use Rattle.cb_run.specs.Words.{number_in}
 use Rattle.clap.specs.declared.parser.matches.ArgMatches.{ArgMatches}
+use Rattle.cb_command.specs.RpcWords.{IsRpc, is_set, with_rpc}
 use Rattle.cb_command.specs.declared.node_words.BadWords.{BadWords}
 use Rattle.cb_command.specs.declared.node_words.BadWords.TheVariants as bad
-use Rattle.cb_node_process.specs.declared.orders.NodeOrders.{NodeOrders}
+use Rattle.cb_process.specs.declared.orders.NodeOrders.{NodeOrders}
 
 -- an option of this name with a value
 abbrev pub valued : List ℕ → Rule
@@ -50,7 +51,8 @@ with_limits a =
 -- the command `node`
 abbrev pub node_line : App
 node_line =
-    with_rule
+    with_rpc
+    (with_rule
     (with_limits
     (with_rule
     (with_rule
@@ -58,7 +60,7 @@ node_line =
     (repeated (codes "connect")))
     (numbered (codes "handlers") 16))
     (numbered (codes "tick") 60000)))
-    (valued (codes "log"))
+    (valued (codes "log")))
 
 -- how an address is written
 abbrev pub address_rule : List ℕ
@@ -71,6 +73,18 @@ abbrev pub bad_words_text : BadWords → List ℕ
 bad_words_text bad.Listen = codes "error: --listen" ++ address_rule
 bad_words_text bad.Connect = codes "error: --connect" ++ address_rule
 bad_words_text bad.Log = codes "error: --log takes off, error, warn, info, debug or trace\n"
+bad_words_text bad.Rpc = codes "error: --rpc" ++ address_rule
+bad_words_text bad.NoSecret =
+    codes "error: --rpc takes --rpc-user and --rpc-password too, and neither is empty; the"
+    ++ codes " environment's CBRELAY_RPC_PASSWORD stands for the second\n"
+bad_words_text bad.User = codes "error: --rpc-user takes a name without a colon\n"
+bad_words_text bad.Remote =
+    codes "error: --rpc takes a loopback address, and another one only with"
+    ++ codes " --rpc-allow-remote\n"
+bad_words_text bad.RpcAlone =
+    codes "error: --rpc-user, --rpc-password and --rpc-allow-remote go with --rpc\n"
+bad_words_text bad.NoInput =
+    codes "error: --no-input takes --rpc too: nothing else could end the node\n"
 bad_words_text bad.Memory = []
 
 -- There are 1 to 16 handlers, and 1 to 60,000 milliseconds pass from tick to tick.
@@ -129,6 +143,9 @@ pub record IsNodeOrders (rows : List Row) (orders : NodeOrders) : Type 0 where
   pub handlers : orders.handlers ≡ number_or 2 1 16 (first_of (codes "handlers") rows)
   pub tick : orders.tick ≡ number_or 100 1 60000 (first_of (codes "tick") rows)
   pub limits : AreLimits rows (socket_ip orders.listen) orders.limits
+  pub rpc : IsRpc rows orders.rpc
+  pub reads : orders.reads_input ≡ not (is_set (codes "no-input") rows)
+  pub ends : orders.reads_input ≡ false → is_some orders.rpc ≡ true
 
 -- the values of the options of a command, if it was entered
 abbrev pub rows_in : Option ArgMatches → List Row

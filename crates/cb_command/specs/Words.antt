@@ -9,7 +9,7 @@ use Rattle.cb_command.specs.declared.commanding.Task.{Task}
 use Rattle.cb_command.specs.declared.commanding.Task.TheVariants.{Decode, Serve, Sim, Run, Node}
 use Rattle.cb_command.specs.declared.node_words.BadWords.{BadWords}
 use Rattle.cb_command.specs.NodeWords.{HasSizes, IsNodeOrders, node_line, node_rows}
-use Rattle.cb_node_process.specs.declared.orders.NodeOrders.{NodeOrders}
+use Rattle.cb_process.specs.declared.orders.NodeOrders.{NodeOrders}
 
 -- A command that prints its version.
 abbrev pub with_version : App → App

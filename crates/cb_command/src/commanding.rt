@@ -13,7 +13,7 @@ ghost use Rattle.cb_run.specs.SimInput.{SimulatesKnown};
 ghost use Rattle.cb_command.specs.Words.{AreAsked, AreRefused, AreWithin, ByTask, IsWithin, flag, plain_program, program, scripted_program, sized, task_in, task_named};
 ghost use Rattle.cb_driver.specs.Auditing.{IsOfAnEnd};
 ghost use Rattle.cb_driver.specs.Summary.{AreReported, RunsKnown};
-ghost use Rattle.cb_node_process.specs.declared.orders.NodeOrders.{NodeOrders};
+ghost use Rattle.cb_process.specs.declared.orders.NodeOrders.{NodeOrders};
 ghost use Rattle.cb_command.specs.NodeWords.{HasSizes, bad_words_text};
 ghost use Rattle.cb_command.specs.declared.node_words.BadWords.{BadWords};
 ghost use Rattle.cb_driver.specs.declared.running.RunOrders.{RunOrders};
@@ -24,8 +24,9 @@ use crate::node_words::{BadWords, node_line, node_orders_of};
 use crate::serve::serve_peer;
 use cb_base::{Seed, Shared, Sink, Source};
 use cb_driver::{RunOrders, Sizes, run_nodes};
-use cb_node_process::{NodeOrders, ProcessHost, run_node};
+use cb_node_process::run_node;
 use cb_pipes::Pipes;
+use cb_process::{NodeOrders, ProcessHost};
 use cb_run::{Halt, Status, decode, simulate, write_all};
 use cb_talk::MessageSink;
 use clap::error::ErrorKind;
@@ -262,6 +263,38 @@ pub fn names_node(words: &[String]) -> bool {
     match words.get(1) {
         Some(word) => word.as_str() == "node",
         None => false,
+    }
+}
+
+/// These words of `node`, with a password that the environment tells, if they ask for JSON-RPC and
+/// name no password.
+pub fn with_password(
+    alloc: Global,
+    words: Vec<String>,
+    password: Option<String>,
+) -> Result<Vec<String>, AllocError> {
+    let mut words = words;
+    let Some(password) = password else {
+        return Ok(words);
+    };
+    if has_option(words.as_slice(), "--rpc") && !has_option(words.as_slice(), "--rpc-password") {
+        let mut word = format!(in alloc; "--rpc-password=")?;
+        word.push_str(password.as_str())?;
+        words.push(word)?;
+    }
+    Ok(words)
+}
+
+/// Whether one of these words is this option, with its value or without.
+fn has_option(words: &[String], option: &str) -> bool {
+    words.iter().any(|word| is_option(word.as_str(), option))
+}
+
+/// Whether a word is this option, with its value or without.
+fn is_option(word: &str, option: &str) -> bool {
+    match word.split_once('=') {
+        Some((name, _)) => name == option,
+        None => word == option,
     }
 }
 

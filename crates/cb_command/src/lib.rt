@@ -4,9 +4,11 @@
 mod commanding;
 mod limit_words;
 mod node_words;
+mod rpc_words;
 mod serve;
 
 pub use commanding::{
     Task, command, names_node, refuse_for_memory, refuse_foreign, refuse_unseeded, seeded_command,
+    with_password,
 };
 pub use node_words::BadWords;

@@ -1,11 +1,14 @@
 //! The command `node` of the command line.
-ghost use Rattle.std.specs.Prelude.{◌≡◌, ◌≤◌, codes, false, option_map, IfErr, IfOk};
+ghost use Rattle.std.specs.Prelude.{◌≡◌, ◌≤◌, codes, false, is_some, not, option_map, true, IfErr, IfOk};
 ghost use Rattle.clap.specs.Words.{app_of, rule_of, subcommand_rows_of};
 ghost use Rattle.std.specs.Net.Grammar.{IsSocketText};
 ghost use Rattle.cb_command.specs.NodeWords.{HasSizes, IsNodeOrders, bad_words_text, node_line, node_rows, numbered, repeated, rows_in, valued};
+ghost use Rattle.cb_command.specs.RpcWords.{is_set};
 
 use crate::limit_words::{limits_in, number_of, text_of, with_limits};
-use cb_node_process::NodeOrders;
+use crate::rpc_words::{is_set, rpc_in, with_rpc};
+use cb_process::NodeOrders;
+use cb_rpc_serve::RpcSettings;
 use clap::{Arg, ArgAction, ArgMatches, Command, value_parser};
 use log::LevelFilter;
 use std::alloc::{AllocError, Global};
@@ -43,12 +46,14 @@ It prints 'listening ADDR:PORT' once it listens. A connection to a peer that end
   restart           ends the node and audits it, and starts another one over its chain and mempool
   quit              ends the node and audits it, as the end of input does
 
-Connections, their ends and new tips are logged on standard error.
+Connections, their ends and new tips are logged on standard error. With --rpc it also answers \
+    requests of
+JSON-RPC, as Bitcoin Core's daemon does; the method 'help' lists them.
 
 Examples:
   cbrelay node --listen 127.0.0.1:18444
   cbrelay node --listen 127.0.0.1:18445 --connect 127.0.0.1:18444 --log debug
-  tail -f /dev/null | cbrelay node --listen 127.0.0.1:18444";
+  cbrelay node --rpc 127.0.0.1:18443 --rpc-user me --rpc-password secret --no-input";
 
 /// Why the words of `node` can't be followed.
 #[derive(Clone, Copy)]
@@ -59,6 +64,18 @@ pub enum BadWords {
     Connect,
     /// The value of `--log` is no level.
     Log,
+    /// The value of `--rpc` isn't an IP address and a port.
+    Rpc,
+    /// `--rpc` needs a user and a password.
+    NoSecret,
+    /// The user has a colon.
+    User,
+    /// `--rpc` names another address than loopback, and that isn't allowed.
+    Remote,
+    /// What goes with `--rpc` was told alone.
+    RpcAlone,
+    /// `--no-input` was told without `--rpc`.
+    NoInput,
     /// Memory ran out.
     Memory,
 }
@@ -78,6 +95,25 @@ impl BadWords {
                     [::1]:18444; names of hosts aren't looked up\n"
             }
             BadWords::Log => "error: --log takes off, error, warn, info, debug or trace\n",
+            BadWords::Rpc => {
+                "error: --rpc takes ADDR:PORT in numbers alone, as 127.0.0.1:18444 or \
+                    [::1]:18444; names of hosts aren't looked up\n"
+            }
+            BadWords::NoSecret => {
+                "error: --rpc takes --rpc-user and --rpc-password too, and neither is empty; the \
+                    environment's CBRELAY_RPC_PASSWORD stands for the second\n"
+            }
+            BadWords::User => "error: --rpc-user takes a name without a colon\n",
+            BadWords::Remote => {
+                "error: --rpc takes a loopback address, and another one only with \
+                    --rpc-allow-remote\n"
+            }
+            BadWords::RpcAlone => {
+                "error: --rpc-user, --rpc-password and --rpc-allow-remote go with --rpc\n"
+            }
+            BadWords::NoInput => {
+                "error: --no-input takes --rpc too: nothing else could end the node\n"
+            }
             BadWords::Memory => "",
         }
     }
@@ -94,7 +130,7 @@ pub fn node_line<'a>(alloc: Global) -> Result<Command<'a>, AllocError>
         .arg(connect_arg(alloc))?
         .arg(threads_arg(alloc))?
         .arg(tick_arg(alloc))?;
-    with_limits(alloc, node)?.arg(log_arg(alloc))
+    with_rpc(alloc, with_limits(alloc, node)?.arg(log_arg(alloc))?)
 }
 
 /// The option `--listen`.
@@ -183,6 +219,8 @@ fn orders_in(alloc: Global, node: Option<&ArgMatches>) -> Result<NodeOrders, Bad
         Some(text) => level_in(text)?,
         None => LevelFilter::Info,
     };
+    let rpc = rpc_in(alloc, node)?;
+    let reads_input = reads_input(node, &rpc)?;
     Ok(NodeOrders {
         listen,
         connect: addresses_in(alloc, node)?,
@@ -190,7 +228,22 @@ fn orders_in(alloc: Global, node: Option<&ArgMatches>) -> Result<NodeOrders, Bad
         tick: number_of(node, "tick", TICK, 1, 60_000),
         limits: limits_in(node, listen.ip()),
         level,
+        rpc,
+        reads_input,
     })
+}
+
+/// Whether a node reads lines. One that neither reads lines nor answers JSON-RPC couldn't be ended.
+fn reads_input(node: Option<&ArgMatches>, rpc: &Option<RpcSettings>) -> Result<bool, BadWords>
+    ensures told { IfOk result (λ reads.
+        reads ≡ not (is_set (codes "no-input") (rows_in (option_map (λ m. m.now) node.entry)))) }
+    ensures ends { IfOk result (λ reads. reads ≡ false → is_some rpc.now ≡ true) }
+{
+    let reads = !is_set(node, "no-input");
+    if !reads && rpc.is_none() {
+        return Err(BadWords::NoInput);
+    }
+    Ok(reads)
 }
 
 /// The level that a value names.
@@ -222,7 +275,7 @@ fn addresses_in(alloc: Global, node: Option<&ArgMatches>) -> Result<Vec<SocketAd
 }
 
 /// The address that a value writes. If it writes none, the words are bad as the caller says.
-fn address_in(text: &str, bad: BadWords) -> Result<SocketAddr, BadWords>
+pub fn address_in(text: &str, bad: BadWords) -> Result<SocketAddr, BadWords>
     ensures bad { IfErr result (λ told. told ≡ bad) }
     ensures read { IfOk result (λ address. IsSocketText text.now address) }
 {

@@ -162,6 +162,7 @@ by_entry old new slots (Opened c) told h are =
     unchanged (record old { announcers = without_peer old.announcers c.peer }) new (ap (λ (s : RelayState). s.announcers) h.2) (left old.announcers c.peer are)
 by_entry old new slots (Submitted (local.Tx tx)) told h are = by_tx old new tx h.2.0 h.2.2 are
 by_entry old new slots (Submitted (local.Block block)) told h are = by_block old new block None h.2.0 h.2.2 are
+by_entry old new slots (Submitted (local.Header header)) told h are = unchanged old new h.2.2.announcers are
 
 by_calls : (old new : ReplicaState) (calls : List Entry) (answers : List Answer) → Leads old calls answers new → AreAnnouncers old.relay.announcers → AreAnnouncers new.relay.announcers
 by_calls old new [] answers h are = alike old.relay new.relay (ap (λ (s : ReplicaState). s.relay) h.1) are

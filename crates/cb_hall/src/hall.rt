@@ -154,8 +154,8 @@ impl Hall {
         Ok(())
     }
 
-    /// Takes a transaction or block from the node's own user. The answer is `Answer::TxTaken` or
-    /// `Answer::Taken`, and no announcer changes.
+    /// Takes a transaction, a block or a header from the node's own user. The answer is
+    /// `Answer::TxTaken`, `Answer::Taken` or `Answer::Heads`, and no announcer changes.
     ///
     /// Fails with `Fault::JournalFull` exactly if 2^62 calls were granted, and with
     /// `Fault::Memory`. The hall is then unchanged.

@@ -79,6 +79,8 @@ one_submit old new other (local.Tx tx) told again (refused, e, is) (fault, f, ar
     let one = one_tx old new other tx refused fault is are in (e ∙ ap answer.TxTaken one.0 ∙ sym f, one.1)
 one_submit old new other (local.Block block) told again (taken, e, is) (met, f, are) =
     let one = one_taken old new other block None taken met is are in (e ∙ ap answer.Taken one.0 ∙ sym f, one.1)
+one_submit old new other (local.Header header) told again (heads, e, is) (met, f, are) =
+    let one = one_heads old new other (header ∷ []) heads met is are in (e ∙ ap answer.Heads one.0 ∙ sym f, one.1)
 
 -- ---- entries
 

@@ -1,5 +1,5 @@
 -- The answer to each question, and the state it leaves (Bitcoin's protocol, BIP 130, BIP 152).
-use Rattle.std.specs.Prelude.{◌≡◌, Bool, true, false, if◌then◌else◌, Option, None, Some}
+use Rattle.std.specs.Prelude.{◌≡◌, Bool, true, false, if◌then◌else◌, [], ◌∷◌, Option, None, Some}
 use Rattle.cb_base.specs.declared.fault.Fault.{Fault}
 use Rattle.cb_chain.specs.Following.{headers_after}
 use Rattle.cb_chain.specs.Locator.{locator_of}
@@ -66,9 +66,11 @@ abbrev pub Replies : Bool → RelayState → Connection → Question → Answer 
 Replies true old connection question told new = (told ≡ answer.Kicked) × (new ≡ old)
 Replies false old connection question told new = Answers old connection question told new
 
--- A transaction or block from the node's own user. No announcer changes.
+-- A transaction, a block or a header from the node's own user. No announcer changes.
 abbrev pub Submits : RelayState → Local → Answer → RelayState → Type 0
 Submits old (local.Tx tx) told new =
     (refused : Option Fault) × (told ≡ answer.TxTaken refused) × TakesTx old tx refused new
 Submits old (local.Block block) told new =
     (taken : Taken) × (told ≡ answer.Taken taken) × TakesBlock old block None taken new
+Submits old (local.Header header) told new =
+    (heads : Heads) × (told ≡ answer.Heads heads) × TakesHeads old (header ∷ []) heads new

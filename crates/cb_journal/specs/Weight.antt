@@ -31,6 +31,7 @@ question_weight other = 0
 abbrev pub local_weight : Local → ℕ
 local_weight (local.Tx tx) = length (tx_text tx)
 local_weight (local.Block block) = length (block_text block)
+local_weight (local.Header header) = 80
 
 -- 64 bytes for each entry of the journal, and its content.
 abbrev pub entry_weight : Entry → ℕ

@@ -93,6 +93,7 @@ impl Local {
         match self {
             Local::Tx(tx) => Ok(Local::Tx(tx.clone()?)),
             Local::Block(block) => Ok(Local::Block(block.copy()?)),
+            Local::Header(header) => Ok(Local::Header(*header)),
         }
     }
 }

@@ -3,20 +3,25 @@ ghost use Rattle.cb_journal.specs.Weight.{entry_weight, local_weight};
 
 use crate::question::Question;
 use cb_base::Shared;
-use cb_block::SoundBlock;
+use cb_block::{Header, SoundBlock};
 use cb_state::Connection;
 use cb_tx::Tx;
 
 /// The bytes that each entry of a journal counts for, beside its content.
 const WEIGHT: u64 = 64;
 
-/// A transaction or block from the node's own user.
+/// The bytes of a header.
+const HEADER_WEIGHT: u64 = 80;
+
+/// A transaction, a block or a header from the node's own user.
 #[derive(Drop)]
 pub enum Local {
     /// A transaction.
     Tx(Shared<Tx>),
     /// A block.
     Block(SoundBlock),
+    /// A header, whose block may come later.
+    Header(Header),
 }
 
 impl Local {
@@ -27,6 +32,7 @@ impl Local {
         match self {
             Local::Tx(tx) => tx.size(),
             Local::Block(block) => block.block().size(),
+            Local::Header(_) => HEADER_WEIGHT,
         }
     }
 }
@@ -40,7 +46,7 @@ pub enum Entry {
     Kick(Connection),
     /// A peer's next connection was opened.
     Opened(Connection),
-    /// The node's own user submitted a transaction or block.
+    /// The node's own user submitted a transaction, a block or a header.
     Submitted(Local),
 }
 

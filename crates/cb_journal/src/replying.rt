@@ -75,8 +75,8 @@ pub(crate) fn reply(
     }
 }
 
-/// Takes a transaction or block from the node's own user. Fails only with `Fault::Memory`; the
-/// state is then unchanged.
+/// Takes a transaction, a block or a header from the node's own user. Fails only with
+/// `Fault::Memory`; the state is then unchanged.
 pub(crate) fn submit(state: &mut Relay, local: &Local) -> Result<Answer, Fault>
     ensures answers { IfOk result (λ answer. Submits state.old local.now answer state.new) }
     ensures err { OnErr result (state.new ≡ state.old) }
@@ -85,5 +85,6 @@ pub(crate) fn submit(state: &mut Relay, local: &Local) -> Result<Answer, Fault>
     match local {
         Local::Tx(tx) => Ok(Answer::TxTaken(state.take_tx(tx.clone()?)?)),
         Local::Block(block) => Ok(Answer::Taken(state.take_block(block.copy()?, None)?)),
+        Local::Header(header) => Ok(Answer::Heads(state.take_headers(&[*header])?)),
     }
 }

@@ -1,3 +1,2 @@
-mod OnBest
 mod Slots
 pub mod Times

@@ -1,45 +1,27 @@
 //! What whoever runs a node for days needs beside its other calls: what the hall has of a block and
 //! of the mempool, and what a node takes over from the one before.
-ghost use Rattle.std.specs.Prelude.{◌≡◌, ◌↔◌, true, length, Contains, IfErr, IfOk, IsOkUnless, option_map};
+ghost use Rattle.std.specs.Prelude.{◌≡◌, IfErr, IfOk, IsOkUnless};
 ghost use Rattle.cb_base.specs.declared.fault.Fault.TheVariants as faults;
-ghost use Rattle.cb_block.specs.declared.block.Block as blocks;
-ghost use Rattle.cb_chain.specs.Entries.{block_of};
-ghost use Rattle.cb_chain.specs.Laws.{active_hashes};
 ghost use Rattle.cb_pool.specs.Listing.{since_of};
 ghost use Rattle.cb_slots.specs.declared.fault.NodeFault.TheVariants.{Memory};
-ghost use Rattle.cb_node.specs.Looking.{IsBlockLook};
 
 use crate::node::Node;
 use cb_base::{Fault, Hash256};
-use cb_chain::{Chain, active_is_linked};
 use cb_hall::Hall;
 use cb_journal::{Answer, Local};
 use cb_pool::Pool;
+use cb_reading::{BlockLook, block_look};
 use cb_slots::NodeFault;
 use cb_state::Relay;
 use std::marker::{Copy, Send};
 use std::sync::Wait;
 use std::thread::Threads;
 
-/// What the chain has of a block.
-#[derive(Clone, Copy)]
-pub struct BlockLook {
-    /// Its height; the genesis block has height 0.
-    pub height: u32,
-    /// How many transactions it has, if it is kept and not marked bad.
-    pub txs: Option<usize>,
-    /// Whether it is on the best chain.
-    pub best: bool,
-}
-
 impl<R: Threads + Wait + Copy + Send + Drop + 'static> Node<R> {
-    /// What the chain has of the block with this hash; `None` if its header isn't known. Fails only
-    /// with `NodeFault::Memory`.
-    pub fn block(&self, hash: &Hash256) -> Result<Option<BlockLook>, NodeFault>
-        ensures { IfErr result (λ fault. fault ≡ Memory) }
-    {
+    /// What the chain has of the block with this hash; `None` if its header isn't known.
+    pub fn block(&self, hash: &Hash256) -> Option<BlockLook> {
         let hall = self.service.hall.lock(&self.service.rt);
-        Ok(look_at_block(state_of(&*hall).chain(), hash)?)
+        block_look(state_of(&*hall).chain(), hash)
     }
 
     /// The txids of the mempool, in the order in which they came. Fails only with
@@ -51,8 +33,8 @@ impl<R: Threads + Wait + Copy + Send + Drop + 'static> Node<R> {
         Ok(txids_of(state_of(&*hall).pool())?)
     }
 
-    /// Gives the node a transaction or a block from its own user, as `submit` does. Fails also with
-    /// what the hall refuses it for.
+    /// Gives the node a transaction, a block or a header from its own user, as `submit` does. Fails
+    /// also with what the hall refuses it for.
     pub fn give(&self, local: Local) -> Result<(), NodeFault> {
         let answer = self.submit(local)?;
         match refusal(&answer) {
@@ -83,54 +65,10 @@ impl<R: Threads + Wait + Copy + Send + Drop + 'static> Node<R> {
 }
 
 /// The chain, the mempool and the announcers of a hall.
-fn state_of(hall: &Hall) -> &Relay
+pub(crate) fn state_of(hall: &Hall) -> &Relay
     ensures { result.now ≡ hall.now.latest.relay }
 {
     hall.record().latest().state()
-}
-
-/// What the chain has of the block with this hash. Fails only with `Fault::Memory`.
-fn look_at_block(chain: &Chain, hash: &Hash256) -> Result<Option<BlockLook>, Fault>
-    ensures exact { IfOk result (IsBlockLook chain.now hash.now) }
-    ensures memory { IsOkUnless result faults.Memory }
-{
-    let Some(height) = chain.height(hash) else {
-        return Ok(None);
-    };
-    Ok(Some(BlockLook {
-        height,
-        txs: txs_in(chain, hash),
-        best: is_on_best(chain, hash)?,
-    }))
-}
-
-/// How many transactions the block with this hash has, if it is kept and not marked bad.
-fn txs_in(chain: &Chain, hash: &Hash256) -> Option<usize>
-    ensures { result ≡ option_map (λ (block : blocks.Block). length block.txs)
-        (block_of chain.now hash.now) }
-{
-    match chain.block(hash) {
-        Some(block) => Some(block.block().txs.as_slice().len()),
-        None => None,
-    }
-}
-
-/// Whether a block is on the best chain: it is the tip, or the parent of the first header that
-/// follows it there. Fails only with `Fault::Memory`.
-fn is_on_best(chain: &Chain, hash: &Hash256) -> Result<bool, Fault>
-    ensures exact { IfOk result
-        (λ best. (best ≡ true) ↔ Contains (active_hashes chain.now) hash.now) }
-    ensures memory { IsOkUnless result faults.Memory }
-{
-    active_is_linked(chain);
-    if *hash == chain.tip() {
-        return Ok(true);
-    }
-    let headers = chain.after(&[*hash], hash)?;
-    match headers.first() {
-        Some(header) => Ok(header.prev == *hash),
-        None => Ok(false),
-    }
 }
 
 /// The txids of a mempool, in the order in which they came. Fails only with `Fault::Memory`.
@@ -141,11 +79,12 @@ fn txids_of(pool: &Pool) -> Result<Vec<Hash256>, Fault>
     pool.since(0)
 }
 
-/// Why the hall refused a transaction or a block; `None` if it took it.
+/// Why the hall refused a transaction, a block or a header; `None` if it took it.
 fn refusal(answer: &Answer) -> Option<Fault> {
     match answer {
         Answer::TxTaken(refused) => *refused,
         Answer::Taken(taken) => taken.refused,
+        Answer::Heads(heads) => heads.refused,
         _ => None,
     }
 }

@@ -1,11 +1,15 @@
 -- How a run ends.
-use Rattle.std.proofs.Common.{◌≡◌, ◌⊎◌, ◌↔◌, ℕ, Bool, true, List, Option, Result, Ok, Err, IfOk, IfErr, OnOk, inl, inr}
+use Rattle.std.proofs.Common.{◌≡◌, ◌⊎◌, ◌↔◌, ℕ, Bool, true, List, Option, Result, Ok, Err, IfOk, IfErr, OnOk, inl, inr, subst}
+use Rattle.std.specs.Io.KnownBytes.{Appends}
+use Rattle.std.specs.declared.net.socket_addr.SocketAddr.{SocketAddr}
 use Rattle.cb_run.specs.declared.ending.Halt.{Halt}
 use Rattle.cb_control.specs.declared.verdict.Verdict.{Verdict}
 use Rattle.cb_control.specs.declared.reply.Reply.TheVariants as replies
 use Rattle.cb_control.specs.Outcomes.{LacksOrFails, says_yes}
+use Rattle.cb_process.specs.Starting.{IsDeaf, IsPlace, deaf_text}
+use Rattle.cb_process.specs.declared.orders.NodeOrders.{NodeOrders}
+use Rattle.cb_process.specs.declared.start_fault.StartFault.{StartFault}
 use Rattle.cb_node_process.specs.Telling.{StopsEarly, Tells, TellsAll, TellsOpening}
-use Rattle.cb_node_process.specs.declared.start_fault.StartFault.{StartFault}
 use Rattle.cb_node_process.proofs.Runs.{tells_all}
 
 -- the audit's answer is the last line
@@ -15,6 +19,10 @@ pub told_all : {E : Type 0} (IsAudit : Verdict → Type 0) (r : Result ℕ E) (a
 told_all IsAudit (Ok status) a b c verdict well served reached is o says last full which =
     tells_all IsAudit (served ≡ true) a b c verdict status is (λ zero. (says (full.0 zero)).1.1) (λ zero. (says (full.0 zero)).0) o last which
 told_all IsAudit (Err halt) a b c verdict well served reached is o says last full which = tt
+
+-- where it listens was printed, and answers, if it served to its end
+pub opened_in : {B : Type 0} (r : Result (B × Bool) Halt) (broken : B) (well : Bool) (a b : Option (List ℕ)) → r ≡ Ok (broken, well) → IfOk r (λ served. TellsOpening (served.1 ≡ true) a b) → TellsOpening (well ≡ true) a b
+opened_in r broken well a b is told = subst (λ (s : Result (_ × Bool) Halt). IfOk s (λ served. TellsOpening (served.1 ≡ true) a b)) is told
 
 -- by which status
 pub which : (IsAudit : Verdict → Type 0) (a b : Option (List ℕ)) (r : Result ℕ Halt) → IfOk r (TellsAll IsAudit a b) → IfOk r (λ status. (status ≡ 0) ⊎ (status ≡ 3))
@@ -39,10 +47,15 @@ pub ran_quietly : (Same : Type 0) (A B : ℕ → Type 0) (r : Result ℕ Halt) �
 ran_quietly Same A B (Ok status) same a = inl (a, same)
 ran_quietly Same A B (Err halt) same a = tt
 
+-- standard error was told where it can't listen
+pub deaf_told : (orders : NodeOrders) (told tells : Option (List ℕ)) (address : SocketAddr) (fault : StartFault) (r : Result ℕ Halt) → IsPlace orders address → OnOk r (Appends told tells (deaf_text address fault)) → OnOk r (IsDeaf orders told tells)
+deaf_told orders told tells address fault (Ok status) place text = (address, fault, place, text)
+deaf_told orders told tells address fault (Err halt) place text = tt
+
 -- it can't listen
-pub ran_deaf : (A : ℕ → Type 0) (B : StartFault → Type 0) (fault : StartFault) (r : Result ℕ Halt) → OnOk r (B fault) → IfOk r (λ status. status ≡ 3) → IfOk r (λ status. A status ⊎ ((f : StartFault) × B f × (status ≡ 3)))
-ran_deaf A B fault (Ok status) b three = inr (fault, b, three)
-ran_deaf A B fault (Err halt) b three = tt
+pub ran_deaf : (A : ℕ → Type 0) (B : Type 0) (r : Result ℕ Halt) → OnOk r B → IfOk r (λ status. status ≡ 3) → IfOk r (λ status. A status ⊎ (B × (status ≡ 3)))
+ran_deaf A B (Ok status) b three = inr (b, three)
+ran_deaf A B (Err halt) b three = tt
 
 pub three_is_one : (r : Result ℕ Halt) → IfOk r (λ status. status ≡ 3) → IfOk r (λ status. (status ≡ 0) ⊎ (status ≡ 3))
 three_is_one (Ok status) three = inr three

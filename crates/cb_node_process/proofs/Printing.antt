@@ -17,27 +17,9 @@ use Rattle.cb_control.specs.Outcomes.{says_yes}
 use Rattle.cb_driver.specs.Deeds.{refusal_of}
 use Rattle.cb_node_process.specs.Telling.{Suits}
 
--- these refusals tell that the line could be read
-pub memory_is_known : refusals.Memory ≢ refusals.Unreadable
-memory_is_known e = absurd cc
-
-pub no_slot_is_known : refusals.NoSlot ≢ refusals.Unreadable
-no_slot_is_known e = absurd cc
-
+-- this refusal tells that the line could be read
 pub unknown_is_known : refusals.UnknownBlock ≢ refusals.Unreadable
 unknown_is_known e = absurd cc
-
-pub already_is_known : refusals.Already ≢ refusals.Unreadable
-already_is_known e = absurd cc
-
-pub own_is_known : refusals.Own ≢ refusals.Unreadable
-own_is_known e = absurd cc
-
-pub not_dialled_is_known : refusals.NotDialled ≢ refusals.Unreadable
-not_dialled_is_known e = absurd cc
-
-pub off_is_known : refusals.Off ≢ refusals.Unreadable
-off_is_known e = absurd cc
 
 -- a node refuses no line as unreadable
 pub node_refuses : (fault : NodeFault) → refusal_of fault ≢ refusals.Unreadable

@@ -1,9 +1,8 @@
 -- What a process answers, and what it prints.
-use Rattle.std.specs.Prelude.{◌≡◌, ℕ, ◌⊎◌, ⊤, Bool, true, List, ◌++◌, codes, Option, None, Result, IfErr, IfOk}
+use Rattle.std.specs.Prelude.{◌≡◌, ℕ, ◌⊎◌, ⊤, Bool, true, List, ◌++◌, Option, None, Result, IfErr, IfOk}
 use Rattle.std.specs.Io.KnownBytes.{Appends}
 use Rattle.std.specs.List.{All, flat_map}
 use Rattle.std.specs.declared.net.socket_addr.SocketAddr.{SocketAddr}
-use Rattle.std.specs.Net.Text.{socket_text}
 use Rattle.cb_run.specs.declared.ending.Halt.{Halt}
 use Rattle.cb_run.specs.declared.ending.Halt.TheVariants as halts
 use Rattle.cb_control.specs.declared.order.Order.{Order}
@@ -22,8 +21,6 @@ use Rattle.cb_node.specs.declared.node.NodeEnd.{NodeEnd}
 use Rattle.cb_driver.specs.Auditing.{IsAudited}
 use Rattle.cb_node_process.specs.declared.answering.Response.{Response}
 use Rattle.cb_node_process.specs.declared.answering.Response.TheVariants as responses
-use Rattle.cb_node_process.specs.declared.start_fault.StartFault.{StartFault}
-use Rattle.cb_node_process.specs.declared.start_fault.StartFault.TheVariants as start
 
 -- ---- answers
 
@@ -113,19 +110,3 @@ pub record HasRun (IsAudit : Verdict → Type 0) (held holds : Option (List ℕ)
     (ended : Result ℕ Halt) : Type 0 where
   pub told : IfOk ended (TellsAll IsAudit held holds)
   pub halts : IfErr ended (StopsEarly (failed ≡ true))
-
--- ---- a node that can't be started
-
--- why a node can't be started, in words
-abbrev pub cause_text : StartFault → List ℕ
-cause_text start.Memory = codes "memory ran out"
-cause_text start.PortInUse = codes "the port is in use"
-cause_text start.NotOurs = codes "the address isn't this machine's"
-cause_text start.NotAllowed = codes "it isn't allowed"
-cause_text start.NoMeans = codes "no socket or no thread can be made"
-
--- what standard error is told if the node can't listen at this address
-abbrev pub deaf_text : SocketAddr → StartFault → List ℕ
-deaf_text address fault =
-    codes "error: can't listen at "
-    ++ (socket_text address ++ (codes ": " ++ (cause_text fault ++ codes "\n")))

@@ -1,20 +1,13 @@
-//! A node as a process: it listens, dials, relays, answers an operator's lines, logs, and ends with
-//! an audit.
+//! A node as a process: it listens, dials, relays, answers an operator's lines and calls of
+//! JSON-RPC, logs, and ends with an audit.
 #![tactic(auto)]
 
-mod admitting;
 mod answering;
-mod guarding;
-mod host;
-mod linking;
-mod orders;
-mod polling;
-mod process;
+mod calling;
+mod calls;
+mod desk;
+mod peer_calls;
 mod reading;
 mod running;
-mod start_fault;
 
-pub use host::ProcessHost;
-pub use orders::NodeOrders;
 pub use running::run_node;
-pub use start_fault::StartFault;

@@ -2,10 +2,10 @@
 ghost use Rattle.std.specs.Prelude.{◌≡◌, ◌⊎◌, IfErr, IsOkUnless};
 ghost use Rattle.cb_run.specs.declared.ending.Halt.TheVariants.{Memory, ReadFailed};
 
-use crate::host::ProcessHost;
 use cb_base::{In, Shared, Source};
 use cb_control::{Order, read_order};
 use cb_pipes::Pipes;
+use cb_process::ProcessHost;
 use cb_run::{Halt, LineReader};
 use crossbeam_channel::{Receiver, RecvTimeoutError, Sender, bounded};
 use std::alloc::Global;

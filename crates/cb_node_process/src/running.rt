@@ -4,21 +4,19 @@ ghost use Rattle.std.specs.Io.KnownBytes.{Appends};
 ghost use Rattle.cb_run.specs.declared.ending.Halt.TheVariants.{WriteFailed};
 ghost use Rattle.cb_control.specs.Outcomes.{LacksOrFails};
 ghost use Rattle.cb_driver.specs.Auditing.{IsOfAnEnd};
-ghost use Rattle.cb_node_process.specs.declared.start_fault.StartFault.{StartFault};
-ghost use Rattle.cb_node_process.specs.Telling.{Comes, HasRun, IsDialReply, StopsEarly, Tells, TellsAll, TellsOpening, deaf_text};
+ghost use Rattle.cb_process.specs.Starting.{IsDeaf, IsPlace, deaf_text};
+ghost use Rattle.cb_node_process.specs.Telling.{Comes, HasRun, IsDialReply, StopsEarly, Tells, TellsAll, TellsOpening};
 
-use crate::answering::Response;
-use crate::host::ProcessHost;
-use crate::orders::NodeOrders;
-use crate::process::{Process, is_well};
-use crate::reading::{Arrival, Arrivals, Broken, start_reading};
-use crate::start_fault::StartFault;
+use crate::answering::{Response, obey};
+use crate::desk::Desk;
+use crate::reading::{Arrival, Arrivals, Broken};
 use cb_base::{Seed, Shared, Sink};
 use cb_control::{Refusal, Reply, Verdict, write_reply};
-use cb_pipes::{PipedLog, Pipes, start_log};
+use cb_pipes::{LogFault, PipedLog, Pipes, start_log};
+use cb_process::{NodeOrders, Process, ProcessHost, StartFault, is_well};
 use cb_run::{Halt, Status, write_all};
 use crossbeam_channel::RecvTimeoutError;
-use log::{Log, Logged, info};
+use log::{LevelFilter, Log, Logged, info};
 use std::alloc::Global;
 use std::net::SocketAddr;
 use std::thread;
@@ -28,16 +26,18 @@ use std::time::Duration;
 const PAUSE_MILLISECONDS: u64 = 10;
 
 /// Runs a node. It prints `listening ADDR:PORT` once it listens, and then an answer to each line of
-/// standard input. `quit` and the end of input end it: all its threads return, and the audit's
-/// answer is printed.
+/// standard input, if it reads that. It answers calls of JSON-RPC, if it is to. `quit`, the end of
+/// input and the call `stop` end it: all its threads return but the one that reads lines, which may
+/// still wait behind `stop`, and the audit's answer is printed.
 ///
-/// While nobody takes what was printed, as `pipes` tells, peers are served and no line is answered.
-/// `pipes` is told when the end is asked for.
+/// While nobody takes what was printed, as `pipes` tells, peers are served and calls are answered,
+/// and no line is answered. `pipes` is told when the end is asked for, and tells which records are
+/// logged.
 ///
 /// Returns the exit status: 0; 3 if it couldn't listen, an audit said no, or an address that it was
-/// to dial from the start was never reached. Why it couldn't listen goes to `errors`. Connections,
-/// their ends and new tips are logged on standard error, by a thread of its own. The node's tables
-/// have this seed, which changes no result.
+/// to dial from the start was never reached. Where it couldn't listen and why goes to `errors`.
+/// Connections, their ends and new tips are logged on standard error, by a thread of its own. The
+/// node's tables have this seed, which changes no result.
 ///
 /// Fails if memory runs out at the start, or a read or a write failed. The node has ended then.
 pub fn run_node<R: ProcessHost, W: Sink, E: Sink>(
@@ -55,9 +55,7 @@ pub fn run_node<R: ProcessHost, W: Sink, E: Sink>(
     ensures told { IfOk result
         (λ status. (TellsAll (IsOfAnEnd R) (W.contents writer.old) (W.contents writer.new) status
         × (errors.new ≡ errors.old))
-        ⊎ ((fault : StartFault)
-        × Appends (E.contents errors.old) (E.contents errors.new) (deaf_text orders.listen fault)
-        × (status ≡ 3))) }
+        ⊎ (IsDeaf orders (E.contents errors.old) (E.contents errors.new) × (status ≡ 3))) }
     ensures status { IfOk result (λ status. (status ≡ 0) ⊎ (status ≡ 3)) }
     // For every writer and standard error: why it ends early.
     ensures halts { IfErr result (StopsEarly
@@ -68,8 +66,60 @@ pub fn run_node<R: ProcessHost, W: Sink, E: Sink>(
 {
     match run_logged(rt, alloc, seed, &orders, pipes, writer) {
         Ok(ended) => ended,
-        Err(StartFault::Memory) => Err(Halt::Memory),
-        Err(fault) => refuse(alloc, orders.listen, fault, errors),
+        Err(deaf) => tell_deaf(alloc, &orders, deaf, errors),
+    }
+}
+
+/// Why a node can't be started.
+#[derive(Clone, Copy)]
+struct Deaf {
+    /// Whether it can't listen for requests of JSON-RPC; if not, it can't for peers.
+    to_calls: bool,
+    fault: StartFault,
+}
+
+impl From<LogFault> for Deaf {
+    fn from(fault: LogFault) -> Deaf {
+        Deaf::from(StartFault::from(fault))
+    }
+}
+
+impl From<StartFault> for Deaf {
+    fn from(fault: StartFault) -> Deaf {
+        Deaf {
+            to_calls: false,
+            fault,
+        }
+    }
+}
+
+/// Tells where the node can't listen and why. Returns the exit status.
+fn tell_deaf<E: Sink>(
+    alloc: Global,
+    orders: &NodeOrders,
+    deaf: Deaf,
+    errors: &mut E,
+) -> Result<u8, Halt>
+    ensures told { OnOk result (IsDeaf orders.now (E.contents errors.old) (E.contents errors.new)) }
+    ensures status { IfOk result (λ status. status ≡ 3) }
+    ensures err { IfErr result (LacksOrFails (E.has_failed errors.new)) }
+    ensures quiet { IfErr result
+        (λ halt. (errors.new ≡ errors.old) ⊎ (E.has_failed errors.new ≡ true)) }
+{
+    if let StartFault::Memory = deaf.fault {
+        return Err(Halt::Memory);
+    }
+    let address = place_of(orders, deaf.to_calls);
+    refuse(alloc, address, deaf.fault, errors)
+}
+
+/// Where the node was to listen: for requests of JSON-RPC, or for peers.
+fn place_of(orders: &NodeOrders, to_calls: bool) -> SocketAddr
+    ensures { IsPlace orders.now result }
+{
+    match &orders.rpc {
+        Some(rpc) if to_calls => rpc.address,
+        _ => orders.listen,
     }
 }
 
@@ -81,12 +131,14 @@ fn run_logged<R: ProcessHost, W: Sink>(
     orders: &NodeOrders,
     pipes: &Shared<Pipes>,
     writer: &mut W,
-) -> Result<Result<u8, Halt>, StartFault>
+) -> Result<Result<u8, Halt>, Deaf>
     ensures { IfOk result (HasRun (IsOfAnEnd R) (W.contents writer.old) (W.contents writer.new)
         (W.has_failed writer.new)) }
 {
-    let (lines, thread) = start_log(&rt, alloc)?;
-    let logged = Logged::new(rt, orders.level, PipedLog::new(rt, alloc, lines));
+    pipes.set_level(orders.level);
+    let (of_log, (lines, thread)) = (owner_of(pipes)?, start_log(&rt, alloc)?);
+    let sink = PipedLog::new(rt, alloc, lines, of_log);
+    let logged = Logged::new(rt, LevelFilter::Trace, sink);
     let log = logged.with_target("cbrelay");
     let ran = run(rt, alloc, seed, orders, pipes, &log, writer);
     drop(logged);
@@ -94,7 +146,12 @@ fn run_logged<R: ProcessHost, W: Sink>(
     ran
 }
 
-/// Tells why the node can't listen. Returns the exit status.
+/// One more owner of the pipes. Fails only with `StartFault::Memory`.
+fn owner_of(pipes: &Shared<Pipes>) -> Result<Shared<Pipes>, StartFault> {
+    Ok(pipes.clone()?)
+}
+
+/// Tells why the node can't listen at an address. Returns the exit status.
 fn refuse<E: Sink>(
     alloc: Global,
     address: SocketAddr,
@@ -114,8 +171,8 @@ fn refuse<E: Sink>(
     Ok(Status::RunFailed.code())
 }
 
-/// Starts a node, answers lines until the process is to end, and ends it. Fails if it can't be
-/// started.
+/// Starts a node, answers lines and calls until the process is to end, and ends it. Fails if it
+/// can't be started.
 fn run<R: ProcessHost, L: Log, W: Sink>(
     rt: R,
     alloc: Global,
@@ -124,32 +181,39 @@ fn run<R: ProcessHost, L: Log, W: Sink>(
     pipes: &Shared<Pipes>,
     log: &L,
     writer: &mut W,
-) -> Result<Result<u8, Halt>, StartFault>
+) -> Result<Result<u8, Halt>, Deaf>
     ensures { IfOk result (HasRun (IsOfAnEnd R) (W.contents writer.old) (W.contents writer.new)
         (W.has_failed writer.new)) }
 {
+    let starts = orders.connect.as_slice();
     let mut process = Process::start(rt, alloc, seed, orders)?;
-    process.note_own(log, orders.connect.as_slice());
-    let arrivals = match start_reading(&rt, alloc, pipes) {
-        Ok(arrivals) => arrivals,
-        Err(halt) => {
-            drop(process.finish());
+    process.note_own(log, starts);
+    let mut desk = match Desk::open(rt, alloc, &process, orders, pipes, log) {
+        Ok(Ok(desk)) => desk,
+        Ok(Err(halt)) => {
+            drop(process.finish(starts));
             return Ok(Err(halt));
         }
+        Err(fault) => {
+            drop(process.finish(starts));
+            return Err(Deaf {
+                to_calls: true,
+                fault,
+            });
+        }
     };
-    let served = serve(&rt, alloc, &mut process, &arrivals, pipes, log, writer);
+    let served = serve(&rt, alloc, &mut process, &mut desk, pipes, log, writer);
     info!(log; "ending");
+    desk.close(&rt, served.is_ok());
     process.note_all_ends(log);
-    process.note_unreached(log);
-    let (end, verdict, reached) = process.finish();
+    process.note_unreached(log, starts);
+    let (end, verdict, reached) = process.finish(starts);
     drop(end);
     match served {
         Ok((broken, well)) => {
-            arrivals.join(&rt);
             let well = is_well(verdict, reached, well);
             Ok(tell_end(alloc, verdict, well, broken, writer))
         }
-        // The thread that reads may still wait for a line, so nobody waits for it.
         Err(halt) => Ok(Err(halt)),
     }
 }
@@ -176,14 +240,15 @@ fn tell_end<W: Sink>(
     }
 }
 
-/// Answers lines until the process is to end. Returns why standard input can't be read any more, if
-/// that ends it, and whether each `restart` went well. Fails only with `Halt::WriteFailed`.
+/// Answers lines and calls until the process is to end. Returns why standard input can't be read
+/// any more, if that ends it, and whether each `restart` went well. Fails only with
+/// `Halt::WriteFailed`.
 fn serve<R: ProcessHost, L: Log, W: Sink>(
     rt: &R,
     alloc: Global,
     process: &mut Process<R>,
-    arrivals: &Arrivals,
-    pipes: &Pipes,
+    desk: &mut Desk,
+    pipes: &Shared<Pipes>,
     log: &L,
     writer: &mut W,
 ) -> Result<(Option<Broken>, bool), Halt>
@@ -199,7 +264,7 @@ fn serve<R: ProcessHost, L: Log, W: Sink>(
     for _ in rt.forever() {
         process.poll(log);
         heed_failure(pipes, writer)?;
-        match advance(rt, process, arrivals, pipes, log) {
+        match advance(rt, process, desk, pipes, log) {
             Response::Silence => {}
             Response::Reply(reply) => write_reply(alloc, &reply, writer)?,
             Response::Failed(reply) => {
@@ -225,19 +290,45 @@ fn heed_failure<W: Sink>(pipes: &Pipes, writer: &mut W) -> Result<(), Halt>
     Ok(())
 }
 
-/// What a moment brings: what a dial came to for which an operator waits, or what answers a line.
-/// It only waits while the dial goes on, and while nobody takes what was printed before.
-#[tactic(auto, using(crate::proofs::Runs::order_comes))]
+/// What a moment brings. Calls that wait are answered, and one that comes soon if no line does.
 fn advance<R: ProcessHost, L: Log>(
     rt: &R,
     process: &mut Process<R>,
-    arrivals: &Arrivals,
-    pipes: &Pipes,
+    desk: &mut Desk,
+    pipes: &Shared<Pipes>,
     log: &L,
 ) -> Response
     ensures { Comes result }
 {
     let pause = Duration::from_millis(PAUSE_MILLISECONDS);
+    let Desk { calls, arrivals } = desk;
+    let Some(calls) = calls else {
+        return next_response(rt, process, arrivals, pipes, log, pause);
+    };
+    calls.answer_waiting(rt, process, pipes, log);
+    if calls.stops() {
+        return Response::End(None);
+    }
+    let response = next_response(rt, process, arrivals, pipes, log, Duration::ZERO);
+    if let Response::Silence = &response {
+        calls.answer_next(rt, process, pipes, log, pause);
+    }
+    response
+}
+
+/// What a dial came to for which an operator waits, or what answers a line that comes in so long a
+/// time. It only waits while the dial goes on, while nobody takes what was printed before, and
+/// where no lines are read.
+fn next_response<R: ProcessHost, L: Log>(
+    rt: &R,
+    process: &mut Process<R>,
+    arrivals: &Option<Arrivals>,
+    pipes: &Pipes,
+    log: &L,
+    pause: Duration,
+) -> Response
+    ensures { Comes result }
+{
     if pipes.holds_answers() || process.awaited.is_some() {
         thread::sleep(rt, pause);
         return Response::Silence;
@@ -245,8 +336,28 @@ fn advance<R: ProcessHost, L: Log>(
     if let Some((address, served)) = process.outcome.take() {
         return Response::Reply(dial_reply(address, served));
     }
+    match arrivals {
+        Some(arrivals) => answer_line(rt, process, arrivals, log, pause),
+        None => {
+            thread::sleep(rt, pause);
+            Response::Silence
+        }
+    }
+}
+
+/// What answers a line that comes in so long a time.
+#[tactic(auto, using(crate::proofs::Runs::order_comes))]
+fn answer_line<R: ProcessHost, L: Log>(
+    rt: &R,
+    process: &mut Process<R>,
+    arrivals: &Arrivals,
+    log: &L,
+    pause: Duration,
+) -> Response
+    ensures { Comes result }
+{
     match arrivals.next(rt, pause) {
-        Ok(Arrival::Order(order)) => match process.obey(order, log) {
+        Ok(Arrival::Order(order)) => match obey(process, order, log) {
             Ok(response) => response,
             Err(refusal) => Response::Reply(Reply::Refused(refusal)),
         },

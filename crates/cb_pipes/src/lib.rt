@@ -11,7 +11,7 @@ mod pipe_writer;
 mod piped_log;
 mod pipes;
 
-pub use clock::unix_time;
+pub use clock::{unix_millis, unix_time};
 pub use log_line::LogLine;
 pub use log_thread::{LogFault, LogThread, start_log};
 pub use losses::{Lane, Losses, dropped_lines_are_counted_once, offer};

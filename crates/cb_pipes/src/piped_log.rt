@@ -1,9 +1,11 @@
 //! The log of a process, whose lines a thread of its own writes.
-ghost use Rattle.std.specs.Prelude.{[], true, Some};
+ghost use Rattle.std.specs.Prelude.{[], None, Some};
 
 use crate::clock::unix_time;
 use crate::log_line::LogLine;
 use crate::losses::{Lane, Losses, offer};
+use crate::pipes::Pipes;
+use cb_base::Shared;
 use crossbeam_channel::Sender;
 use jiff::Timestamp;
 use log::kv::Source;
@@ -20,6 +22,8 @@ use std::sync::{Mutex, Wait};
 pub struct PipedLog<R: Drop> {
     rt: R,
     alloc: Global,
+    /// These tell which records are logged.
+    pipes: Shared<Pipes>,
     outgoing: Mutex<Outgoing<R>>,
 }
 
@@ -50,11 +54,17 @@ impl<R: Wait + Drop> Lane for ChannelLane<R> {
 }
 
 impl<R: Wait + Clock + Copy + Drop> PipedLog<R> {
-    /// A log whose lines go this way.
-    pub fn new(rt: R, alloc: Global, lines: Sender<LogLine, Global>) -> PipedLog<R> {
+    /// A log whose lines go this way, of the records that the pipes' level lets through.
+    pub fn new(
+        rt: R,
+        alloc: Global,
+        lines: Sender<LogLine, Global>,
+        pipes: Shared<Pipes>,
+    ) -> PipedLog<R> {
         PipedLog {
             rt,
             alloc,
+            pipes,
             outgoing: Mutex::new(Outgoing {
                 lane: ChannelLane { rt, lines },
                 losses: Losses::none(),
@@ -71,12 +81,12 @@ impl<R: Wait + Clock + Copy + Drop> PipedLog<R> {
 }
 
 impl<R: Wait + Clock + Copy + Drop> Log for PipedLog<R> {
-    ghost enables = { λ _ _ _. Some true };
+    ghost enables = { λ _ _ _. None };
 
     ghost target_of = { λ _. Some [] };
 
-    fn enabled(&self, _metadata: &Metadata<'_>) -> bool {
-        true
+    fn enabled(&self, metadata: &Metadata<'_>) -> bool {
+        self.pipes.level().allows(metadata.level())
     }
 
     fn log<D: Display, K: Source, S: Spans>(&self, record: &Record<'_, D, K, S>) {

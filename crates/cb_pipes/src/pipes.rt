@@ -1,4 +1,5 @@
-use std::sync::atomic::{AtomicBool, AtomicU64, Ordering};
+use log::LevelFilter;
+use std::sync::atomic::{AtomicBool, AtomicU8, AtomicU64, Ordering};
 
 /// How it stands with a process's pipes. Its threads share it.
 #[derive(Drop)]
@@ -10,16 +11,20 @@ pub struct Pipes {
     progress: AtomicU64,
     /// Whether a piece of the standard output couldn't be written.
     failed: AtomicBool,
+    /// Which records are logged: the place of the level among all, the least verbose first.
+    level: AtomicU8,
 }
 
 impl Pipes {
-    /// Nothing waits to be written, and the end wasn't asked for yet.
+    /// Nothing waits to be written, and the end wasn't asked for yet. Records up to `Info` are
+    /// logged.
     pub fn new() -> Pipes {
         Pipes {
             end_asked: AtomicBool::new(false),
             waiting: AtomicU64::new(0),
             progress: AtomicU64::new(0),
             failed: AtomicBool::new(false),
+            level: AtomicU8::new(3),
         }
     }
 
@@ -43,6 +48,31 @@ impl Pipes {
     /// Whether a piece of the standard output couldn't be written. The next write to it fails.
     pub fn has_failed(&self) -> bool {
         self.failed.load(Ordering::SeqCst)
+    }
+
+    /// Which records are logged.
+    pub fn level(&self) -> LevelFilter {
+        match self.level.load(Ordering::SeqCst) {
+            0 => LevelFilter::Off,
+            1 => LevelFilter::Error,
+            2 => LevelFilter::Warn,
+            3 => LevelFilter::Info,
+            4 => LevelFilter::Debug,
+            _ => LevelFilter::Trace,
+        }
+    }
+
+    /// Which records are logged from now on.
+    pub fn set_level(&self, level: LevelFilter) {
+        let place = match level {
+            LevelFilter::Off => 0,
+            LevelFilter::Error => 1,
+            LevelFilter::Warn => 2,
+            LevelFilter::Info => 3,
+            LevelFilter::Debug => 4,
+            LevelFilter::Trace => 5,
+        };
+        self.level.store(place, Ordering::SeqCst);
     }
 
     /// A piece of the standard output couldn't be written.

@@ -103,7 +103,7 @@ ok_at (Ok w) h = (w, refl)
 ok_at (Err fault) h = absurd (false≢true h)
 
 -- the transactions of a list that applies leave what its changes make
-applied : (u : Unspent) (list : List Pooled) → AllByRecursion (λ (pooled : Pooled). StandsAlone pooled.tx) list → IsOk (spend u (txs_of list)) → spend u (txs_of list) ≡ Ok (after_txs u (txs_of list))
+pub applied : (u : Unspent) (list : List Pooled) → AllByRecursion (λ (pooled : Pooled). StandsAlone pooled.tx) list → IsOk (spend u (txs_of list)) → spend u (txs_of list) ≡ Ok (after_txs u (txs_of list))
 applied u list alone ok = let a = ok_at (spend u (txs_of list)) ok in a.1 ∙ ap Ok (txs_leave u a.0 list alone a.1)
 
 only : (u : Unspent) (tx : Tx) (r : Result Unspent Fault) → spend_tx u tx ≡ r → spend u (tx ∷ []) ≡ r

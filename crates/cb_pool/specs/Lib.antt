@@ -5,3 +5,4 @@ pub mod Matching
 pub mod Rules
 pub mod Staying
 pub mod Touching
+pub mod Values

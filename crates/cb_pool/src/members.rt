@@ -5,11 +5,12 @@ ghost use Rattle.cb_pool.specs.Leaving.{touched_by};
 ghost use Rattle.cb_pool.specs.Listing.{NamesDiffer, txs_of};
 ghost use Rattle.cb_pool.specs.Rules.{Applies, Refuses, StandsAlone, is_named_in, named_in, txid_of};
 ghost use Rattle.cb_pool.specs.Touching.{AreApart};
+ghost use Rattle.cb_pool.specs.Values.{IsValueAfter};
 
 use crate::apart::keeps;
 use crate::candidate::Candidate;
 use crate::checking::fault_over;
-use crate::coins::{make_outputs, spend_outputs};
+use crate::coins::{make_outputs, spend_outputs, value_of};
 use cb_base::{Fault, Hash256, Seed};
 use cb_compact::NamedTx;
 use cb_ledger::Ledger;
@@ -123,6 +124,15 @@ impl Members {
             return Some(Fault::PoolFull);
         }
         None
+    }
+
+    /// The value of an output that is unspent after the list, or `None`. The list must be spendable
+    /// in order over the ledger.
+    pub(crate) fn value(&self, ledger: &Ledger, point: &OutPoint) -> Option<i64>
+        requires { IsOk (spend ledger.now.unspent (txs_of self.now.list)) }
+        ensures { IsValueAfter ledger.now.unspent (txs_of self.now.list) point.now result }
+    {
+        value_of(&self.coins, ledger, point)
     }
 
     /// Appends a transaction whose txid is new. There must be room for it.

@@ -4,6 +4,7 @@ ghost use Rattle.cb_ledger.specs.Spend.{spend};
 ghost use Rattle.cb_pool.specs.Listing.{since_of, txs_of, with_last};
 ghost use Rattle.cb_pool.specs.Matching.{pairs_of};
 ghost use Rattle.cb_pool.specs.Rules.{Applies, IsUntold, Refuses, is_named_in, named_in};
+ghost use Rattle.cb_pool.specs.Values.{IsValueAfter};
 
 use crate::candidate::Candidate;
 use crate::members::Members;
@@ -11,7 +12,7 @@ use crate::pairs::{Pairs, ShortIds};
 use cb_base::{Fault, Hash256, Seed, Shared};
 use cb_compact::NamedTx;
 use cb_ledger::Ledger;
-use cb_tx::Tx;
+use cb_tx::{OutPoint, Tx};
 use std::alloc::Global;
 use std::marker::Model;
 
@@ -126,6 +127,26 @@ impl Pool {
         self.next = number.saturating_add(1);
         self.named = None;
         Ok(number)
+    }
+
+    /// Why `insert_candidate` would refuse a transaction that was checked on its own; `None` if it
+    /// would append it, or lack memory for it. Nothing is allocated.
+    pub fn refusal(&self, ledger: &Ledger, candidate: &Candidate) -> Option<Fault>
+        requires { IsOk (spend ledger.now.unspent (txs_of self.now.list)) }
+        ensures { MatchOption result
+            (Applies ledger.now.unspent (txs_of self.now.list) candidate.now)
+            (λ fault. Refuses ledger.now.unspent (txs_of self.now.list) candidate.now fault) }
+    {
+        self.members.fault_of(ledger, candidate)
+    }
+
+    /// The value in satoshis of an output that is unspent after the pool's transactions; `None` if
+    /// it isn't. They must be spendable in order over `ledger`.
+    pub fn value(&self, ledger: &Ledger, point: &OutPoint) -> Option<i64>
+        requires { IsOk (spend ledger.now.unspent (txs_of self.now.list)) }
+        ensures { IsValueAfter ledger.now.unspent (txs_of self.now.list) point.now result }
+    {
+        self.members.value(ledger, point)
     }
 
     /// The transaction with this txid.

@@ -4,7 +4,7 @@ use Rattle.std.specs.Prelude.{◌≢◌, nat_eq, filter, filter_map, option_map,
 use Rattle.std.proofs.lemmas.Bool.{eqb-true, false≢true}
 use Rattle.std.proofs.lemmas.List.{reverse-reverse}
 use Rattle.cb_base.specs.declared.fault.Fault.{Fault}
-use Rattle.cb_base.specs.declared.fault.Fault.TheVariants.{BadWork, Memory, NoParent}
+use Rattle.cb_base.specs.declared.fault.Fault.TheVariants.{BadWork, Known, Memory, NoInput, NoParent, Overspent, PoolFull, Remade}
 use Rattle.cb_base.specs.declared.hash.Hash256.{Hash256}
 use Rattle.cb_block.specs.declared.block.Block.{Block}
 use Rattle.cb_block.specs.declared.header.Header.{Header}
@@ -21,13 +21,13 @@ use Rattle.cb_chain.specs.Laws.{MayLead}
 use Rattle.cb_chain.specs.Locator.{locator_heights, locator_of}
 use Rattle.cb_pool.specs.Folding.{Refolds}
 use Rattle.cb_pool.specs.Listing.{Listing, txs_of, with_last}
-use Rattle.cb_pool.specs.Rules.{Applies, Refuses}
+use Rattle.cb_pool.specs.Rules.{Applies, Refuses, RefusesAlone}
 use Rattle.cb_state.specs.declared.connection.Connection.{Connection}
 use Rattle.cb_state.specs.declared.accepting.Heads.{Heads}
 use Rattle.cb_state.specs.declared.accepting.Outlook.{Outlook}
 use Rattle.cb_state.specs.declared.accepting.Outlook.TheVariants.{Folds, Stays, Thins}
 use Rattle.cb_state.specs.declared.accepting.Taken.{Taken}
-use Rattle.cb_state.specs.Accepting.{Follows, MayLackMemory, TakesBlock, TakesHeads, TakesTx, TakesTxOver, announcers_after, became_tip, has_some, locator_for, txs_above, txs_in, txs_put_off}
+use Rattle.cb_state.specs.Accepting.{Follows, JudgesTx, JudgesTxOver, MayLackMemory, TakesBlock, TakesHeads, TakesTx, TakesTxOver, announcers_after, became_tip, has_some, locator_for, txs_above, txs_in, txs_put_off}
 use Rattle.cb_state.specs.Judging.{RefusesHeading}
 use Rattle.cb_state.specs.Outlooks.{IsOutlookOn, IsReady, first_of}
 use Rattle.cb_state.specs.State.{RelayState, IsUnspent, WaitOn}
@@ -55,6 +55,30 @@ tx_refused old tx pool fault u (Ok told) unspent (inr refuses) same_pool ok =
     let new : RelayState = record old { pool = pool } in
     let one : new ≡ old = ap (λ (p : Listing). record old { pool = p }) same_pool in
     (u, unspent, subst (λ (r : Option Fault). TakesTxOver u old tx r new) (sym ok.0) (refuses, one))
+
+-- what speaks against a transaction by itself refuses it
+alone_refuses : (u : Unspent) (taken : List Tx) (tx : Tx) (fault : Fault) → RefusesAlone tx fault → Refuses u taken tx fault
+alone_refuses u taken tx Known h = absurd h
+alone_refuses u taken tx NoInput h = absurd h
+alone_refuses u taken tx Overspent h = absurd h
+alone_refuses u taken tx Remade h = absurd h
+alone_refuses u taken tx PoolFull h = absurd h
+alone_refuses u taken tx other h = h
+
+pub tx_judged : (state : RelayState) (tx candidate : Tx) (u : Unspent) (told : Option Fault) → IsUnspent state.tree u → candidate ≡ tx
+    → MatchOption told (Applies u (txs_of state.pool.list) candidate) (λ fault. Refuses u (txs_of state.pool.list) candidate fault)
+    → JudgesTx state tx told
+tx_judged state tx candidate u None unspent same applies = (u, unspent, subst (Applies u (txs_of state.pool.list)) same applies)
+tx_judged state tx candidate u (Some fault) unspent same refuses = (u, unspent, subst (λ (t : Tx). Refuses u (txs_of state.pool.list) t fault) same refuses)
+
+pub tx_judged_alone : (state : RelayState) (tx : Tx) (fault : Fault) (u : Unspent) (told : Result (Option Fault) Fault)
+    → IsUnspent state.tree u → ((fault ≡ Memory) ⊎ RefusesAlone tx fault)
+    → IfOk told (λ refused. (refused ≡ Some fault) × (fault ≢ Memory))
+    → IfOk told (λ refused. JudgesTx state tx refused)
+tx_judged_alone state tx fault u (Err error) unspent why ok = tt
+tx_judged_alone state tx fault u (Ok told) unspent (inl memory) ok = absurd (ok.1 memory)
+tx_judged_alone state tx fault u (Ok told) unspent (inr alone) ok =
+    (u, unspent, subst (λ (r : Option Fault). JudgesTxOver u state tx r) (sym ok.0) (alone_refuses u (txs_of state.pool.list) tx fault alone))
 
 pub tx_taken : (old : RelayState) (tx : Tx) (pool : Listing) (u : Unspent) → IsUnspent old.tree u → Applies u (txs_of old.pool.list) tx
     → pool ≡ with_last old.pool tx → TakesTx old tx None (record old { pool = pool })

@@ -1,6 +1,6 @@
 -- What a transaction, a block and headers do to the shared state, and what the answer is (Bitcoin's
 -- protocol).
-use Rattle.std.specs.Prelude.{◌≡◌, ◌⊎◌, Bool, true, false, List, [], ◌∷◌, drop, filter, map, reverse, Option, None, Some, Result, Ok, Err}
+use Rattle.std.specs.Prelude.{◌≡◌, ◌⊎◌, ℤ, Bool, true, false, List, [], ◌∷◌, drop, filter, map, reverse, Option, None, Some, Result, Ok, Err}
 use Rattle.std.specs.List.{flat_map}
 use Rattle.cb_base.specs.declared.fault.Fault.{Fault}
 use Rattle.cb_base.specs.declared.fault.Fault.TheVariants.{NoParent}
@@ -8,6 +8,7 @@ use Rattle.cb_base.specs.declared.hash.Hash256.{Hash256}
 use Rattle.cb_block.specs.declared.block.Block.{Block}
 use Rattle.cb_block.specs.declared.header.Header.{Header}
 use Rattle.cb_block.specs.Work.{HasWork}
+use Rattle.cb_tx.specs.declared.tx.OutPoint.{OutPoint}
 use Rattle.cb_tx.specs.declared.tx.Tx.{Tx}
 use Rattle.cb_ledger.specs.Unspent.{Unspent}
 use Rattle.cb_chain.specs.declared.change.Change.{Change}
@@ -19,6 +20,7 @@ use Rattle.cb_chain.specs.Locator.{locator_of}
 use Rattle.cb_pool.specs.Folding.{HasRoom, Refolds}
 use Rattle.cb_pool.specs.Listing.{Plan, txs_of, with_last}
 use Rattle.cb_pool.specs.Rules.{Applies, Refuses}
+use Rattle.cb_pool.specs.Values.{IsValueAfter}
 use Rattle.cb_state.specs.declared.connection.Connection.{Connection}
 use Rattle.cb_state.specs.declared.accepting.Heads.{Heads}
 use Rattle.cb_state.specs.declared.accepting.Taken.{Taken}
@@ -40,6 +42,20 @@ TakesTxOver u old tx (Some fault) new = Refuses u (txs_of old.pool.list) tx faul
 -- The same over the UTXO set of the tip.
 abbrev pub TakesTx : RelayState → Tx → Option Fault → RelayState → Type 0
 TakesTx old tx refused new = (u : Unspent) × IsUnspent old.tree u × TakesTxOver u old tx refused new
+
+-- Whether a transaction would be appended to the mempool, or why it would be refused.
+abbrev pub JudgesTxOver : Unspent → RelayState → Tx → Option Fault → Type 0
+JudgesTxOver u state tx None = Applies u (txs_of state.pool.list) tx
+JudgesTxOver u state tx (Some fault) = Refuses u (txs_of state.pool.list) tx fault
+
+-- The same over the UTXO set of the tip.
+abbrev pub JudgesTx : RelayState → Tx → Option Fault → Type 0
+JudgesTx state tx refused = (u : Unspent) × IsUnspent state.tree u × JudgesTxOver u state tx refused
+
+-- What an output is worth after the mempool's transactions over the UTXO set of the tip.
+abbrev pub IsPooledValue : RelayState → OutPoint → Option ℤ → Type 0
+IsPooledValue state point value =
+    (u : Unspent) × IsUnspent state.tree u × IsValueAfter u (txs_of state.pool.list) point value
 
 -- ---- a block
 

@@ -9,7 +9,7 @@ ghost use Rattle.cb_ledger.specs.Spend.{spend};
 ghost use Rattle.cb_pool.specs.Folding.{Refolds};
 ghost use Rattle.cb_pool.specs.Listing.{txs_of};
 ghost use Rattle.cb_pool.specs.Rules.{IsUntold};
-ghost use Rattle.cb_state.specs.Accepting.{MayLackMemory, TakesBlock, TakesHeads, TakesTx, announcers_after, locator_for, txs_above, txs_under};
+ghost use Rattle.cb_state.specs.Accepting.{MayLackMemory, TakesBlock, IsPooledValue, JudgesTx, TakesHeads, TakesTx, announcers_after, locator_for, txs_above, txs_under};
 ghost use Rattle.cb_state.specs.Outlooks.{IsOutlookOn, IsReady, first_of};
 
 use crate::announcers::Announcers;
@@ -23,7 +23,7 @@ use cb_chain::{Chain, Hashes, kept_meet_rules};
 use cb_ledger::Ledger;
 use cb_payload::Locator;
 use cb_pool::{Candidate, Pool, Refolding, Thinning, stays_as_it_is, stays_behind_others};
-use cb_tx::Tx;
+use cb_tx::{OutPoint, Tx};
 use std::alloc::Global;
 
 /// The outcome of a block.
@@ -176,6 +176,30 @@ impl Relay {
             return told(fault);
         }
         Ok(None)
+    }
+
+    /// Why `take_tx` would refuse a transaction; `None` if it would add it. Nothing changes.
+    ///
+    /// Fails only with `Fault::Memory`, and never if a check that needs no memory speaks against
+    /// the transaction.
+    pub fn judge_tx(&self, tx: Shared<Tx>) -> Result<Option<Fault>, Fault>
+        ensures judged { IfOk result (λ refused. JudgesTx self.now tx refused) }
+        ensures memory { IsOkUnless result Memory }
+        ensures unpaid { result ≡ Err Memory → IsUntold tx }
+    {
+        let ledger = self.chain.ledger();
+        match Candidate::new(self.alloc, tx) {
+            Ok(candidate) => Ok(self.pool.refusal(ledger, &candidate)),
+            Err(fault) => told(fault),
+        }
+    }
+
+    /// The value in satoshis of an output that is unspent after the mempool's transactions; `None`
+    /// if it isn't.
+    pub fn value(&self, point: &OutPoint) -> Option<i64>
+        ensures { IsPooledValue self.now point.now result }
+    {
+        self.pool.value(self.chain.ledger(), point)
     }
 
     /// Takes a block into the chain. Returns why it was refused, if it was, with a locator if its

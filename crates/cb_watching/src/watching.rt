@@ -89,6 +89,17 @@ impl Watched {
         self.watch.note(sight, now);
     }
 
+    /// Asks its peer for a `pong`, if its session is in Ready. Returns whether it is.
+    pub fn ask(&mut self, now: u64) -> bool {
+        if self.link.status.state() != State::Ready {
+            return false;
+        }
+        self.watch.probed = true;
+        self.watch.asked = Some(self.watch.asked.unwrap_or(now));
+        self.link.status.set_probe();
+        true
+    }
+
     /// It is to be ended for this, unless it is to be ended for something else already.
     pub fn order(&mut self, ending: Ending) {
         if self.ending.is_none() {

@@ -2,9 +2,12 @@
 #![tactic(auto)]
 
 use cb_base::{In, Out, Seed, Shared};
-use cb_command::{names_node, refuse_for_memory, refuse_foreign, refuse_unseeded, seeded_command};
+use cb_command::{
+    names_node, refuse_for_memory, refuse_foreign, refuse_unseeded, seeded_command, with_password,
+};
 use cb_pipes::{Patience, PipeWriter, Pipes};
 use std::alloc::{AllocError, Global};
+use std::env::VarError;
 use std::io::{ErrorKind, Write};
 use std::marker::{Copy, Send};
 use std::net::{TcpListener, TcpStream};
@@ -27,6 +30,24 @@ fn random_seed(rt: &HostRuntime) -> Option<Seed> {
         Ok(()) => Some(Seed::of(bytes.as_slice())),
         Err(_) => None,
     }
+}
+
+/// The words, with the password for JSON-RPC of the environment's `CBRELAY_RPC_PASSWORD` if they
+/// are of a node that needs one. One that isn't UTF-8 is none.
+fn whole_words(
+    rt: &HostRuntime,
+    alloc: Global,
+    words: Vec<String>,
+) -> Result<Vec<String>, AllocError> {
+    if !names_node(words.as_slice()) {
+        return Ok(words);
+    }
+    let password = match std::env::var(rt, "CBRELAY_RPC_PASSWORD") {
+        Ok(password) => Some(password),
+        Err(VarError::OutOfMemory) => return Err(AllocError),
+        Err(_) => None,
+    };
+    with_password(alloc, words, password)
 }
 
 /// A writer to a pipe. If it is threaded, a thread of its own writes.
@@ -66,6 +87,9 @@ fn main(rt: HostRuntime) -> ExitCode {
     let words: Vec<String> = match words {
         Ok(words) => words,
         Err(_) => return ExitCode::from(refuse_for_memory(&mut plain_errors)),
+    };
+    let Ok(words) = whole_words(&rt, alloc, words) else {
+        return ExitCode::from(refuse_for_memory(&mut plain_errors));
     };
     let Some(seed) = random_seed(&rt) else {
         return ExitCode::from(refuse_unseeded(&mut plain_errors));

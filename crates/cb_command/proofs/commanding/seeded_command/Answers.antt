@@ -8,7 +8,7 @@ use Rattle.cb_driver.specs.declared.running.RunOrders.{RunOrders}
 use Rattle.cb_command.specs.Command.{Halts, RunsNode}
 use Rattle.cb_command.specs.declared.commanding.Task.TheVariants.{Decode, Serve, Sim, Run, Node}
 use Rattle.cb_command.specs.declared.node_words.BadWords.{BadWords}
-use Rattle.cb_node_process.specs.declared.orders.NodeOrders.{NodeOrders}
+use Rattle.cb_process.specs.declared.orders.NodeOrders.{NodeOrders}
 use Rattle.cb_command.proofs.Entering.{failed_parse}
 use Rattle.cb_command.proofs.Running.{decoded, done, for_node, for_orders, runs_task}
 use Rattle.cb_command.proofs.commanding.seeded_command.Goals as goal

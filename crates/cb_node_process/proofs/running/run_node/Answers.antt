@@ -1,14 +1,13 @@
 use Rattle.std.proofs.Common.{◌≡◌, ℕ, true, refl}
-use Rattle.std.specs.Io.KnownBytes.{Appends}
 use Rattle.cb_driver.specs.Auditing.{IsOfAnEnd}
-use Rattle.cb_node_process.specs.declared.start_fault.StartFault.{StartFault}
-use Rattle.cb_node_process.specs.Telling.{TellsAll, deaf_text}
+use Rattle.cb_process.specs.Starting.{IsDeaf}
+use Rattle.cb_node_process.specs.Telling.{TellsAll}
 use Rattle.cb_node_process.proofs.Endings.{deaf_ends, ran_deaf, ran_quietly, run_ends, three_is_one, which}
 use Rattle.cb_node_process.proofs.running.run_node.Goals as goal
 
 pub returns-in-Ok-clause-told : goal.returns-in-Ok-clause-told
 returns-in-Ok-clause-told g c =
-    ran_quietly (c.args.errors.now ≡ c.args.errors.now) (TellsAll (IsOfAnEnd g.row.R.Denot) (g.W.Sink.contents c.args.writer.now) (g.W.Sink.contents c.run_logged.new.writer)) (λ (status : ℕ). (fault : StartFault) × Appends (g.E.Sink.contents c.args.errors.now) (g.E.Sink.contents c.args.errors.now) (deaf_text c.args.orders.listen fault) × (status ≡ 3))
+    ran_quietly (c.args.errors.now ≡ c.args.errors.now) (TellsAll (IsOfAnEnd g.row.R.Denot) (g.W.Sink.contents c.args.writer.now) (g.W.Sink.contents c.run_logged.new.writer)) (λ (status : ℕ). IsDeaf c.args.orders (g.E.Sink.contents c.args.errors.now) (g.E.Sink.contents c.args.errors.now) × (status ≡ 3))
     c.in-Ok.ended refl c.in-Ok.ensures.told
 
 pub returns-in-Ok-clause-status : goal.returns-in-Ok-clause-status
@@ -19,11 +18,11 @@ returns-in-Ok-clause-halts g c = run_ends (g.W.Sink.has_failed c.run_logged.new.
 
 pub returns-clause-told : goal.returns-clause-told
 returns-clause-told g c =
-    ran_deaf (λ (status : ℕ). TellsAll (IsOfAnEnd g.row.R.Denot) (g.W.Sink.contents c.args.writer.now) (g.W.Sink.contents c.run_logged.new.writer) status × (c.refuse.new.errors ≡ c.args.errors.now)) (λ (fault : StartFault). Appends (g.E.Sink.contents c.args.errors.now) (g.E.Sink.contents c.refuse.new.errors) (deaf_text c.args.orders.listen fault)) c.in-Err.fault
-    c.refuse.result c.refuse.ensures.told c.refuse.ensures.status
+    ran_deaf (λ (status : ℕ). TellsAll (IsOfAnEnd g.row.R.Denot) (g.W.Sink.contents c.args.writer.now) (g.W.Sink.contents c.run_logged.new.writer) status × (c.tell_deaf.new.errors ≡ c.args.errors.now)) (IsDeaf c.args.orders (g.E.Sink.contents c.args.errors.now) (g.E.Sink.contents c.tell_deaf.new.errors))
+    c.tell_deaf.result c.tell_deaf.ensures.told c.tell_deaf.ensures.status
 
 pub returns-clause-status : goal.returns-clause-status
-returns-clause-status g c = three_is_one c.refuse.result c.refuse.ensures.status
+returns-clause-status g c = three_is_one c.tell_deaf.result c.tell_deaf.ensures.status
 
 pub returns-clause-halts : goal.returns-clause-halts
-returns-clause-halts g c = deaf_ends (g.W.Sink.has_failed c.run_logged.new.writer ≡ true) (g.E.Sink.has_failed c.refuse.new.errors) c.refuse.result c.refuse.ensures.err
+returns-clause-halts g c = deaf_ends (g.W.Sink.has_failed c.run_logged.new.writer ≡ true) (g.E.Sink.has_failed c.tell_deaf.new.errors) c.tell_deaf.result c.tell_deaf.ensures.err

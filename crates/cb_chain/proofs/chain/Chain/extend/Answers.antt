@@ -57,7 +57,7 @@ ended c =
     record {
       fork = plan.fork;
       fork_is = c.in_ok-fork.ensures.fork;
-      now_is = c.put_on.ensures ∙ ap (λ (ps : List ℕ). take (plan.fork + 1) path ++ ps ++ c.len-last.result ∷ []) c.in_ok-fork.ensures.branch ∙ ap (λ (n : ℕ). take (plan.fork + 1) path ++ map (λ step. step.place) (drop plan.fork (climb (tree_of block_indexes) c.args.spot.header.prev)) ++ n ∷ []) c.len-last.ensures;
+      now_is = c.put_on.ensures ∙ ap (λ (ps : List ℕ). take (plan.fork + 1) path ++ ps ++ c.len-last.result ∷ []) c.in_ok-fork.ensures.branch ∙ ap (λ (n : ℕ). take (plan.fork + 1) path ++ map (λ step. step.place) (drop plan.fork (climb (tree_of block_indexes) c.args.spot.header.prev)) ++ n ∷ []) c.len-last.ensures.len;
       change_is = c.in_ok-fork.ensures.change;
     }
     in
@@ -99,7 +99,7 @@ mark_stop-requires-clause-place c =
     let fault = c.in-Err.fault in
     let last = c.len-last.result in
     let told : (fault ≡ Memory) ⊎ (spend unspent c.args.kept.txs ≡ Err fault) = subst (λ (b : Block). (fault ≡ Memory) ⊎ (spend unspent b.txs ≡ Err fault)) c.block.ensures.same c.in-Err.ensures.exact in
-    let stop = stop_tip c.args.self.now block_indexes c.args.spot c.args.kept block_index path undos unspent was.side_branch last fault is c.requires.tip told c.len-last.ensures in
+    let stop = stop_tip c.args.self.now block_indexes c.args.spot c.args.kept block_index path undos unspent was.side_branch last fault is c.requires.tip told c.len-last.ensures.len in
     stop_place block_indexes c.args.kept block_index last fault (why c.args.self.now block_indexes c.args.spot c.args.kept block_index path undos unspent was.side_branch last fault is stop)
 
 -- it can't be spent
@@ -117,7 +117,7 @@ stopped c =
     let fault = c.in-Err.fault in
     let last = c.len-last.result in
     let told : (fault ≡ Memory) ⊎ (spend unspent c.args.kept.txs ≡ Err fault) = subst (λ (b : Block). (fault ≡ Memory) ⊎ (spend unspent b.txs ≡ Err fault)) c.block.ensures.same c.in-Err.ensures.exact in
-    let stop = stop_tip c.args.self.now block_indexes c.args.spot c.args.kept block_index path undos unspent was.side_branch last fault is c.requires.tip told c.len-last.ensures in
+    let stop = stop_tip c.args.self.now block_indexes c.args.spot c.args.kept block_index path undos unspent was.side_branch last fault is c.requires.tip told c.len-last.ensures.len in
     stops c.args.self.now block_indexes c.mark_stop.new.tree.block_indexes c.args.spot c.args.kept block_index path undos undos c.mark_stop.new.tree.undos unspent was.side_branch was.side_branch last fault is is.chain (subst IsHistoric c.self.view_is c.self.invariant.1) c.requires.calls stop c.mark_stop.ensures
 
 pub invariant_of-self-in-Err : goal.invariant_of-self-in-Err

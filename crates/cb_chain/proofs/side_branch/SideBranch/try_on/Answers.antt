@@ -43,5 +43,5 @@ returns-in-Err-clause-err c =
     elim c.in-Err.ensures.exact [
       | inl memory ↦ inl memory
       | inr failed ↦
-          inr (here before on.0 (ap (λ (b : Block). spend before b.txs) (sym c.block.ensures.same) ∙ failed) (c.len.ensures ∙ ap (λ (ns : List BlockIndex). length ns) c.in_ok-reach.ensures.block_indexes))
+          inr (here before on.0 (ap (λ (b : Block). spend before b.txs) (sym c.block.ensures.same) ∙ failed) (c.len.ensures.len ∙ ap (λ (ns : List BlockIndex). length ns) c.in_ok-reach.ensures.block_indexes))
     ]

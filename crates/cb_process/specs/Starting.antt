@@ -1,0 +1,35 @@
+-- A node that can't be started.
+use Rattle.std.specs.Prelude.{◌≡◌, ℕ, ◌⊎◌, List, ◌++◌, codes, Option, Some}
+use Rattle.std.specs.Io.KnownBytes.{Appends}
+use Rattle.std.specs.declared.net.socket_addr.SocketAddr.{SocketAddr}
+use Rattle.std.specs.Net.Text.{socket_text}
+use Rattle.cb_rpc_serve.specs.declared.settings.RpcSettings.{RpcSettings}
+use Rattle.cb_process.specs.declared.orders.NodeOrders.{NodeOrders}
+use Rattle.cb_process.specs.declared.start_fault.StartFault.{StartFault}
+use Rattle.cb_process.specs.declared.start_fault.StartFault.TheVariants as start
+
+-- why a node can't be started, in words
+abbrev pub cause_text : StartFault → List ℕ
+cause_text start.Memory = codes "memory ran out"
+cause_text start.PortInUse = codes "the port is in use"
+cause_text start.NotOurs = codes "the address isn't this machine's"
+cause_text start.NotAllowed = codes "it isn't allowed"
+cause_text start.NoMeans = codes "no socket or no thread can be made"
+
+-- what standard error is told if the node can't listen at this address
+abbrev pub deaf_text : SocketAddr → StartFault → List ℕ
+deaf_text address fault =
+    codes "error: can't listen at "
+    ++ (socket_text address ++ (codes ": " ++ (cause_text fault ++ codes "\n")))
+
+-- where a node with these orders listens: for peers, or for requests of JSON-RPC
+abbrev pub IsPlace : NodeOrders → SocketAddr → Type 0
+IsPlace orders address =
+    (address ≡ orders.listen)
+    ⊎ ((rpc : RpcSettings) × (orders.rpc ≡ Some rpc) × (address ≡ rpc.address))
+
+-- standard error was told at which of these places the node can't listen, and why
+abbrev pub IsDeaf : NodeOrders → Option (List ℕ) → Option (List ℕ) → Type 0
+IsDeaf orders told tells =
+    (address : SocketAddr) × (fault : StartFault) × IsPlace orders address
+    × Appends told tells (deaf_text address fault)

@@ -1,0 +1,2 @@
+mod OnBest
+mod Pages

@@ -1,0 +1,4 @@
+pub mod Requests
+pub mod Outcomes
+pub mod Answers
+pub mod Responses

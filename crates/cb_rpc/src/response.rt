@@ -1,0 +1,24 @@
+//! What answers an HTTP request.
+ghost use Rattle.cb_rpc.specs.Responses.{IsSilent};
+
+use std::alloc::Global;
+
+/// What answers the text of a request: the status of the HTTP response, and its body.
+#[derive(Drop)]
+pub struct Response {
+    /// The status: 200, 204 if nothing is answered, else what Bitcoin Core's daemon answers to the
+    /// fault.
+    pub status: u16,
+    /// The body: a line of JSON, or nothing.
+    pub text: Vec<u8>,
+}
+
+/// No answer: status 204 and no body.
+pub(crate) fn silence(alloc: Global) -> Response
+    ensures { IsSilent result }
+{
+    Response {
+        status: 204,
+        text: Vec::new(alloc),
+    }
+}

@@ -1,0 +1,11 @@
+pub mod Arguments
+pub mod Calls
+pub mod ChainCalls
+pub mod ControlCalls
+pub mod Faults
+pub mod Lacking
+pub mod MempoolCalls
+pub mod Methods
+pub mod PeerCalls
+pub mod Starving
+pub mod Words

@@ -1,0 +1,3 @@
+pub mod Adding
+pub mod Amounts
+pub mod Lists

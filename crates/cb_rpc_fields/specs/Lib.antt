@@ -1,0 +1,3 @@
+pub mod Amounts
+pub mod Fields
+pub mod Writing
