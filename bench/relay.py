@@ -14,7 +14,7 @@ counted, is told of
 - whole blocks: no node learns that its peer knows compact blocks, since `sendcmpct` is kept back (bench/tools/without_compact.py);
 - compact blocks (BIP 152), where all mempools hold 100, 99, 90 or 0 % of the block's transactions. These were relayed before.
 
-Each row is the median of the rounds. The picture goes to docs/relay.svg, and names machine and date.
+Each row is the median of the rounds. The rows are printed, with machine and date. The picture of the line of five goes to docs/relay.svg.
 """
 
 import datetime
@@ -30,9 +30,9 @@ from pathlib import Path
 if not __package__:  # called as a file
     sys.path.insert(0, str(Path(__file__).resolve().parents[1]))
 
-from bench.tools.bars import picture
 from bench.tools.command_line import usage
 from bench.tools.full_blocks import FullChain
+from bench.tools.lines import picture
 from bench.tools.namespaces import Namespace, alone, linked
 from bench.tools.process_talk import NodeProcess, counted, shown
 from bench.tools.programs import ROOT, built
@@ -161,6 +161,16 @@ def whose(path):
     return "the program that ./build leaves" if path is None else "a program given by hand"
 
 
+def drawn(found, size, given):
+    """The picture of a line of five nodes, by seconds and MB of each shape and way."""
+    line, shares = next(iter(SHAPES)), sorted((percent, way) for way, percent in WAYS.items() if percent is not None)
+    panels = [(name, found[line, "whole"][number], [found[line, way][number] for _, way in shares])
+              for number, name in ((1, "MB on the wire, four links"), (0, "seconds to the last node"))]
+    caption = ["Under each point: the share of the block's transactions that the mempools have.",
+               f"{size:,} bytes, 3,900 transactions; a line of five nodes, links of {given.rate} Mbit/s; {datetime.date.today().isoformat()}."]
+    return picture("A block of 1 MB from node to node", [way for _, way in shares], ("whole block", "compact block"), panels, caption)
+
+
 def main():
     words = usage(__doc__, program="the program")
     words.add_argument("--rate", type=int, default=10, help="how many megabits a link passes on in a second")
@@ -180,14 +190,9 @@ def main():
             took, sent = measured(program, given, chain, pairs, first, percent)
             found[shape, way] = took, sent / 1e6
             print(f"| {shape} | {way} | {took:.2f} | {sent / 1e6:.3f} |", flush=True)
-    panels = [(name, [[found[shape, way][number] for shape in SHAPES] for way in WAYS])
-              for number, name in ((1, "MB on the wire, all four links"), (0, "seconds to the last tip"))]
-    caption = [f"A block of {size:,} bytes and 3,900 transactions comes to four nodes: whole, or as a compact block where the mempools hold",
-               f"so many of its transactions. Four links of {given.rate} Mbit/s each way, no delay added. Ticks of {given.tick} ms. "
-               f"The median of {given.rounds} blocks.",
-               f"{machine()}; {datetime.date.today().isoformat()}. bench/relay.py, with {whose(given.program)}."]
+    print(f"{machine()}; {datetime.date.today().isoformat()}; {whose(given.program)}")
     with open(given.out, "w", encoding="utf-8") as file:
-        file.write(picture("A block of 1 MB from node to node", list(WAYS), list(SHAPES), panels, caption))
+        file.write(drawn(found, size, given))
 
 
 if __name__ == "__main__":

@@ -8,21 +8,41 @@ README.md, CONTRIBUTING.md and docs/*.md are read. Looked up are
     crates            cb_NAME and bench_NAME
     `Type::name`      a function of an impl or a trait, or a variant of the type
     `some_name()`     words with an underscore, a capital letter inside or brackets: in a source, a definition, a proof or a script
-    definitions       in GUARANTEES.md, `NAME`: FILE.antt, whose file of specs/ must define or import it
+    definitions       in GUARANTEES.md, `NAME`, which a file of specs/ must have
     wrong bodies      in GUARANTEES.md, NAME of an edit in must-fail/ or attacks/ of a crate
 
-and whether the documents are within their sizes. It prints what is wrong. The status is 0 where nothing is. FOLDER is the repository
-to look at, this one where none is named.
+In the other direction what the program has must stand in the code of some document: each crate of crates.txt (in
+ARCHITECTURE.md), and the words that SPOKEN finds: commands, options, lines of operators and scripts, replies, methods of
+JSON-RPC; and each exit status in PROTOCOL.md.
+
+The sizes: README.md, in lines and bytes; all docs/*.md together, with nothing else of docs/ (pictures) and of the top. It prints
+what is wrong. The status is 0 where nothing is. FOLDER is the repository to look at, this one where none is named.
 """
 
 import re
 import sys
 from pathlib import Path
 
-# the greatest size of a document, and of all; of README also its lines
-MOST_BYTES, ALL_BYTES, README_BYTES, README_LINES = 40_960, 229_376, 10_240, 160
+# the greatest size of a document, and of all of docs/; of README also its lines
+MOST_BYTES, ALL_BYTES, README_BYTES, README_LINES = 40_960, 163_840, 8_192, 110
 # the document whose tables have a promise, its calls, its definitions and a wrong body in each row
 PROMISES = "GUARANTEES.md"
+# the files that have words of the program, how such a word looks there, and what stands before it on a command line
+CODES = r'codes "([^"]*)"'
+SPOKEN = [
+    ("cb_command/src/*.rt", r'Command::new\(alloc, "(\w+)"\)', ""),
+    ("cb_command/src/*.rt", r'\.long\("([\w-]+)"\)', "--"),
+    ("cb_control/specs/OrderLine.antt", CODES, ""),
+    ("cb_control/specs/ScriptLine.antt", CODES, ""),
+    ("cb_control/specs/ReplyText.antt", CODES, ""),
+    ("cb_control/specs/PeerText.antt", CODES, ""),
+    ("cb_control/specs/Counters.antt", CODES, ""),
+    ("cb_control/specs/Refusals.antt", CODES, ""),
+    ("cb_rpc_call/src/method.rt", r'"(\w+)" => Some', ""),
+]
+# a run of words in what is printed; an exit status
+PRINTED = re.compile(r"[a-z](?:[a-z]|[ -](?=[a-z]))*")
+STATUS = re.compile(r"^status_code \w+ = (\d)$", re.M)
 
 # what stands for a name in a path or a word
 PLACEHOLDERS = {"NAME", "PROGRAM", "CRATE", "FILE", "PATH", "F", "EDIT", "PID"}
@@ -76,7 +96,8 @@ class Tree:
             self.words |= set(re.findall(r"[A-Za-z_]\w*", (root / name).read_text(encoding="utf-8")))
         self.folders = {part for file in self.files for part in file.relative_to(root).parent.parts}
         self.functions = {name for file in self.of_file if kind_of(file) == ".rt" for name in FUNCTION.findall(file.read_text(encoding="utf-8"))}
-        self.functions |= {name for file, words in self.of_file.items() if "/specs/" in str(file) for name in words}
+        self.definitions = {name for file, words in self.of_file.items() if "/specs/" in str(file) for name in words}
+        self.functions |= self.definitions
         self.names = {it.name.split(".")[0] for it in self.files if kind_of(it) in (".run", ".hex", ".bin", ".py", ".rt", ".antt")}
 
     def read_members(self, text):
@@ -175,15 +196,9 @@ class Look:
             self.expect(self.tree.has_word(bare), place, f"there is no `{bare}`")
 
     def definitions(self, cell, place):
-        """Of the definitions of GUARANTEES.md: each name stands in one of the files behind it."""
-        for part in cell.split(";"):
-            files = re.findall(r"\b(\w+\.antt)\b", part)
-            names = [it for it in CODE.findall(part) if WORD.match(it)]
-            if not files or not names or " of " in part:
-                continue
-            there = [self.tree.of_file.get(file, set()) for name in files for file in self.tree.by_name.get(name, []) if "/specs/" in str(file)]
-            for name in names:
-                self.expect(any(name in words for words in there), place, f"`{name}` isn't in {', '.join(files)}")
+        """Of the definitions of GUARANTEES.md: each stands in a file of specs/."""
+        for name in CODE.findall(cell):
+            self.expect(name in self.tree.definitions, place, f"no file of specs/ has `{name}`")
 
     def functions(self, cell, place):
         """Of the functions of GUARANTEES.md: each is one of the sources, and each clause in parentheses is a word of the tree."""
@@ -223,26 +238,46 @@ class Look:
                 self.definitions(definitions, place)
                 self.wrong_bodies(refused, place)
 
+    def program(self):
+        """What the program has stands in a document."""
+        texts = {it.name: it.read_text(encoding="utf-8") for it in self.documents}
+        for line in (self.root / "crates.txt").read_text(encoding="utf-8").splitlines():
+            crate = line.partition(":")[0]
+            if not line.startswith("#"):
+                self.expect(re.search(rf"\b{crate}\b", texts["ARCHITECTURE.md"]), "ARCHITECTURE.md", f"it lacks the crate {crate}")
+        lines = [line for text in texts.values() for line in text.splitlines()]
+        code = "\n".join(part for line in lines for part in ([line] if FENCED.match(line) else CODE.findall(line)))
+        for files, form, before in SPOKEN:
+            for file in (self.root / "crates").glob(files):
+                for found in re.findall(form, file.read_text(encoding="utf-8")):
+                    for word in [found] if before else PRINTED.findall(found.replace("\\n", "")):
+                        self.expect(re.search(rf"(?<![\w-]){re.escape(before + word)}(?![\w-])", code), file.name, f"no document has `{before}{word}`")
+        told = next((line for line in lines if line.startswith("- **Status**")), "")
+        for status in STATUS.findall((self.root / "crates/cb_run/specs/Ending.antt").read_text(encoding="utf-8")):
+            self.expect(re.search(rf"[:;] {status}\b", told), "PROTOCOL.md", f"no status {status} is told")
+
     def sizes(self):
         """The documents are within their sizes."""
         sizes = {it: it.stat().st_size for it in self.documents}
         for document, size in sizes.items():
             self.expect(size <= MOST_BYTES, document.name, f"{size:,} bytes, more than {MOST_BYTES:,}")
-        self.expect(sum(sizes.values()) <= ALL_BYTES, "all documents", f"{sum(sizes.values()):,} bytes, more than {ALL_BYTES:,}")
+        total = sum(size for document, size in sizes.items() if document.parent.name == "docs")
+        self.expect(total <= ALL_BYTES, "docs/*.md", f"{total:,} bytes, more than {ALL_BYTES:,}")
         readme = self.documents[0]
         lines = len(readme.read_text(encoding="utf-8").splitlines())
         self.expect(sizes[readme] <= README_BYTES, readme.name, f"{sizes[readme]:,} bytes, more than {README_BYTES:,}")
         self.expect(lines <= README_LINES, readme.name, f"{lines} lines, more than {README_LINES}")
-        return sum(sizes.values())
+        return total
 
     def run(self):
         """Looks at all documents, tells what is wrong, and returns the status."""
         for document in self.documents:
             self.document(document)
+        self.program()
         total = self.sizes()
         for words in self.wrong:
             print(words)
-        print(f"documents: {self.looked} names and sizes looked up, {len(self.wrong)} wrong; {total:,} bytes")
+        print(f"documents: {self.looked} names and sizes looked up, {len(self.wrong)} wrong; {total:,} bytes in docs/")
         return 1 if self.wrong else 0
 
 

@@ -44,14 +44,15 @@ pub record TellsEnd {S H F M : Type 0} (desks : List (DeskState (WorkState S H F
   pub told : TellsVerdict hall (traces_of desks) verdict
   pub counted : CountsAll (badge_count desks) verdict
 
--- A node of this crew handed out these desks as it ended, and the verdict is that of their audit.
-pub record IsAudited {S H F : Type 0} (crew : CrewState)
+-- A node of this crew handed out these desks as it ended, whose sockets gave these bytes, and the
+-- verdict is that of their audit.
+pub record IsAudited {S H F : Type 0} (crew : CrewState) (read : List (List (List ℕ)))
     (desks : List (DeskState (WorkState S H F) Input)) (verdict : Verdict) : Type 0 where
-  pub finished : HasFinished crew desks
+  pub finished : HasFinished crew read desks
   pub look : Look
   pub told : TellsEnd desks look verdict
 
 -- The verdict is that of the audit of what some node handed out as it ended.
 abbrev pub IsOfAnEnd : (N : Type 0) → Verdict → Type 0
 IsOfAnEnd N verdict =
-    (crew : CrewState) × (end : NodeEnd N) × IsAudited crew end.desks.items verdict
+    (crew : CrewState) × (end : NodeEnd N) × IsAudited crew end.read end.desks.items verdict

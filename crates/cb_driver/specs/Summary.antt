@@ -3,7 +3,6 @@ use Rattle.std.specs.Prelude.{◌≡◌, ℕ, Bool, false, ◌⊎◌, ⊤, List,
 use Rattle.std.specs.Fmt.{decimal}
 use Rattle.std.specs.List.{AllZip, flat_map, list_all, range_with_len}
 use Rattle.std.specs.Str.Lines.{lines}
-use Rattle.cb_hall.specs.declared.summary.Look.{Look}
 use Rattle.cb_crew.specs.Crew.{CrewState}
 use Rattle.cb_crew.specs.Desk.{DeskState}
 use Rattle.cb_reader.specs.declared.input.Input.{Input}
@@ -43,16 +42,18 @@ pub record TellsReport {S H F M : Type 0} (desks : List (DeskState (WorkState S 
   pub told : TellsEnd desks report.look verdict
   pub agrees : agreement verdict ≡ Ok report.agrees
 
--- A node of some crew handed out these desks as it ended, and the report tells of them.
-abbrev pub IsReported : {S H F : Type 0} → List (DeskState (WorkState S H F) Input) → NodeReport
-    → Type 0
-IsReported desks report = (crew : CrewState) × HasFinished crew desks × TellsReport desks report
+-- A node of some crew handed out these desks as it ended, whose sockets gave these bytes, and the
+-- report tells of them.
+abbrev pub IsReported : {S H F : Type 0} → List (List (List ℕ))
+    → List (DeskState (WorkState S H F) Input) → NodeReport → Type 0
+IsReported read desks report =
+    (crew : CrewState) × HasFinished crew read desks × TellsReport desks report
 
 -- Each report tells of what a node handed out as it ended.
 abbrev pub AreReported : (N : Type 0) → List NodeReport → Type 0
 AreReported N reports =
     (ends : List (NodeEnd N))
-    × AllZip (λ end report. IsReported end.desks.items report) ends reports
+    × AllZip (λ end report. IsReported end.read end.desks.items report) ends reports
 
 -- there is one for each of so many nodes, in their order
 abbrev pub AreOfAll : ℕ → List NodeReport → Type 0

@@ -16,7 +16,7 @@ use std::sync::Wait;
 /// Ends a node and all its threads, and audits it. Returns what is left of it, and what its audit
 /// answers.
 pub fn finish_audited<R: Host>(rt: &R, alloc: Global, node: Node<R>) -> (NodeEnd<R>, Verdict)
-    ensures { IsAudited node.crew result.0.desks.items result.1 }
+    ensures { IsAudited node.crew result.0.read result.0.desks.items result.1 }
 {
     let end = node.finish();
     let verdict = audit_end(rt, alloc, &end).1;

@@ -79,7 +79,7 @@ impl<R: Host> Nodes<R> {
     /// promises.
     pub fn finish(self) -> Vec<NodeEnd<R>>
         ensures count { vec_len result ≡ vec_len self.list }
-        ensures each { AllZip (λ node end. HasFinished node.crew end.desks.items)
+        ensures each { AllZip (λ node end. HasFinished node.crew end.read end.desks.items)
             self.list.items result.items }
     {
         let Nodes {
@@ -185,7 +185,7 @@ fn finish_all<R: Host>(list: Vec<Node<R>>, ends: Vec<NodeEnd<R>>) -> Vec<NodeEnd
     requires none { vec_len ends ≡ 0 }
     requires room { vec_len list ≤ vec_capacity ends }
     ensures count { vec_len result ≡ vec_len list }
-    ensures each { AllZip (λ node end. HasFinished node.crew end.desks.items)
+    ensures each { AllZip (λ node end. HasFinished node.crew end.read end.desks.items)
         list.items result.items }
 {
     let count = list.len();

@@ -36,11 +36,11 @@ connection_of contents work queued served = record {
 peer_of : {S H F : Type 0} (contents : S → Option (List ℕ)) (side : ReaderSide Input (WorkState S H F)) (desk : DeskState (WorkState S H F) Input) → ServesSide contents side desk → KeepsPeer side desk
 peer_of contents side desk served = zip_map (ServesConnection contents) KeepsConnection (connection_of contents) (works_of desk) (connections_of (all_queued side)) served.served.each
 
-pub headline_of : {S H F : Type 0} (crew : CrewState) (desks : List (DeskState (WorkState S H F) Input)) → HasFinished crew desks → KeepsHeadline crew desks
-headline_of crew desks finished = record {
+pub headline_of : {S H F : Type 0} (crew : CrewState) (read : List (List (List ℕ))) (desks : List (DeskState (WorkState S H F) Input)) → HasFinished crew read desks → KeepsHeadline crew read desks
+headline_of crew read desks finished = record {
   sides = finished.sides;
   readers = finished.own;
-  read = finished.read;
+  spelled = finished.spelled;
   inboxes = finished.headline.inboxes;
   taken = zip_map (ServesSide (λ sink. None)) TookAll (λ side desk served. served.taken) finished.sides desks finished.headline.each;
   each = zip_map (ServesSide (λ sink. None)) KeepsPeer (peer_of (λ sink. None)) finished.sides desks finished.headline.each;

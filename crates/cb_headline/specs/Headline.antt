@@ -1,5 +1,5 @@
 -- The headline of a node that has finished, and nothing else. A peer is whoever connects to a slot.
-use Rattle.std.specs.Prelude.{◌≡◌, List, ◌++◌, map, All}
+use Rattle.std.specs.Prelude.{◌≡◌, ℕ, List, ◌++◌, map, All}
 use Rattle.std.specs.List.{AllZip}
 use Rattle.cb_peer_state.specs.declared.event.Event.{Event}
 use Rattle.cb_trace.specs.declared.trace.TraceEntry.{TraceEntry}
@@ -45,15 +45,16 @@ abbrev pub TookAll : {S H F : Type 0} → ReaderSide Input (WorkState S H F)
     → DeskState (WorkState S H F) Input → Type 0
 TookAll side desk = desk.taken ≡ all_queued side
 
--- All peers of the node's crew, however many there are and however many handlers: what their
--- readers queued, and the desks that served it, one for each peer, in their order.
-pub record KeepsHeadline {S H F : Type 0} (crew : CrewState)
+-- All peers of the node's crew, however many there are and however many handlers: the bytes that
+-- their sockets gave, of each connection; what their readers queued; and the desks that served it,
+-- one for each peer, in their order.
+pub record KeepsHeadline {S H F : Type 0} (crew : CrewState) (read : List (List (List ℕ)))
     (desks : List (DeskState (WorkState S H F) Input)) : Type 0 where
   pub sides : List (ReaderSide Input (WorkState S H F))
   pub readers : AreSidesOf crew sides
-  -- "Those its reader queued": of each connection, a beginning of what some bytes spell, each item
-  -- once and in order. That its socket's reads gave them is the promise of its reader's thread.
-  pub read : All QueuedWhatItRead sides
+  -- "Those its reader queued": of each connection, a beginning of what the bytes spell that its
+  -- socket gave, each item once and in order.
+  pub spelled : AllZip QueuedWhatItRead read sides
   pub inboxes : map (λ desk. desk.inbox.name) desks ≡ names_of crew
   pub taken : AllZip TookAll sides desks
   pub each : AllZip KeepsPeer sides desks

@@ -1,5 +1,5 @@
 //! The headline of this repository, and nothing else: what the connections of a node came to that
-//! has finished. docs/HEADLINE.md goes through it word by word.
+//! has finished. docs/DESIGN.md goes through it word by word.
 #![tactic(auto)]
 
 ghost use Rattle.cb_headline.specs.Headline.{KeepsHeadline};
@@ -26,7 +26,7 @@ pub fn finish<
         + Drop
         + 'static,
 >(node: Node<R>) -> NodeEnd<R>
-    ensures { KeepsHeadline node.crew result.desks.items }
+    ensures { KeepsHeadline node.crew result.read result.desks.items }
 {
     node.finish()
 }

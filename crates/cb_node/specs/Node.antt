@@ -1,6 +1,6 @@
 -- How contracts see a node.
-use Rattle.std.specs.Prelude.{◌≡◌, ℕ, ℤ, pos, nat_lt, ◌+◌, Bool, true, false, List, length, map, replicate, All, Option, None, Some, Result, Ok, Err, IfOk, OnErr, slice_set}
-use Rattle.std.specs.List.{range_with_len}
+use Rattle.std.specs.Prelude.{◌≡◌, ℕ, ℤ, pos, nat_lt, ◌+◌, Bool, true, false, List, length, map, replicate, Option, None, Some, Result, Err, IfOk, OnErr, slice_set}
+use Rattle.std.specs.List.{AllZip, range_with_len}
 use Rattle.std.specs.declared.net.socket_addr.SocketAddr.{SocketAddr}
 use Rattle.std.specs.Net.Socket.{socket_port}
 use Rattle.cb_crew.specs.declared.reader_side.ReaderSide.{ReaderSide}
@@ -115,11 +115,12 @@ pub record IsServed (inbound : Bool) (old new : NodeState) (result : Result ℕ 
   pub no_slot : result ≡ Err NoSlot → HasNoUnused inbound old
 
 -- The node's crew has finished: its peers' readers left these sides, one of each inbox, in order,
--- and the desks served all that they queued. Of each connection they queued what bytes spell.
--- Nothing is told of the bytes that went out by sockets.
-pub record HasFinished {S H F : Type 0} (crew : CrewState)
+-- and the desks served all that they queued. `read` has the bytes that the socket of each
+-- connection of each slot gave: its reader queued what they spell. Nothing is told of the bytes
+-- that went out by sockets.
+pub record HasFinished {S H F : Type 0} (crew : CrewState) (read : List (List (List ℕ)))
     (desks : List (DeskState (WorkState S H F) Input)) : Type 0 where
   pub sides : List (ReaderSide Input (WorkState S H F))
   pub own : AreSidesOf crew sides
-  pub read : All QueuedWhatItRead sides
+  pub spelled : AllZip QueuedWhatItRead read sides
   pub headline : IsHeadline (λ sink. None) crew sides desks

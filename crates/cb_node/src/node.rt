@@ -12,7 +12,7 @@ use cb_block::SoundBlock;
 use cb_crew::{Desk, Fresh, Handler, ReaderSide};
 use cb_hall::{Hall, Look};
 use cb_journal::{Answer, Local};
-use cb_peers::finish_peers;
+use cb_peers::{NodeBytes, finish_peers};
 use cb_reader::Input;
 use cb_service::{Handling, join_handlers};
 use cb_slots::{Common, Listening, NodeFault, Slot, sides_of};
@@ -30,6 +30,8 @@ pub struct NodeEnd<R: Wait + Drop> {
     pub hall: Shared<Mutex<Hall>>,
     /// The desks of all slots, in their order.
     pub desks: Vec<Desk<NodeWork<R>>>,
+    /// What the sockets of all slots gave, for proofs alone.
+    pub read: NodeBytes,
 }
 
 /// A node: slots for its peers' connections, the hall, and the threads that serve them. Contracts
@@ -41,7 +43,7 @@ pub struct NodeEnd<R: Wait + Drop> {
 /// lowest whose latest connection was read to its end and whose inbox has room.
 ///
 /// A write to a peer fails if its outbox is full, or if its socket took nothing for too long
-/// (docs/NODE.md). It ends the connection.
+/// (docs/DESIGN.md). It ends the connection.
 #[derive(Drop)]
 pub struct Node<R: Wait + Drop> {
     pub(crate) service: Service<R>,
@@ -168,10 +170,11 @@ impl<R: Threads + Wait + Copy + Send + Drop + 'static> Node<R> {
     /// threads have returned, and all sockets are closed.
     ///
     /// Promises for each connection what `finish_peers` does (`IsHeadline`): there is one desk for
-    /// each slot, in order; each session is over, and served a prefix of what its reader queued.
+    /// each slot, in order; each session is over, and served a prefix of what its reader queued,
+    /// which is what the bytes spell that its socket gave.
     #[tactic(auto, using(crate::proofs::Slots::sides_are, crate::proofs::Slots::handlers_are))]
     pub fn finish(self) -> NodeEnd<R>
-        ensures { HasFinished self.crew result.desks.items }
+        ensures { HasFinished self.crew result.read result.desks.items }
     {
         let Node {
             service,
@@ -185,13 +188,14 @@ impl<R: Threads + Wait + Copy + Send + Drop + 'static> Node<R> {
         let rt = &service.rt;
         common.signals.stop();
         service.links.stop_reading(rt);
-        let sides = sides_of(rt, slots, sides);
+        let (sides, read) = sides_of(rt, slots, sides);
         let handlers = join_handlers(rt, handling, handlers);
         let desks = finish_peers(rt, &common.crew, sides, handlers);
         service.links.close_all(rt);
         NodeEnd {
             hall: service.hall,
             desks,
+            read,
         }
     }
 }

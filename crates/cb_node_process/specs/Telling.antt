@@ -48,7 +48,7 @@ Responds order (responses.End broken) = (order ≡ orders.Quit) × (broken ≡ N
 abbrev pub TellsAudit : (N : Type 0) → CrewState → Response → Type 0
 TellsAudit N crew response =
     (end : NodeEnd N) × (verdict : Verdict) × (tip : Tip)
-    × IsAudited crew end.desks.items verdict
+    × IsAudited crew end.read end.desks.items verdict
     × ((response ≡ responses.Reply (replies.Restarted verdict tip))
     ⊎ (response ≡ responses.Failed (replies.Restarted verdict tip)))
 

@@ -3,3 +3,4 @@ pub mod Seats
 pub mod Served
 pub mod Writing
 pub mod Spelled
+mod Walks

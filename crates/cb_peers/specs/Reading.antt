@@ -1,6 +1,6 @@
 -- What a peer's reader queues of its connections.
-use Rattle.std.specs.Prelude.{◌≡◌, ℕ, ◌≤◌, ◌⊎◌, Bool, true, false, List, [], ◌∷◌, ◌++◌, length, All, Option}
-use Rattle.std.specs.List.{flat_map}
+use Rattle.std.specs.Prelude.{◌≡◌, ℕ, ◌≤◌, ◌⊎◌, Bool, true, false, List, [], ◌∷◌, ◌++◌, length, Option}
+use Rattle.std.specs.List.{AllZip, flat_map}
 use Rattle.cb_inbox.specs.declared.queued.Queued.{Queued}
 use Rattle.cb_inbox.specs.declared.queued.Queued.TheVariants as queued
 use Rattle.cb_inbox.specs.Queued.{has_ended}
@@ -68,13 +68,14 @@ input_of given.End = []
 abbrev pub inputs_of : List (Given Input) → List Input
 inputs_of queued = flat_map input_of queued
 
--- What a connection queued is a beginning of what some bytes spell.
-abbrev pub IsSpelled : List (Given Input) → Type 0
-IsSpelled queued = (bytes : List ℕ) × AreSpelledBy bytes (inputs_of queued)
+-- What a connection queued is a beginning of what the bytes of its socket spell.
+abbrev pub IsSpelled : List ℕ → List (Given Input) → Type 0
+IsSpelled bytes queued = AreSpelledBy bytes (inputs_of queued)
 
--- So it is for each connection in what a reader queued.
-abbrev pub AreSpelled : {O : Type 0} → List (Queued Input O) → Type 0
-AreSpelled marks = All IsSpelled (connections_of marks)
+-- So it is for each connection in what a reader queued. `read` has the bytes of each, in their
+-- order.
+abbrev pub AreSpelled : {O : Type 0} → List (List ℕ) → List (Queued Input O) → Type 0
+AreSpelled read marks = AllZip IsSpelled read (connections_of marks)
 
 -- Nothing was queued of the latest connection.
 abbrev pub IsUnread : {O : Type 0} → List (Queued Input O) → Type 0
@@ -83,6 +84,7 @@ IsUnread {O} marks =
     ⊎ ((before : List (Queued Input O)) × (opening : O)
     × (marks ≡ before ++ queued.Open opening ∷ []))
 
--- Each connection of a reader's side queued a beginning of what some bytes spell.
-abbrev pub QueuedWhatItRead : {O : Type 0} → ReaderSide Input O → Type 0
-QueuedWhatItRead left = AreSpelled (all_queued left)
+-- Each connection of a reader's side queued a beginning of what its socket's bytes spell. These are
+-- the bytes of each, in their order.
+abbrev pub QueuedWhatItRead : {O : Type 0} → List (List ℕ) → ReaderSide Input O → Type 0
+QueuedWhatItRead read left = AreSpelled read (all_queued left)

@@ -1,4 +1,4 @@
-ghost use Rattle.std.specs.Prelude.{◌≡◌};
+ghost use Rattle.std.specs.Prelude.{◌≡◌, []};
 
 use cb_base::{In, Shared};
 use cb_inbox::Opening;
@@ -93,6 +93,15 @@ impl Model for SocketBytes {
 }
 
 impl SocketBytes {
+    /// Nothing was read.
+    pub fn nothing() -> SocketBytes
+        ensures { result ≡ [] }
+    {
+        SocketBytes {
+            bytes: ReadFrom::nothing(),
+        }
+    }
+
     /// These bytes.
     pub fn new(bytes: ReadFrom<In<SocketReader>>) -> SocketBytes
         ensures { result ≡ bytes }

@@ -147,7 +147,7 @@ impl<R: ProcessHost> Process<R> {
     /// whether each of these addresses, which are dialled from the start, was reached once, but for
     /// those that aren't dialled any more.
     pub fn finish(self, starts: &[SocketAddr]) -> (NodeEnd<R>, Verdict, bool)
-        ensures { IsAudited self.node.crew result.0.desks.items result.1 }
+        ensures { IsAudited self.node.crew result.0.read result.0.desks.items result.1 }
     {
         let Process {
             rt,
@@ -175,7 +175,7 @@ impl<R: ProcessHost> Process<R> {
     /// was done then.
     pub fn renew<L: Log>(&mut self, log: &L) -> Result<(NodeEnd<R>, Verdict, bool), NodeFault>
         ensures audited { IfOk result
-            (λ ended. IsAudited self.old.node.crew ended.0.desks.items ended.1) }
+            (λ ended. IsAudited self.old.node.crew ended.0.read ended.0.desks.items ended.1) }
         ensures well { IfOk result (λ ended. ended.2 ≡ true → says_yes ended.1 ≡ true) }
     {
         let settings = settings_of(&self.rt, self.settings.handlers, &self.limits)?;

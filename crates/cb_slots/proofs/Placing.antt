@@ -2,9 +2,11 @@
 use Rattle.std.proofs.Common.{◌≡◌, ℕ, suc, ◌+◌, ◌-◌, ◌<◌, false, List, [], ◌∷◌, ◌++◌, length, map, take, drop, replicate, slice_index_or, All, refl, sym, ap, subst, ◌∙◌, arith}
 use Rattle.std.proofs.lemmas.List.{append-nil, drop_more, get_or-map, length-drop, length-map, map-append, take_all, take_more}
 use Rattle.std.proofs.lemmas.List.Elements.{All-append, All-cons, All-nil}
+use Rattle.std.specs.List.{AllZip}
 use Rattle.atomic_table.specs.Seated.{TableId}
 use Rattle.cb_inbox.specs.Seat.{InboxState, SeatState, opening_seat}
 use Rattle.cb_crew.specs.Crew.{CrewState}
+use Rattle.cb_crew.proofs.Works.{zip_push}
 use Rattle.cb_slots.specs.Slot.{AreSlotsOf, IsInboxOf, SlotState, inboxes_of, new_slot, uses_of}
 use Rattle.cb_slots.proofs.Linking.{moved}
 
@@ -92,3 +94,7 @@ sides_more f g P done new s t rest left all was are steps pushed is here = (
 -- where no slot is left, all are
 pub sides_all : {S T N : Type 0} (f : S → N) (g : T → N) (done : List S) (rest : List T) (all : List N) → map f done ++ map g rest ≡ all → rest ≡ [] → map f done ≡ all
 sides_all f g done rest all was none = sym (append-nil (map f done)) ∙ ap (λ r. map f done ++ map g r) (sym none) ∙ was
+
+-- and what its sockets gave
+pub zip_on : {A B : Type 0} (R : A → B → Type 0) (xs xs' : List A) (ys ys' : List B) (x : A) (y : B) → AllZip R xs ys → xs' ≡ xs ++ x ∷ [] → ys' ≡ ys ++ y ∷ [] → R x y → AllZip R xs' ys'
+zip_on R xs xs' ys ys' x y all more grown is = subst (λ zs. AllZip R zs ys') (sym more) (subst (AllZip R (xs ++ x ∷ [])) (sym grown) (zip_push R xs ys x y all is))

@@ -1,5 +1,5 @@
 -- How contracts see the slots of a node.
-use Rattle.std.specs.Prelude.{◌≡◌, ℕ, ◌<◌, Bool, true, false, List, length, map, All, Option, Some, None, slice_index_or, slice_set}
+use Rattle.std.specs.Prelude.{◌≡◌, ℕ, ◌<◌, Bool, true, false, List, [], ◌∷◌, ◌++◌, length, map, All, Option, Some, None, slice_index_or, slice_set}
 use Rattle.std.specs.declared.thread.PromisedHandle.{PromisedHandle}
 use Rattle.atomic_table.specs.Seated.{TableId}
 use Rattle.cb_inbox.specs.declared.queued.Queued.{Queued}
@@ -81,19 +81,25 @@ abbrev pub LastsIf : {M O : Type 0} → Bool → ReaderSide M O → Type 0
 LastsIf waits (side.Live seat) = Unit {0}
 LastsIf waits (side.Ended seat) = waits ≡ false
 
--- What was queued of each connection is what bytes spell. Of one that waits for its socket nothing
--- was queued.
-pub record IsRead {O : Type 0} (waits : Bool) (marks : List (Queued Input O)) : Type 0 where
-  pub spelled : AreSpelled marks
+-- what the sockets of all connections gave; that of one which waits for its socket gave nothing
+abbrev pub all_read : Bool → List (List ℕ) → List (List ℕ)
+all_read true read = read ++ [] ∷ []
+all_read false read = read
+
+-- What was queued of each connection is what the bytes of its socket spell (`read`: of those that
+-- don't wait). Of one that waits for its socket nothing was queued.
+pub record IsRead {O : Type 0} (waits : Bool) (read : List (List ℕ)) (marks : List (Queued Input O))
+    : Type 0 where
+  pub spelled : AreSpelled (all_read waits read) marks
   pub unread : waits ≡ true → IsUnread marks
 
 -- The slot has its side of this inbox, or the thread of a connection that doesn't wait has it.
-abbrev pub IsSeatingOf : {W : Type 0} → TableId → Bool → Option (Seating W) → Type 0
-IsSeatingOf name waits (Some (seating.Kept held)) =
-    (inbox_of held ≡ name) × LastsIf waits held × IsRead waits (queued_by held)
-IsSeatingOf name waits (Some (seating.Lent thread)) =
-    ((inbox_for thread).name ≡ name) × (waits ≡ false) × IsRead true (seat_for thread).queued
-IsSeatingOf name waits None = ⊥
+abbrev pub IsSeatingOf : {W : Type 0} → TableId → Bool → List (List ℕ) → Option (Seating W) → Type 0
+IsSeatingOf name waits read (Some (seating.Kept held)) =
+    (inbox_of held ≡ name) × LastsIf waits held × IsRead waits read (queued_by held)
+IsSeatingOf name waits read (Some (seating.Lent thread)) =
+    ((inbox_for thread).name ≡ name) × (waits ≡ false) × IsRead true read (seat_for thread).queued
+IsSeatingOf name waits read None = ⊥
 
 -- Nothing was asked under the badge.
 abbrev pub IsNew : BadgeState → Type 0

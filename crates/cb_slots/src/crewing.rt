@@ -1,5 +1,5 @@
 ghost use Rattle.std.specs.Prelude.{◌≡◌, ◌≤◌, [], length, map, vec_capacity, All, IfOk, IsOkUnless};
-ghost use Rattle.std.specs.List.{range_with_len};
+ghost use Rattle.std.specs.List.{AllZip, range_with_len};
 ghost use Rattle.cb_base.specs.declared.fault.Fault.TheVariants.{Memory};
 ghost use Rattle.cb_crew.specs.Crew.{AreHandlersOf, AreOpeningSeats, HasPlace, inbox_of};
 ghost use Rattle.cb_crew.specs.Ring.{most_peers};
@@ -13,7 +13,7 @@ use crate::slot::{Common, Slot};
 use cb_base::{Fault, Shared};
 use cb_crew::{Crew, Fresh, Handler, NewCrew, ReaderSide, Work};
 use cb_inbox::ReaderSeat;
-use cb_peers::{Backlogs, CloseEnded, Link, Links};
+use cb_peers::{Backlogs, CloseEnded, Link, Links, NodeBytes};
 use cb_reader::Input;
 use cb_service::{HandlerSetup, Handling, Signals};
 use std::alloc::Global;
@@ -216,21 +216,24 @@ pub fn start_handlers<
     }
 }
 
-/// The sides of these slots, in the given empty list. Waits for the threads of readers. It takes no
-/// memory: the list must have room.
+/// The sides of these slots, in the given empty list, and what their sockets gave. Waits for the
+/// threads of readers. It takes no memory: the list must have room.
 pub fn sides_of<W: Work<Item = Input>, R: Threads>(
     rt: &R,
     slots: Vec<Slot<W>>,
     sides: Vec<ReaderSide<Input, Fresh<W>>>,
-) -> Vec<ReaderSide<Input, Fresh<W>>>
+) -> (Vec<ReaderSide<Input, Fresh<W>>>, NodeBytes)
     requires room { (sides.items ≡ []) × (length slots.items ≤ vec_capacity sides) }
-    ensures inboxes { map inbox_of result.items ≡ names_in slots.items }
-    ensures places { All HasPlace result.items }
-    ensures read { All QueuedWhatItRead result.items }
+    ensures inboxes { map inbox_of result.0.items ≡ names_in slots.items }
+    ensures places { All HasPlace result.0.items }
+    ensures read { AllZip QueuedWhatItRead result.1 result.0.items }
 {
     let mut sides = sides;
+    let mut read = NodeBytes::nothing();
     for slot in slots {
-        sides.push_reserved(slot.into_side(rt));
+        let (side, bytes) = slot.into_side(rt);
+        sides.push_reserved(side);
+        read.add(&bytes);
     }
-    sides
+    (sides, read)
 }

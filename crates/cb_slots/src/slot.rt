@@ -6,7 +6,7 @@ ghost use Rattle.cb_slots.specs.declared.fault.NodeFault.TheVariants.{Io, Memory
 ghost use Rattle.cb_service.specs.Readers.{inbox_for, seat_for};
 ghost use Rattle.cb_service.specs.Service.{queued_by};
 ghost use Rattle.cb_peers.specs.Reading.{QueuedWhatItRead};
-ghost use Rattle.cb_slots.specs.Slot.{IsInboxOf, IsNew, IsRead, IsUnspent, attached, new_slot, reopened};
+ghost use Rattle.cb_slots.specs.Slot.{IsInboxOf, IsNew, IsRead, IsUnspent, all_read, attached, new_slot, reopened};
 
 use crate::fault::NodeFault;
 use crate::next_connection::NextConnection;
@@ -14,9 +14,9 @@ use cb_base::{Fault, Shared};
 use cb_crew::{Crew, Fresh, ReaderSide, Work};
 use cb_hall::Badge;
 use cb_inbox::{Inbox, ReaderSeat};
-use cb_peers::{Backlogs, Link, SocketBytes, SocketReading, start_threads};
+use cb_peers::{Backlogs, Link, SlotBytes, SocketBytes, SocketReading, start_threads};
 use cb_reader::Input;
-use cb_service::{NoReader, Reading, Side, Signals, Unopened, join_reader, offer_open};
+use cb_service::{NoReader, ReaderEnd, Reading, Side, Signals, Unopened, join_reader, offer_open};
 use std::alloc::Global;
 use std::marker::{Copy, Model, Send};
 use std::mem;
@@ -56,6 +56,9 @@ pub struct Slot<W: Work<Item = Input>> {
     number: u16,
     /// It is always there between two calls.
     seating: Option<Seating<W>>,
+    /// What the sockets of its connections gave, of those that don't wait and whose reader isn't
+    /// with its thread.
+    read: SlotBytes,
     used: bool,
     waits: bool,
     /// The latest connection that was opened.
@@ -75,7 +78,8 @@ impl<W: Work<Item = Input>> Model for Slot<W> {
     ghost view = { λ slot.
         record { inbox = slot.inbox.value; used = slot.used; waits = slot.waits } };
 
-    ghost invariant = { λ slot. IsSeatingOf slot.inbox.value.name slot.waits slot.seating
+    ghost invariant = { λ slot. IsSeatingOf slot.inbox.value.name slot.waits slot.read
+        slot.seating
         × IsUnspent slot.number slot.badge × (slot.number ≡ slot.inbox.value.peer)
         × (slot.latest.peer ≡ slot.number)
         × IsLinkIn slot.number (option_map (λ next. next.link) slot.next)
@@ -98,6 +102,7 @@ impl<W: Work<Item = Input>> Slot<W> {
             inbox: Snapshot::of(inbox),
             number: inbox.peer(),
             seating: Some(Seating::Kept(Side::live(seat))),
+            read: SlotBytes::nothing(),
             used: false,
             waits: true,
             latest: link,
@@ -206,7 +211,9 @@ impl<W: Work<Item = Input>> Slot<W> {
             return;
         }
         self.seating = match self.seating.take() {
-            Some(Seating::Lent(thread)) => Some(Seating::Kept(side_of(rt, thread))),
+            Some(Seating::Lent(thread)) => {
+                Some(Seating::Kept(side_of(rt, thread, &mut self.read)))
+            }
             kept => kept,
         };
     }
@@ -301,29 +308,58 @@ impl<W: Work<Item = Input>> Slot<W> {
         }
     }
 
-    /// The slot's side of its inbox. Waits for the reader's thread if there is one.
-    pub fn into_side<R: Threads>(self, rt: &R) -> ReaderSide<Input, Fresh<W>>
-        ensures inbox { inbox_of result ≡ self.inbox.name }
-        ensures place { HasPlace result }
-        ensures read { QueuedWhatItRead result }
+    /// The slot's side of its inbox, and what its sockets gave. Waits for the reader's thread if
+    /// there is one.
+    pub fn into_side<R: Threads>(self, rt: &R) -> (ReaderSide<Input, Fresh<W>>, SlotBytes)
+        ensures inbox { inbox_of result.0 ≡ self.inbox.name }
+        ensures place { HasPlace result.0 }
+        ensures read { QueuedWhatItRead result.1 result.0 }
     {
-        let Slot { seating, .. } = self;
+        let Slot {
+            seating,
+            read,
+            waits,
+            ..
+        } = self;
+        let mut read = read;
         match seating {
-            Some(Seating::Kept(side)) => side.into_side(),
-            Some(Seating::Lent(thread)) => side_of(rt, thread).into_side(),
+            Some(Seating::Kept(side)) => {
+                end_reads(waits, &mut read);
+                (side.into_side(), read)
+            }
+            Some(Seating::Lent(thread)) => {
+                let side = side_of(rt, thread, &mut read);
+                (side.into_side(), read)
+            }
             None => unreachable!(),
         }
     }
 }
 
-/// Waits until the reader's thread of a connection returns, and returns the reader's side.
+/// Of a connection that waits for its socket nothing was read.
+fn end_reads(waits: bool, read: &mut SlotBytes)
+    ensures { read.new ≡ all_read waits read.old }
+{
+    if waits {
+        read.add(&SocketBytes::nothing());
+    }
+}
+
+/// Waits until the reader's thread of a connection returns, and returns the reader's side. What the
+/// connection's socket gave comes behind what the sockets of earlier ones did.
 fn side_of<W: Work<Item = Input>, R: Threads>(
     rt: &R,
     thread: Reading<W, SocketBytes>,
+    read: &mut SlotBytes,
 ) -> Side<Input, Fresh<W>>
-    requires { IsRead true (seat_for thread).queued }
+    requires { IsRead true read.old (seat_for thread).queued }
     ensures inbox { inbox_of result ≡ (inbox_for thread).name }
-    ensures read { IsRead false (queued_by result) }
+    ensures read { IsRead false read.new (queued_by result) }
 {
-    join_reader(rt, thread).side
+    let ReaderEnd { side, account } = join_reader(rt, thread);
+    match account {
+        Some(bytes) => read.add(&bytes),
+        None => read.add(&SocketBytes::nothing()),
+    }
+    side
 }

@@ -10,5 +10,5 @@ invariant-loop g l = record {
   room : vec_len l.all + into_iter_len l.left ≤ vec_capacity l.all;
   rest : into_iter_len l.left + l.counter ≡ l.count;
   count : vec_len l.all ≡ l.counter;
-  walked : Walked (λ (node : NodeState) end. HasFinished node.crew end.desks.items) l.fn.list.items (into_iter_items l.left) l.all.items;
+  walked : Walked (λ (node : NodeState) end. HasFinished node.crew end.read end.desks.items) l.fn.list.items (into_iter_items l.left) l.all.items;
 }

@@ -1,4 +1,4 @@
-use Rattle.std.proofs.Common.{rules, List, length, arith, subst, sym}
+use Rattle.std.proofs.Common.{rules, length, arith, subst, sym}
 use Rattle.std.specs.List.{AllZip}
 use Rattle.cb_node.specs.Node.{HasFinished}
 use Rattle.cb_driver.specs.Summary.{AreReported, IsReported, TellsReport}
@@ -11,9 +11,9 @@ returns-in-Whole-clause-runs g c =
     run_whole_ok (λ reports. AllZip (λ end report. TellsReport end.desks.items report) c.as_slice.result.now reports) (AreReported g.row.N.Denot)
     (λ reports told. (
       c.as_slice.result.now,
-      zip_through (λ node end. HasFinished node.crew end.desks.items) (λ end report. TellsReport end.desks.items report) (λ end report. IsReported end.desks.items report)
+      zip_through (λ node end. HasFinished node.crew end.read end.desks.items) (λ end report. TellsReport end.desks.items report) (λ end report. IsReported end.read end.desks.items report)
           (λ node end report finished tells. (node.crew, finished, tells)) c.play-played.new.nodes.list.items c.as_slice.result.now reports
-          (subst (AllZip (λ node end. HasFinished node.crew end.desks.items) c.play-played.new.nodes.list.items) (sym c.as_slice.ensures.value) c.finish-ends.ensures.each) told,
+          (subst (AllZip (λ node end. HasFinished node.crew end.read end.desks.items) c.play-played.new.nodes.list.items) (sym c.as_slice.ensures.value) c.finish-ends.ensures.each) told,
     ))
     c.args.orders.sizes.nodes c.args.orders.stats (g.R.Source.remaining c.args.reader.now) (g.W.Sink.contents c.args.writer.now) (g.W.Sink.contents c.play-played.new.writer)
     (g.W.Sink.contents c.conclude.new.writer) c.in-Whole.tally (length c.as_slice.result.now) c.play-played.result c.conclude.result c.play-played.ensures.plays (search rules)

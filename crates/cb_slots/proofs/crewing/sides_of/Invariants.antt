@@ -1,4 +1,5 @@
 use Rattle.std.proofs.Common.{◌≡◌, ◌≤◌, ◌+◌, ◌++◌, length, map, All, vec_capacity}
+use Rattle.std.specs.List.{AllZip}
 use Rattle.cb_crew.specs.Crew.{HasPlace, inbox_of}
 use Rattle.cb_peers.specs.Reading.{QueuedWhatItRead}
 use Rattle.cb_slots.specs.Slot.{names_in}
@@ -9,4 +10,4 @@ invariant-loop-slot g l =
     (length l.sides.items + length l.slot-iterator.rest.items ≤ vec_capacity l.sides)
     × (map inbox_of l.sides.items ++ names_in l.slot-iterator.rest.items ≡ names_in l.fn.slots.items)
     × All HasPlace l.sides.items
-    × All QueuedWhatItRead l.sides.items
+    × AllZip QueuedWhatItRead l.read l.sides.items

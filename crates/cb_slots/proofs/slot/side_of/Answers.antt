@@ -1,10 +1,10 @@
-use Rattle.std.proofs.Common.{refl}
-use Rattle.std.proofs.lemmas.Bool.{false≢true}
-use Rattle.cb_peers.proofs.Spelled.{spelled_left}
+use Rattle.cb_slots.proofs.Seatings.{left_none, left_some, read_more, read_nothing}
 use Rattle.cb_slots.proofs.slot.side_of.Goals as goal
 
-pub returns-clause-read : goal.returns-clause-read
-returns-clause-read g c = record {
-  spelled = spelled_left _ (λ bytes. bytes) _ _ c.join_reader.result.account (λ bytes before after told. told) c.requires.spelled (c.requires.unread refl) c.join_reader.ensures.account;
-  unread = λ waits. absurd (false≢true waits);
-}
+pub returns-in-Some-clause-read : goal.returns-in-Some-clause-read
+returns-in-Some-clause-read g c =
+    read_more _ _ _ _ c.join_reader-side.result.side c.requires (left_some _ _ _ c.join_reader-side.result.side c.in-Some.is c.join_reader-side.ensures.account) c.add.ensures
+
+pub returns-in-None-clause-read : goal.returns-in-None-clause-read
+returns-in-None-clause-read g c =
+    read_nothing _ _ _ _ c.join_reader-side.result.side c.requires (left_none _ _ c.join_reader-side.result.side c.in-None.is c.join_reader-side.ensures.account) c.add-in-None.ensures c.nothing.ensures
