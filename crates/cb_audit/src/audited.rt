@@ -24,7 +24,7 @@ impl<'a> Model for Audited<'a> {
 
 impl<'a> Audited<'a> {
     /// A connection with its trace.
-    pub(crate) fn new(connection: Connection, trace: &'a Trace) -> Audited<'a>
+    pub fn new(connection: Connection, trace: &'a Trace) -> Audited<'a>
         ensures { result ≡ record { connection = connection; trace = trace.now } }
     {
         Audited { connection, trace }

@@ -1,0 +1,4 @@
+pub mod Handing
+pub mod Loosely
+pub mod Results
+pub mod Talking
