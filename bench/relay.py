@@ -1,6 +1,6 @@
 #!/usr/bin/env python3
 """Draws what a block of 1 MB costs from node to node, whole and in short ids: python3 bench/relay.py [PROGRAM] [--rate MBIT] [--tick MS]
-[--rounds N] [--out FILE]
+[--rounds N] [--draw]
 
 It needs the built program (crates/cbrelay/out/cbrelay, as ./build leaves it), python3, and on Linux root or user namespaces, with `unshare`,
 `nsenter`, `ip` and `tc` (Debian's util-linux and iproute2). It takes some three minutes. All stands in network namespaces that it makes by
@@ -12,14 +12,16 @@ block of 3,900 transactions. How long that takes until all nodes have its tip, a
 counted, is told of
 
 - whole blocks: no node learns that its peer knows compact blocks, since `sendcmpct` is kept back (bench/tools/without_compact.py);
-- compact blocks (BIP 152), where all mempools hold 100, 99, 90 or 0 % of the block's transactions. These were relayed before.
+- compact blocks (BIP 152), where all mempools hold 100, 99, 90, 50 or 0 % of the block's transactions. These were relayed before.
 
-Each row is the median of the rounds. The rows are printed, with machine and date. The picture of the line of five goes to docs/relay.svg.
+Each row is the median of the rounds. The rows, with machine and date, are printed and go to bench/figures/relay_rows.txt; the picture of
+the line of five, drawn from that file, goes to docs/relay.svg. With --draw nothing is measured, and the picture is drawn alone.
 """
 
 import datetime
 import os
 import platform
+import re
 import statistics
 import subprocess
 import sys
@@ -42,7 +44,10 @@ SHAPES = {"a line of five nodes": ([(1, 0), (2, 1), (3, 2), (4, 3)], 0), "a star
 COUNT, PORT, PROXY = 5, 18_444, 20_000
 FILTER = os.path.join(ROOT, "bench", "tools", "without_compact.py")
 # How many per cent of the transactions the mempools hold; None stands for whole blocks.
-WAYS = {"whole": None, "100 %": 100, "99 %": 99, "90 %": 90, "0 %": 0}
+WAYS = {"whole": None, "100 %": 100, "99 %": 99, "90 %": 90, "50 %": 50, "0 %": 0}
+# What was measured, and the picture of it.
+ROWS, PICTURE = Path(ROOT, "bench", "figures", "relay_rows.txt"), Path(ROOT, "docs", "relay.svg")
+ROW = re.compile(r"\| (a [^|]+) \| (whole|\d+ %) \| ([\d.]+) \| ([\d.]+) \|")
 # How long the links have to be still, and how long we wait for anything.
 QUIET, PATIENCE = 0.3, 120
 
@@ -161,14 +166,29 @@ def whose(path):
     return "the program that ./build leaves" if path is None else "a program given by hand"
 
 
-def drawn(found, size, given):
-    """The picture of a line of five nodes, by seconds and MB of each shape and way."""
-    line, shares = next(iter(SHAPES)), sorted((percent, way) for way, percent in WAYS.items() if percent is not None)
-    panels = [(name, found[line, "whole"][number], [found[line, way][number] for _, way in shares])
-              for number, name in ((1, "MB on the wire, four links"), (0, "seconds to the last node"))]
-    caption = ["Under each point: the share of the block's transactions that the mempools have.",
-               f"{size:,} bytes, 3,900 transactions; a line of five nodes, links of {given.rate} Mbit/s; {datetime.date.today().isoformat()}."]
-    return picture("A block of 1 MB from node to node", [way for _, way in shares], ("whole block", "compact block"), panels, caption)
+def drawn(rows):
+    """The picture of a line of five nodes, from the rows of the file."""
+    found = {(shape, way): (float(took), float(sent)) for shape, way, took, sent in ROW.findall(rows)}
+    line = next(iter(SHAPES))
+    panels = [(name, found[line, "whole"][number], {WAYS[way]: it[number] for (shape, way), it in found.items() if shape == line and WAYS[way] is not None})
+              for number, name in enumerate(("Seconds to the last node", "MB on the wire, over four links"))]
+    told = rows.splitlines()[0]
+    return picture("A block of 1 MB from node to node", "share of the block in the mempools", ("whole", "compact"), panels, [told])
+
+
+def rows_of(program, given):
+    """Measures all rows, printing each, and returns them below what they are of."""
+    chain = FullChain(given.rounds)
+    size, today = len(chain.blocks[0].text), datetime.date.today().isoformat()
+    rows = [f"A line of five nodes, links of {given.rate} Mbit/s; {size:,} bytes, 3,900 transactions; {today}.", machine(), whose(given.program), ""]
+    rows += ["| nodes | blocks | s to the last tip | MB on the wire |", "|---|---|---|---|"]
+    print("\n".join(rows), flush=True)
+    for shape, (pairs, first) in SHAPES.items():
+        for way, percent in WAYS.items():
+            took, sent = measured(program, given, chain, pairs, first, percent)
+            rows.append(f"| {shape} | {way} | {took:.2f} | {sent / 1e6:.3f} |")
+            print(rows[-1], flush=True)
+    return "\n".join(rows) + "\n"
 
 
 def main():
@@ -176,23 +196,13 @@ def main():
     words.add_argument("--rate", type=int, default=10, help="how many megabits a link passes on in a second")
     words.add_argument("--tick", type=int, default=10, help="how many milliseconds pass from tick to tick of a node")
     words.add_argument("--rounds", type=int, default=3, help="how many blocks each row has")
-    words.add_argument("--out", default=os.path.join(ROOT, "docs", "relay.svg"), help="where the picture goes")
+    words.add_argument("--draw", action="store_true", help="measure nothing, and draw what was measured")
     given = words.parse_args()
-    program = built(given.program, "cbrelay")
-    alone()
-    chain = FullChain(given.rounds)
-    size = len(chain.blocks[0].text)
-    found = {}
-    print("| nodes | blocks | s to the last tip | MB on the wire |")
-    print("|---|---|---|---|")
-    for shape, (pairs, first) in SHAPES.items():
-        for way, percent in WAYS.items():
-            took, sent = measured(program, given, chain, pairs, first, percent)
-            found[shape, way] = took, sent / 1e6
-            print(f"| {shape} | {way} | {took:.2f} | {sent / 1e6:.3f} |", flush=True)
-    print(f"{machine()}; {datetime.date.today().isoformat()}; {whose(given.program)}")
-    with open(given.out, "w", encoding="utf-8") as file:
-        file.write(drawn(found, size, given))
+    if not given.draw:
+        program = built(given.program, "cbrelay")
+        alone()
+        ROWS.write_text(rows_of(program, given), encoding="utf-8")
+    PICTURE.write_text(drawn(ROWS.read_text(encoding="utf-8")), encoding="utf-8")
 
 
 if __name__ == "__main__":

@@ -32,6 +32,8 @@ CODES = r'codes "([^"]*)"'
 SPOKEN = [
     ("cb_command/src/*.rt", r'Command::new\(alloc, "(\w+)"\)', ""),
     ("cb_command/src/*.rt", r'\.long\("([\w-]+)"\)', "--"),
+    ("cb_net_words/src/*.rt", r'Command::new\(alloc, "(\w+)"\)', ""),
+    ("cb_net_words/src/*.rt", r'(?:_arg\(\s*alloc,\s*|\.long\()"([\w-]+)"', "--"),
     ("cb_control/specs/OrderLine.antt", CODES, ""),
     ("cb_control/specs/ScriptLine.antt", CODES, ""),
     ("cb_control/specs/ReplyText.antt", CODES, ""),
@@ -55,7 +57,7 @@ LINK = re.compile(r"\[[^\]]*\]\(([^)\s]+)\)")
 CODE = re.compile(r"`([^`]+)`")
 FENCED = re.compile(r"^    .*$")
 # a path of one name or more with an ending, or of one folder or more
-ENDING = r"\.(?:(?:rt|antt)(?:\.in)?|py|md|run|bin|hex|edit|txt|so)(?![\w/])"
+ENDING = r"\.(?:(?:rt|antt)(?:\.in)?|py|md|run|bin|hex|edit|txt|so|h|c|cpp|rs)(?![\w/])"
 PATH = re.compile(rf"(?<![\w/.*-])(?:(?:\.{{1,2}}/)*(?:[\w*.-]+/)*[\w*.-]*\w{ENDING}|(?:\.{{1,2}}/)?(?:[\w*.-]+/)+[\w.*-]*)")
 CRATE = re.compile(r"(?<![\w/.-])((?:cb|bench)_[a-z0-9_]+)(?![\w*])")
 MEMBER = re.compile(r"^([A-Z]\w*)(?:<[^>]*>)?::(\w+)")
@@ -78,14 +80,14 @@ class Tree:
         # crates that stand apart have .in behind the names of their sources
         self.homes = [root / "crates", root / "bench" / "programs"]
         self.crates = {it.name for home in self.homes for it in home.iterdir() if it.is_dir()}
-        folders = ("crates", "tests", "bench", "scripts", "docs", "runs", "examples")
+        folders = ("crates", "tests", "bench", "scripts", "docs", "runs", "examples", "include", "bindings")
         self.files = [it for folder in folders for it in (root / folder).rglob("*") if "out" not in it.relative_to(root).parts]
         self.by_name = {}
         for file in self.files:
             self.by_name.setdefault(file.name, []).append(file)
         self.words, self.members, self.of_file = set(), {}, {}
         for file in self.files:
-            if kind_of(file) in (".rt", ".antt", ".py") and "/attacks/" not in str(file) and file.name != Path(__file__).name:
+            if kind_of(file) in (".rt", ".antt", ".py", ".h") and "/attacks/" not in str(file) and file.name != Path(__file__).name:
                 text = file.read_text(encoding="utf-8")
                 words = set(re.findall(r"[A-Za-z_]\w*", text))
                 self.words |= words
@@ -242,7 +244,8 @@ class Look:
         """What the program has stands in a document."""
         texts = {it.name: it.read_text(encoding="utf-8") for it in self.documents}
         for line in (self.root / "crates.txt").read_text(encoding="utf-8").splitlines():
-            crate = line.partition(":")[0]
+            # a static library has a word behind its name
+            crate = line.partition(":")[0].partition(" ")[0]
             if not line.startswith("#"):
                 self.expect(re.search(rf"\b{crate}\b", texts["ARCHITECTURE.md"]), "ARCHITECTURE.md", f"it lacks the crate {crate}")
         lines = [line for text in texts.values() for line in text.splitlines()]

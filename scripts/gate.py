@@ -8,6 +8,7 @@ import sys
 import time
 
 from cost import Meter, spent, table
+from repository import RT
 
 # what a line of the gate shows to be through, and the words for it
 PARTS = [
@@ -19,7 +20,7 @@ PARTS = [
 
 def main():
     began, before, through, last = time.monotonic(), spent(), {}, ""
-    gate = subprocess.Popen(["rt", "ci"], stdout=subprocess.PIPE, stderr=subprocess.STDOUT, text=True, errors="replace")
+    gate = subprocess.Popen([*RT, "ci"], stdout=subprocess.PIPE, stderr=subprocess.STDOUT, text=True, errors="replace")
     meter = Meter(gate.pid)
     for line in gate.stdout:
         print(last, end="", flush=True)

@@ -11,7 +11,7 @@ import sys
 import time
 from pathlib import Path
 
-from repository import MADE_OF, run_in_lanes
+from repository import MADE_OF, RT, run_in_lanes
 
 
 def keep_work(room, crate):
@@ -40,16 +40,18 @@ def stands_on_gate(repository, crate):
     return all(is_of_gate(it) for it in repository.below(crate) or [crate])
 
 
-def check_over_gate(repository, crate, room, jobs):
-    """Returns the command for a check of a crate in a room over the gate's libraries."""
+def check_over_gate(repository, crate, room, jobs, verb="check"):
+    """Returns the command for a check of a crate in a room over the gate's libraries, or with "build" for one that compiles it too."""
     kit, below = Path(shutil.which("rt")).resolve().parent.parent, repository.below(crate)
     of_kit = ["std", *(it for it in crate.line.partition(":")[2].split("#")[0].split() if it not in repository.crates)]
     rlibs = {it.name: room.parent / it.name / "out" / "rlib" for it in below}
-    words = [kit / "bin" / "rattle", "check", "--crate-name", crate.name, "src/main.rt" if crate.is_program else "src/lib.rt"]
+    words = [kit / "bin" / "rattle", verb, "--crate-name", crate.name, "src/main.rt" if crate.is_program else "src/lib.rt"]
+    words += ["--crate-type", "staticlib"] if crate.is_static else []
     words += [word for it in of_kit for word in ("--extern", f"{it}={kit}/rlibs/{it}.rlib")]
     words += [word for it in crate.uses for word in ("--extern", f"{it}={rlibs[it]}/{it}.rlib")]
     words += [word for it in [kit / "rlibs", *rlibs.values()] for word in ("-L", f"dependency={it}")]
     words += ["--antt-project", kit / "rattle" / "logic" / "antt-project.json", "--logic-built", kit / "logic_built"]
+    words += ["--toolchain", kit / "toolchain"] if verb == "build" else []
     return [*words, "--incremental", "out/incremental", "--jobs", str(jobs)]
 
 
@@ -65,6 +67,32 @@ def prove_over_gate(workshop, crate, jobs):
     return None if status else True
 
 
+def compile_static(workshop, crate, compiler, jobs, to):
+    """Proves a static library over what it stands on, and writes its archive as one of the kit's compilers makes it, "llvm" or "rattle".
+
+    Returns whether it is proved, as True or None.
+    """
+    began, repository = time.monotonic(), workshop.repository
+    with workshop.room(crate) as room:
+        made = room / "out" / f"lib{crate.name}.a"
+        made.parent.mkdir(exist_ok=True)
+        made.unlink(missing_ok=True)
+        if stands_on_gate(repository, crate):
+            words = [*check_over_gate(repository, crate, room, jobs, "build"), "--backend", compiler, "-o", made.relative_to(room)]
+        else:
+            words = [*RT, "lib", "--jobs", str(jobs), "--backend", compiler]
+        status, said = workshop.call(words, room)
+        is_proved = status == 0 and made.is_file()
+        if is_proved:
+            shutil.copyfile(made, to)
+        keep_work(room, crate)
+    if not is_proved:
+        print(said, file=sys.stderr)
+    words = "proved and compiled" if is_proved else "NOT PROVED"
+    print(f"build: {crate.name}: {words} by {compiler} in {time.monotonic() - began:.0f} s", file=sys.stderr, flush=True)
+    return is_proved or None
+
+
 def prove(workshop, crate, jobs):
     """Proves and builds one crate over its libraries' kept work. Returns whether it is proved, as True or None."""
     began = time.monotonic()
@@ -74,7 +102,7 @@ def prove(workshop, crate, jobs):
         # what an earlier build left would pass for this one's, were the proof refused
         for old in (room / "out").glob(f"{crate.name}*") if crate.is_program else ():
             old.unlink()
-        status, said = workshop.call(["rt", *verb, "--jobs", str(jobs)], room)
+        status, said = workshop.call([*RT, *verb, "--jobs", str(jobs)], room)
         is_proved = (room / "out" / crate.name).is_file() if crate.is_program else status == 0
         if (room / "out").is_dir():
             keep_work(room, crate)

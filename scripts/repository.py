@@ -20,6 +20,8 @@ MEMORY_OF_A_CHECK, OF_A_LINE, OF_A_LINE_OF_PROOFS, OF_A_LINE_BELOW = 1_200_000_0
 # what a library is made of, and what else a crate has
 MADE_OF = ("src", "specs", "proofs")
 PARTS = (*MADE_OF, "stdin", "stdout", "args", "status", "data")
+# the kit's command
+RT = [sys.executable, str(Path(__file__).resolve().with_name("rt.py"))]
 # what stops a script
 SIGNALS = (signal.SIGINT, signal.SIGTERM, signal.SIGHUP)
 
@@ -36,6 +38,11 @@ class Crate:
     @property
     def is_program(self):
         return (self.folder / "src" / "main.rt").is_file()
+
+    @property
+    def is_static(self):
+        """Whether it is a static library for C, on which no crate can stand."""
+        return "staticlib" in self.line.partition(":")[0].split()[1:]
 
     def files(self, ending):
         """Returns the crate's files of sources, definitions and proofs with this ending."""

@@ -12,7 +12,7 @@ QUIET = re.compile(
 BRACKET = re.compile(r"[(){}\[\]]")
 MARK = re.compile(r"[;{(\[]|\b(?:requires|ensures)\b")
 HEAD = re.compile(
-    r"(?P<pub>pub\b(?P<within>\([^)]*\))?\s+)?(?:(?:const|unsafe)\s+)*"
+    r"(?P<pub>pub\b(?P<within>\([^)]*\))?\s+)?(?:(?:const|unsafe|extern)\s+)*"
     r"(?P<kind>fn|impl|trait|struct|enum|mod|ghost|const|static|type|use)\b\s*(?P<name>\w+)?"
 )
 # an item, or the bracket of an attribute
@@ -268,14 +268,15 @@ class Source:
 
 
 def exported_names(folder):
-    """The names that a crate hands on; of a program, which nothing stands on, all its own."""
+    """The names that a crate hands on, those for C among them; of a program, which nothing stands on, all its own."""
     library = folder / "src" / "lib.rt"
+    texts = [it.read_text(encoding="utf-8") for it in (folder / "src").rglob("*.rt")]
     if library.is_file():
         text = library.read_text(encoding="utf-8")
         used = re.findall(r"^pub use ([^;]+);", text, re.M)
         own = re.findall(r"^pub (?:fn|struct|enum|trait) (\w+)", text, re.M)
-        return {word for it in [*used, *own] for word in WORD.findall(it)}
-    texts = (it.read_text(encoding="utf-8") for it in (folder / "src").rglob("*.rt"))
+        to_c = re.findall(r'^pub extern "C" fn (\w+)', "\n".join(texts), re.M)
+        return {word for it in [*used, *own, *to_c] for word in WORD.findall(it)}
     own = r"^\s*pub (?:fn|struct|enum|trait) (\w+)"
     return {name for text in texts for name in re.findall(own, text, re.M)}
 
@@ -309,7 +310,7 @@ class Tree:
         self.root = Path(root).resolve()
         lines = (self.root / "crates.txt").read_text(encoding="utf-8").splitlines()
         bare = (it.split("#")[0] for it in lines)
-        self.crates = [it.partition(":")[0].strip() for it in bare if ":" in it]
+        self.crates = [it.partition(":")[0].split()[0] for it in bare if ":" in it]
         self.read, self.types = {}, {}
         self.entries = [it for crate in self.crates for it in self.of_crate(crate)]
 

@@ -1,8 +1,8 @@
 #!/usr/bin/env python3
 """Runs the built programs on stored inputs and compares what they print: scripts/stored_runs.py [WORD ..]
 
-runs/PROGRAM/NAME.run is a run of crates/PROGRAM/out/PROGRAM, or of a program of bench/programs, which looks run
-(bench/looks/stored_programs.py and those that compare it with a model). Its lines are
+runs/PROGRAM/NAME.run is a run of crates/PROGRAM/out/PROGRAM, or of a program of bench/programs, which looks run that compare it
+with a model. Its lines are
 
     # TEXT          a remark; an empty line is one too
     args WORD ..    the program's words
@@ -141,7 +141,7 @@ def main(words):
     except BadRun as error:
         print(error)
         return 1
-    runs += [read_example(path) for path in sorted((ROOT / "examples").iterdir()) if path.suffix not in BESIDE]
+    runs += [read_example(path) for path in sorted((ROOT / "examples").iterdir()) if path.is_file() and path.suffix not in BESIDE]
     chosen = [it for it in runs if not words or any(word in it.name for word in words)]
     with ThreadPoolExecutor() as pool:
         failures = [(run, failure) for run, failure in zip(chosen, pool.map(Run.failure, chosen)) if failure]

@@ -19,7 +19,7 @@ from pathlib import Path
 
 from apart import laid_out
 from cost import spent
-from repository import Repository
+from repository import RT, Repository
 
 ROOT = Path(__file__).resolve().parent.parent
 FOLDER = ROOT / "tests"
@@ -91,7 +91,7 @@ def leave_only(chosen, sources):
 def run(folder):
     """Runs the tests of a crate laid out in a folder. Returns how each ended, by its name, the summary's numbers, and the status."""
     ended, summary = {}, None
-    words = ["rt", "try", "--test", "--seconds", str(SECONDS)]
+    words = [*RT, "try", "--test", "--seconds", str(SECONDS)]
     how = {"stdin": subprocess.DEVNULL, "stdout": subprocess.PIPE, "stderr": subprocess.STDOUT, "text": True, "errors": "replace"}
     with subprocess.Popen(words, cwd=folder, **how) as process:
         try:

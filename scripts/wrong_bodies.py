@@ -18,7 +18,7 @@ from pathlib import Path
 
 # the first line of a definition, a lemma or an answer
 LEMMA = re.compile(r"^(?:(?:pub|abbrev|unfoldable|opaque|private) )*(?:(record|data) )?([^\s:(){},]+)[^=]*?:(?=\s|$)")
-FUNCTION = re.compile(r"^(\s*)(?:pub(?:\([^)]*\))?\s+)?(?:(?:const|unsafe)\s+)*fn\s+(\w+)")
+FUNCTION = re.compile(r"^(\s*)(?:pub(?:\([^)]*\))?\s+)?(?:(?:const|unsafe|extern \"C\")\s+)*fn\s+(\w+)")
 IMPL = re.compile(r"^(?:unsafe\s+)?impl\b(.*)")
 # how many lines the header of an impl takes at most
 HEADER_LINES = 12

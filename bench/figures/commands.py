@@ -2,8 +2,8 @@
 """Measures the time and the memory of the built programs, beside `openssl dgst -sha256` and beside programs of before:
 python3 bench/figures/commands.py [PROGRAM] [SOUND] [--before FOLDER]
 
-It needs the program (crates/cbrelay/out/cbrelay, as ./build leaves it), the program that tells whether a block is sound
-(bench/programs/bench_sound/out/bench_sound, likewise), openssl, python3 and Linux, and takes some five minutes. First it prints a table of
+It needs the program (crates/cbrelay/out/cbrelay, as ./build leaves it), the C library (./build --library), with which it makes a program that
+tells whether a block is sound (bench/library/sound.c), cc, openssl, python3 and Linux, and takes some five minutes. First it prints a table of
 time and memory, with `--before` for both sets of programs and how they compare; then what a block takes in memory, and then how
 the time grows and compares with openssl's.
 
@@ -20,6 +20,7 @@ if not __package__:  # called as a file
     sys.path.insert(0, str(Path(__file__).resolve().parents[2]))
 
 from bench.tools.blocks import bare_block, block, usual_block
+from bench.tools.c_library import compiled, prefix_of
 from bench.tools.command_line import usage
 from bench.tools.messages import envelope, pings, unknown
 from bench.tools.programs import built
@@ -221,14 +222,20 @@ def message_growths(bench):
     bench.growth("serve, ten unknown commands of 4,000,000 bytes, then twenty", "serve", large * 10, large * 20)
 
 
+def sound_before(top, folder):
+    """The program that tells whether a block is sound, over the library of before."""
+    return compiled(os.path.join(top, "out/library"), os.path.join(folder, "sound-before"), "sound.c")
+
+
 def main():
-    reader = usage(__doc__, program="the program, if not crates/cbrelay/out/cbrelay", sound="bench_sound, if not the one in its crate")
-    reader.add_argument("--before", metavar="FOLDER", help="programs to compare with: its cbrelay and bench_sound, as ./build leaves them")
+    reader = usage(__doc__, program="the program, if not crates/cbrelay/out/cbrelay", sound="a program like bench/library/sound.c")
+    reader.add_argument("--before", metavar="FOLDER", help="what to compare with: its cbrelay and its library, as ./build leaves them")
     words = reader.parse_args()
-    programs = built(words.program, "cbrelay"), built(words.sound, "bench_sound")
-    before = words.before and [built(None, crate, words.before) for crate in ("cbrelay", "bench_sound")]
-    adopt()
     with tempfile.TemporaryDirectory() as folder:
+        sound = words.sound or compiled(prefix_of(), os.path.join(folder, "sound"), "sound.c")
+        programs = built(words.program, "cbrelay"), os.path.abspath(sound)
+        before = words.before and (built(None, "cbrelay", words.before), sound_before(words.before, folder))
+        adopt()
         bench = Bench(programs, before, folder)
         for part in (table, kept_blocks, block_speeds, message_speeds, block_growths, message_growths):
             part(bench)

@@ -1,7 +1,7 @@
 #!/usr/bin/env python3
-"""Measures nodes over loopback: python3 bench/figures/nodes.py [PROGRAM [LINE]]
+"""Measures nodes over loopback: python3 bench/figures/nodes.py [PROGRAM]
 
-It needs the built programs (crates/cbrelay/out/cbrelay and bench/programs/bench_line/out/bench_line, as ./build leaves them), python3 and Linux, and takes a few minutes. Eight nodes stand in
+It needs the built program (crates/cbrelay/out/cbrelay, as ./build leaves it), python3 and Linux, and takes a few minutes. Eight nodes stand in
 a line, so that what node 0 knows comes to node 7 by six others. Each row is a way in which blocks of nearly 1 MB come from node to node:
 
 - compact: the mempools have all transactions of the block;
@@ -11,12 +11,10 @@ a line, so that what node 0 knows comes to node 7 by six others. Each row is a w
 A row tells milliseconds from the line that gives node 0 the block to the last node's tip (the median of the rounds; a `wait` looks each
 millisecond), milliseconds of the processor for each node and block, and bytes that go out from a node to the next for each block. Then
 10,000 transactions go from node 0 to seven others in a star. All of it by 1 and by 4 handlers. At last node 0 mines empty blocks one after
-the other, and the same is done by bench_line: eight halls and fourteen sessions in one loop on one thread, whose bytes are handed over in
-memory. Its time of a block is that of a run with so many blocks less that of one without, divided by their number.
+the other.
 """
 
 import statistics
-import subprocess
 import sys
 import time
 from pathlib import Path
@@ -31,7 +29,7 @@ from bench.tools.programs import built
 
 NODES, HANDLERS, ROUNDS = 8, (1, 4), 5
 STAR_TXS, QUIET = 10_000, 0.3
-MINED, LOOPED = 20, 200
+MINED = 20
 
 
 def linked(program, handlers, pairs):
@@ -143,24 +141,8 @@ def mining(program, handlers):
     print(f"from mine to the last tip of a line of eight, {handlers} handlers: {statistics.median(took):.1f} ms, the median of {MINED}")
 
 
-def looped(line, blocks):
-    """Milliseconds of a run of bench_line with so many blocks."""
-    began = time.monotonic()
-    ran = subprocess.run([line], input=f"{NODES} {blocks}\n".encode("ascii"), capture_output=True, check=True)
-    if ran.stdout != f"blocks {blocks} height {blocks}\n".encode("ascii"):
-        raise ValueError(f"bench_line says {ran.stdout!r}")
-    return (time.monotonic() - began) * 1_000
-
-
-def mining_alone(line):
-    """Milliseconds from a block that is mined to the last tip of a line of eight in one loop, in memory."""
-    took = [(looped(line, LOOPED) - looped(line, 0)) / LOOPED for _ in range(MINED)]
-    print(f"the same in one loop on one thread, in memory: {statistics.median(took):.2f} ms, the median of {MINED} runs of {LOOPED} blocks")
-
-
 def main():
-    words = usage(__doc__, program="the program", line="bench_line, if not the one in its crate").parse_args()
-    program, line = built(words.program, "cbrelay"), built(words.line, "bench_line")
+    program = built(usage(__doc__, program="the program").parse_args().program, "cbrelay")
     chain = FullChain(ROUNDS, TXS)
     print("| blocks of a line of eight | handlers | ms to the last tip | processor ms a node | bytes out of node 0 in all | how blocks came |")
     print("|---|---|---|---|---|---|")
@@ -171,7 +153,6 @@ def main():
     for handlers in HANDLERS:
         star(program, handlers)
         mining(program, handlers)
-    mining_alone(line)
 
 
 if __name__ == "__main__":

@@ -16,7 +16,7 @@ ENDED = "run=ended status=4 "
 
 def main():
     with open(ROOT / "examples" / "mixed.bin", "rb") as heard:
-        command = ["rt", "try", "--fail-alloc", str(REFUSED), "--", "serve"]
+        command = [sys.executable, ROOT / "scripts" / "rt.py", "try", "--fail-alloc", str(REFUSED), "--", "serve"]
         ran = subprocess.run(command, cwd=ROOT / "crates" / "cbrelay", stdin=heard, capture_output=True, text=True, errors="replace", check=False)
     lines = (ran.stdout + ran.stderr).strip().splitlines()
     last = lines[-1] if lines else "nothing was printed"

@@ -6,8 +6,8 @@ loaded before the C library counts growths and makes the Nth fail; N goes up unt
 after a beginning of what it prints with ample memory, which standard error tells, or wholly as with ample memory, where it could do without
 that growth.
 
-With `--programs` the same is done to bench_sound, bench_chain and bench_compact, as ./build leaves them. Calls of a chain are made beside a
-copy there: one that lacked memory has to leave the chain as it was, and is made again.
+With `--programs` the same is done to bench_chain, as ./build leaves it. Calls of a chain are made beside a copy there: one that lacked memory
+has to leave the chain as it was, and is made again.
 """
 
 import os
@@ -18,11 +18,9 @@ from pathlib import Path
 if not __package__:  # called as a file
     sys.path.insert(0, str(Path(__file__).resolve().parents[2]))
 
-from bench.tools.blocks import block
 from bench.tools.branches import Made, Marks, branch, faulty_on
 from bench.tools.chain_play import ChainPlay
 from bench.tools.command_line import usage
-from bench.tools.compact_play import CompactPlay, some_block
 from bench.tools.growth_rows import ROWS
 from bench.tools.growths import build, in_turn
 from bench.tools.messages import pings, unknown
@@ -85,18 +83,6 @@ def told_play(count):
     return b"".join(play.records)
 
 
-def rebuilding_play():
-    """Records of a compact form, of a block of which two are missing, which are handed in, and of one of which none is."""
-    play = CompactPlay()
-    ids = some_block(play, 5, 7, [0])
-    play.use_pairs([(ids[number], number) for number in (4, 2)])
-    play.place()
-    play.fill([1, 3])
-    play.pair_all()
-    play.place()
-    return b"".join(play.records)
-
-
 # What is run: a name, the program, its words, and its standard input.
 RUNS = [
     ("decode first.hex", "cbrelay", ["decode"], example("first.hex")),
@@ -115,12 +101,10 @@ RUNS = [
     *((f"serve, {row.name}", "cbrelay", ["serve"], row.said()) for row in (row() for row in ROWS)),
 ]
 RUNS_OF_PROGRAMS = [
-    ("sound, a block of 5 transactions", "bench_sound", [], block(5, 10)),
     ("chain, a block at the tip and three blocks for two", "bench_chain", [], careful_play()),
     ("chain, faults on a side branch, and turns to it and back", "bench_chain", [], careful_turns()),
     ("chain, calls that are told and questions", "bench_chain", [], told_play(10)),
     ("chain, copies of it, of a block and of a message", "bench_chain", [], copying_play()),
-    ("compact, a block of which two are missing, and then none", "bench_compact", [], rebuilding_play()),
 ]
 
 

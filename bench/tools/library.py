@@ -2,7 +2,7 @@
 """Talks to a node that listens on a port of this machine, by a Bitcoin client library: bench/tools/library.py PORT
 
 It needs Debian's package python3-bitcoinlib, which knows nothing of this project. The library shakes hands, sends a ping, tells of
-a block that it mines, is asked for headers, gives the block, and asks for it back. README.md shows how `cbrelay serve` is put behind a port.
+a block that it mines, is asked for headers, gives the block, and asks for it back. docs/EXAMPLES.md shows how `cbrelay serve` is put behind a port.
 The status is 0 where all was as it should be.
 """
 

@@ -14,5 +14,5 @@ pub use laws::{
     rebuilding_is_placing, what_is_rebuilt_is_the_block, what_lacks_is_asked_for,
 };
 pub use places::check_places;
-pub use rebuilding::{Rebuilt, rebuild};
+pub use rebuilding::{Rebuilt, rebuild, rebuild_from};
 pub use shortening::shortened;

@@ -9,7 +9,7 @@ ghost use Rattle.cb_rebuild.specs.declared.rebuilding.Rebuilt.TheVariants.{Lacki
 use crate::places::{check_places, placed};
 use cb_base::Fault;
 use cb_block::SoundBlock;
-use cb_compact::{Filled, Partial, Placed, differ, place};
+use cb_compact::{Filled, Pair, Partial, Placed, differ, place};
 use cb_payload::{BlockTransactionsRequest, Differences, HeaderAndShortIds};
 use cb_pool::Pairs;
 use std::alloc::Global;
@@ -49,6 +49,29 @@ fn lacking(alloc: Global, partial: Partial, places: &[u64]) -> Result<Rebuilt, F
     Ok(Rebuilt::Lacking(partial, BlockTransactionsRequest { block, differences }))
 }
 
+/// Rebuilds the block of a `cmpctblock` (BIP 152) as `rebuild` does, with the same errors, from
+/// pairs that are given as a list.
+pub fn rebuild_from(
+    alloc: Global,
+    message: &HeaderAndShortIds,
+    list: Vec<Pair>,
+) -> Result<Rebuilt, Fault>
+    ensures rebuilt { IfOk result (λ rebuilt. (has_places message.now.txs ≡ true)
+        × (rebuilt ≡ rebuilt_of message.now list.items)) }
+    ensures refused { IfErr result
+        (λ fault. ((fault ≡ Memory) × (has_places message.now.txs ≡ true))
+        ⊎ ((fault ≡ BadIndex) × (has_places message.now.txs ≡ false))) }
+{
+    check_places(&message.txs)?;
+    let prefilled = placed(alloc, &message.txs)?;
+    let found = place(alloc, message.header, message.txs.ids(), prefilled, list)?;
+    match found {
+        Placed::Whole(filled) => Ok(whole(filled)),
+        Placed::Missing(places, partial) => lacking(alloc, partial, places.as_slice()),
+        Placed::Repeat => Ok(Rebuilt::Useless),
+    }
+}
+
 /// Rebuilds the block of a `cmpctblock` (BIP 152) from its prefilled transactions and from pairs:
 /// transactions of the mempool with their short ids. Prefilled transactions are hashed; those of
 /// pairs are neither hashed nor copied.
@@ -66,13 +89,8 @@ pub fn rebuild(alloc: Global, message: &HeaderAndShortIds, pairs: &Pairs) -> Res
         (λ fault. ((fault ≡ Memory) × (has_places message.now.txs ≡ true))
         ⊎ ((fault ≡ BadIndex) × (has_places message.now.txs ≡ false))) }
 {
-    check_places(&message.txs)?;
-    let prefilled = placed(alloc, &message.txs)?;
+    let txs = &message.txs;
+    check_places(txs)?;
     let list = pairs.list(alloc)?;
-    let found = place(alloc, message.header, message.txs.ids(), prefilled, list)?;
-    match found {
-        Placed::Whole(filled) => Ok(whole(filled)),
-        Placed::Missing(places, partial) => lacking(alloc, partial, places.as_slice()),
-        Placed::Repeat => Ok(Rebuilt::Useless),
-    }
+    rebuild_from(alloc, message, list)
 }

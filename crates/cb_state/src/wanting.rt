@@ -1,12 +1,10 @@
-ghost use Rattle.std.specs.Prelude.{◌≡◌, ◌<◌, ◌≤◌, [], if◌then◌else◌, length, false, IfOk, IsOk, IsOkUnless, OnOk};
+ghost use Rattle.std.specs.Prelude.{◌≡◌, ◌≤◌, [], if◌then◌else◌, length, false, IfOk, IsOk, IsOkUnless, OnOk};
 ghost use Rattle.std.specs.HashSet.{contains, hasher_of};
 ghost use Rattle.std.specs.List.{list_any};
-ghost use Rattle.cb_base.specs.Seeding.{seed_of_keys};
 ghost use Rattle.cb_base.specs.declared.fault.Fault.TheVariants.{Memory};
 ghost use Rattle.cb_chain.specs.Entries.{entry_of, same};
 ghost use Rattle.cb_chain.specs.Locator.{locator_of};
 ghost use Rattle.cb_payload.specs.declared.inventory.Inventory.TheVariants as entry;
-ghost use Rattle.cb_state.specs.Seeding.{hashes_text};
 ghost use Rattle.cb_state.specs.Wanting.{AreNoted, IsNeed, blocks_of, is_block, is_near, is_wanted, only_block, stands_on_tip, wanted_of, with_entry, with_wanted};
 
 use crate::entry_seed::seed_of_entries;
@@ -38,18 +36,15 @@ struct Wanted {
 }
 
 impl Wanted {
-    /// No entries so far, of these. The sets have the seed of all of them.
-    fn none_of(alloc: Global, entries: &[Inventory]) -> Wanted
+    /// No entries so far. The sets have this seed.
+    fn none_under(alloc: Global, seed: Seed) -> Wanted
         ensures list { result.list.items ≡ [] }
         ensures noted { AreNoted (contains same result.txs)
             (contains same result.blocks) result.list.items }
         // The seed decides only how long a look-up takes. No result shows it, so it is fixed here.
-        ensures txs { 64 < length entries.now →
-            hasher_of result.txs ≡ seed_of_keys (hashes_text entries.now) }
-        ensures blocks { 64 < length entries.now →
-            hasher_of result.blocks ≡ seed_of_keys (hashes_text entries.now) }
+        ensures txs { hasher_of result.txs ≡ seed }
+        ensures blocks { hasher_of result.blocks ≡ seed }
     {
-        let seed = seed_of_entries(entries);
         Wanted {
             list: Vec::new(alloc),
             txs: HashSet::with_hasher(alloc, seed),
@@ -139,7 +134,8 @@ impl Relay {
         ensures memory { IsOkUnless result Memory }
         ensures none { wanted_of self.now entries.now ≡ [] → IsOk result }
     {
-        let mut wanted = Wanted::none_of(self.alloc, entries);
+        let seed = seed_of_entries(self.chain.ledger().seed(), entries);
+        let mut wanted = Wanted::none_under(self.alloc, seed);
         for entry in entries {
             self.look_at(&mut wanted, *entry)?;
         }

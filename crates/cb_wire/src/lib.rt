@@ -26,6 +26,7 @@ pub use cb_payload::{
 };
 pub use codec::{decode, encode, encode_into};
 pub use command::{Command, UnknownName};
+pub use envelope::{Front, front_of, item_of, payload_of};
 pub use item::Item;
 pub use laws::{
     commands_are_names_and_zeros, good_items_are_envelopes, one_reading, readings_go_on,

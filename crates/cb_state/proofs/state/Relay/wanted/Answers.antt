@@ -8,9 +8,9 @@ use Rattle.cb_state.proofs.state.Relay.wanted.Goals as goal
 pub loop-entry-init : goal.loop-entry-init
 unfolding once
 loop-entry-init c = record {
-  noted = c.none_of-wanted.ensures.noted;
-  listed = c.none_of-wanted.ensures.list;
-  few = omega (arith, ap (λ (l : List Inventory). length l) c.none_of-wanted.ensures.list);
+  noted = c.none_under-wanted.ensures.noted;
+  listed = c.none_under-wanted.ensures.list;
+  few = omega (arith, ap (λ (l : List Inventory). length l) c.none_under-wanted.ensures.list);
 }
 
 pub loop-entry-preserved : goal.loop-entry-preserved

@@ -1,0 +1,5 @@
+pub mod Answers
+pub mod CompactFields
+pub mod Giving
+pub mod Naming
+pub mod Status

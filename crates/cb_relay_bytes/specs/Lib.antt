@@ -1,0 +1,10 @@
+pub mod Compacting
+pub mod Completing
+pub mod Envelopes
+pub mod Fields
+pub mod Known
+pub mod Messages
+pub mod Rebuilding
+pub mod Serving
+pub mod Spans
+pub mod Whole

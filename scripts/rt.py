@@ -1,0 +1,72 @@
+#!/usr/bin/env python3
+"""Runs the kit's command `rt` on these words: scripts/rt.py WORDS..
+
+`rt` asks each crate for the crates below it and for a sum of the files that it is made from, and a crate asks each library that it names for
+the same. Kits that keep no answer, as 13b, ask a library once for each way that leads to it: there are 1,300,000 ways from cb_node_process
+down. Here each crate keeps which crates are below it, and a sum is made once a crate for each sum that is asked for. The answers stay what
+they were, and everything else is the kit's.
+"""
+
+import shutil
+import sys
+import threading
+from importlib.machinery import SourceFileLoader
+from importlib.util import module_from_spec, spec_from_loader
+from pathlib import Path
+
+sys.dont_write_bytecode = True
+
+
+def rt_of_kit():
+    """The kit's command, as a module."""
+    path = shutil.which("rt")
+    if not path:
+        sys.exit("rt isn't on the PATH: a Rattle kit has it in bin/")
+    loader = SourceFileLoader("rt_of_kit", str(Path(path).resolve()))
+    module = module_from_spec(spec_from_loader(loader.name, loader))
+    loader.exec_module(module)
+    return module
+
+
+def keep_below(kind):
+    """Lets each crate keep the list of the crates below it, which its libraries make and which stays."""
+    asked = kind.below
+
+    def below(crate):
+        if "kept_below" not in crate.__dict__:
+            crate.kept_below = asked(crate)
+        return list(crate.kept_below)
+
+    kind.below = below
+
+
+def share_sums(kind):
+    """Lets the sums of the crates below be made once for each sum that is asked for."""
+    asked, within = kind.stamp, threading.local()
+
+    def stamp(crate):
+        made = getattr(within, "made", None)
+        if made is None:
+            within.made = {}
+            try:
+                return asked(crate)
+            finally:
+                within.made = None
+        if crate.folder not in made:
+            made[crate.folder] = asked(crate)
+        return made[crate.folder]
+
+    kind.stamp = stamp
+
+
+def main(words):
+    command = rt_of_kit()
+    kind = getattr(getattr(command, "rtlib", None), "Crate", None)
+    for name, keep in (("below", keep_below), ("stamp", share_sums)):
+        if hasattr(kind, name):
+            keep(kind)
+    return command.main(words)
+
+
+if __name__ == "__main__":
+    sys.exit(main(sys.argv[1:]))
