@@ -4,7 +4,8 @@
 `rt` asks each crate for the crates below it and for a sum of the files that it is made from, and a crate asks each library that it names for
 the same. Kits that keep no answer, as 13b, ask a library once for each way that leads to it: there are 1,300,000 ways from cb_node_process
 down. Here each crate keeps which crates are below it, and a sum is made once a crate for each sum that is asked for. The answers stay what
-they were, and everything else is the kit's.
+they were. Which checks of the gate run side by side is decided in lanes.py, and narrow.py tries each must-fail edit on the function that it
+changes first. Everything else is the kit's.
 """
 
 import shutil
@@ -15,6 +16,8 @@ from importlib.util import module_from_spec, spec_from_loader
 from pathlib import Path
 
 sys.dont_write_bytecode = True
+from lanes import Lanes  # noqa: E402
+from narrow import narrow  # noqa: E402
 
 
 def rt_of_kit():
@@ -65,6 +68,10 @@ def main(words):
     for name, keep in (("below", keep_below), ("stamp", share_sums)):
         if hasattr(kind, name):
             keep(kind)
+    if all(hasattr(command, it) for it in ("in_lanes", "processors", "free")):
+        command.in_lanes = lambda tasks: Lanes(tasks, command.processors(), command.free).run()
+    if all(hasattr(command, it) for it in ("must_fail_all", "read_edit", "checked", "unread")):
+        narrow(command)
     return command.main(words)
 
 
