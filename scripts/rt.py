@@ -8,6 +8,7 @@ they were. Which checks of the gate run side by side is decided in lanes.py, and
 changes first. Everything else is the kit's.
 """
 
+import inspect
 import shutil
 import sys
 import threading
@@ -62,15 +63,34 @@ def share_sums(kind):
     kind.stamp = stamp
 
 
+def has(command, **functions):
+    """Whether the kit's command has these functions, with parameters of these names. Else it stays as it is."""
+    found = {it: getattr(command, it, None) for it in functions}
+    return all(callable(it) for it in found.values()) and all(
+        " ".join(inspect.signature(it).parameters) == functions[name] for name, it in found.items()
+    )
+
+
+def in_lanes_of(command):
+    """What runs tasks side by side: lanes.py, where the tasks have the form that it knows, or else the kit's own."""
+    whole = command.in_lanes
+
+    def in_lanes(tasks):
+        is_known = all(len(key) == 2 and len(task) == 4 and callable(task[3]) for key, task in tasks.items())
+        return Lanes(tasks, command.processors(), command.free).run() if is_known else whole(tasks)
+
+    return in_lanes
+
+
 def main(words):
     command = rt_of_kit()
     kind = getattr(getattr(command, "rtlib", None), "Crate", None)
     for name, keep in (("below", keep_below), ("stamp", share_sums)):
         if hasattr(kind, name):
             keep(kind)
-    if all(hasattr(command, it) for it in ("in_lanes", "processors", "free")):
-        command.in_lanes = lambda tasks: Lanes(tasks, command.processors(), command.free).run()
-    if all(hasattr(command, it) for it in ("must_fail_all", "read_edit", "checked", "unread")):
+    if has(command, in_lanes="tasks", processors="", free=""):
+        command.in_lanes = in_lanes_of(command)
+    if has(command, must_fail_all="crate edits flags", read_edit="edit folder", checked="crate texts flags kept", unread="line changed"):
         narrow(command)
     return command.main(words)
 
