@@ -2,8 +2,8 @@
 
 The kit's own lanes give each check the memory that one of its size might take, and where several are ready one processor each. Here that
 leaves processors idle: what decides how long the gate takes is its longest chain of crates, each of which waits for the one below. So the
-proof with the longest chain behind it gets all processors, and as many others run beside it, at a lower priority. What is checked, and what
-that gives, stays the kit's.
+proof with the longest chain behind it gets all processors, and as many others run beside it, at a lower priority; must-fail edits come where
+that leaves a lane free. What is checked, and what that gives, stays the kit's.
 """
 
 import os
@@ -13,6 +13,8 @@ import time
 
 # by how much the other checks yield
 YIELDS = 3
+# What makes a crate a proved one. Where that has no lines, there is nothing to do; what else has none may take as long as a proof.
+PROOFS = ("proof", "tests")
 # the part of the longest chain from which on a proof is one that others wait for
 URGENT = 0.8
 # A check takes less memory than the kit's own figure, which counts all lines of the crates below it: as measured, less than this part of
@@ -32,7 +34,7 @@ class Lanes:
             self.behind[key] += tasks[key][1]
             for it in tasks[key][0]:
                 self.behind[it] = max(self.behind[it], self.behind[key])
-        self.left.sort(key=lambda it: -self.behind[it])
+        self.left.sort(key=lambda it: (it[1] not in PROOFS, -self.behind[it]))
 
     def run(self):
         """Runs all, each once those it waits for have ended. Returns what each gave."""
@@ -53,10 +55,11 @@ class Lanes:
             print(f"lanes: after {now - self.began:.0f} s: {' '.join(map(str, key))}, which took {now - began:.0f} s", flush=True)
 
     def begin(self, key):
-        """Starts a task if it is urgent, or if a lane is free, and the memory for it is. One of no lines ends at once."""
+        """Starts a task if it is urgent, or if a lane is free, and the memory for it is. A proof of no lines ends at once."""
         longest = max(self.behind[it] for it in [*self.left, *self.running])
         is_urgent = key[1] == "proof" and self.behind[key] >= URGENT * longest
-        has_lane = is_urgent or not self.tasks[key][1] or list(self.running.values()).count(False) < self.processors
+        is_nothing = key[1] in PROOFS and not self.tasks[key][1]
+        has_lane = is_urgent or is_nothing or list(self.running.values()).count(False) < self.processors
         if not self.running or (has_lane and self.room() > self.need(key, is_urgent)):
             self.left.remove(key)
             self.running[key] = is_urgent

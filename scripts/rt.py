@@ -4,10 +4,11 @@
 `rt` asks each crate for the crates below it and for a sum of the files that it is made from, and a crate asks each library that it names for
 the same. Kits that keep no answer, as 13b, ask a library once for each way that leads to it: there are 1,300,000 ways from cb_node_process
 down. Here each crate keeps which crates are below it, and a sum is made once a crate for each sum that is asked for. The answers stay what
-they were. Which checks of the gate run side by side is decided in lanes.py, and narrow.py tries each must-fail edit on the function that it
-changes first. Everything else is the kit's.
+they were. Which checks of the gate run side by side is decided in lanes.py. In a kit of 13b's form narrow.py tries each must-fail edit on the
+function that it changes first; 13f tries it over kept work. Everything else is the kit's.
 """
 
+import contextlib
 import inspect
 import shutil
 import sys
@@ -73,11 +74,13 @@ def has(command, **functions):
 
 def in_lanes_of(command):
     """What runs tasks side by side: lanes.py, where the tasks have the form that it knows, or else the kit's own."""
-    whole = command.in_lanes
+    whole, ending = command.in_lanes, getattr(command, "ending", contextlib.nullcontext)
 
     def in_lanes(tasks):
-        is_known = all(len(key) == 2 and len(task) == 4 and callable(task[3]) for key, task in tasks.items())
-        return Lanes(tasks, command.processors(), command.free).run() if is_known else whole(tasks)
+        if not all(len(key) >= 2 and len(task) == 4 and callable(task[3]) for key, task in tasks.items()):
+            return whole(tasks)
+        with ending():
+            return Lanes(tasks, command.processors(), command.free).run()
 
     return in_lanes
 
