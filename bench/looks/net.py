@@ -1,16 +1,20 @@
 #!/usr/bin/env python3
-"""Simulates networks in which all goes wrong at once: python3 bench/looks/net.py [COUNT] [SEED]
+"""Simulates networks in which all goes wrong at once: python3 bench/looks/net.py [COUNT] [SEED] [--program PROGRAM]
 
-COUNT networks, 8 where none is given, in a checked build of bench_net. Each has 30 nodes, of which some stall and some lie. It is cut in
-two for some blocks, and a node begins anew with nothing. At the end the honest nodes must have one tip, each audit must say yes, and no
-honest node may have closed an honest one's connection. Some networks are simulated twice, and must print the same bytes; and once more as
-rows of comma-separated values, which must say what the words say. Words that no network can have must be refused. A network without
-faults must come to the same tip whatever is audited. The status is 0 where all came out so. A failing network's words are printed.
+It needs the built program (crates/cbrelay/out/cbrelay, as ./build leaves it) and python3. `cbrelay net` plays COUNT networks, 200 where none
+is given, in half a minute. Each has 30 nodes, of which some stall and some lie. It is cut in two for some blocks, and a node begins anew
+with nothing. At the end the honest nodes must have one tip, each audit must say yes, and no honest node may have closed an honest one's
+connection. Some networks are simulated twice, and must print the same bytes; and once more as rows of comma-separated values, which must
+say what the words say. Words that no network can have must be refused, and told so. A network without faults must come to the same tip
+whatever is audited; the least words suffice. Between two nodes a block takes its latencies and the bytes of its messages. A terminal on
+standard error is told how far a network is. The status is 0 where all came out so. A failing network's words are printed.
 """
 
 import csv
 import io
+import os
 import random
+import subprocess
 import sys
 from pathlib import Path
 
@@ -19,9 +23,9 @@ if not __package__:  # called as a file
 
 from bench.tools.command_line import usage
 from bench.tools.looks import Looks
-from bench.tools.programs import Case, run_checked
+from bench.tools.programs import built
 
-COUNT, SEED, NODES, PROGRAM = 8, 1, 30, "bench_net"
+COUNT, SEED, NODES, SECONDS = 200, 1, 30, 300
 # Of so many networks one is simulated again, and printed as rows.
 AGAIN = 8
 TIMES = ("half", "most", "all")
@@ -29,22 +33,55 @@ WAYS = ("once", "asked", "whole")
 # A network without faults.
 CALM = "--nodes 20 --seed 5 --blocks 2"
 
-# Words that are refused.
-REFUSED = [
-    "--nodes",
-    "--nodes 1",
-    "--nodes thirty",
-    "--nodes 30 --nods 31",
-    "--nodes 30 --lacking 101",
-    "--nodes 30 --latency 20",
-    "--nodes 30 --latency 200..20",
-    "--nodes 30 --part 30@1..2",
-    "--nodes 30 --part 12@2",
-    "--nodes 30 --restart 30@1",
-    "--nodes 30 --restart 3",
-    "--nodes 30 --stall 15 --lie 15",
-    "--nodes 30 --missing 101",
-]
+# The least words, and all that is usual in its place.
+LEAST = "--nodes 5 --seed 1 --blocks 1"
+USUAL = f"{LEAST} --links 8 --latency 20..200 --rate 1250000 --transactions 100 --missing 0 --lacking 0 --stall 0 --lie 0 --audit all"
+# Two nodes, and what brings the first block from one to the other: its header (BIP 130), a request for it in short ids, and these (BIP 152).
+# The first two have a message's header of 24 bytes, a count, and a block's header with its count of transactions, or an inventory entry.
+PAIR, MILLISECONDS, RATE = "--nodes 2 --links 2 --transactions 0 --blocks 1", 300, 1_000
+HEADERS, GETDATA = 24 + 1 + 80 + 1, 24 + 1 + 4 + 32
+# What goes back to the beginning of a terminal's line and erases it.
+ERASE = "\r\x1b[K"
+# Words that are refused by their form, and what of it is told.
+UNREAD = {
+    "": "--nodes",
+    "--nodes": "--nodes",
+    "--nodes thirty": "thirty",
+    "--nodes -1": "-1",
+    "--nodes 4294967296": "4294967296",
+    "--nodes 30 --nods 31": "--nods",
+    "--nodes 30 --nodes 31": "--nodes",
+    "--nodes 30 --seed 18446744073709551616": "18446744073709551616",
+    "--nodes 30 --csv yes": "yes",
+    "--nodes 30 more": "more",
+}
+# Words that no network can have, and what is told.
+LATENCY = "--latency takes A..B in milliseconds, as 20..200"
+PART, RESTART = "--part takes N@A..B, as 500@3..5", "--restart takes N@B, as 17@4"
+REFUSED = {
+    "--nodes 1": "a network has 2 to 100000 nodes",
+    "--nodes 100001": "a network has 2 to 100000 nodes",
+    "--nodes 30 --links 1": "a node has 2 to 64 links on average",
+    "--nodes 30 --latency 20": LATENCY,
+    "--nodes 30 --latency 20.200": LATENCY,
+    "--nodes 30 --latency 20...200": LATENCY,
+    "--nodes 30 --latency 200..20": "latencies go from low to high, up to an hour",
+    "--nodes 30 --rate 0": "a node sends at least 1 byte a second",
+    "--nodes 30 --blocks 0": "at least 1 block is mined",
+    "--nodes 30 --transactions 4001": "a block has at most 4000 transactions",
+    "--nodes 30 --missing 101": "at most all transactions of a block are missing",
+    "--nodes 30 --lacking 101": "at most 100 percent of the nodes lack some",
+    "--nodes 30 --part 12@2": PART,
+    "--nodes 30 --part 12@2..": PART,
+    "--nodes 30 --part 12@@2..3": PART,
+    "--nodes 30 --part 30@1..2": "a part cuts some nodes off for blocks there are",
+    "--nodes 30 --part 12@2..4": "a part cuts some nodes off for blocks there are",
+    "--nodes 30 --restart 3": RESTART,
+    "--nodes 30 --restart x@1": RESTART,
+    "--nodes 30 --restart 30@1": "a restart names a node and a block there is",
+    "--nodes 30 --stall 15 --lie 15": "at least 1 node neither stalls nor lies",
+    "--nodes 30 --audit some": "--audit takes all or none",
+}
 
 
 def words_of(seed):
@@ -122,32 +159,23 @@ def rows(text):
 
 
 class NetLooks(Looks):
-    """Looks at networks, which were all played."""
+    """Looks at networks that the program plays."""
 
-    def __init__(self, seeds):
-        super().__init__("net", None)
-        self.seeds, self.again = seeds, seeds[::AGAIN]
-        cases = [Case(f"seed-{it}", self.line(it)) for it in seeds]
-        cases += [Case(f"again-{it}", self.line(it)) for it in self.again]
-        cases += [Case(f"rows-{it}", self.line(it) + b" --csv") for it in self.again]
-        cases += [Case("calm", CALM.encode()), Case("unaudited", f"{CALM} --audit none".encode())]
-        cases += [Case(f"refused-{place}", words.encode(), b"", 3) for place, words in enumerate(REFUSED)]
-        self.ended = run_checked(PROGRAM, cases)
+    def run(self, words):
+        """The status, standard output and standard error of a network of these words."""
+        ran = subprocess.run([self.program, "net", *words.split()], stdin=subprocess.DEVNULL, capture_output=True, timeout=SECONDS, check=False)
+        return ran.returncode, ran.stdout.decode(), ran.stderr.decode()
 
-    @staticmethod
-    def line(seed):
-        return options(words_of(seed)).encode()
+    def text(self, words):
+        """What a network prints. It has to end well, and nothing else is told."""
+        status, printed, told = self.run(words)
+        self.look(f"{words}: how it ends", (status, told), (0, ""))
+        return printed
 
-    def text(self, name):
-        """What a network printed. It has to end well."""
-        ended = self.ended[name]
-        self.look(f"{name}: how it ends", ended.failure, None)
-        return ended.printed.decode()
-
-    def network(self, seed):
-        """One network with every fault."""
+    def network(self, seed, again):
+        """One network with every fault, which is played again if that is asked for."""
         words, before = words_of(seed), self.failed
-        text = self.text(f"seed-{seed}")
+        text = self.text(options(words))
         told = Told(text)
         honest = NODES - words["stall"] - words["lie"]
         tip = told.last.get("tip", [])
@@ -157,35 +185,70 @@ class NetLooks(Looks):
         self.look(f"seed {seed}: audits that say no", audits[2:], ["no", "0"])
         self.look(f"seed {seed}: audits that say yes", audits[1] in (str(honest), str(honest + 1)), True)
         self.look(f"seed {seed}: blocks", sorted(told.blocks), list(range(1, words["blocks"] + 1)))
-        if seed in self.again:
-            self.look(f"seed {seed}: printed again", self.text(f"again-{seed}"), text)
-            self.look(f"seed {seed}: its rows", rows(self.text(f"rows-{seed}")), {block: told.row(block) for block in told.blocks})
+        if again:
+            self.look(f"seed {seed}: printed again", self.text(options(words)), text)
+            self.look(f"seed {seed}: its rows", rows(self.text(f"{options(words)} --csv")), {block: told.row(block) for block in told.blocks})
         if self.failed > before:
             print("  ", options(words))
             print(text)
 
     def calm(self):
         """A network without faults: all nodes have each block, and audits change nothing."""
-        told = Told(self.text("calm"))
+        told = Told(self.text(CALM))
         self.look("a calm network", (told.last["tip"][2:], told.last["audit"]), (["nodes", "20", "of", "20"], ["yes", "20", "no", "0"]))
         for block in told.blocks:
             self.look(f"block {block} of a calm network", [int(told.blocks[block][name]) for name in WAYS], [20, 0, 0])
-        other = Told(self.text("unaudited"))
+        other = Told(self.text(f"{CALM} --audit none"))
         self.look("the same without audits", (other.last["tip"], other.bytes), (told.last["tip"], told.bytes))
+        self.look("no audits", "audit" in other.last, False)
+
+    def least(self):
+        """The least words suffice, and stand for all that is usual."""
+        text = self.text(LEAST)
+        self.look("all that is usual", self.text(USUAL), text)
+        told = Told(text)
+        self.look("the least words", (told.last["tip"][2:], sorted(told.blocks)), (["nodes", "5", "of", "5"], [1]))
+
+    def times(self):
+        """A block comes from one node to the other after three latencies, and the bytes of three messages at the rate of a line."""
+        told = Told(self.text(f"{PAIR} --latency {MILLISECONDS}..{MILLISECONDS} --rate {RATE}"))
+        self.look("messages that bring a block", [told.bytes["1"].get(it) for it in ("headers", "getdata")], [(1, HEADERS), (1, GETDATA)])
+        count, compact = told.bytes["1"].get("cmpctblock", (0, 0))
+        due = 3 * MILLISECONDS + (HEADERS + GETDATA + compact) * 1_000 // RATE
+        self.look("when a block comes", (count, told.blocks[1]["half"], told.blocks[1]["all"]), (1, "0", str(due)))
+
+    def progress(self):
+        """A terminal is told how far a network is, on a line that is erased; what is printed stays the same."""
+        mine, theirs = os.openpty()
+        with open(mine, "rb", buffering=0) as terminal:
+            ran = subprocess.run([self.program, "net", *LEAST.split()], stdin=subprocess.DEVNULL, stdout=subprocess.PIPE, stderr=theirs, timeout=SECONDS, check=False)
+            os.close(theirs)
+            told = terminal.read(4096).decode().split(ERASE)
+        self.look("how it ends at a terminal", (ran.returncode, ran.stdout.decode()), (0, self.text(LEAST)))
+        self.look("what a terminal is told", [it for it in told if it], ["nodes greet each other", "block 1 of 1", "audits"])
+        self.look("the terminal's line at the end", told[-1], "")
 
     def refusals(self):
-        """Words that no network can have."""
-        for place, words in enumerate(REFUSED):
-            self.look(words, self.ended[f"refused-{place}"].failure, None)
+        """Words that can't be read, and words that no network can have."""
+        for words, named in UNREAD.items():
+            status, printed, told = self.run(words)
+            self.look(f"'{words}'", (status, printed, named in told), (1, "", True))
+        for words, why in REFUSED.items():
+            self.look(words, self.run(words), (3, "", f"error: {why}\n"))
 
 
 def main():
-    words = usage(__doc__, count="how many networks", seed="the first seed").parse_args()
-    first = int(words.seed or SEED)
-    looks = NetLooks(list(range(first, first + int(words.count or COUNT))))
-    for seed in looks.seeds:
-        looks.network(seed)
+    words = usage(__doc__, count="how many networks", seed="the first seed")
+    words.add_argument("--program", help="the program")
+    given = words.parse_args()
+    looks = NetLooks("net", built(given.program, "cbrelay"))
+    first = int(given.seed or SEED)
+    for place in range(int(given.count or COUNT)):
+        looks.network(first + place, place % AGAIN == 0)
     looks.calm()
+    looks.least()
+    looks.times()
+    looks.progress()
     looks.refusals()
     return looks.told()
 

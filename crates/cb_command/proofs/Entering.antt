@@ -7,8 +7,9 @@ use Rattle.clap.specs.declared.error.kind.ErrorKind.TheVariants.{OutOfMemory}
 use Rattle.clap.specs.declared.parser.matches.ArgMatches.{ArgMatches}
 use Rattle.clap.proofs.OnLiterals.{clap_on_literals}
 use Rattle.cb_command.specs.Words.{AreRefused, program, task_in}
-use Rattle.cb_command.specs.declared.commanding.Task.TheVariants.{Decode, Serve, Sim, Run, Node}
+use Rattle.cb_command.specs.declared.commanding.Task.TheVariants.{Decode, Serve, Sim, Run, Node, Net}
 use Rattle.cb_command.specs.declared.node_words.BadWords.{BadWords}
+use Rattle.cb_net_plan.specs.Settings.{usual_settings}
 use Rattle.cb_process.specs.declared.orders.NodeOrders.{NodeOrders}
 use Rattle.cb_driver.specs.declared.running.RunOrders.{RunOrders}
 
@@ -31,14 +32,16 @@ name_of_rows m = mapped_twice _ (λ found. found.0) _
 -- the commands by their words
 pub named : (orders : RunOrders) (node : Result NodeOrders BadWords) (name : List ℕ) → (task_in orders node (name ∷ []) ≡ Decode) × (task_in orders node (name ∷ codes "decode" ∷ []) ≡ Decode) × (task_in orders node (name ∷ codes "serve" ∷ []) ≡ Serve) × (task_in orders node (name ∷ codes "sim" ∷ []) ≡ Sim)
     × (task_in orders node (name ∷ codes "run" ∷ codes "--nodes" ∷ codes "8" ∷ codes "--handlers" ∷ codes "16" ∷ []) ≡ Run orders) × (task_in orders node (name ∷ codes "node" ∷ []) ≡ Node node)
+    × (task_in orders node (name ∷ codes "net" ∷ codes "--nodes" ∷ codes "5" ∷ []) ≡ Net (Ok (usual_settings 5)))
 unfolding clap_on_literals
-named orders node name = (refl, refl, refl, refl, refl, refl)
+named orders node name = (refl, refl, refl, refl, refl, refl, refl)
 
 -- and they are taken
 pub taken : (name : List ℕ) → (takes program (name ∷ []) ≡ true) × (takes program (name ∷ codes "decode" ∷ []) ≡ true) × (takes program (name ∷ codes "serve" ∷ []) ≡ true) × (takes program (name ∷ codes "sim" ∷ []) ≡ true)
     × (takes program (name ∷ codes "run" ∷ codes "--nodes" ∷ codes "8" ∷ codes "--handlers" ∷ codes "16" ∷ []) ≡ true) × (takes program (name ∷ codes "node" ∷ []) ≡ true)
+    × (takes program (name ∷ codes "net" ∷ codes "--nodes" ∷ codes "5" ∷ []) ≡ true)
 unfolding clap_on_literals
-taken name = (refl, refl, refl, refl, refl, refl)
+taken name = (refl, refl, refl, refl, refl, refl, refl)
 
 pub if_ok_more : {T E : Type 0} {P Q : T → Type 0} (r : Result T E) → ((t : T) → P t → Q t) → IfOk r P → IfOk r Q
 if_ok_more (Ok t) f p = f t p

@@ -6,16 +6,19 @@ use Rattle.std.specs.Str.{bytes_eq}
 use Rattle.clap.specs.Words.{fault_of}
 use Rattle.cb_run.specs.declared.ending.Status.{Status}
 use Rattle.cb_run.specs.declared.ending.Halt.{Halt}
-use Rattle.cb_run.specs.declared.ending.Halt.TheVariants.{Memory, ReadFailed, TooManyLines, WriteFailed}
-use Rattle.cb_run.specs.Ending.{HasCause, halt_status, status_code}
+use Rattle.cb_run.specs.declared.ending.Halt.TheVariants.{Memory, ReadFailed, WriteFailed}
+use Rattle.cb_run.specs.Ending.{HasCause, status_code}
 use Rattle.cb_run.specs.Report.{ReportsKnown}
 use Rattle.cb_driver.specs.declared.running.RunOrders.{RunOrders}
-use Rattle.cb_command.specs.Command.{EndsEarly, EndsNode, Halts, HasNodeCause, PrintsReport, code_of}
-use Rattle.cb_command.specs.Words.{AreAsked, ByTask, entered, program, task_in, task_named}
+use Rattle.cb_command.specs.Command.{EndsEarly, EndsNet, EndsNode, Halts, HasNodeCause, PrintsReport, code_of}
+use Rattle.cb_command.specs.Words.{AreAsked, ByTask, entered, net_asked, program, task_in, task_named}
 use Rattle.cb_command.specs.declared.commanding.Task.{Task}
-use Rattle.cb_command.specs.declared.commanding.Task.TheVariants.{Decode, Serve, Sim, Run, Node}
+use Rattle.cb_command.specs.declared.commanding.Task.TheVariants.{Decode, Serve, Sim, Run, Node, Net}
 use Rattle.cb_command.specs.declared.node_words.BadWords.{BadWords}
+use Rattle.cb_net_plan.specs.declared.settings.NetSettings.{NetSettings}
+use Rattle.cb_net_words.specs.declared.bad_net.BadNet.{BadNet}
 use Rattle.cb_process.specs.declared.orders.NodeOrders.{NodeOrders}
+use Rattle.cb_run_net.specs.Playing.{EndsShort}
 
 -- a run with its status, or one that ended early
 pub done : (Prints : ℕ → Type 0) (Same : Type 0) (input : Option (List ℕ)) (read_failed write_failed : Bool) (told tells : Option (List ℕ)) (failed : Bool) (ended : Result ℕ Halt) (code : ℕ) → IfOk ended Prints
@@ -33,47 +36,66 @@ decoded Same input held holds read_failed write_failed told tells failed (Err ha
     inr (halt, cause, subst (λ (r : Result ℕ Halt). MatchResult r (λ c. (code ≡ c) × Same) (EndsEarly told tells failed code)) is settled)
 
 -- the orders of `run` are those that were found
-by_words : (orders other : RunOrders) (found : Result NodeOrders BadWords) (serve sim run node : Bool) → Run other ≡ (if serve then Serve else if sim then Sim else if run then Run orders else if node then Node found else Decode) → other ≡ orders
-by_words orders other found true sim run node is = absurd (let clash : Run other ≡ Serve = is in cc)
-by_words orders other found false true run node is = absurd (let clash : Run other ≡ Sim = is in cc)
-by_words orders other found false false true node is = let same : Run other ≡ Run orders = is in cc
-by_words orders other found false false false true is = absurd (let clash : Run other ≡ Node found = is in cc)
-by_words orders other found false false false false is = absurd (let clash : Run other ≡ Decode = is in cc)
+by_words : (orders other : RunOrders) (found : Result NodeOrders BadWords) (asked : Result NetSettings BadNet) (serve sim run node net : Bool) → Run other ≡ (if serve then Serve else if sim then Sim else if run then Run orders else if node then Node found else if net then Net asked else Decode) → other ≡ orders
+by_words orders other found asked true sim run node net is = absurd (let clash : Run other ≡ Serve = is in cc)
+by_words orders other found asked false true run node net is = absurd (let clash : Run other ≡ Sim = is in cc)
+by_words orders other found asked false false true node net is = let same : Run other ≡ Run orders = is in cc
+by_words orders other found asked false false false true net is = absurd (let clash : Run other ≡ Node found = is in cc)
+by_words orders other found asked false false false false true is = absurd (let clash : Run other ≡ Net asked = is in cc)
+by_words orders other found asked false false false false false is = absurd (let clash : Run other ≡ Decode = is in cc)
 
-by_name : (orders other : RunOrders) (found : Result NodeOrders BadWords) (name : Option (List ℕ)) → Run other ≡ task_named orders found name → other ≡ orders
-by_name orders other found None is = absurd (let clash : Run other ≡ Decode = is in cc)
-by_name orders other found (Some name) is = by_words orders other found (bytes_eq name (codes "serve")) (bytes_eq name (codes "sim")) (bytes_eq name (codes "run")) (bytes_eq name (codes "node")) is
+by_name : (orders other : RunOrders) (found : Result NodeOrders BadWords) (asked : Result NetSettings BadNet) (name : Option (List ℕ)) → Run other ≡ task_named orders found asked name → other ≡ orders
+by_name orders other found asked None is = absurd (let clash : Run other ≡ Decode = is in cc)
+by_name orders other found asked (Some name) is = by_words orders other found asked (bytes_eq name (codes "serve")) (bytes_eq name (codes "sim")) (bytes_eq name (codes "run")) (bytes_eq name (codes "node")) (bytes_eq name (codes "net")) is
 
 -- and those of `node`
-node_by_words : (orders : RunOrders) (found other : Result NodeOrders BadWords) (serve sim run node : Bool) → Node other ≡ (if serve then Serve else if sim then Sim else if run then Run orders else if node then Node found else Decode) → other ≡ found
-node_by_words orders found other true sim run node is = absurd (let clash : Node other ≡ Serve = is in cc)
-node_by_words orders found other false true run node is = absurd (let clash : Node other ≡ Sim = is in cc)
-node_by_words orders found other false false true node is = absurd (let clash : Node other ≡ Run orders = is in cc)
-node_by_words orders found other false false false true is = let same : Node other ≡ Node found = is in cc
-node_by_words orders found other false false false false is = absurd (let clash : Node other ≡ Decode = is in cc)
+node_by_words : (orders : RunOrders) (found other : Result NodeOrders BadWords) (asked : Result NetSettings BadNet) (serve sim run node net : Bool) → Node other ≡ (if serve then Serve else if sim then Sim else if run then Run orders else if node then Node found else if net then Net asked else Decode) → other ≡ found
+node_by_words orders found other asked true sim run node net is = absurd (let clash : Node other ≡ Serve = is in cc)
+node_by_words orders found other asked false true run node net is = absurd (let clash : Node other ≡ Sim = is in cc)
+node_by_words orders found other asked false false true node net is = absurd (let clash : Node other ≡ Run orders = is in cc)
+node_by_words orders found other asked false false false true net is = let same : Node other ≡ Node found = is in cc
+node_by_words orders found other asked false false false false true is = absurd (let clash : Node other ≡ Net asked = is in cc)
+node_by_words orders found other asked false false false false false is = absurd (let clash : Node other ≡ Decode = is in cc)
 
-node_by_name : (orders : RunOrders) (found other : Result NodeOrders BadWords) (name : Option (List ℕ)) → Node other ≡ task_named orders found name → other ≡ found
-node_by_name orders found other None is = absurd (let clash : Node other ≡ Decode = is in cc)
-node_by_name orders found other (Some name) is = node_by_words orders found other (bytes_eq name (codes "serve")) (bytes_eq name (codes "sim")) (bytes_eq name (codes "run")) (bytes_eq name (codes "node")) is
+node_by_name : (orders : RunOrders) (found other : Result NodeOrders BadWords) (asked : Result NetSettings BadNet) (name : Option (List ℕ)) → Node other ≡ task_named orders found asked name → other ≡ found
+node_by_name orders found other asked None is = absurd (let clash : Node other ≡ Decode = is in cc)
+node_by_name orders found other asked (Some name) is = node_by_words orders found other asked (bytes_eq name (codes "serve")) (bytes_eq name (codes "sim")) (bytes_eq name (codes "run")) (bytes_eq name (codes "node")) (bytes_eq name (codes "net")) is
+
+-- and what was asked of `net`
+net_by_words : (orders : RunOrders) (found : Result NodeOrders BadWords) (asked other : Result NetSettings BadNet) (serve sim run node net : Bool) → Net other ≡ (if serve then Serve else if sim then Sim else if run then Run orders else if node then Node found else if net then Net asked else Decode) → other ≡ asked
+net_by_words orders found asked other true sim run node net is = absurd (let clash : Net other ≡ Serve = is in cc)
+net_by_words orders found asked other false true run node net is = absurd (let clash : Net other ≡ Sim = is in cc)
+net_by_words orders found asked other false false true node net is = absurd (let clash : Net other ≡ Run orders = is in cc)
+net_by_words orders found asked other false false false true net is = absurd (let clash : Net other ≡ Node found = is in cc)
+net_by_words orders found asked other false false false false true is = let same : Net other ≡ Net asked = is in cc
+net_by_words orders found asked other false false false false false is = absurd (let clash : Net other ≡ Decode = is in cc)
+
+net_by_name : (orders : RunOrders) (found : Result NodeOrders BadWords) (asked other : Result NetSettings BadNet) (name : Option (List ℕ)) → Net other ≡ task_named orders found asked name → other ≡ asked
+net_by_name orders found asked other None is = absurd (let clash : Net other ≡ Decode = is in cc)
+net_by_name orders found asked other (Some name) is = net_by_words orders found asked other (bytes_eq name (codes "serve")) (bytes_eq name (codes "sim")) (bytes_eq name (codes "run")) (bytes_eq name (codes "node")) (bytes_eq name (codes "net")) is
 
 -- A task was run, whatever it told for the orders that the words give.
-pub runs_task : {Refused Lacked : Type 0} (Decodes Serves Simulates : Type 0) (Runs : RunOrders → Type 0) (Nodes : Result NodeOrders BadWords → Type 0) (found task : Task) (words whole : List (List ℕ)) → found ≡ task → words ≡ whole → fault_of program words ≡ []
-    → ((orders : RunOrders) × (node : Result NodeOrders BadWords) × AreAsked orders node words × (found ≡ task_in orders node words)) → ((orders : RunOrders) (node : Result NodeOrders BadWords) → task ≡ task_in orders node words → ByTask task Decodes Serves Simulates (Runs orders) (Nodes node))
-    → Refused ⊎ (Lacked ⊎ ((fault_of program whole ≡ []) × ((orders : RunOrders) × (node : Result NodeOrders BadWords) × AreAsked orders node whole × ByTask (task_in orders node whole) Decodes Serves Simulates (Runs orders) (Nodes node))))
-runs_task Decodes Serves Simulates Runs Nodes found task words whole named same none given ran =
+pub runs_task : {Refused Lacked : Type 0} (Decodes Serves Simulates : Type 0) (Runs : RunOrders → Type 0) (Nodes : Result NodeOrders BadWords → Type 0) (Nets : Type 0) (found task : Task) (words whole : List (List ℕ)) → found ≡ task → words ≡ whole → fault_of program words ≡ []
+    → ((orders : RunOrders) × (node : Result NodeOrders BadWords) × AreAsked orders node words × (found ≡ task_in orders node words)) → ((orders : RunOrders) (node : Result NodeOrders BadWords) → task ≡ task_in orders node words → ByTask task Decodes Serves Simulates (Runs orders) (Nodes node) Nets)
+    → Refused ⊎ (Lacked ⊎ ((fault_of program whole ≡ []) × ((orders : RunOrders) × (node : Result NodeOrders BadWords) × AreAsked orders node whole × ByTask (task_in orders node whole) Decodes Serves Simulates (Runs orders) (Nodes node) Nets)))
+runs_task Decodes Serves Simulates Runs Nodes Nets found task words whole named same none given ran =
     let orders : RunOrders = given.0 in
     let node : Result NodeOrders BadWords = given.1 in
     let is : task ≡ task_in orders node words = subst (λ (t : Task). t ≡ task_in orders node words) named given.3 in
-    let told : ByTask (task_in orders node words) Decodes Serves Simulates (Runs orders) (Nodes node) = subst (λ (t : Task). ByTask t Decodes Serves Simulates (Runs orders) (Nodes node)) is (ran orders node is) in
-    inr (inr (subst (λ (w : List (List ℕ)). fault_of program w ≡ []) same none, (orders, node, subst (λ (w : List (List ℕ)). AreAsked orders node w) same given.2, subst (λ (w : List (List ℕ)). ByTask (task_in orders node w) Decodes Serves Simulates (Runs orders) (Nodes node)) same told)))
+    let told : ByTask (task_in orders node words) Decodes Serves Simulates (Runs orders) (Nodes node) Nets = subst (λ (t : Task). ByTask t Decodes Serves Simulates (Runs orders) (Nodes node) Nets) is (ran orders node is) in
+    inr (inr (subst (λ (w : List (List ℕ)). fault_of program w ≡ []) same none, (orders, node, subst (λ (w : List (List ℕ)). AreAsked orders node w) same given.2, subst (λ (w : List (List ℕ)). ByTask (task_in orders node w) Decodes Serves Simulates (Runs orders) (Nodes node) Nets) same told)))
 
 -- what holds for the orders with which `run` was called holds for those that the words give
 pub for_orders : (P : RunOrders → Type 0) (other orders : RunOrders) (node : Result NodeOrders BadWords) (words : List (List ℕ)) → P other → Run other ≡ task_in orders node words → P orders
-for_orders P other orders node words holds is = subst P (by_name orders other node (entered words) is) holds
+for_orders P other orders node words holds is = subst P (by_name orders other node (net_asked words) (entered words) is) holds
 
 -- the same of `node`
 pub for_node : (P : Result NodeOrders BadWords → Type 0) (other : Result NodeOrders BadWords) (orders : RunOrders) (node : Result NodeOrders BadWords) (words : List (List ℕ)) → P other → Node other ≡ task_in orders node words → P node
-for_node P other orders node words holds is = subst P (node_by_name orders node other (entered words) is) holds
+for_node P other orders node words holds is = subst P (node_by_name orders node other (net_asked words) (entered words) is) holds
+
+-- the same of `net`, and of the words that were parsed
+pub for_net : (P : Result NetSettings BadNet → Type 0) (other : Result NetSettings BadNet) (orders : RunOrders) (node : Result NodeOrders BadWords) (words whole : List (List ℕ)) → words ≡ whole → P other → Net other ≡ task_in orders node words → P (net_asked whole)
+for_net P other orders node words whole same holds is = subst (λ (w : List (List ℕ)). P (net_asked w)) same (subst P (net_by_name orders node (net_asked words) other (entered words) is) holds)
 
 -- ---- how a node ended
 
@@ -144,3 +166,36 @@ node_refused After told mid tells text write_failed marked failed (Err halt) cod
       | inl is ↦ inl is
       | inr wrote ↦ inr (inr (wrote.0, inr wrote.1))
     ]) quiet settled stays)
+
+-- ---- how `net` ended
+
+-- standard error was told of it afterwards
+net_cause : (write_failed marked failed : Bool) (halt : Halt) → EndsShort write_failed marked halt → (marked ≡ true → failed ≡ true) → EndsShort write_failed failed halt
+net_cause write_failed marked failed halt why stays =
+    elim why [
+      | inl is ↦ inl is
+      | inr wrote ↦ inr (
+        wrote.0,
+        elim wrote.1 [
+          | inl out ↦ inl out
+          | inr was ↦ inr (stays was)
+        ],
+      )
+    ]
+
+-- It printed what it prints, or it ended early; and standard error was told of that.
+pub net_ran : {E : Type 0} (contents : E → Option (List ℕ)) (Prints : E → ℕ → Type 0) (old mid new : E) (write_failed marked failed : Bool) (ended : Result ℕ Halt) (code : ℕ)
+    → IfOk ended (Prints mid) → IfErr ended (EndsShort write_failed marked) → IfErr ended (λ halt. (mid ≡ old) ⊎ (marked ≡ true))
+    → MatchResult ended (λ c. (code ≡ c) × (new ≡ mid)) (EndsEarly (contents mid) (contents new) failed code) → (marked ≡ true → failed ≡ true)
+    → Prints new code ⊎ EndsNet write_failed (contents old) (contents new) failed code
+net_ran {E} contents Prints old mid new write_failed marked failed (Ok status) code prints why quiet settled stays =
+    inl (subst (λ (e : E). Prints e code) (sym settled.1) (subst (Prints mid) (sym settled.0) prints))
+net_ran {E} contents Prints old mid new write_failed marked failed (Err halt) code prints why quiet settled stays =
+    inr (
+      halt,
+      net_cause write_failed marked failed halt why stays,
+      node_early (contents old) (contents mid) (contents new) marked failed halt code (elim quiet [
+        | inl same ↦ inl (ap contents same)
+        | inr was ↦ inr was
+      ]) settled stays,
+    )

@@ -8,6 +8,7 @@ use Rattle.cb_run.specs.declared.ending.Halt.{Halt}
 use Rattle.cb_run.specs.declared.ending.Halt.TheVariants.{Memory, TooManyLines, ReadFailed, WriteFailed}
 use Rattle.cb_run.specs.Ending.{HasCause, status_code, halt_status, halt_line}
 use Rattle.cb_run.specs.Report.{ReportsKnown}
+use Rattle.cb_run_net.specs.Playing.{EndsShort}
 use Rattle.cb_control.specs.declared.verdict.Verdict.{Verdict}
 use Rattle.cb_command.specs.declared.node_words.BadWords.{BadWords}
 use Rattle.cb_command.specs.NodeWords.{bad_words_text}
@@ -97,3 +98,9 @@ RunsNode IsAudit Same held holds write_failed told tells errors_failed (Ok order
 RunsNode IsAudit Same held holds write_failed told tells errors_failed (Err bad) code =
     (Appends told tells (bad_words_text bad) × (code ≡ 3))
     ⊎ EndsNode write_failed told tells errors_failed code
+
+-- `net` ended early. Standard error was told why, or failed itself.
+abbrev pub EndsNet : Bool → Option (List ℕ) → Option (List ℕ) → Bool → ℕ → Type 0
+EndsNet write_failed told tells errors_failed code =
+    (halt : Halt) × EndsShort write_failed errors_failed halt
+    × EndsEarly told tells errors_failed code halt

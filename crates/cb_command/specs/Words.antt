@@ -6,9 +6,13 @@ use Rattle.clap.specs.declared.builder.action.ArgAction.TheVariants.{SetTrue}
 use Rattle.clap.specs.declared.builder.value_parser.ValueParser.TheVariants as parsers
 use Rattle.cb_driver.specs.declared.running.RunOrders.{RunOrders}
 use Rattle.cb_command.specs.declared.commanding.Task.{Task}
-use Rattle.cb_command.specs.declared.commanding.Task.TheVariants.{Decode, Serve, Sim, Run, Node}
+use Rattle.cb_command.specs.declared.commanding.Task.TheVariants.{Decode, Serve, Sim, Run, Node, Net}
 use Rattle.cb_command.specs.declared.node_words.BadWords.{BadWords}
 use Rattle.cb_command.specs.NodeWords.{HasSizes, IsNodeOrders, node_line, node_rows}
+use Rattle.cb_net_plan.specs.declared.settings.NetSettings.{NetSettings}
+use Rattle.cb_net_words.specs.NetLine.{net_line}
+use Rattle.cb_net_words.specs.NetWords.{asked_settings, net_rows}
+use Rattle.cb_net_words.specs.declared.bad_net.BadNet.{BadNet}
 use Rattle.cb_process.specs.declared.orders.NodeOrders.{NodeOrders}
 
 -- A command that prints its version.
@@ -49,9 +53,13 @@ plain_program =
 abbrev pub scripted_program : App
 scripted_program = with_subcommand plain_program run_line.top
 
--- The program's command line: with `node` too.
+-- The same with `node` too.
+abbrev pub node_program : App
+node_program = with_subcommand scripted_program node_line.top
+
+-- The program's command line: with `net` too.
 abbrev pub program : App
-program = with_subcommand scripted_program node_line.top
+program = with_subcommand node_program net_line.top
 
 -- The command that the words name, if any. The first word is the program's name.
 abbrev pub entered : List (List ℕ) → Option (List ℕ)
@@ -69,10 +77,12 @@ IsWithin (Run orders) = AreWithin orders
 IsWithin (Node node) = IfOk node HasSizes
 IsWithin other = ⊤
 
--- The task of that command, with these orders for `run` and for `node`; `decode` if none is named.
-abbrev pub task_named : RunOrders → Result NodeOrders BadWords → Option (List ℕ) → Task
-task_named orders node None = Decode
-task_named orders node (Some name) =
+-- The task of that command, with these orders for `run`, `node` and `net`; `decode` if none is
+-- named.
+abbrev pub task_named : RunOrders → Result NodeOrders BadWords → Result NetSettings BadNet
+    → Option (List ℕ) → Task
+task_named orders node net None = Decode
+task_named orders node net (Some name) =
     if bytes_eq name (codes "serve")
     then Serve
     else if bytes_eq name (codes "sim")
@@ -81,7 +91,13 @@ task_named orders node (Some name) =
     then Run orders
     else if bytes_eq name (codes "node")
     then Node node
+    else if bytes_eq name (codes "net")
+    then Net net
     else Decode
+
+-- What the words ask of `net`.
+abbrev pub net_asked : List (List ℕ) → Result NetSettings BadNet
+net_asked words = asked_settings (net_rows (subcommand_of program words))
 
 -- The orders of `run` are within their bounds, and those of `node` are what the words ask for.
 abbrev pub AreAsked : RunOrders → Result NodeOrders BadWords → List (List ℕ) → Type 0
@@ -90,16 +106,17 @@ AreAsked orders node words =
 
 -- The task that the words ask for, with these orders for `run` and for `node`.
 abbrev pub task_in : RunOrders → Result NodeOrders BadWords → List (List ℕ) → Task
-task_in orders node words = task_named orders node (entered words)
+task_in orders node words = task_named orders node (net_asked words) (entered words)
 
 -- Clap doesn't accept the words, and finds a fault in them.
 abbrev pub AreRefused : List (List ℕ) → Type 0
 AreRefused words = (takes program words ≡ false) × (fault_of program words ≢ [])
 
--- One of five statements, by the task.
-abbrev pub ByTask : Task → Type 0 → Type 0 → Type 0 → Type 0 → Type 0 → Type 0
-ByTask Decode decodes serves simulates runs nodes = decodes
-ByTask Serve decodes serves simulates runs nodes = serves
-ByTask Sim decodes serves simulates runs nodes = simulates
-ByTask (Run orders) decodes serves simulates runs nodes = runs
-ByTask (Node node) decodes serves simulates runs nodes = nodes
+-- One of six statements, by the task.
+abbrev pub ByTask : Task → Type 0 → Type 0 → Type 0 → Type 0 → Type 0 → Type 0 → Type 0
+ByTask Decode decodes serves simulates runs nodes nets = decodes
+ByTask Serve decodes serves simulates runs nodes nets = serves
+ByTask Sim decodes serves simulates runs nodes nets = simulates
+ByTask (Run orders) decodes serves simulates runs nodes nets = runs
+ByTask (Node node) decodes serves simulates runs nodes nets = nodes
+ByTask (Net net) decodes serves simulates runs nodes nets = nets

@@ -6,11 +6,13 @@ ghost use Rattle.cb_peer_state.specs.declared.state.CloseReason.{CloseReason};
 ghost use Rattle.cb_peer_state.specs.declared.state.CloseReason.TheVariants as reasons;
 ghost use Rattle.cb_run.specs.declared.ending.Halt.TheVariants.{Memory, ReadFailed, WriteFailed};
 ghost use Rattle.cb_run.specs.declared.ending.Status.TheVariants.{Usage};
-ghost use Rattle.cb_command.specs.Command.{PrintsReport, EndsEarly, Halts, Refuses, RunsNode, TellsPeer, code_of, end_line};
+ghost use Rattle.cb_command.specs.Command.{PrintsReport, EndsEarly, EndsNet, Halts, Refuses, RunsNode, TellsPeer, code_of, end_line};
 ghost use Rattle.cb_run.specs.Ending.{halt_status};
 ghost use Rattle.cb_command.specs.Peer.{WasServed};
+ghost use Rattle.cb_net_plan.specs.Settings.{usual_settings};
 ghost use Rattle.cb_run.specs.SimInput.{SimulatesKnown};
-ghost use Rattle.cb_command.specs.Words.{AreAsked, AreRefused, AreWithin, ByTask, IsWithin, flag, plain_program, program, scripted_program, sized, task_in, task_named};
+ghost use Rattle.cb_run_net.specs.Playing.{RunsNet};
+ghost use Rattle.cb_command.specs.Words.{AreAsked, AreRefused, AreWithin, ByTask, IsWithin, flag, net_asked, node_program, plain_program, program, scripted_program, sized, task_in, task_named};
 ghost use Rattle.cb_driver.specs.Auditing.{IsOfAnEnd};
 ghost use Rattle.cb_driver.specs.Summary.{AreReported, RunsKnown};
 ghost use Rattle.cb_process.specs.declared.orders.NodeOrders.{NodeOrders};
@@ -22,16 +24,20 @@ ghost use Rattle.clap.specs.declared.error.kind.ErrorKind.TheVariants.{OutOfMemo
 
 use crate::node_words::{BadWords, node_line, node_orders_of};
 use crate::serve::serve_peer;
-use cb_base::{Seed, Shared, Sink, Source};
+use cb_base::{Out, Seed, Shared, Sink, Source};
 use cb_driver::{RunOrders, Sizes, run_nodes};
+use cb_net_plan::NetSettings;
+use cb_net_words::{BadNet, net_line, net_settings_of};
 use cb_node_process::run_node;
 use cb_pipes::Pipes;
 use cb_process::{NodeOrders, ProcessHost};
 use cb_run::{Halt, Status, decode, simulate, write_all};
+use cb_run_net::{Progress, run_net};
 use cb_talk::MessageSink;
 use clap::error::ErrorKind;
 use clap::{Arg, ArgAction, ArgMatches, Command, value_parser};
 use std::alloc::{AllocError, Global};
+use std::rt::Stderr;
 
 /// The command that a command line names.
 #[derive(Drop)]
@@ -47,6 +53,8 @@ pub enum Task {
     Run(RunOrders),
     /// `node`: run a node until its operator ends it.
     Node(Result<NodeOrders, BadWords>),
+    /// `net`: play a network of nodes in virtual time.
+    Net(Result<NetSettings, BadNet>),
 }
 
 /// The version that `--version` prints.
@@ -60,16 +68,19 @@ test network (regtest).
 Exit status:
   0  all was done
   1  the command line was refused, or help or the version was asked for
-  2  sim: an act was refused; run: a node refused what it was given
+  2  sim: an act was refused; run: a node refused what it was given; net: several tips, or an \
+    audit
   3  the input has a fault, or a read or a write failed; run: also a slot, a socket, a wait or an \
     audit;
-     node: also an address, a port that is in use, a peer that was never reached, or an audit
+     node: also an address, a port that is in use, a peer that was never reached, or an audit;
+     net: also settings that no network can have
   4  memory ran out
 
 Examples:
   echo fabfb5da76657261636b000000000000000000005df6e0e2 | cbrelay decode
   printf 'link 0 1\\nmine 0\\nwait\\n' | cbrelay run --nodes 2 --handlers 1
-  cbrelay node --listen 127.0.0.1:18444";
+  cbrelay node --listen 127.0.0.1:18444
+  cbrelay net --nodes 100";
 
 /// The text that `run --help` prints below the options.
 const RUN_USE: &str = "\
@@ -98,7 +109,7 @@ Example:
 /// `errors`; `serve` also prints there why its session ended, and `node` why it can't listen.
 /// `node` reads standard input and logs on standard error by `rt`, and looks at `pipes`, which it
 /// tells when its end is asked for. The tables of the halls of `serve`, `run` and `node` have the
-/// fixed seed, so that a run takes the same steps each time.
+/// fixed seed, so that a run takes the same steps each time. `net` doesn't tell how far it is.
 pub fn command<N: ProcessHost, R: Source, W: MessageSink, E: Sink>(
     rt: N,
     alloc: Global,
@@ -147,7 +158,13 @@ pub fn command<N: ProcessHost, R: Source, W: MessageSink, E: Sink>(
         ((reader.new ≡ reader.old)
         × RunsNode (IsOfAnEnd N) (errors.new ≡ errors.old) (W.contents writer.old)
         (W.contents writer.new) (W.has_failed writer.new) (E.contents errors.old)
-        (E.contents errors.new) (E.has_failed errors.new) node result)))) }
+        (E.contents errors.new) (E.has_failed errors.new) node result)
+        ((reader.new ≡ reader.old)
+        × (RunsNet (writer.new ≡ writer.old) (errors.new ≡ errors.old) (W.contents writer.old)
+        (W.contents writer.new) (E.contents errors.old) (E.contents errors.new)
+        (net_asked (map string_bytes words.items)) result
+        ⊎ EndsNet (W.has_failed writer.new) (E.contents errors.old) (E.contents errors.new)
+        (E.has_failed errors.new) result))))) }
     // The words and their commands.
     ensures named { (orders : RunOrders) (node : Result NodeOrders BadWords) (name : List ℕ) →
         (task_in orders node (name ∷ []) ≡ Task.Decode)
@@ -156,15 +173,19 @@ pub fn command<N: ProcessHost, R: Source, W: MessageSink, E: Sink>(
         × (task_in orders node (name ∷ codes "sim" ∷ []) ≡ Task.Sim)
         × (task_in orders node (name ∷ codes "run" ∷ codes "--nodes" ∷ codes "8"
         ∷ codes "--handlers" ∷ codes "16" ∷ []) ≡ Task.Run orders)
-        × (task_in orders node (name ∷ codes "node" ∷ []) ≡ Task.Node node) }
+        × (task_in orders node (name ∷ codes "node" ∷ []) ≡ Task.Node node)
+        × (task_in orders node (name ∷ codes "net" ∷ codes "--nodes" ∷ codes "5" ∷ [])
+        ≡ Task.Net (Ok (usual_settings 5))) }
     // Clap accepts these words.
     ensures taken { (name : List ℕ) →
         (takes program (name ∷ []) ≡ true) × (takes program (name ∷ codes "decode" ∷ []) ≡ true)
         × (takes program (name ∷ codes "serve" ∷ []) ≡ true)
         × (takes program (name ∷ codes "sim" ∷ []) ≡ true)
         × (takes program (name ∷ codes "run" ∷ codes "--nodes" ∷ codes "8" ∷ codes "--handlers"
-        ∷ codes "16" ∷ []) ≡ true) × (takes program (name ∷ codes "node" ∷ []) ≡ true) }
+        ∷ codes "16" ∷ []) ≡ true) × (takes program (name ∷ codes "node" ∷ []) ≡ true)
+        × (takes program (name ∷ codes "net" ∷ codes "--nodes" ∷ codes "5" ∷ []) ≡ true) }
 {
+    let mut progress: Progress<Out<Stderr>> = Progress::new(None);
     seeded_command(
         rt,
         alloc,
@@ -174,13 +195,14 @@ pub fn command<N: ProcessHost, R: Source, W: MessageSink, E: Sink>(
         reader,
         writer,
         errors,
+        &mut progress,
     )
 }
 
 /// As `command`. The tables of the halls of `serve`, `run` and `node` have this seed, which changes
 /// no result. Peers choose the keys of these tables, so a seed that no peer knows keeps a lookup
-/// short.
-pub fn seeded_command<N: ProcessHost, R: Source, W: MessageSink, E: Sink>(
+/// short. Meanwhile `net` tells by `progress` how far it is.
+pub fn seeded_command<N: ProcessHost, R: Source, W: MessageSink, E: Sink, P: Sink>(
     rt: N,
     alloc: Global,
     seed: Seed,
@@ -189,6 +211,7 @@ pub fn seeded_command<N: ProcessHost, R: Source, W: MessageSink, E: Sink>(
     reader: &mut R,
     writer: &mut W,
     errors: &mut E,
+    progress: &mut Progress<P>,
 ) -> u8
     // For every reader, writer and standard error: if the status is 1, clap refuses the words.
     // Nothing was read, and nothing was written to `writer`.
@@ -229,7 +252,13 @@ pub fn seeded_command<N: ProcessHost, R: Source, W: MessageSink, E: Sink>(
         ((reader.new ≡ reader.old)
         × RunsNode (IsOfAnEnd N) (errors.new ≡ errors.old) (W.contents writer.old)
         (W.contents writer.new) (W.has_failed writer.new) (E.contents errors.old)
-        (E.contents errors.new) (E.has_failed errors.new) node result)))) }
+        (E.contents errors.new) (E.has_failed errors.new) node result)
+        ((reader.new ≡ reader.old)
+        × (RunsNet (writer.new ≡ writer.old) (errors.new ≡ errors.old) (W.contents writer.old)
+        (W.contents writer.new) (E.contents errors.old) (E.contents errors.new)
+        (net_asked (map string_bytes words.items)) result
+        ⊎ EndsNet (W.has_failed writer.new) (E.contents errors.old) (E.contents errors.new)
+        (E.has_failed errors.new) result))))) }
 {
     match task_of(alloc, words.as_slice()) {
         Ok(Task::Decode) => settle(code_of(decode(alloc, reader, writer)), errors),
@@ -237,6 +266,7 @@ pub fn seeded_command<N: ProcessHost, R: Source, W: MessageSink, E: Sink>(
         Ok(Task::Sim) => settle(simulate(alloc, reader, writer), errors),
         Ok(Task::Run(orders)) => settle(run_nodes(rt, alloc, seed, orders, reader, writer), errors),
         Ok(Task::Node(node)) => start_node(rt, alloc, seed, node, pipes, writer, errors),
+        Ok(Task::Net(net)) => settle(run_net(alloc, net, writer, errors, progress), errors),
         Err(error) => settle_refusal(alloc, &error, errors),
     }
 }
@@ -411,12 +441,21 @@ fn code_of(ended: Result<Status, Halt>) -> Result<u8, Halt>
 fn command_line<'a>(alloc: Global) -> Result<Command<'a>, AllocError>
     ensures { IfOk result (λ line. app_of line ≡ program) }
 {
+    let line = peered_line(alloc)?;
+    let net = net_line(alloc)?;
+    line.subcommand(net)
+}
+
+/// The command line without `net`.
+fn peered_line<'a>(alloc: Global) -> Result<Command<'a>, AllocError>
+    ensures { IfOk result (λ line. app_of line ≡ node_program) }
+{
     let line = scripted_line(alloc)?;
     let node = node_line(alloc)?;
     line.subcommand(node)
 }
 
-/// The command line without `node`.
+/// The command line without `node` and `net`.
 fn scripted_line<'a>(alloc: Global) -> Result<Command<'a>, AllocError>
     ensures { IfOk result (λ line. app_of line ≡ scripted_program) }
 {
@@ -430,7 +469,7 @@ fn scripted_line<'a>(alloc: Global) -> Result<Command<'a>, AllocError>
     line.subcommand(script)
 }
 
-/// The command line without `run` and `node`.
+/// The command line without `run`, `node` and `net`.
 fn plain_line<'a>(alloc: Global) -> Result<Command<'a>, AllocError>
     ensures { IfOk result (λ line. app_of line ≡ plain_program) }
 {
@@ -500,6 +539,7 @@ fn task_of(alloc: Global, words: &[String]) -> Result<Task, clap::Error>
             matches.subcommand_name(),
             orders_of(&matches),
             node_orders_of(alloc, &matches),
+            net_settings_of(&matches),
         )),
         Err(error) => Err(error),
     }
@@ -536,12 +576,18 @@ fn size_of(run: &ArgMatches, name: &str, most: u16) -> u16
     run.get_one::<u16>(name).unwrap_or(1).clamp(1, most)
 }
 
-/// The task of the command that was named, with these orders for `run` and for `node`; `decode` if
-/// none was.
-fn task_named(name: Option<&str>, orders: RunOrders, node: Result<NodeOrders, BadWords>) -> Task
+/// The task of the command that was named, with these orders for `run`, `node` and `net`; `decode`
+/// if none was.
+fn task_named(
+    name: Option<&str>,
+    orders: RunOrders,
+    node: Result<NodeOrders, BadWords>,
+    net: Result<NetSettings, BadNet>,
+) -> Task
     requires orders { AreWithin orders }
     requires node { IfOk node HasSizes }
-    ensures named { result ≡ task_named orders node (option_map (λ text. text.now) name.entry) }
+    ensures named { result
+        ≡ task_named orders node net (option_map (λ text. text.now) name.entry) }
     ensures within { IsWithin result }
 {
     match name {
@@ -549,6 +595,7 @@ fn task_named(name: Option<&str>, orders: RunOrders, node: Result<NodeOrders, Ba
         Some("sim") => Task::Sim,
         Some("run") => Task::Run(orders),
         Some("node") => Task::Node(node),
+        Some("net") => Task::Net(net),
         Some(_) | None => Task::Decode,
     }
 }

@@ -7,6 +7,7 @@ mod node_words;
 mod rpc_words;
 mod serve;
 
+pub use cb_run_net::Progress;
 pub use commanding::{
     Task, command, names_node, refuse_for_memory, refuse_foreign, refuse_unseeded, seeded_command,
     with_password,

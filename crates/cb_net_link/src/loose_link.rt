@@ -131,6 +131,7 @@ impl LooseLink {
     pub fn take(&mut self) -> Option<BoundedMessage>
         ensures taken { self.old.lasts ≡ true →
             self.old ≡ record self.new { sent = option_to_list result ++ self.new.sent } }
+        ensures none { result ≡ None → (self.old.lasts ≡ false) ⊎ (self.old.sent ≡ []) }
         ensures over { self.old.lasts ≡ false → (result ≡ None) × (self.new ≡ self.old) }
     {
         if !self.lasts {

@@ -3,17 +3,18 @@
 
 use cb_base::{In, Out, Seed, Shared};
 use cb_command::{
-    names_node, refuse_for_memory, refuse_foreign, refuse_unseeded, seeded_command, with_password,
+    Progress, names_node, refuse_for_memory, refuse_foreign, refuse_unseeded, seeded_command,
+    with_password,
 };
 use cb_pipes::{Patience, PipeWriter, Pipes};
 use std::alloc::{AllocError, Global};
 use std::env::VarError;
-use std::io::{ErrorKind, Write};
+use std::io::{ErrorKind, IsTerminal, Write};
 use std::marker::{Copy, Send};
 use std::net::{TcpListener, TcpStream};
 use std::process::ExitCode;
 use std::random::RandomSource;
-use std::rt::Clock;
+use std::rt::{Clock, Stderr};
 use std::sync::Wait;
 use std::thread::Threads;
 
@@ -69,6 +70,15 @@ fn writer_to<
     }
 }
 
+/// The line that tells how far a network is, on standard error if that is a terminal.
+fn progress_on(stderr: Stderr) -> Progress<Out<Stderr>> {
+    if stderr.is_terminal() {
+        Progress::new(Some(Out::new(stderr)))
+    } else {
+        Progress::new(None)
+    }
+}
+
 /// Passes the arguments, standard input, standard output and standard error to `seeded_command`,
 /// with a seed of this run. If a node is to run, threads write to standard output and standard
 /// error.
@@ -108,6 +118,7 @@ fn main(rt: HostRuntime) -> ExitCode {
     let of_messages = Patience::Always(ERRORS_MILLISECONDS);
     let mut writer = writer_to(rt, alloc, rt.stdout(), of_output, of_answers, runs_node);
     let mut errors = writer_to(rt, alloc, rt.stderr(), of_errors, of_messages, runs_node);
+    let mut progress = progress_on(rt.stderr());
     let status = seeded_command(
         rt,
         alloc,
@@ -117,6 +128,7 @@ fn main(rt: HostRuntime) -> ExitCode {
         &mut reader,
         &mut writer,
         &mut errors,
+        &mut progress,
     );
     ExitCode::from(status)
 }
